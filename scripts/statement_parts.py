@@ -304,7 +304,7 @@ SUBJECTS = {
     "Rehearsals": "nor_session: src/rehearsals specs/Rehearsal",
     "Backups": "nor_scan: specs/Scanning nor_session: specs/Backup",
     "Calls in turn": "nor_session: specs/WrittenOver specs/InTurn",
-    "Files": "nor_files: specs/Files specs/Faults specs/Calls src/store",
+    "Files": "nor_files: specs/Files specs/Faults specs/Disk specs/Calls src/store",
     "Jobs": "nor_words: specs/Text src/programmer specs/Programmer src/job",
     "A chip in files":
         "flashnor: specs/Found src/chips nor_lines: specs/Stored flashnor: specs/Chips nor_lines: specs/Tasks "

@@ -19,6 +19,7 @@ from run import SECOND_DISK, Machine
 TOP = Path(__file__).resolve().parent.parent
 FAULT = "echo 'Usage fault 2.' >&2; "
 RIGHT = FAULT + "exit 1"
+LOST = "{ echo 'File fault 2: standard output.' >&2; exit 1; }"
 BEHIND = "! Usage fault 2.\nstatus 1\n"
 CASE = "# No words.\nfile given: hex 3030\n$ flashnor\n" + BEHIND
 STEP = "# It has a step.\n$ flashnor\n" + BEHIND
@@ -57,7 +58,9 @@ TRIALS = [
     ("a FIFO", "mkfifo a", "# It is there.\n$ flashnor\nafter a: a FIFO\n", None),
     ("a directory for a FIFO", "mkdir a", "# It is there.\n$ flashnor\nafter a: a FIFO\n", "got: a directory"),
     ("a FIFO that is given", RIGHT, CASE.replace("hex 3030", "a FIFO"), "'a FIFO' is no content"),
-    ("streams that are closed", "echo done 2> /dev/null || exit 1", "# It prints.\n$ closed flashnor\ndone\n", None),
+    ("streams that are closed", "echo done 2> /dev/null || " + LOST, "# It prints.\n$ closed flashnor\ndone\n", None),
+    ("a lost text without its line", "echo done 2> /dev/null || exit 1", "# It prints.\n$ closed flashnor\ndone\n",
+     "        >&-: 1d0"),
     ("a closed stream and status 0", "echo done 2> /dev/null || :", "# It prints.\n$ closed flashnor\ndone\n",
      "        >&-: status 0, not 1"),
     ("a closed stream that nothing needs", "[ -e /dev/fd/0 ]", "# It does nothing.\n$ closed flashnor\n",

@@ -16,9 +16,10 @@ nobody() {
 
 # `closed flashnor ..`: runs the program here, with its three standard streams open. Then it runs the program with each
 # of them closed, alone and together with others, each time in a copy of this directory. Each copy must have the
-# same files afterwards as this directory. A stream that is open must get the same text as here. The status must be 1 if
-# a text could not be printed, and else it must be the same as here. Each difference is printed, after the redirections
-# that closed the streams.
+# same files afterwards as this directory. A stream that is open must get the same text as here, and standard error
+# first the line of standard output if its text could not be printed. The status must be 1 if a text could not be
+# printed, and else it must be the same as here. Each difference is printed, after the redirections that closed the
+# streams.
 closed() {
     local copies number wanted line status=0
     local ways=('<&-' '>&-' '2>&-' '<&- >&-' '<&- 2>&-' '>&- 2>&-' '<&- >&- 2>&-')
@@ -41,11 +42,16 @@ run_closed() {
     local copy=$1 way=$2 ended=0 stream text
     shift 2
     (cd "$copy" && eval '"$@" > "$copy.printed" 2> "$copy.faults"' "$way") || ended=$?
+    : > "$copy.lost"
+    [[ " $way" != *' >&-'* || ! -s $copies/printed ]] || echo 'File fault 2: standard output.' > "$copy.lost"
     for stream in '>&-:printed' '2>&-:faults'; do
         text=$copies/${stream#*:}
         if [[ " $way" == *" ${stream%:*}"* ]]; then
             [[ ! -s $text ]] || wanted=1
             text=/dev/null
+        elif [[ $stream == *faults ]]; then
+            text=$copy.wanted
+            cat "$copy.lost" "$copies/faults" > "$text"
         fi
         diff -a "$text" "$copy.${stream#*:}"
     done

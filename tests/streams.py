@@ -2,9 +2,10 @@
 """tests/streams.py PROGRAM: runs the program from a parent process that does what no shell does for a case.
 
 The parent closes standard input, output and error in each combination before it starts the program, once with the
-numbers above them free and once with these in use; it limits how many files the program may open; and it gives the
-program terminals. Each run must print, leave and end with what the tables below say. No text of a run may be written
-into a file. The last line is `N passed, M failed`, and the status is 1 if a run failed.
+numbers above them free and once with these in use; it limits how many files the program may open; it gives the program
+terminals; and it hides /proc from it. Each run must print, leave and end with what the tables below say. No text of a
+run may be written into a file. The last line is `N passed, M failed`, and the status is 1 if a run failed. If the
+machine doesn't let the parent hide /proc, it prints `skipped` with the reason.
 """
 import itertools
 import os
@@ -66,6 +67,7 @@ JOBS = {
 # prints a size. The program needs three files before all others.
 SIZE = ["-p", "dummy:emulate=TINY64", "--flash-size"]
 NO_ROOT = "File fault 1: /.\n"
+NO_OUTPUT = "File fault 2: standard output.\n"
 LIMITS = [
     (SIZE, 6, "", "65536\n", "", 0),
     (SIZE, 5, "", "", NO_ROOT, 1),
@@ -97,6 +99,23 @@ TERMINALS = [
 ]
 
 
+# Ways to hide /proc: the options of unshare, what a shell does before the program, and the fault of a run that would
+# change or create a file and whose standard output is its image. $0 is an empty directory outside the chip's.
+CHROOT = 'mount --rbind / "$0" && umount -l "$0/proc" && exec chroot "$0" sh -c \'cd "$0" && exec "$@"\' "$PWD" "$@"'
+ELSEWHERE = """mount --bind /proc "$0" && mount -t tmpfs none /proc && mount -t tmpfs none /dev &&
+    ln -s "$0/self/fd" /dev/fd && exec "$@" """
+HIDDEN = [
+    ("a chroot without /proc", ["--mount"], CHROOT, "File fault 1: /dev/fd/1.\n"),
+    ("/proc of another PID namespace", ["--mount"], 'unshare --pid --fork mount -t proc proc /proc && exec "$@"',
+     "File fault 1: /dev/fd/1.\n"),
+    ("/dev/fd without /proc", ["--mount"], ELSEWHERE, "File fault 5: chip.bin.\n"),
+]
+
+# Runs whose standard output is the chip's image, and which would change or create a file.
+TO_IMAGE = [[*TINY, "-w", "new.bin", "--journal", "j"], [*TINY, "-E", "--journal", "j"], [*TINY, "--restore", "saved"],
+            [*TINY, "-r", "out"], ["-p", TINY[1] + ",trace=t"]]
+
+
 class Failed(Exception):
     """A test that failed: the expected and the actual result."""
 
@@ -112,15 +131,16 @@ class Runs:
         self.passed = 0
         self.failed = 0
 
-    def try_one(self, what, wanted, words, **how):
+    def try_one(self, what, wanted, words, before=(), **how):
         """Runs the program in a directory of its own, and compares the files that it left, its output and its status.
-        `wanted` may also be a function that returns the expected result for what was printed."""
+        `wanted` may also be a function that returns the expected result for what was printed. The words of `before`
+        start the program."""
         with tempfile.TemporaryDirectory() as name:
             place = Path(name)
             for file, content in FILES.items():
                 (place / file).write_bytes(content)
             try:
-                got = run([self.program, *words], place, **how)
+                got = run([*before, self.program, *words], place, **how)
                 changed, printed, faults, status = wanted(place, *got) if callable(wanted) else wanted
                 same("standard output", printed, got[0])
                 same("standard error", faults, got[1])
@@ -144,7 +164,8 @@ class Runs:
             for closed in itertools.combinations((0, 1, 2), count):
                 for is_full in (False, True):
                     is_lost = (1 in closed and printed) or (2 in closed and faults)
-                    wanted = (changed, "" if 1 in closed else printed, "" if 2 in closed else faults,
+                    told = NO_OUTPUT * bool(1 in closed and printed) + faults
+                    wanted = (changed, "" if 1 in closed else printed, "" if 2 in closed else told,
                               1 if is_lost else status)
                     how = f"{what}, with {closed or 'nothing'} closed" + ", and 3 to 9 in use" * is_full
                     self.try_one(how, wanted, words, closed=closed, is_full=is_full)
@@ -195,8 +216,25 @@ class Runs:
         os.close(slave)
 
 
-def run(words, place, closed=(), is_full=False, limit=0, terminal=None):
-    """Returns what the words print on standard output and standard error in this directory, and their status."""
+    def hide_proc(self):
+        """If /proc isn't that of the program, the streams are found in /dev/fd. If they aren't there either, a run that
+        would change or create a file ends before it does. A run that only reads is done."""
+        for what, flags, setup, fault in HIDDEN:
+            with tempfile.TemporaryDirectory() as root:
+                before = ["unshare", *flags, "sh", "-c", setup, root]
+                trial = subprocess.run([*before, "true"], stderr=subprocess.PIPE, check=False)
+                if trial.returncode:
+                    print(f"skipped: {what}, since unshare fails: {os.fsdecode(trial.stderr).strip()}")
+                    continue
+                for words in TO_IMAGE:
+                    self.try_one(f"{words} to its image, with {what}", ({}, "", fault, 1), words, before=before,
+                                 output="chip.bin")
+                self.try_one(f"a probe with {what}", ({}, FOUND, "", 0), TINY, before=before)
+
+
+def run(words, place, closed=(), is_full=False, limit=0, terminal=None, output=None):
+    """Returns what the words print on standard output and standard error in this directory, and their status. What they
+    print to the file of the name `output` isn't returned."""
     kept = [os.open("/dev/null", os.O_RDONLY)] * is_full
     kept += [os.dup2(kept[0], it) for it in range(3, 10) if is_full and it != kept[0]]
 
@@ -207,11 +245,12 @@ def run(words, place, closed=(), is_full=False, limit=0, terminal=None):
             resource.setrlimit(resource.RLIMIT_NOFILE, (limit, limit))
 
     stream = subprocess.PIPE if terminal is None else terminal
+    printed = [os.open(place / output, os.O_RDWR)] if output else []
     try:
-        ran = subprocess.run(words, cwd=place, stdin=subprocess.DEVNULL, stdout=stream, stderr=stream, timeout=10,
-                             pass_fds=kept, preexec_fn=prepare, check=False)
+        ran = subprocess.run(words, cwd=place, stdin=subprocess.DEVNULL, stdout=(printed or [stream])[0], stderr=stream,
+                             timeout=10, pass_fds=kept, preexec_fn=prepare, check=False)
     finally:
-        for it in set(kept):
+        for it in {*kept, *printed}:
             os.close(it)
     return os.fsdecode(ran.stdout or b""), os.fsdecode(ran.stderr or b""), ran.returncode
 
@@ -222,6 +261,7 @@ def main(program):
     runs.limit_files()
     runs.starve_session()
     runs.give_terminals()
+    runs.hide_proc()
     print(f"{runs.passed} passed, {runs.failed} failed")
     return int(runs.failed > 0)
 

@@ -43,6 +43,8 @@ problems_of_order() {
     (($(last_of 'fsync journal') > $(last_of 'write journal'))) || echo 'journal is not synced last. '
     (($(last_of 'statx journal') > $(last_of 'fsync journal'))) || echo 'journal is not looked at after its sync. '
     (($(last_of 'fsync journal') < first)) || echo 'journal is synced after the chip is written. '
+    (($(last_of 'statx journal') > $(last_of 'fsync image' 'fsync status'))) ||
+        echo 'journal is not looked at after the chip is written. '
     [[ $(printf '%s,' "${made[@]:0:first}") == *'make journal,'*'fsync .,'* ]] ||
         echo 'the directory of journal is not synced before the chip is written. '
 }

@@ -11,6 +11,21 @@ is_chips() { [[ $1 == image || $1 == status ]]; }
 # Succeeds if the session is over when this call is made, so that the chip's files are written and it prints its result.
 is_late() { (($1 > called)); }
 
+# Succeeds if this is a look at a file that the run will read, before it looks at the image and opens a file. If that
+# look fails, the file counts as missing.
+is_ahead() {
+    local i
+    [[ ${made[$1 - 1]} == 'statx ../'* && ${made[$1]:-} == 'statx image' ]] || return 1
+    for ((i = $1; i < ${#made[@]}; i++)); do
+        case ${made[i]} in
+            'statx image') ;;
+            hold* | open*) return 0 ;;
+            *) return 1 ;;
+        esac
+    done
+    return 1
+}
+
 # Prints the ways in which the call of this number is interrupted.
 # A call that reads leaves nothing, so it only fails or reads less; for a chip of 8 MiB only reads of the layout do.
 # Calls that look at a file are interrupted only in some runs, which are `deep`. A file that has grown since it was read
@@ -24,9 +39,9 @@ ways() {
             [[ -z $deep ]] || echo EIO
             [[ $run != one_byte* || $call == fstat* ]] || echo ESTALE ENOENT ENOTDIR
             ;;
-        read*) [[ $chip != $on_tiny* && $name != *layout ]] || echo EIO ESTALE part ;;
+        read*) [[ $chip != $on_tiny* && $name != *layout ]] || echo EIO ESTALE EINTR part ;;
         write*)
-            echo before one half most after ENOSPC EDQUOT EFBIG EIO short part
+            echo before one half most after ENOSPC EDQUOT EFBIG EIO EINTR short part
             ! was_there "$name" || echo last
             ;;
         'fsync .') echo before after ENOSPC EIO EDQUOT ESTALE ETIMEDOUT EINVAL EOPNOTSUPP ENOSYS EINTR ;;
@@ -44,7 +59,7 @@ ways() {
             ! is_chips "$name" && [[ $name != journal ]] || echo there
             ;;
         over* | close*) echo before after EIO ;;
-        *) echo before after ENOSPC EIO ;;
+        *) echo before after ENOSPC EIO EINTR ;;
     esac
     ! is_late "$1" || ! is_chips "$name" || case $call in write* | ftruncate* | lseek*) echo grown ;; esac
     ! can_be_replaced "$1" "$call" || echo stranger
@@ -95,9 +110,14 @@ lines_of() {
     [[ $3 != short ]] || lines_without_room "$1"
 }
 
-# Prints the line for a look at this name that failed. After a sync, the name must still refer to the file. A file that
-# is to be written must be regular, or neither be there nor be a link. Other names are compared before the run works.
+# Prints the line for a look at this name that failed. After a sync, the name must still refer to the file; that of the
+# journal must do so when the chip is written, too. A file that is to be written must be regular, or neither be there nor
+# be a link. Other names are compared before the run works.
 line_of_look() {
+    if is_late "$1" && [[ $2 == journal ]]; then
+        echo "File fault 2: $2."
+        return
+    fi
     case ${made[$1 - 2]:-},${made[$1 - 1]},${made[$1]:-},$3 in
         'fsync journal',* | 'statx journal','fstat journal',*) echo 'Error 11: journal not written.' ;;
         fsync* | statx*,fstat* | hold* | *,hold*,ENOENT) echo "File fault 2: $2." ;;
@@ -109,14 +129,15 @@ line_of_look() {
 # Succeeds if the run goes on after this look failed:
 # - The length of a file that is read is only a hint.
 # - Before a file is read, and before one is opened for the trace or for -r, the program asks whether it is a FIFO.
-# - Before names are compared, it asks whether the journal's file is there; after it, whether new files are there.
-# - Standard output and error have no names without /proc.
+# - Before two names are compared, it asks whether the journal's file is there; after it, whether new files are there.
+# - Standard output and error have a second name.
 # - The journal's permissions are compared with those of two files.
 is_hint() {
     [[ $2 != *' /proc/self/fd/'[12] ]] || return 0
+    ! { is_late "$1" && [[ $2 == *' journal' ]] || is_ahead "$1"; } || return 1
     case ${made[$1 - 2]:-},$2,${made[$1]:-} in
         open*,fstat*,* | lseek*,fstat*,* | flock*,statx*,* | *,statx*,'make '* | *,statx*,'open '[!.]*) ;;
-        'open /','statx journal',* | ,'statx journal',*) ;;
+        'statx journal','statx journal',*) ;;
         *,fstat*,'make journal' | *,'fstat image','fstat status' | *,'fstat image','make status') ;;
         *,hold* | fsync*) return 1 ;;
         *,statx*,*) [[ $3 == ENOENT || $3 == ENOTDIR ]] ;;
@@ -138,7 +159,7 @@ lines_without_room() {
 is_told() {
     local printed='' faults
     faults=$(lines_of "$@")
-    if is_late "$1" || [[ $2 == 'write trace' ]]; then
+    if is_late "$1" || [[ $2 == 'write trace' || $2 == 'ftruncate trace' ]]; then
         if [[ $answer == Error* ]]; then faults=$answer$'\n'$faults; else printed=$answer; fi
         is_left_but_for "$faults" || return 1
     else

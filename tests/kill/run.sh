@@ -212,8 +212,22 @@ lose_machines() {
     passed=$((passed + BASH_REMATCH[1])) failed=$((failed + BASH_REMATCH[2]))
 }
 
-# Runs once without an interruption, and then interrupts each of the calls. After the last one that writes, reads or
-# looks at the journal, the session begins, and then the chip's files are written.
+# Prints the number of the last call before the session begins: the one that reads, writes or syncs the journal last, or
+# looks at it right after that. After the session the chip's files are written, and the journal is looked at once more.
+# Prints the number of all calls if the run has no journal.
+last_before() {
+    local i is_last=''
+    for ((i = ${#made[@]}; i > 0; i--)); do
+        case ${made[i - 1]} in
+            'read journal' | 'write journal' | 'fsync journal') is_last=yes && break ;;
+        esac
+    done
+    [[ -n $is_last ]] || i=${#made[@]}
+    while [[ ${made[i]:-} == 'statx journal' || ${made[i]:-} == 'fstat journal' ]]; do i=$((i + 1)); done
+    echo "$i"
+}
+
+# Runs once without an interruption, and then interrupts each of the calls.
 cut_each() {
     local number how runs=0 lost=0 made called own=../own.${run//\//.}
     local -A rescued=()
@@ -222,10 +236,7 @@ cut_each() {
     is_own || fail "$run: without an interruption it ended with $ended: $(cat said faults)"
     [[ -s calls ]] || fail "$run makes no call on a file"
     mapfile -t made < calls
-    for ((called = ${#made[@]}; called > 0; called--)); do
-        case ${made[called - 1]} in close*) ;; *' journal') break ;; esac
-    done
-    ((called > 0)) || called=${#made[@]}
+    called=$(last_before)
     mkdir "$own"
     for how in "${files[@]}"; do [[ ! -e $how ]] || cp "$how" "$own"; done
     check_order

@@ -1,15 +1,20 @@
 -- How a run ends, from the end of its call and of its job.
-use Rattle.std.proofs.Common.{◌≡◌, ℕ, List, Option, Result, Ok, Err, IfOk, arith, false}
+use Rattle.std.proofs.Common.{◌≡◌, ℕ, Bool, List, Option, Result, Ok, Err, IfOk, arith, false, inl, inr, refl, true}
 use Rattle.nor_request.specs.declared.refusal.Refusal.{Refusal}
+use Rattle.nor_request.specs.declared.refusal.Refusal.TheVariants.{Memory}
 use Rattle.nor_words.specs.Text.{Text}
 use Rattle.nor_words.specs.Words.{IsJob}
 use Rattle.nor_words.specs.declared.job.ChipJob.{ChipJob}
 use Rattle.nor_words.specs.declared.job.Job.TheVariants as job
 use Rattle.nor_words.specs.declared.reasons.Reason.TheVariants as because
 use Rattle.nor_words.specs.declared.words.UsageFault.TheVariants as usage
+use Rattle.flashnor.specs.Chips.{FailsToHold, FailsToOpen}
 use Rattle.flashnor.specs.Endings.{HasPrinted, all_written}
-use Rattle.nor_files.specs.Files.{AreAtRest, FilesState}
-use Rattle.flashnor.specs.Run.{EndsChipJob, FailsJob, AnswersArguments, HoldsResult, HoldsTask, IsCalled, IsStatus, KeepsFiles}
+use Rattle.nor_lines.specs.Files.{IsLockingFault, IsOpeningFault}
+use Rattle.nor_files.specs.Files.{AreAtRest, FilesState, Nature, View}
+use Rattle.nor_words.specs.declared.programmer.Programmer.{Programmer}
+use Rattle.flashnor.specs.Run.{EndsChipJob, FailsJob, FailsToStart, AnswersArguments, HoldsResult, HoldsTask, IsCalled}
+use Rattle.flashnor.specs.Run.{IsPrintedAt, IsStatus, KeepsFiles}
 use Rattle.nor_lines.specs.Messages.{IsReportedAs}
 use Rattle.nor_lines.specs.declared.answers.Answer.{Answer}
 use Rattle.flashnor.specs.declared.holding.Unwritten.{Unwritten}
@@ -17,9 +22,41 @@ use Rattle.nor_lines.specs.declared.messages.Fault.{Fault}
 use Rattle.nor_lines.specs.declared.messages.Fault.TheVariants as end
 use Rattle.flashnor.specs.declared.printing.Ending.{Ending}
 use Rattle.flashnor.specs.declared.run.Work.{Work}
+use Rattle.flashnor.specs.Streams.{IsReportedTo}
 use Rattle.flashnor.specs.Tasks.{writes_back}
+use Rattle.flashnor.specs.declared.streams.Reports.{Reports}
+use Rattle.flashnor.specs.declared.streams.Reports.TheVariants as at
 
 -- ---- jobs
+
+starts_memory : (puts : Bool) (view : View) (programmer : Programmer) (fault : Fault) → fault ≡ end.Refused Memory
+    → FailsToStart puts view programmer fault
+starts_memory true view programmer fault is = inl is
+starts_memory false view programmer fault is = inl is
+
+-- a fault of reading a chip's file is also one of locking and reading it
+opening_locks : (view : View) (name : Text) (len : ℕ) (fault : Fault) → IsOpeningFault view name len fault
+    → IsLockingFault view name len fault
+opening_locks view name len fault is = grind arith
+
+opens_holds : (view : View) (programmer : Programmer) (fault : Fault) → FailsToOpen view programmer fault
+    → FailsToHold view programmer fault
+opens_holds view programmer fault fails = grind (arith, opening_locks)
+
+starts_open : (puts : Bool) (view : View) (programmer : Programmer) (fault : Fault)
+    → FailsToOpen view programmer fault → FailsToStart puts view programmer fault
+starts_open true view programmer fault fails = opens_holds view programmer fault fails
+starts_open false view programmer fault fails = fails
+
+pub opens_starts : (view : View) (on_chip : ChipJob) (fault : Fault) → FailsToOpen view on_chip.programmer fault
+    → FailsToStart (writes_back on_chip.task) view on_chip.programmer fault
+opens_starts view on_chip fault fails = starts_open (writes_back on_chip.task) view on_chip.programmer fault fails
+
+-- out of memory is a fault from before the call
+pub fails_memory : (view : View) (on_chip : ChipJob) (fault : Fault) → fault ≡ end.Refused Memory
+    → FailsJob view on_chip fault
+fails_memory view on_chip fault is =
+    inr (inl (starts_memory (writes_back on_chip.task) view on_chip.programmer fault is))
 
 module _ (files after : FilesState) (on_chip : ChipJob) (unwritten : Unwritten) where
   pub ends_called : (outcome : Result Answer Refusal) (returned : Result Answer Fault)
@@ -36,6 +73,14 @@ module _ (files after : FilesState) (on_chip : ChipJob) (unwritten : Unwritten) 
   fails_ends (end.NoRegion name) fails = fails
   fails_ends (end.File fault name) fails = fails
 
+  pub failed_ends : (fault : Fault) (returned : Result Answer Fault) → returned ≡ Err fault
+      → FailsJob files.view on_chip fault → EndsChipJob files after on_chip unwritten returned
+  failed_ends fault returned is fails = rw is (fails_ends fault fails)
+
+  pub failed_holds : (fault : Fault) (returned : Result Answer Fault) → returned ≡ Err fault
+      → HoldsResult on_chip unwritten returned files after
+  failed_holds fault returned is = rw is tt
+
   pub answer_ended : (words : List Text) (returned : Result Answer Fault) → IsJob words (job.Chip on_chip)
       → (AreAtRest files → KeepsFiles on_chip.programmer on_chip.task files after)
       → (AreAtRest files → HoldsResult on_chip unwritten returned files after)
@@ -47,6 +92,17 @@ module _ (files after : FilesState) (on_chip : ChipJob) (unwritten : Unwritten) 
       → AnswersArguments files after words (Err fault) unwritten
   answer_failed words fault asks keeps fails =
       answer_ended words (Err fault) asks keeps (λ rest. tt) (fails_ends fault fails)
+
+-- ---- where a fault is printed
+
+-- each result may be printed to standard error
+pub printed_at : (nature : Nature) (returned : Result Answer Fault) → IsPrintedAt nature returned at.Errors
+printed_at nature (Ok found) = refl
+printed_at nature (Err fault) = tt
+
+pub printed_there : (nature : Nature) (fault : Fault) (to : Reports) (returned : Result Answer Fault)
+    → returned ≡ Err fault → IsReportedTo nature fault to → IsPrintedAt nature returned to
+printed_there nature fault to returned is reported = rw is reported
 
 -- ---- what the files hold
 
@@ -66,13 +122,15 @@ holds_readonly on_chip result old new not_written_back = grind arith
 -- ---- runs
 
 module _ (files after : FilesState) (words : List Text) where
-  module _ (outcome : Result Answer Fault) (unwritten : Unwritten) (out out' err err' : Option (List ℕ))
+  module _ (outcome : Result Answer Fault) (unwritten : Unwritten) (to : Reports) (out out' err err' : Option (List ℕ))
       (ending : Ending) (answers : AnswersArguments files after words outcome unwritten)
-      (prints : HasPrinted outcome unwritten out out' err err' ending) where
+      (printed_at : IsPrintedAt files.view.nature outcome to)
+      (prints : HasPrinted outcome unwritten to out out' err err' ending) where
     pub is_status : IsStatus files after words out out' err err' ending
     is_status = grind arith
 
 -- `IsStatus` holds for a run that had no memory for its arguments: it changes no file, and prints that fault.
 pub is_without_memory : (files : FilesState) (words : List Text) (out out' err err' : Option (List ℕ)) (ending : Ending)
-    → HasPrinted (Err (end.Usage usage.Memory because.Unsaid)) all_written out out' err err' ending → IsStatus files files words out out' err err' ending
+    → HasPrinted (Err (end.Usage usage.Memory because.Unsaid)) all_written at.Errors out out' err err' ending
+    → IsStatus files files words out out' err err' ending
 is_without_memory files words out out' err err' ending prints = grind arith

@@ -1,9 +1,13 @@
 -- The faults of comparing two files of a job, or one file with the streams, as faults of the job's roles.
-use Rattle.std.proofs.Common.{◌≡◌, IfErr, Result, true, arith}
+use Rattle.std.proofs.Common.{◌≡◌, IfErr, IfSome, Option, None, Some, Result, true, arith, inl, inr, refl}
+use Rattle.std.specs.Prelude.{IsSomeAnd}
+use Rattle.std.specs.Borrow.{Bor}
+use Rattle.nor_words.specs.Text.{Text}
 use Rattle.nor_files.specs.Files.{Nature}
-use Rattle.nor_lines.specs.Roles.{FailsApart, FailsUnprinted}
+use Rattle.nor_files.specs.Files.Failure.{Printed}
+use Rattle.nor_lines.specs.Roles.{FailsApart, IsUnseenFile, IsUnseenStream}
 use Rattle.nor_words.specs.declared.job.ChipJob.{ChipJob}
-use Rattle.flashnor.specs.Roles.{FailsFileRoles, file_with_role, is_written, must_differ}
+use Rattle.flashnor.specs.Roles.{FailsFileRoles, IsPrintedName, changes_files, file_with_role, must_differ}
 use Rattle.nor_lines.specs.declared.messages.Fault.{Fault}
 use Rattle.flashnor.specs.declared.roles.Role.{Role}
 
@@ -13,7 +17,17 @@ pub pair_fails : {T : Type 0} (nature : Nature) (job : ChipJob) (earlier later :
     → IfErr result (FailsFileRoles nature job)
 pair_fails nature job earlier later result differ fails = grind arith
 
-pub stream_fails : {T : Type 0} (nature : Nature) (job : ChipJob) (role : Role) (result : Result T Fault)
-    → is_written job role ≡ true → IfErr result (FailsUnprinted nature (file_with_role job role))
-    → IfErr result (FailsFileRoles nature job)
-stream_fails nature job role result written fails = grind arith
+module _ (nature : Nature) (job : ChipJob) (fault : Fault) where
+  pub unseen_fails : (role : Role) → IsUnseenFile nature (file_with_role job role) fault
+      → FailsFileRoles nature job fault
+  unseen_fails role unseen = inr (inr (inl (role, unseen)))
+
+  pub stream_fails : changes_files job ≡ true → IsUnseenStream nature fault → FailsFileRoles nature job fault
+  stream_fails changes unseen = inr (inr (inr (changes, unseen)))
+
+-- the file in a role to which the program prints is a file of the job
+pub printed_name : (nature : Nature) (job : ChipJob) (role : Role) (found : Option (Bor Text))
+    → found ≡ file_with_role job role → IsSomeAnd found (λ given. nature.fails (Printed given.now) ≡ true)
+    → IfSome found (λ name. IsPrintedName nature job name.now)
+printed_name nature job role None is printed = tt
+printed_name nature job role (Some of) is printed = (role, rw (← is) (refl, printed))

@@ -1,15 +1,22 @@
 -- The text that several writes print.
 use Rattle.std.proofs.Common.{◌≡◌, ℕ, Bool, List, Option, Some, Result, Err, IfSome, arith}
-use Rattle.std.proofs.Common.{true}
+use Rattle.std.proofs.Common.{false, true}
 use Rattle.std.specs.Fmt.{option_append}
 use Rattle.std.specs.Io.KnownBytes.{Appends}
 use Rattle.nor_lines.proofs.Printed.{appends_then}
 use Rattle.flashnor.specs.Endings.{EndsBadly, EndsWell, HasPrinted}
+use Rattle.flashnor.specs.FaultLines.{line_of_output}
+use Rattle.nor_lines.specs.FaultLines.{line_of}
+use Rattle.nor_lines.specs.Messages.{IsLostOutput}
 use Rattle.nor_lines.specs.Printing.{IsAnswered, PrintsAnswer}
 use Rattle.nor_lines.specs.declared.answers.Answer.{Answer}
 use Rattle.flashnor.specs.declared.holding.Unwritten.{Unwritten}
 use Rattle.nor_lines.specs.declared.messages.Fault.{Fault}
+use Rattle.nor_lines.specs.declared.messages.Fault.TheVariants as end
+use Rattle.nor_lines.specs.declared.messages.FileFault.TheVariants as file
 use Rattle.flashnor.specs.declared.printing.Ending.{Ending}
+use Rattle.flashnor.specs.declared.streams.Reports.{Reports}
+use Rattle.flashnor.specs.declared.streams.Reports.TheVariants as at
 
 -- The print of a line, and after it that of other lines, append both, if the first line is known.
 pub appends_both : (line : Option (List ℕ)) (a b c : Option (List ℕ)) (others : List ℕ) → IfSome line (Appends a b) → Appends b c others
@@ -17,13 +24,32 @@ pub appends_both : (line : Option (List ℕ)) (a b c : Option (List ℕ)) (other
 appends_both line a b c others one two = grind (arith, appends_then)
 
 -- `HasPrinted` holds after a run with an answer or help
-pub printed_well : (outcome : Result Answer Fault) (unwritten : Unwritten) (out out' err err' : Option (List ℕ)) (ending : Ending)
-    (is_printed : Bool) → IsAnswered outcome → (is_printed ≡ true → PrintsAnswer outcome out out')
-    → EndsWell is_printed unwritten err err' ending → HasPrinted outcome unwritten out out' err err' ending
-printed_well outcome unwritten out out' err err' ending is_printed answered prints ends = grind arith
+pub printed_well : (outcome : Result Answer Fault) (unwritten : Unwritten) (to : Reports)
+    (out out' err err' : Option (List ℕ)) (ending : Ending) (is_printed : Bool)
+    → IsAnswered outcome → (is_printed ≡ true → PrintsAnswer outcome out out')
+    → EndsWell is_printed unwritten err err' ending → HasPrinted outcome unwritten to out out' err err' ending
+printed_well outcome unwritten to out out' err err' ending is_printed answered prints ends = grind arith
 
 -- `HasPrinted` holds after a run with a fault that is not help
 pub printed_badly : (fault : Fault) (unwritten : Unwritten) (out err err' : Option (List ℕ)) (ending : Ending)
     → (IsAnswered (Err fault) → ⊥) → EndsBadly fault unwritten err err' ending
-    → HasPrinted (Err fault) unwritten out out err err' ending
+    → HasPrinted (Err fault) unwritten at.Errors out out err err' ending
 printed_badly fault unwritten out err err' ending never ends = grind arith
+
+-- `HasPrinted` holds after such a run whose fault was printed to standard output
+pub printed_aside : (fault : Fault) (unwritten : Unwritten) (out out' err : Option (List ℕ)) (ending : Ending)
+    → (IsAnswered (Err fault) → ⊥) → EndsBadly fault unwritten out out' ending
+    → HasPrinted (Err fault) unwritten at.Output out out' err err ending
+printed_aside fault unwritten out out' err ending never ends = grind arith
+
+-- `HasPrinted` holds after such a run that printed nothing
+pub printed_nowhere : (fault : Fault) (unwritten : Unwritten) (out err : Option (List ℕ)) (ending : Ending)
+    → (IsAnswered (Err fault) → ⊥) → ending ≡ record { status = 1; printed = false; reported = false }
+    → HasPrinted (Err fault) unwritten at.Nowhere out out err err ending
+printed_nowhere fault unwritten out err ending never ends = grind arith
+
+-- ---- standard output
+
+pub output_line : (fault : Fault) → IsLostOutput fault → line_of fault ≡ Some line_of_output
+output_line (end.File file.Write of) is = grind arith
+output_line _ is = absurd is

@@ -6,6 +6,7 @@ pub mod Left
 pub mod Found
 pub mod Tasks
 pub mod Roles
+pub mod Streams
 pub mod Requests
 pub mod Readings
 pub mod Changes

@@ -1,14 +1,17 @@
 -- The roles of a job's files, and which roles need different files.
-use Rattle.std.specs.Prelude.{◌≡◌, ◌⊎◌, ◌&&◌, ◌||◌, ℕ, Bool, true, false, Option, nat_lt}
+use Rattle.std.specs.Prelude.{◌≡◌, ◌⊎◌, ◌&&◌, ◌||◌, ℕ, Bool, true, false, Option, IsSomeAnd, is_some, nat_lt}
 use Rattle.std.specs.Borrow.{Bor}
 use Rattle.nor_words.specs.Text.{Text}
 use Rattle.nor_words.specs.declared.job.ChipJob.{ChipJob}
 use Rattle.nor_files.specs.Files.{Nature}
-use Rattle.nor_lines.specs.Roles.{IsPrintedTo, IsShared, IsUnseenFile}
+use Rattle.nor_files.specs.Files.Failure.{Printed}
+use Rattle.nor_lines.specs.Roles.{IsShared, IsUnseenFile, IsUnseenStream}
 use Rattle.nor_lines.specs.Stored.{AreTwo}
 use Rattle.nor_lines.specs.Tasks.{named_by}
 use Rattle.flashnor.specs.Tasks.{writes_back}
 use Rattle.nor_lines.specs.declared.messages.Fault.{Fault}
+use Rattle.nor_lines.specs.declared.messages.Fault.TheVariants as end
+use Rattle.nor_lines.specs.declared.messages.FileFault.TheVariants as file
 use Rattle.flashnor.specs.declared.roles.Role.{Role}
 use Rattle.flashnor.specs.declared.roles.Role.TheVariants as role
 
@@ -88,16 +91,30 @@ abbrev pub IsTwice : Nature → ChipJob → Fault → Type 0
 IsTwice nature job fault = (earlier later : Role) × (must_differ job earlier later ≡ true)
     × IsShared nature (file_with_role job earlier) (file_with_role job later) fault
 
--- Holds for file fault 5 with the name of a file that the job writes, if the files allow that the program prints to
--- that file.
+-- Holds if a file of the job has this name, and the files allow that the program prints to that file.
+abbrev pub IsPrintedName : Nature → ChipJob → Text → Type 0
+IsPrintedName nature job name = (role : Role) × IsSomeAnd (file_with_role job role) (λ of.
+    (name ≡ of.now) × (nature.fails (Printed of.now) ≡ true))
+
+-- Holds for file fault 5 with the name of a file of the job, if the files allow that the program prints to that file.
 abbrev pub IsStream : Nature → ChipJob → Fault → Type 0
-IsStream nature job fault = (written : Role) × (is_written job written ≡ true)
-    × IsPrintedTo nature (file_with_role job written) fault
+IsStream nature job (end.File file.Taken of) = IsPrintedName nature job of.now
+IsStream nature job _ = ⊥
+
+-- True if the job may change or create a file: one of the chip's, the trace, or the file of a copy.
+abbrev pub changes_files : ChipJob → Bool
+changes_files job = writes_back job.task || (is_some job.programmer.trace || is_some (named_by job.task).output)
+
+-- Holds for file fault 1 with the name of a standard stream, if the job may change or create a file, and the files allow
+-- that this stream can't be looked up.
+abbrev pub IsWithoutStream : Nature → ChipJob → Fault → Type 0
+IsWithoutStream nature job fault = (changes_files job ≡ true) × IsUnseenStream nature fault
 
 -- Holds for file fault 1 with the name of a file of the job, if the files allow that this name can't be looked up.
 abbrev pub IsUnseen : Nature → ChipJob → Fault → Type 0
 IsUnseen nature job fault = (role : Role) × IsUnseenFile nature (file_with_role job role) fault
 
--- Holds for the faults of comparing a job's files with one another and with the files that the program prints to.
+-- Holds for the faults of comparing a job's files with one another and with the standard streams.
 abbrev pub FailsFileRoles : Nature → ChipJob → Fault → Type 0
-FailsFileRoles nature job fault = IsTwice nature job fault ⊎ (IsStream nature job fault ⊎ IsUnseen nature job fault)
+FailsFileRoles nature job fault = IsTwice nature job fault
+    ⊎ (IsStream nature job fault ⊎ (IsUnseen nature job fault ⊎ IsWithoutStream nature job fault))

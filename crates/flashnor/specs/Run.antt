@@ -38,9 +38,10 @@ use Rattle.nor_lines.specs.Printing.{Prints}
 use Rattle.nor_lines.specs.Stored.{IsNot, IsRead, IsReportedOf, StaysOf}
 use Rattle.flashnor.specs.Left.{KeepsOriginalFiles, KeepsRestorable, IsRestorableFrom, Opened}
 use Rattle.flashnor.specs.Roles.{FailsFileRoles, FilesHaveOneRole}
-use Rattle.flashnor.specs.Tasks.{writes_back}
+use Rattle.flashnor.specs.Streams.{IsReportedTo}
+use Rattle.flashnor.specs.Tasks.{journal_by, writes_back}
 use Rattle.nor_lines.specs.Tasks.{made_by}
-use Rattle.nor_files.specs.Files.{AllStay, AreAtRest, FilesState, IsKnownFile, IsDurable, Name, KeepsFile, View}
+use Rattle.nor_files.specs.Files.{AllStay, AreAtRest, FilesState, IsKnownFile, IsDurable, Name, KeepsFile, Nature, View}
 use Rattle.nor_lines.specs.Files.{IsMaking, IsReadingFault, IsSharingFault}
 use Rattle.flashnor.specs.Readings.{IdentifiesEmulated, ReportsEmulated, ReportsEmulatedSize}
 use Rattle.nor_lines.specs.Readings.{HasReadOut, HasReported, HasVerified, ListsRanges, ReportsProtection}
@@ -53,6 +54,8 @@ use Rattle.flashnor.specs.declared.holding.Unwritten.{Unwritten}
 use Rattle.nor_lines.specs.declared.messages.Fault.{Fault}
 use Rattle.nor_lines.specs.declared.messages.Fault.TheVariants as end
 use Rattle.flashnor.specs.declared.printing.Ending.{Ending}
+use Rattle.flashnor.specs.declared.streams.Reports.{Reports}
+use Rattle.flashnor.specs.declared.streams.Reports.TheVariants as at
 
 -- ---- calls
 
@@ -134,7 +137,7 @@ DoesTraced files after job old new outcome = (amid : View) × IsViewBut job.prog
 -- Holds if the call was made, and the roles that need different files have them. The bus was started as the programmer
 -- says, to the chip that the programmer's files hold. `left`: if the files were at rest and the task writes the chip
 -- back, each named file of the chip was written or is named in `unwritten`. `traced`: the only trace that may have lost
--- a line is the programmer's.
+-- a line is the programmer's. `kept`: the only journal that may have been lost is the one that the task created.
 pub record IsCalled (files after : FilesState) (job : ChipJob) (unwritten : Unwritten)
     (outcome : Result Answer Refusal) : Type 0 where
   pub roles : FilesHaveOneRole files.view.nature job
@@ -149,6 +152,7 @@ pub record IsCalled (files after : FilesState) (job : ChipJob) (unwritten : Unwr
   pub left : AreAtRest files → writes_back job.task ≡ true
       → AreWrittenBack job.programmer new.chip unwritten.image unwritten.status after
   pub traced : OnSome unwritten.trace (unwritten.trace ≡ job.programmer.trace)
+  pub kept : IsReportedOf (journal_by job.task) unwritten.journal files.view
 
 -- ---- faults from before the call
 
@@ -318,8 +322,14 @@ abbrev pub RunSucceeds : (files after : FilesState) → List Text → (out out' 
 RunSucceeds files after words out out' = IsAmong kind.DisplayHelp (refusals_of words)
     ⊎ ((found : Answer) × AnswersArguments files after words (Ok found) all_written × Prints (AreLines found) out out')
 
+-- Holds if the fault of a run, if there is one, may be printed there.
+abbrev pub IsPrintedAt : Nature → Result Answer Fault → Reports → Type 0
+IsPrintedAt nature (Ok found) to = to ≡ at.Errors
+IsPrintedAt nature (Err fault) to = IsReportedTo nature fault to
+
 -- Describes how a run ended, and what the streams hold before and after, if known. The status is 0 or 1. The status is
--- 1 if the arguments ask neither for a job nor for help, and 0 only if the run succeeds.
+-- 1 if the arguments ask neither for a job nor for help, and 0 only if the run succeeds. `to` says where a fault is
+-- printed.
 pub record IsStatus (files after : FilesState) (words : List Text) (out out' err err' : Option (List ℕ))
     (ending : Ending) : Type 0 where
   pub few : ending.status ≤ 1
@@ -329,4 +339,6 @@ pub record IsStatus (files after : FilesState) (words : List Text) (out out' err
   pub outcome : Result Answer Fault
   pub unwritten : Unwritten
   pub answers : AnswersArguments files after words outcome unwritten
-  pub prints : HasPrinted outcome unwritten out out' err err' ending
+  pub to : Reports
+  pub is_printed_at : IsPrintedAt files.view.nature outcome to
+  pub prints : HasPrinted outcome unwritten to out out' err err' ending

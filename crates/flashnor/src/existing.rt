@@ -13,33 +13,38 @@ use crate::changes::read_wanted;
 use crate::chips::read_content;
 use crate::roles::has_own_trace;
 use nor_files::Store;
-use nor_lines::{Fault, FileFault, create_log, read_included};
-use nor_words::{Change, ChipJob, JournalUse, Task};
+use nor_lines::{Fault, FileFault, create_log, journal_of, read_included};
+use nor_words::{ChipJob, Task};
+
+/// Returns the name of the journal that the task creates, if it creates one.
+pub fn journal_by<'a>(task: &Task<'a>) -> Option<&'a str>
+    ensures { result ≡ journal_by task.now }
+{
+    match task {
+        Task::Change(change) => journal_of(change),
+        _ => None,
+    }
+}
 
 /// Returns the name of the task's journal, if the task is to create its file and a file or link of that name exists.
 pub fn existing_journal<'a, R: Store>(rt: &R, task: &Task<'a>) -> Option<&'a str>
     ensures { IfSome result (λ file. (journal_by task.now ≡ Some file)
         × Happens (R.state rt.now).view (There file.now)) }
 {
-    match task {
-        Task::Change(
-            Change {
-                journal_use: JournalUse::Journal { file },
-                ..
-            },
-        ) if rt.is_there(*file) => Some(*file),
+    match journal_by(task) {
+        Some(file) if rt.is_there(file) => Some(file),
         _ => None,
     }
 }
 
 /// Returns the first fault of a session whose journal exists.
 ///
-/// The trace is first compared with the other files of the job, and with those that the program prints to. Then
-/// everything that a session reads before it creates its journal is read, and the trace is created or truncated. The
-/// first fault of these steps is returned, or file fault 4 if there is none.
+/// The trace is first compared with the other files of the job. Then everything that a session reads before it creates
+/// its journal is read, and the trace is created or opened. The first fault of these steps is returned, or file fault 4
+/// if there is none.
 ///
-/// The trace is the only file that is created or truncated, and only if its name is apart from the names of the job's
-/// other files.
+/// The trace is the only file that is created, and only if its name is apart from the names of the job's other files.
+/// `Disk` does not truncate it, since nothing is written to it.
 pub fn fault_before<'a, R: Store>(rt: &mut R, job: &ChipJob<'a>, journal: &'a str) -> Fault<'a>
     requires makes { journal_by job.now.task ≡ Some journal }
     requires there { Happens (R.state rt.old).view (There journal.now) }
@@ -60,8 +65,7 @@ pub fn fault_before<'a, R: Store>(rt: &mut R, job: &ChipJob<'a>, journal: &'a st
     }
 }
 
-// Reads what a session reads before it creates its journal, and creates or truncates the trace, in the order of a
-// session.
+// Reads what a session reads before it creates its journal, and creates or opens the trace, in the order of a session.
 fn read_all<'a, R: Store>(rt: &mut R, job: &ChipJob<'a>) -> Result<(), Fault<'a>>
     requires { IsSome (journal_by job.now.task) }
     ensures fails { IfErr result (FailsJob (R.state rt.old).view job.now) }
@@ -75,7 +79,7 @@ fn read_all<'a, R: Store>(rt: &mut R, job: &ChipJob<'a>) -> Result<(), Fault<'a>
     Ok(())
 }
 
-// Creates the trace's file or truncates it, if a trace is requested.
+// Creates or opens the trace's file, if a trace is requested.
 fn make_trace<'a, R: Store>(rt: &mut R, trace: Option<&'a str>) -> Result<(), Fault<'a>>
     ensures nature { (R.state rt.new).view.nature ≡ (R.state rt.old).view.nature }
     ensures others { is_lawful (R.state rt.old).view ≡ true → (name : Name)

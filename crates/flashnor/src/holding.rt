@@ -10,12 +10,14 @@ ghost use Rattle.flashnor.specs.Found.{emulated_part};
 ghost use Rattle.flashnor.specs.Holding.{AreAmid, AreHeld, AreReady, IsHeld, IsReadyIfNamed, IsReadyFile};
 ghost use Rattle.flashnor.specs.Holding.{LeavesAmid, LeavesFileAmid, MakesDurable, FillsMissing};
 ghost use Rattle.nor_lines.specs.Stored.{AreTwo, Happens, IsFileFound, IsNot, IsRead, IsReportedOf};
+ghost use Rattle.flashnor.specs.Tasks.{journal_by};
 
 use crate::chips::{Content, content_of, read_whole};
+use crate::existing::journal_by;
 use nor_chip::{Bus, SimBus};
 use nor_files::{LockFault, Store};
 use nor_lines::{Fault, FileFault, reading, taken, unheld, unmade, unread};
-use nor_words::Programmer;
+use nor_words::{Programmer, Task};
 use std::io;
 
 /// The initial contents of the chip, and which of its files existed.
@@ -123,12 +125,24 @@ fn read_held<'a, R: Store>(rt: &mut R, name: &'a str, len: u32) -> Result<Vec<u8
     }
 }
 
-/// The names of the chip's files that could not be written after a call, and of the trace if it lost a line.
+/// The names of the chip's files that could not be written after a call, of the trace if it lost a line, and of the
+/// session's journal if it was removed, replaced or truncated after it was sealed.
 #[derive(Clone, Copy)]
 pub struct Unwritten<'a> {
     pub image: Option<&'a str>,
     pub status: Option<&'a str>,
     pub trace: Option<&'a str>,
+    pub journal: Option<&'a str>,
+}
+
+/// Returns the name of the journal that the task created, if its file doesn't have it any more.
+pub fn lost_journal<'a, R: Store>(rt: &R, task: &Task<'a>) -> Option<&'a str>
+    ensures { IsReportedOf (journal_by task.now) result (R.state rt.now).view }
+{
+    match journal_by(task) {
+        Some(file) if !rt.is_kept(file) => Some(file),
+        _ => None,
+    }
 }
 
 /// Writes the chip's bytes and status bytes to the files that are named. `image_there` and `status_there` say which of

@@ -7,7 +7,8 @@
 //! - `run.rt`: a run of the program, from its arguments to its exit status
 //! - `existing.rt`: ends a run if the file for its new journal already exists
 //! - `roles.rt`: checks that no file that a job writes has a second role (except an image that is both the chip's and
-//!   the one to write), or is one that the program prints to
+//!   the one to write)
+//! - `streams.rt`: checks that the program prints to no file of a job
 //! - `holding.rt`: opens, locks, reads and syncs the chip's files if the job writes them, and writes them back
 //! - `chips.rt`: reads the chip's files, and makes the simulated bus
 //! - `readings.rt`: the jobs that identify, read or verify a chip; `nor_lines` has those that list its protection
@@ -27,6 +28,7 @@ mod printing;
 mod readings;
 mod roles;
 mod run;
+mod streams;
 
 use nor_lines::{by_line, keep_streams};
 use run::{end_without_streams, run_words};

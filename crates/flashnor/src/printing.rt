@@ -1,11 +1,14 @@
 //! Prints the result and the faults of a run, and chooses the exit status.
-ghost use Rattle.std.specs.Prelude.{◌≡◌, ◌↔◌, IsTrue, None};
+ghost use Rattle.std.specs.Prelude.{◌≡◌, ◌↔◌, IsTrue, None, true};
 ghost use Rattle.std.specs.Io.KnownBytes.{Appends};
 ghost use Rattle.flashnor.specs.Endings.{EndsBadly, EndsWell, HasPrinted, all_written};
-ghost use Rattle.flashnor.specs.FaultLines.{line_of_unwritten, lines_of_unwritten};
+ghost use Rattle.flashnor.specs.FaultLines.{line_if_lost, line_of_unwritten, lines_of_unwritten};
 
 use crate::holding::Unwritten;
-use nor_lines::{Answer, Fault, FileFault, help_of, print_answer, print_fault, print_help};
+use crate::streams::Reports;
+use nor_lines::{
+    Answer, Fault, help_of, lost_output, print_answer, print_fault, print_help, unmade,
+};
 use std::io::Write;
 
 /// The end of a run, after everything that can be printed was printed.
@@ -15,21 +18,23 @@ pub struct Ending {
     pub status: u8,
     /// True if the answer or the help was printed.
     pub printed: bool,
-    /// True if the line of the fault, if there is one, and that of each file that could not be written were printed.
+    /// True if each of these lines was printed: that of the fault, if there is one, that of standard output if the
+    /// answer or the help could not be printed, and that of each file that could not be written.
     pub reported: bool,
 }
 
 /// Prints the result of a run: its answer or help to `output`; its fault and a line for each file that could not be
-/// written to `errors`. A line that can't be printed is lost. If it is a line of the answer or of the help, the status
-/// is 1.
+/// written to `errors`, or as `to` says. If a line of the answer or of the help can't be printed, prints file fault 2 of
+/// standard output to `errors`, and the status is 1. Any other line that can't be printed is lost.
 #[tactic(auto, using(crate::proofs::Printed::printed_well, crate::proofs::Printed::printed_badly))]
 pub fn print_end<O: Write, E: Write>(
     output: &mut O,
     errors: &mut E,
     answer: Result<Answer, Fault<'_>>,
     unwritten: Unwritten<'_>,
+    to: Reports,
 ) -> Ending
-    ensures { HasPrinted answer.entry unwritten.entry (O.contents output.old) (O.contents output.new)
+    ensures { HasPrinted answer.entry unwritten.entry to (O.contents output.old) (O.contents output.new)
         (E.contents errors.old) (E.contents errors.new) result }
 {
     match answer {
@@ -42,7 +47,15 @@ pub fn print_end<O: Write, E: Write>(
                 let printed = print_help(output, help).is_ok();
                 end_well(errors, printed, unwritten)
             }
-            None => end_badly(errors, &fault, unwritten),
+            None => match to {
+                Reports::Errors => end_badly(errors, &fault, unwritten),
+                Reports::Output => end_badly(output, &fault, unwritten),
+                Reports::Nowhere => Ending {
+                    status: 1,
+                    printed: false,
+                    reported: false,
+                },
+            },
         },
     }
 }
@@ -61,12 +74,14 @@ fn end_badly<W: Write>(errors: &mut W, fault: &Fault<'_>, unwritten: Unwritten<'
     }
 }
 
-// Prints the lines of files that could not be written, after the answer. The status is 0 if the answer or help was
-// printed and all files were written, and otherwise 1.
+// Prints the line of standard output, if the answer or help could not be printed, and the lines of files that could not
+// be written. The status is 0 if the answer or help was printed and all files were written, and otherwise 1.
+#[tactic(auto, using(nor_lines::proofs::Printed::appends_then))]
 fn end_well<W: Write>(errors: &mut W, printed: bool, unwritten: Unwritten<'_>) -> Ending
     ensures { EndsWell printed unwritten.entry (W.contents errors.old) (W.contents errors.new) result }
 {
-    let reported = print_unwritten(errors, unwritten);
+    let first = print_lost(errors, printed);
+    let others = print_unwritten(errors, unwritten);
     let status = if printed && is_all_written(unwritten) {
         0
     } else {
@@ -75,8 +90,22 @@ fn end_well<W: Write>(errors: &mut W, printed: bool, unwritten: Unwritten<'_>) -
     Ending {
         status,
         printed,
-        reported,
+        reported: first && others,
     }
+}
+
+// Prints the line of standard output, if the answer or help could not be printed. Returns false if that line could not
+// be printed.
+#[tactic(auto, using(crate::proofs::Printed::output_line))]
+fn print_lost<W: Write>(errors: &mut W, printed: bool) -> bool
+    ensures reported { IsTrue result
+        → Appends (W.contents errors.old) (W.contents errors.new) (line_if_lost printed) }
+    ensures none { printed ≡ true → W.contents errors.new ≡ W.contents errors.old }
+{
+    if printed {
+        return true;
+    }
+    print_fault(errors, &lost_output())
 }
 
 // Prints a line for each file that could not be written after a call. Returns whether all were printed.
@@ -88,7 +117,8 @@ fn print_unwritten<W: Write>(errors: &mut W, unwritten: Unwritten<'_>) -> bool
     let image = print_unwritten_file(errors, unwritten.image);
     let status = print_unwritten_file(errors, unwritten.status);
     let trace = print_unwritten_file(errors, unwritten.trace);
-    image && status && trace
+    let journal = print_unwritten_file(errors, unwritten.journal);
+    image && status && trace && journal
 }
 
 // Prints the line of a file that could not be written, if `name` is given. Returns false if a line could not be
@@ -101,13 +131,15 @@ fn print_unwritten_file<W: Write>(errors: &mut W, name: Option<&str>) -> bool
     let Some(name) = name else {
         return true;
     };
-    let fault = FileFault::Write;
-    print_fault(errors, &Fault::File { fault, name })
+    print_fault(errors, &unmade(name))
 }
 
 // True if every file was written.
 fn is_all_written(unwritten: Unwritten<'_>) -> bool
     ensures { IsTrue result ↔ (unwritten.entry ≡ all_written) }
 {
-    unwritten.image.is_none() && unwritten.status.is_none() && unwritten.trace.is_none()
+    unwritten.image.is_none()
+        && unwritten.status.is_none()
+        && unwritten.trace.is_none()
+        && unwritten.journal.is_none()
 }

@@ -1,18 +1,19 @@
 //! Checks that roles of a job which need different files have them.
 ghost use Rattle.std.specs.Prelude.{◌≡◌, true, IfErr, OnOk};
-ghost use Rattle.flashnor.specs.Roles.{FailsFileRoles, FilesHaveOneRole, HasOwnTrace, file_with_role, is_written};
-ghost use Rattle.flashnor.specs.Roles.{must_differ};
+ghost use Rattle.flashnor.specs.Roles.{FailsFileRoles, FilesHaveOneRole, HasOwnTrace, file_with_role, must_differ};
 ghost use Rattle.nor_lines.specs.Stored.{AreTwo};
+ghost use Rattle.nor_lines.specs.declared.messages.Fault.TheVariants as Faults;
+ghost use Rattle.nor_request.specs.declared.refusal.Refusal.TheVariants as Refusals;
 
 use crate::run::writes_back;
 use nor_files::Store;
-use nor_lines::{Fault, Named, apart, named_by, unprinted};
+use nor_lines::{Fault, Named, apart, look_ahead, named_by};
 use nor_words::ChipJob;
 
-// The role of a file in a job. If two roles that need different files share one, the fault names the file of the later
-// role in this order.
+/// The role of a file in a job. If two roles that need different files share one, the fault names the file of the later
+/// role in this order.
 #[derive(Clone, Copy)]
-enum Role {
+pub enum Role {
     Image,
     Status,
     Trace,
@@ -22,25 +23,7 @@ enum Role {
     Journal,
 }
 
-/// Checks that roles of a job which need different files have them, and that no file that is written is one that the
-/// program prints to.
-///
-/// Two roles may share a file only if the job writes it in neither role, or if the two are the chip's image and the
-/// image to write. The journal of a restore counts as written. The order of the checks is fixed: first pairs of files,
-/// then files that the program prints to.
-///
-/// Returns file fault 5 with the name of the later of two roles (image, status, trace, layout, image to write or
-/// compare, output, journal), or with a name that is printed to. Returns file fault 1 if a name can't be looked up.
-pub fn have_one_role<'a, R: Store>(rt: &R, job: &ChipJob<'a>) -> Result<(), Fault<'a>>
-    ensures ok { OnOk result (FilesHaveOneRole (R.state rt.now).view.nature job.now) }
-    ensures err { IfErr result (FailsFileRoles (R.state rt.now).view.nature job.now) }
-{
-    are_apart(rt, job)?;
-    are_unprinted(rt, job)
-}
-
-/// Checks that the trace's file is no other file of a session, and is not printed to. Returns the faults of
-/// `have_one_role`.
+/// Checks that the trace's file is no other file of a session. Returns the faults of `have_one_role`.
 pub fn has_own_trace<'a, R: Store>(rt: &R, job: &ChipJob<'a>) -> Result<(), Fault<'a>>
     ensures ok { OnOk result (HasOwnTrace (R.state rt.now).view.nature job.now) }
     ensures err { IfErr result (FailsFileRoles (R.state rt.now).view.nature job.now) }
@@ -49,12 +32,18 @@ pub fn has_own_trace<'a, R: Store>(rt: &R, job: &ChipJob<'a>) -> Result<(), Faul
     check_pair(rt, job, Role::Status, Role::Trace)?;
     check_pair(rt, job, Role::Trace, Role::Layout)?;
     check_pair(rt, job, Role::Trace, Role::Wanted)?;
-    check_pair(rt, job, Role::Trace, Role::Journal)?;
-    check_unprinted(rt, job, Role::Trace)
+    check_pair(rt, job, Role::Trace, Role::Journal)
 }
 
-// Checks each pair of roles that needs two files: the store must report that their names refer to different files.
-fn are_apart<'a, R: Store>(rt: &R, job: &ChipJob<'a>) -> Result<(), Fault<'a>>
+/// Checks that roles of a job which need different files have them: the store must report that the names of each pair
+/// refer to different files.
+///
+/// Two roles may share a file only if the job writes it in neither role, or if the two are the chip's image and the
+/// image to write. The journal of a restore counts as written.
+///
+/// Returns file fault 5 with the name of the later of two roles (image, status, trace, layout, image to write or
+/// compare, output, journal). Returns file fault 1 if a name can't be looked up.
+pub fn have_one_role<'a, R: Store>(rt: &R, job: &ChipJob<'a>) -> Result<(), Fault<'a>>
     ensures ok { OnOk result (FilesHaveOneRole (R.state rt.now).view.nature job.now) }
     ensures err { IfErr result (FailsFileRoles (R.state rt.now).view.nature job.now) }
 {
@@ -79,21 +68,19 @@ fn are_apart<'a, R: Store>(rt: &R, job: &ChipJob<'a>) -> Result<(), Fault<'a>>
     check_pair(rt, job, Role::Wanted, Role::Journal)
 }
 
-// Checks that the program prints to no file of the job that is written.
-fn are_unprinted<'a, R: Store>(rt: &R, job: &ChipJob<'a>) -> Result<(), Fault<'a>>
-    ensures { IfErr result (FailsFileRoles (R.state rt.now).view.nature job.now) }
+/// Looks up the files that the task only reads, before the run opens any file: the layout, and the image to write or
+/// compare. A later read of a name that can't be looked up now is file fault 1.
+///
+/// Returns error 18 if memory runs out.
+pub fn look_at_sources<'a, R: Store>(rt: &R, job: &ChipJob<'a>) -> Result<(), Fault<'a>>
+    ensures { IfErr result (λ fault. fault ≡ Faults.Refused Refusals.Memory) }
 {
-    if writes_back(&job.task) {
-        check_unprinted(rt, job, Role::Image)?;
-        check_unprinted(rt, job, Role::Status)?;
-    }
-    check_unprinted(rt, job, Role::Trace)?;
-    check_unprinted(rt, job, Role::Output)?;
-    check_unprinted(rt, job, Role::Journal)
+    look_ahead(rt, file_with_role(job, Role::Layout))?;
+    look_ahead(rt, file_with_role(job, Role::Wanted))
 }
 
-// Returns the file that a job has in this role, if it names one.
-fn file_with_role<'a>(job: &ChipJob<'a>, role: Role) -> Option<&'a str>
+/// Returns the file that a job has in this role, if it names one.
+pub fn file_with_role<'a>(job: &ChipJob<'a>, role: Role) -> Option<&'a str>
     ensures { result ≡ file_with_role job.now role }
 {
     let Named {
@@ -128,13 +115,4 @@ fn check_pair<'a, R: Store>(
     ensures err { IfErr result (FailsFileRoles (R.state rt.now).view.nature job.now) }
 {
     apart(rt, file_with_role(job, earlier), file_with_role(job, later))
-}
-
-// Checks that the program does not print to the written file of this role, if the job names one.
-#[tactic(auto, using(crate::proofs::OneRole::stream_fails))]
-fn check_unprinted<'a, R: Store>(rt: &R, job: &ChipJob<'a>, role: Role) -> Result<(), Fault<'a>>
-    requires { is_written job.now role ≡ true }
-    ensures { IfErr result (FailsFileRoles (R.state rt.now).view.nature job.now) }
-{
-    unprinted(rt, file_with_role(job, role))
 }

@@ -10,17 +10,20 @@ ghost use Rattle.nor_lines.specs.Tasks.{made_by};
 ghost use Rattle.flashnor.specs.Endings.{EndsWith, HasPrinted, IsUnread, IsWithoutStreams, all_written};
 ghost use Rattle.flashnor.specs.Run.{AnswersArguments, DoesJob, DoesTraced, EndsChipJob, FailsTask, FailsJob};
 ghost use Rattle.flashnor.specs.Roles.{FilesHaveOneRole};
-ghost use Rattle.flashnor.specs.Run.{FailsTraced, HoldsResult, IsStatus, KeepsFiles, StayBut};
+ghost use Rattle.flashnor.specs.Run.{FailsTraced, HoldsResult, IsPrintedAt, IsStatus, KeepsFiles, StayBut};
+ghost use Rattle.flashnor.specs.Streams.{IsReportedTo};
 ghost use Rattle.flashnor.specs.Tasks.{journal_by, writes_back};
+ghost use Rattle.flashnor.specs.declared.streams.Reports.TheVariants as to;
 
 use crate::changes::{change_chip, restore_chip};
 use crate::chips::{read_content, start};
 use crate::existing::{existing_journal, fault_before};
-use crate::holding::{Held, Unwritten, hold_content, write_back};
+use crate::holding::{Held, Unwritten, hold_content, lost_journal, write_back};
 use crate::laws::runs_restore_original;
 use crate::printing::{Ending, print_end};
 use crate::readings::{find_chip, read_chip, report_size, verify_chip};
-use crate::roles::have_one_role;
+use crate::roles::{have_one_role, look_at_sources};
+use crate::streams::{Reports, StreamFault, are_unprinted};
 use nor_chip::{Bus, Meter, SimBus, TraceBus};
 use nor_files::{Disk, LockFile, Store};
 use nor_lines::{
@@ -94,11 +97,11 @@ fn arguments_after_name(alloc: Global, args: Args) -> Result<Vec<String>, AllocE
 
 // Ends a run that made no call to the engine: prints `fault`.
 fn end_before<O: Write, E: Write>(fault: Fault<'_>, output: &mut O, errors: &mut E) -> Ending
-    ensures { HasPrinted (Err fault.entry) all_written (O.contents output.old) (O.contents output.new)
+    ensures { HasPrinted (Err fault.entry) all_written to.Errors (O.contents output.old) (O.contents output.new)
         (E.contents errors.old) (E.contents errors.new) result }
 {
     let Work { answer, unwritten } = Work::before(Err(fault));
-    print_end(output, errors, answer, unwritten)
+    print_end(output, errors, answer, unwritten, Reports::Errors)
 }
 
 /// Performs the job given by `words`, the arguments without the program's name, over any store of files. Prints the
@@ -115,8 +118,9 @@ pub fn run_over<R: Store, O: Write, E: Write>(
 {
     // The call does nothing at run time. A law is checked only in a program that calls it.
     runs_restore_original::<R>();
-    let Work { answer, unwritten } = run(rt, words);
-    print_end(output, errors, answer, unwritten)
+    let (work, to) = run(rt, words);
+    let Work { answer, unwritten } = work;
+    print_end(output, errors, answer, unwritten, to)
 }
 
 // The result of a run's work, and the names of the files that could not be written.
@@ -136,23 +140,46 @@ impl<'a> Work<'a> {
             image: None,
             status: None,
             trace: None,
+            journal: None,
         };
         Work { answer, unwritten }
     }
 }
 
-// Performs the job given by the arguments. Returns its result, which isn't printed yet.
-fn run<'a, R: Store>(rt: &mut R, words: &'a [String]) -> Work<'a>
-    ensures { AnswersArguments (R.state rt.old) (R.state rt.new) (map string_bytes words.now) result.answer
-        result.unwritten }
+// Performs the job given by the arguments. Returns its result, which isn't printed yet, and where a fault is printed.
+#[tactic(auto, using(crate::proofs::Ended::answer_ended, nor_lines::proofs::Lent::stays_same))]
+fn run<'a, R: Store>(rt: &mut R, words: &'a [String]) -> (Work<'a>, Reports)
+    ensures answers { AnswersArguments (R.state rt.old) (R.state rt.new) (map string_bytes words.now) result.0.answer
+        result.0.unwritten }
+    ensures to { IsPrintedAt (R.state rt.old).view.nature result.0.answer result.1 }
 {
     match explained_request_of(rt.alloc(), words) {
-        Ok(Job::List) => Work::before(Ok(Answer::Chips)),
-        Ok(Job::Chip(job)) => match work_on_chip(rt, &job) {
-            Ok(work) => work,
-            Err(fault) => Work::before(Err(fault)),
+        Ok(Job::List) => (Work::before(Ok(Answer::Chips)), Reports::Errors),
+        Ok(Job::Chip(job)) => run_on_chip(rt, &job),
+        Err(WrongArguments { fault, reason }) => {
+            let wrong = Fault::Usage { fault, reason };
+            (Work::before(Err(wrong)), Reports::Errors)
+        }
+    }
+}
+
+// Performs a job on a chip, unless the program prints to one of the job's files. Returns its result, and where a fault is
+// printed.
+#[tactic(auto, using(crate::proofs::Ended::failed_ends, crate::proofs::Ended::failed_holds, crate::proofs::Ended::printed_at, crate::proofs::Ended::printed_there, crate::proofs::Before::keeps_still))]
+fn run_on_chip<'a, R: Store>(rt: &mut R, job: &ChipJob<'a>) -> (Work<'a>, Reports)
+    ensures ends { EndsChipJob (R.state rt.old) (R.state rt.new) job.now result.0.unwritten result.0.answer }
+    ensures keeps { AreAtRest (R.state rt.old)
+        → KeepsFiles job.now.programmer job.now.task (R.state rt.old) (R.state rt.new) }
+    ensures holds { AreAtRest (R.state rt.old)
+        → HoldsResult job.now result.0.unwritten result.0.answer (R.state rt.old) (R.state rt.new) }
+    ensures to { IsPrintedAt (R.state rt.old).view.nature result.0.answer result.1 }
+{
+    match are_unprinted(rt, job) {
+        Ok(()) => match work_on_chip(rt, job) {
+            Ok(work) => (work, Reports::Errors),
+            Err(fault) => (Work::before(Err(fault)), Reports::Errors),
         },
-        Err(WrongArguments { fault, reason }) => Work::before(Err(Fault::Usage { fault, reason })),
+        Err(StreamFault { fault, to }) => (Work::before(Err(fault)), to),
     }
 }
 
@@ -172,6 +199,7 @@ fn work_on_chip<'a, R: Store>(rt: &mut R, job: &ChipJob<'a>) -> Result<Work<'a>,
         return Err(fault_before(rt, job, name));
     }
     have_one_role(rt, job)?;
+    look_at_sources(rt, job)?;
     if writes_back(&job.task) {
         change_files(rt, job)
     } else {
@@ -197,6 +225,7 @@ fn look_at_files<'a, R: Store>(rt: &mut R, job: &ChipJob<'a>) -> Result<Work<'a>
         image: None,
         status: None,
         trace: lost,
+        journal: None,
     };
     let answer = or_fault(outcome);
     Ok(Work { answer, unwritten })
@@ -228,6 +257,7 @@ fn change_files<'a, R: Store>(rt: &mut R, job: &ChipJob<'a>) -> Result<Work<'a>,
         image,
         status,
         trace: lost,
+        journal: lost_journal(rt, &job.task),
     };
     let answer = or_fault(outcome);
     Ok(Work { answer, unwritten })

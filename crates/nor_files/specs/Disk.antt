@@ -1,6 +1,6 @@
 -- The system's files, as contracts see them.
-use Rattle.std.specs.Prelude.{⊤, false, true, None, not}
-use Rattle.nor_files.specs.Files.{FilesState}
+use Rattle.std.specs.Prelude.{◌≡◌, ◌⊎◌, ⊤, false, true, None, codes, not}
+use Rattle.nor_files.specs.Files.{FilesState, Name}
 use Rattle.nor_files.specs.Named.{are_same_names}
 
 -- A store of which nothing is known: it need not obey the contract, and each call may fail in each way. Two names are
@@ -16,3 +16,7 @@ unknown = record {
   borrowed = None;
   may_leave = λ name left. ⊤;
 }
+
+-- Holds for the last names under which standard output and standard error are looked up.
+abbrev pub IsStreamName : Name → Type 0
+IsStreamName name = (name ≡ codes "/dev/fd/1") ⊎ (name ≡ codes "/dev/fd/2")

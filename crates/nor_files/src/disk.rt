@@ -3,12 +3,13 @@ ghost use Rattle.std.specs.Prelude.{◌≡◌, IfOk, IfSome, take};
 
 use crate::folder::sync_folder;
 use crate::held::{Held, hold_chip, hold_journal, mode_beside, sync_under, write_from_start};
-use crate::identity::{is_one_file, is_stream};
+use crate::identity::{is_one_file, is_stream, unseen_stream};
 use crate::locks::LockFile;
-use crate::making::{VaultedFile, make_empty, make_new};
-use crate::store::{CreateFault, LockFault, Store};
+use crate::making::{LogFile, VaultedFile, make_empty, make_new, open_log};
+use crate::store::{CreateFault, LockFault, Store, Stream};
 use nor_journal::{FileVault, Vault};
-use std::alloc::Global;
+use std::alloc::{AllocError, Global};
+use std::cell::RefCell;
 use std::fs::OpenFile;
 use std::io::{ErrorKind, Read, Seek};
 use std::os::unix::fs::FileTypeExt;
@@ -28,8 +29,12 @@ use std::{fs, io};
 pub struct Disk<'a, R: Files> {
     files: &'a R,
     held: Vec<Held<R::File>>,
+    // Names that could not be looked up when `look_ahead` was called.
+    unseen: RefCell<Vec<String>>,
     // The file whose vault was taken back last. It stays open, and so locked.
     vaulted: Option<VaultedFile<'a, R>>,
+    // Whether that vault was sealed.
+    sealed: bool,
 }
 
 impl<'a, R: Files + AllocGlobal> Disk<'a, R> {
@@ -38,14 +43,23 @@ impl<'a, R: Files + AllocGlobal> Disk<'a, R> {
         Disk {
             files,
             held: Vec::new(files.alloc()),
+            unseen: RefCell::new(Vec::new(files.alloc())),
             vaulted: None,
+            sealed: false,
         }
     }
 
-    // Returns the open file that the run keeps under this name, if there is one.
-    fn held(&self, name: &str) -> Option<&R::File> {
-        let held = self.held.iter().find(|held| held.name.as_str() == name)?;
-        held.file.as_ref()
+    // Returns the entry of a file that the run keeps under this name, if there is one.
+    fn held(&self, name: &str) -> Option<&Held<R::File>> {
+        self.held.iter().find(|held| held.name.as_str() == name)
+    }
+
+    // True if this name could not be looked up ahead.
+    fn is_unseen(&self, name: &str) -> bool {
+        match self.unseen.try_borrow() {
+            Ok(unseen) => unseen.iter().any(|unseen| unseen.as_str() == name),
+            Err(_) => false,
+        }
     }
 
     // Keeps a file open until the store is dropped. Returns whether the file exists.
@@ -78,7 +92,7 @@ where
 
     type Filed = FileVault<VaultedFile<'a, R>>;
 
-    type Log = R::File;
+    type Log = LogFile<R::File>;
 
     fn is_one_file<'n>(&self, one: &'n str, other: &'n str) -> Result<bool, &'n str> {
         if one == other {
@@ -87,8 +101,22 @@ where
         is_one_file(self.files, one, other)
     }
 
-    fn is_stream<'n>(&self, name: &'n str) -> Result<bool, &'n str> {
-        is_stream(self.files, name)
+    fn is_stream<'n>(&self, stream: Stream, name: &'n str) -> Result<bool, &'n str> {
+        is_stream(self.files, stream, name)
+    }
+
+    fn unseen_stream(&self) -> Option<&'static str> {
+        unseen_stream(self.files)
+    }
+
+    fn look_ahead(&self, name: &str) -> Result<(), AllocError> {
+        if fs::metadata(self.files, name).is_err() {
+            let name = String::from_str(self.files.alloc(), name)?;
+            if let Ok(mut unseen) = self.unseen.try_borrow_mut() {
+                unseen.push(name)?;
+            }
+        }
+        Ok(())
     }
 
     fn is_there(&self, name: &str) -> bool {
@@ -106,10 +134,19 @@ where
     }
 
     fn read_named(&self, name: &str, most: u64) -> io::Result<Option<Vec<u8>>> {
-        if let Some(held) = self.held(name) {
-            let mut file = held.try_clone()?;
+        if let Some(
+            Held {
+                file: Some(file),
+                ..
+            },
+        ) = self.held(name)
+        {
+            let mut file = file.try_clone()?;
             file.rewind()?;
             return Ok(Some(read_up_to(self.alloc(), file, most)?));
+        }
+        if self.is_unseen(name) {
+            return Ok(None);
         }
         match fs::open(self.files, name) {
             Ok(file) => Ok(Some(read_up_to(self.alloc(), file, most)?)),
@@ -131,7 +168,7 @@ where
 
     fn sync(&mut self, name: &str) -> io::Result<()> {
         match self.held(name) {
-            Some(file) => sync_under(self.files, name, file),
+            Some(held) => sync_under(self.files, held),
             None => Err(ErrorKind::NotFound.into()),
         }
     }
@@ -145,6 +182,7 @@ where
             if held.name.as_str() == name
                 && let Some(file) = &mut held.file
             {
+                held.len = None;
                 return write_from_start(file, bytes);
             }
         }
@@ -152,10 +190,16 @@ where
     }
 
     fn set_len(&mut self, name: &str, len: u64) -> io::Result<()> {
-        match self.held(name) {
-            Some(file) => file.set_len(len),
-            None => Err(ErrorKind::NotFound.into()),
+        for held in self.held.iter_mut() {
+            if held.name.as_str() == name
+                && let Some(file) = &held.file
+            {
+                file.set_len(len)?;
+                held.len = Some(len);
+                return Ok(());
+            }
         }
+        Err(ErrorKind::NotFound.into())
     }
 
     fn make(&mut self, name: &str) -> io::Result<()> {
@@ -185,11 +229,19 @@ where
     fn return_vault(&mut self, vault: FileVault<VaultedFile<'a, R>>) -> bool {
         let sealed = vault.is_sealed();
         self.vaulted = Some(vault.into_inner());
+        self.sealed = sealed;
         sealed
     }
 
-    fn log_in(&mut self, name: &str) -> Result<R::File, CreateFault> {
-        make_empty(self.files, name)
+    fn is_kept(&self, _name: &str) -> bool {
+        match &self.vaulted {
+            Some(file) if self.sealed => file.check().is_ok(),
+            _ => true,
+        }
+    }
+
+    fn log_in(&mut self, name: &str) -> Result<LogFile<R::File>, CreateFault> {
+        open_log(self.files, name)
     }
 }
 

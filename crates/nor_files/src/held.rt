@@ -16,6 +16,8 @@ use std::{fs, io};
 pub struct Held<F> {
     pub name: String,
     pub file: Option<F>,
+    /// The length that the file must have at a sync: the one that the run set, if it didn't write to the file since.
+    pub len: Option<u64>,
 }
 
 /// Opens a file of the chip that the run will write, and locks it exclusively. A missing file is recorded as missing.
@@ -31,7 +33,11 @@ where
     } else {
         None
     };
-    Ok(Held { name: owned, file })
+    Ok(Held {
+        name: owned,
+        file,
+        len: None,
+    })
 }
 
 /// Opens a journal that the run reads, and locks it for reading. A name that doesn't refer to a regular file, or that
@@ -49,7 +55,11 @@ where
         Ok(metadata) if metadata.is_file() => Some(open_shared(files, name)?),
         _ => None,
     };
-    Ok(Held { name: owned, file })
+    Ok(Held {
+        name: owned,
+        file,
+        len: None,
+    })
 }
 
 fn own(alloc: Global, name: &str) -> Result<String, LockFault> {
@@ -133,11 +143,15 @@ pub fn write_from_start<F: Write + Seek>(file: &mut F, bytes: &[u8]) -> io::Resu
     file.write_all(bytes)
 }
 
-/// Syncs an open file, and checks that the name still refers to it. Returns `NotFound` if the name refers to another
-/// file by then: a later run would not find what this one wrote.
-pub fn sync_under<R: Files>(files: &R, name: &str, file: &R::File) -> io::Result<()> {
+/// Syncs an open file, and checks that its name still refers to it, and that it has the length that was set (`len`), if
+/// one was. Returns `NotFound` if not, or if no file is open: a later run would not find what this one wrote.
+pub fn sync_under<R: Files>(files: &R, held: &Held<R::File>) -> io::Result<()> {
+    let Some(file) = &held.file else {
+        return Err(ErrorKind::NotFound.into());
+    };
     file.sync_all()?;
-    if is_same(&fs::metadata(files, name)?, &file.metadata()?) {
+    let there = fs::metadata(files, held.name.as_str())?;
+    if is_same(&there, &file.metadata()?) && there.len() == held.len.unwrap_or(there.len()) {
         Ok(())
     } else {
         Err(ErrorKind::NotFound.into())

@@ -1,15 +1,14 @@
 //! Whether two names refer to one of the system's files, and whether a name refers to an output stream of the program.
-ghost use Rattle.std.specs.Prelude.{◌≡◌, ◌⊎◌, IfErr};
+ghost use Rattle.std.specs.Prelude.{◌≡◌, ◌⊎◌, IfErr, IfSome};
+ghost use Rattle.nor_files.specs.Disk.{IsStreamName};
 
 use crate::folder::{folder_of, last_of};
+use crate::store::Stream;
 use std::fs;
 use std::fs::Metadata;
 use std::io::ErrorKind;
 use std::os::unix::fs::MetadataExt;
 use std::rt::Files;
-
-// Standard output and standard error of this process, by their names in Linux.
-const STREAMS: [&str; 2] = ["/proc/self/fd/1", "/proc/self/fd/2"];
 
 /// Returns whether two names refer to one file: the same device and inode, or, if neither exists, the same last part in
 /// the same existing directory. A link to a file that doesn't exist counts as missing. Returns as the error a name that
@@ -24,28 +23,45 @@ pub fn is_one_file<'n, R: Files>(files: &R, one: &'n str, other: &'n str) -> Res
     }
 }
 
-/// Returns whether the name refers to a regular file that is standard output or standard error. The name is looked up
-/// only if one of the two streams is a regular file. Returns the name as the error if that fails.
-pub fn is_stream<'n, R: Files>(files: &R, name: &'n str) -> Result<bool, &'n str>
+/// Returns whether the name refers to a regular file to which this stream prints. The name is looked up only if the
+/// stream is a regular file. Returns the name as the error if that fails. If the stream can't be looked up, the result
+/// is false.
+pub fn is_stream<'n, R: Files>(files: &R, stream: Stream, name: &'n str) -> Result<bool, &'n str>
     ensures { IfErr result (λ unseen. unseen.now ≡ name.now) }
 {
-    for stream in STREAMS {
-        let Some(stream) = regular(files, stream) else {
-            continue;
-        };
-        match look(files, name, name)? {
-            Some(file) if is_same(&file, &stream) => return Ok(true),
-            _ => {}
-        }
+    let printed = match look_at(files, stream) {
+        Some(metadata) if metadata.is_file() => metadata,
+        _ => return Ok(false),
+    };
+    match look(files, name, name)? {
+        Some(file) => Ok(is_same(&file, &printed)),
+        None => Ok(false),
     }
-    Ok(false)
 }
 
-// Returns the metadata of a regular file, or `None` if the path isn't one.
-fn regular<R: Files>(files: &R, path: &str) -> Option<Metadata> {
-    match fs::metadata(files, path) {
-        Ok(metadata) if metadata.is_file() => Some(metadata),
-        _ => None,
+/// Returns the last name under which a standard stream was looked up, if that failed by each of its names.
+pub fn unseen_stream<R: Files>(files: &R) -> Option<&'static str>
+    ensures { IfSome result (λ name. IsStreamName name.now) }
+{
+    if look_at(files, Stream::Output).is_none() {
+        return Some("/dev/fd/1");
+    }
+    if look_at(files, Stream::Errors).is_none() {
+        return Some("/dev/fd/2");
+    }
+    None
+}
+
+// Returns the metadata of a stream of this process, by its names in Linux. Its first name exists only if /proc is that
+// of this process.
+fn look_at<R: Files>(files: &R, stream: Stream) -> Option<Metadata> {
+    let (first, second) = match stream {
+        Stream::Output => ("/proc/self/fd/1", "/dev/fd/1"),
+        Stream::Errors => ("/proc/self/fd/2", "/dev/fd/2"),
+    };
+    match fs::metadata(files, first) {
+        Ok(metadata) => Some(metadata),
+        Err(_) => fs::metadata(files, second).ok(),
     }
 }
 

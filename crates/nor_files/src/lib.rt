@@ -40,7 +40,7 @@ mod stored;
 
 pub use disk::Disk;
 pub use locks::LockFile;
-pub use making::VaultedFile;
+pub use making::{LogFile, VaultedFile};
 pub use memory::Memory;
-pub use store::{CreateFault, LockFault, Store};
+pub use store::{CreateFault, LockFault, Store, Stream};
 pub use stored::Loss;

@@ -1,4 +1,5 @@
-//! Creating and truncating the system's files, and the file that a vault writes to.
+//! Creating and truncating the system's files, and the files that a log and a vault write to.
+ghost use Rattle.std.specs.Io.{WritesAtMost};
 
 use crate::identity::is_same;
 use crate::locks::LockFile;
@@ -26,16 +27,31 @@ where
     Ok(file)
 }
 
-/// Creates or truncates the named file. A regular file is truncated only after it was locked. A journal is never
+/// Creates or truncates the named file. `open_log` says which files are refused, and which aren't truncated.
+pub fn make_empty<R: Files>(files: &R, name: &str) -> Result<R::File, CreateFault>
+where
+    R::File: LockFile,
+{
+    let mut log = open_log(files, name)?;
+    match log.empty() {
+        Ok(()) => Ok(log.file),
+        Err(error) => Err(CreateFault::Unmade(error)),
+    }
+}
+
+/// Creates the named file, or opens it for a log. A regular file is locked, and truncated only later. A journal is never
 /// truncated, since it may be the only way to restore a chip: the error is `There`. Any other kind of file, such as a
 /// FIFO, a device or a terminal, is opened as it is, without a lock.
-pub fn make_empty<R: Files>(files: &R, name: &str) -> Result<R::File, CreateFault>
+pub fn open_log<R: Files>(files: &R, name: &str) -> Result<LogFile<R::File>, CreateFault>
 where
     R::File: LockFile,
 {
     if is_special(files, name) {
         return match fs::create(files, name) {
-            Ok(file) => Ok(file),
+            Ok(file) => Ok(LogFile {
+                file,
+                is_old: false,
+            }),
             Err(error) => Err(CreateFault::Unmade(error)),
         };
     }
@@ -55,8 +71,8 @@ where
         Ok(true) => return Err(CreateFault::There),
         Err(error) => return Err(CreateFault::Unmade(error)),
     }
-    match empty(&mut file) {
-        Ok(()) => Ok(file),
+    match file.rewind() {
+        Ok(()) => Ok(LogFile { file, is_old: true }),
         Err(error) => Err(CreateFault::Unmade(error)),
     }
 }
@@ -87,9 +103,36 @@ fn is_journal<F: Read>(file: &mut F) -> io::Result<bool> {
     }
 }
 
-fn empty<F: OpenFile + Seek>(file: &mut F) -> io::Result<()> {
-    file.set_len(0)?;
-    file.rewind()
+/// A file that is truncated just before its first write, or at a flush if nothing was written. A run that ends before
+/// its call leaves the bytes of an older file as they were.
+#[derive(Drop)]
+pub struct LogFile<F> {
+    file: F,
+    // Whether the file may still have older bytes.
+    is_old: bool,
+}
+
+impl<F: OpenFile> LogFile<F> {
+    // Truncates the file, if it wasn't truncated yet.
+    fn empty(&mut self) -> io::Result<()> {
+        if self.is_old {
+            self.file.set_len(0)?;
+            self.is_old = false;
+        }
+        Ok(())
+    }
+}
+
+impl<F: OpenFile + Write> Write for LogFile<F> {
+    fn write(&mut self, bytes: &[u8]) -> io::Result<usize> {
+        self.empty()?;
+        self.file.write(bytes)
+    }
+
+    fn flush(&mut self) -> io::Result<()> {
+        self.empty()?;
+        self.file.flush()
+    }
 }
 
 /// A file that a vault writes to. If it has a name, a sync also checks that the name still refers to this file, and
@@ -114,15 +157,15 @@ impl<'a, R: Files> VaultedFile<'a, R> {
         }
     }
 
-    // Checks that a later run finds this file under the name, with the number of bytes written. If the name refers to
-    // another file, or the length differs, the error is `NotFound`.
-    fn check(&self) -> io::Result<()> {
+    /// Checks that a later run finds this file under its name, with the number of bytes written. Returns `NotFound` if
+    /// the name refers to another file, or if the length differs.
+    pub fn check(&self) -> io::Result<()> {
         let Some(name) = &self.name else {
             return Ok(());
         };
         let there = fs::metadata(self.files, name.as_str())?;
         let file = self.file.metadata()?;
-        if is_same(&there, &file) && file.len() == self.written {
+        if is_same(&there, &file) && there.len() == self.written {
             Ok(())
         } else {
             Err(ErrorKind::NotFound.into())
@@ -130,9 +173,23 @@ impl<'a, R: Files> VaultedFile<'a, R> {
     }
 }
 
+// Writes some of the bytes. Tries again while a signal interrupts the write.
+fn write_again<F: Write>(file: &mut F, bytes: &[u8]) -> io::Result<usize>
+    ensures { WritesAtMost result bytes.now }
+{
+    for _ in 0..u64::MAX {
+        match file.write(bytes) {
+            Err(error) if error.kind() == ErrorKind::Interrupted => {}
+            outcome => return outcome,
+        }
+    }
+    Err(ErrorKind::Interrupted.into())
+}
+
 impl<R: Files> Write for VaultedFile<'_, R> {
+    // A vault takes each error for a refusal, so a write that a signal interrupted is tried again here.
     fn write(&mut self, bytes: &[u8]) -> io::Result<usize> {
-        let taken = self.file.write(bytes)?;
+        let taken = write_again(&mut self.file, bytes)?;
         self.written = self.written.saturating_add(taken as u64);
         Ok(taken)
     }

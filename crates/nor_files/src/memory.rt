@@ -4,7 +4,7 @@ ghost use Rattle.nor_files.specs.Files.{AllStay, AreAtRest, IsDurable, Name, Oth
 ghost use Rattle.nor_files.specs.Calls.{Counts};
 ghost use Rattle.nor_files.specs.Named.{file_named, is_borrowed_there, is_named, is_there};
 
-use crate::store::{CreateFault, LockFault, Store};
+use crate::store::{CreateFault, LockFault, Store, Stream};
 use crate::stored::{Loss, Stored, copy};
 use nor_journal::MemVault;
 use std::alloc::{AllocError, Global};
@@ -189,8 +189,16 @@ impl Store for Memory {
         Ok(one == other)
     }
 
-    fn is_stream<'n>(&self, _name: &'n str) -> Result<bool, &'n str> {
+    fn is_stream<'n>(&self, _stream: Stream, _name: &'n str) -> Result<bool, &'n str> {
         Ok(false)
+    }
+
+    fn unseen_stream(&self) -> Option<&'static str> {
+        None
+    }
+
+    fn look_ahead(&self, _name: &str) -> Result<(), AllocError> {
+        Ok(())
     }
 
     fn is_there(&self, name: &str) -> bool {
@@ -289,6 +297,10 @@ impl Store for Memory {
             }
             None => sealed,
         }
+    }
+
+    fn is_kept(&self, _name: &str) -> bool {
+        true
     }
 
     fn log_in(&mut self, name: &str) -> Result<Sink, CreateFault> {

@@ -84,6 +84,13 @@ impl From<CreateFault> for io::Error {
     }
 }
 
+/// An output stream of the program.
+#[derive(Clone, Copy)]
+pub enum Stream {
+    Output,
+    Errors,
+}
+
 /// The files of a run, by their names.
 ///
 /// Contracts see the files as a `FilesState`. If the state is lawful, the files obey the contract. Each call then has
@@ -96,7 +103,7 @@ impl From<CreateFault> for io::Error {
 /// file, except that `hold` and `share` leave all files as they were, and for syncs. After a successful `sync` or any
 /// `sync_folder`, a read of another name returns the same as before, if no vault or log in that file is borrowed.
 pub trait Store: AllocGlobal {
-    ghost use Rattle.std.specs.Prelude.{◌≡◌, ◌⊎◌, false, true, None, IfErr, IfOk, Ok, OnErr, OnOk, option_map};
+    ghost use Rattle.std.specs.Prelude.{◌≡◌, ◌⊎◌, false, true, None, IfErr, IfOk, IfSome, Ok, OnErr, OnOk, option_map};
     ghost use Rattle.nor_journal.specs.Vault.{IsFresh};
     ghost use Rattle.nor_files.specs.Files.{AreApart, AreUntouched, FilesState, IsKnownFile, KnownStay, Name};
     ghost use Rattle.nor_files.specs.Files.{OthersStay, KeepsFile, is_lawful};
@@ -104,6 +111,7 @@ pub trait Store: AllocGlobal {
     ghost use Rattle.nor_files.specs.Calls.{Fails, Holds, LeaveNoMore, Borrows, BorrowsNone, Creates, Places, ReadsFile};
     ghost use Rattle.nor_files.specs.Calls.{SetsLength, Syncs, TakesBack, WorksOn, WritesOver};
     ghost use Rattle.nor_files.specs.Faults.{IsLockFault, IsCreateFault};
+    ghost use Rattle.nor_files.specs.Disk.{IsStreamName};
 
     ghost state: { Self → FilesState };
 
@@ -126,13 +134,24 @@ pub trait Store: AllocGlobal {
         ensures either { IfErr result (λ name. name.now ≡ one.now ⊎ name.now ≡ other.now) }
         ensures unseen { IfErr result (λ name. (state self.now).view.nature.fails (Unread name.now) ≡ true) };
 
-    /// Returns whether the named file is a regular file to which the program prints. Returns the name as the error if
-    /// it can't be looked up.
-    fn is_stream<'n>(&self, name: &'n str) -> Result<bool, &'n str>
+    /// Returns whether the named file is a regular file to which this stream prints. Returns the name as the error if
+    /// it can't be looked up. If the stream can't be looked up, the result is false (`unseen_stream`).
+    fn is_stream<'n>(&self, stream: Stream, name: &'n str) -> Result<bool, &'n str>
         ensures printed { IfOk result (λ is_stream. is_stream ≡ true
             → (state self.now).view.nature.fails (Printed name.now) ≡ true) }
         ensures unseen { IfErr result (λ unseen. (unseen.now ≡ name.now)
             × ((state self.now).view.nature.fails (Unread name.now) ≡ true)) };
+
+    /// Returns the name of standard output or standard error, if that stream can't be looked up. Then no file can be
+    /// compared with it.
+    fn unseen_stream(&self) -> Option<&'static str>
+        ensures { IfSome result (λ name. IsStreamName name.now
+            × ((state self.now).view.nature.fails (Unread name.now) ≡ true)) };
+
+    /// Looks up a file before the run opens other files. If that fails, a later `read_named` of this name finds no
+    /// file, even if the name refers to one by then, as `/dev/fd/6` may. Contracts see no effect. Fails if the program
+    /// is out of memory.
+    fn look_ahead(&self, name: &str) -> Result<(), AllocError>;
 
     /// Returns whether a file of this name exists, or a link.
     fn is_there(&self, name: &str) -> bool
@@ -264,7 +283,14 @@ pub trait Store: AllocGlobal {
         ensures takes { is_lawful (state self.old).view ≡ true → (name : Name) → (state self.old).borrowed ≡ Some name
             → TakesBack name (Self.Filed.state vault) (state self.old) (state self.new) };
 
-    /// Creates or truncates the named file, and lends it as a log. `Disk` refuses to truncate a journal.
+    /// Returns whether the named file still has the vault that was taken back last, if that vault was sealed: the name
+    /// refers to the same file, and the file has as many bytes as were written to the vault. Returns true if that vault
+    /// wasn't sealed.
+    fn is_kept(&self, name: &str) -> bool
+        ensures { result ≡ false → (state self.now).view.nature.fails (Unwritten name.now) ≡ true };
+
+    /// Creates or truncates the named file, and lends it as a log. `Disk` refuses to truncate a journal. It truncates an
+    /// existing file only before the first write, or at a flush if nothing was written.
     fn log_in(&mut self, name: &str) -> Result<Self::Log, CreateFault>
         ensures nature { (state self.new).view.nature ≡ (state self.old).view.nature }
         ensures alone { is_lawful (state self.old).view ≡ true

@@ -1,5 +1,5 @@
 -- The numbers of faults in messages, and the fault of arguments that could not be collected.
-use Rattle.std.specs.Prelude.{◌≡◌, ◌≢◌, ◌⊎◌, ℕ, Result, Ok, Err}
+use Rattle.std.specs.Prelude.{◌≡◌, ◌≢◌, ◌⊎◌, ℕ, List, Result, Ok, Err, codes}
 use Rattle.std.specs.IoError.{error_kind}
 use Rattle.std.specs.declared.io.Error.{Error}
 use Rattle.std.specs.declared.io.ErrorKind.TheVariants as Kinds
@@ -29,3 +29,12 @@ IsOfArguments error fault = ((error_kind error ≡ Kinds.OutOfMemory) × (fault 
 abbrev pub IsReportedAs : {T : Type 0} → Result T Refusal → Result T Fault → Type 0
 IsReportedAs (Ok found) outcome = outcome ≡ Ok found
 IsReportedAs (Err refusal) outcome = outcome ≡ Err (end.Refused refusal)
+
+-- the name of standard output in the fault that it could not be written
+abbrev pub output_name : List ℕ
+output_name = codes "standard output"
+
+-- Holds for file fault 2 with the name of standard output.
+abbrev pub IsLostOutput : Fault → Type 0
+IsLostOutput (end.File file.Write of) = of.now ≡ output_name
+IsLostOutput fault = ⊥

@@ -2,6 +2,7 @@
 use Rattle.std.specs.Prelude.{◌≡◌, ◌⊎◌, true, Option, IsSomeAnd}
 use Rattle.std.specs.Borrow.{Bor}
 use Rattle.nor_words.specs.Text.{Text}
+use Rattle.nor_files.specs.Disk.{IsStreamName}
 use Rattle.nor_files.specs.Files.{Nature}
 use Rattle.nor_files.specs.Files.Failure.{Printed, Shared, Unread}
 use Rattle.nor_lines.specs.declared.messages.Fault.{Fault}
@@ -36,3 +37,8 @@ FailsApart nature earlier later fault = IsShared nature earlier later fault
 -- the file, or its name can't be looked up.
 abbrev pub FailsUnprinted : Nature → Option (Bor Text) → Fault → Type 0
 FailsUnprinted nature name fault = IsPrintedTo nature name fault ⊎ IsUnseenFile nature name fault
+
+-- Holds for file fault 1 with the name of a standard stream, if the files allow that it can't be looked up.
+abbrev pub IsUnseenStream : Nature → Fault → Type 0
+IsUnseenStream nature (end.File file.Read of) = IsStreamName of.now × (nature.fails (Unread of.now) ≡ true)
+IsUnseenStream nature _ = ⊥

@@ -8,6 +8,7 @@ ghost use Rattle.nor_files.specs.Files.{AreUntouched, IsKnownFile, OthersStay, V
 ghost use Rattle.nor_journal.specs.Vault.{IsFresh};
 ghost use Rattle.nor_lines.specs.Stored.{IsRead};
 ghost use Rattle.nor_lines.specs.Files.{IsReadingFault, IsMaking, IsSharingFault, IsNotLocked, IsUnreadFault};
+ghost use Rattle.nor_lines.specs.Messages.{IsLostOutput};
 ghost use Rattle.nor_lines.specs.declared.messages.Fault.TheVariants as Faults;
 ghost use Rattle.nor_lines.specs.declared.messages.FileFault.TheVariants as FileFaults;
 ghost use Rattle.nor_request.specs.declared.refusal.Refusal.TheVariants as Refusals;
@@ -153,6 +154,13 @@ pub fn unmade(name: &str) -> Fault<'_>
 {
     let fault = FileFault::Write;
     Fault::File { fault, name }
+}
+
+/// Returns the fault of standard output that couldn't be written: file fault 2 with the name `standard output`.
+pub fn lost_output() -> Fault<'static>
+    ensures { IsLostOutput result }
+{
+    unmade("standard output")
 }
 
 /// Locks the journal in the file of this name, so that other runs can read it, but not change it. On a file system

@@ -37,11 +37,13 @@ pub use calls::{
 };
 pub use escapes::Escaped;
 pub use files::{
-    MOST_IMAGE_BYTES, create_log, empty, make, read_file, read_journal, reading, taken, unheld,
-    unmade, unread,
+    MOST_IMAGE_BYTES, create_log, empty, lost_output, make, read_file, read_journal, reading,
+    taken, unheld, unmade, unread,
 };
 pub use messages::{Fault, FileFault, or_fault};
 pub use printing::{help_of, print_answer, print_fault, print_help};
 pub use requests::{read_included, request_for};
-pub use roles::{Named, apart, journal_of, named_by, unprinted};
+pub use roles::{
+    Named, apart, found_streams, is_printed, journal_of, look_ahead, named_by, unprinted,
+};
 pub use streams::{DIRECTORY, Streams, by_line, keep_streams};

@@ -1,12 +1,16 @@
-//! The files that a task names, and the check that two names refer to two files.
-ghost use Rattle.std.specs.Prelude.{◌≡◌, IfErr, OnOk};
-ghost use Rattle.nor_lines.specs.Roles.{FailsApart, FailsUnprinted};
+//! The files that a task names, and checks of their names: that two names refer to two files, and that the program does
+//! not print to a file.
+ghost use Rattle.std.specs.Prelude.{◌≡◌, IfErr, IfOk, OnOk, IsSomeAnd, true};
+ghost use Rattle.nor_files.specs.Files.Failure.{Printed};
+ghost use Rattle.nor_lines.specs.Roles.{FailsApart, FailsUnprinted, IsUnseenFile, IsUnseenStream};
 ghost use Rattle.nor_lines.specs.Tasks.{image_of, journal_of, layout_of, named_by};
 ghost use Rattle.nor_lines.specs.Stored.{AreTwo};
+ghost use Rattle.nor_lines.specs.declared.messages.Fault.TheVariants as Faults;
+ghost use Rattle.nor_request.specs.declared.refusal.Refusal.TheVariants as Refusals;
 
 use crate::files::{taken, unread};
 use crate::messages::Fault;
-use nor_files::Store;
+use nor_files::{Store, Stream};
 use nor_words::{Change, JournalUse, Regions, Task, Wanted};
 
 /// The files that a task names, by their roles.
@@ -114,12 +118,57 @@ pub fn apart<'a, R: Store>(
 pub fn unprinted<'a, R: Store>(rt: &R, name: Option<&'a str>) -> Result<(), Fault<'a>>
     ensures { IfErr result (FailsUnprinted (R.state rt.now).view.nature name.entry) }
 {
+    let Some(named) = name else {
+        return Ok(());
+    };
+    if is_printed(rt, Stream::Output, name)? || is_printed(rt, Stream::Errors, name)? {
+        return Err(taken(named));
+    }
+    Ok(())
+}
+
+/// Returns whether the named file, if one is named, is a regular file to which this stream prints.
+///
+/// Returns file fault 1 if the name can't be looked up.
+pub fn is_printed<'a, R: Store>(
+    rt: &R,
+    stream: Stream,
+    name: Option<&'a str>,
+) -> Result<bool, Fault<'a>>
+    ensures printed { IfOk result (λ is_printed. is_printed ≡ true → IsSomeAnd name.entry (λ given.
+        (R.state rt.now).view.nature.fails (Printed given.now) ≡ true)) }
+    ensures err { IfErr result (IsUnseenFile (R.state rt.now).view.nature name.entry) }
+{
+    let Some(name) = name else {
+        return Ok(false);
+    };
+    match rt.is_stream(stream, name) {
+        Ok(is_stream) => Ok(is_stream),
+        Err(name) => Err(unread(name)),
+    }
+}
+
+/// Checks that standard output and standard error can be compared with files.
+///
+/// Returns file fault 1 with the name of a stream that can't be looked up.
+pub fn found_streams<R: Store>(rt: &R) -> Result<(), Fault<'static>>
+    ensures { IfErr result (IsUnseenStream (R.state rt.now).view.nature) }
+{
+    match rt.unseen_stream() {
+        Some(name) => Err(unread(name)),
+        None => Ok(()),
+    }
+}
+
+/// Looks up the named file, if one is named, before the run opens other files. If that fails, reading it later is file
+/// fault 1, even if the name refers to a file by then.
+///
+/// Returns error 18 if memory runs out.
+pub fn look_ahead<'a, R: Store>(rt: &R, name: Option<&'a str>) -> Result<(), Fault<'a>>
+    ensures err { IfErr result (λ fault. fault ≡ Faults.Refused Refusals.Memory) }
+{
     let Some(name) = name else {
         return Ok(());
     };
-    match rt.is_stream(name) {
-        Ok(false) => Ok(()),
-        Ok(true) => Err(taken(name)),
-        Err(name) => Err(unread(name)),
-    }
+    Ok(rt.look_ahead(name)?)
 }

@@ -71,6 +71,7 @@ returns g c =
         );
         left = λ rest puts. back.put (roles2.status puts) _ _ (ready rest);
         traced = called.lost;
+        kept = reported_before _ _ s0.view s3.view (back.nature ∙ called.nature ∙ held.nature) c.lost_journal.ensures;
       }) c.or_fault-answer.ensures;
       err = tt;
       keeps = λ rest. keeps_files job c.in_ok-held.held s0 s1 s2 bus bus' roles held.ok opens rest (held.held rest)

@@ -19,6 +19,7 @@ returns-clause-ok g c =
       reported = rw c.requires.only_reads (refl, refl);
       left = λ rest puts. absurd (true≢false (sym puts ∙ c.requires.only_reads));
       traced = c.in_ok-called.ensures.lost;
+      kept = tt;
     }) c.or_fault-answer.ensures
 
 pub returns-in_err-content-clause-keeps : goal.returns-in_err-content-clause-keeps

@@ -1,0 +1,128 @@
+//! Checks that the program prints to no file of a job, and chooses where the fault is printed if it does.
+ghost use Rattle.std.specs.Prelude.{◌≡◌, IfErr, IfOk, IfSome};
+ghost use Rattle.flashnor.specs.Roles.{FailsFileRoles, IsPrintedName, changes_files};
+ghost use Rattle.flashnor.specs.Streams.{IsReportedTo};
+
+use crate::roles::{Role, file_with_role};
+use crate::run::writes_back;
+use nor_files::{Store, Stream};
+use nor_lines::{Fault, found_streams, is_printed, taken};
+use nor_words::ChipJob;
+
+/// Where the line of a fault is printed.
+#[derive(Clone, Copy)]
+pub enum Reports {
+    /// To standard error.
+    Errors,
+    /// To standard output, because standard error is a file of the job.
+    Output,
+    /// Nowhere, because both are files of the job.
+    Nowhere,
+}
+
+/// A fault of comparing a job's files with the standard streams, and where it is printed.
+#[derive(Drop)]
+pub struct StreamFault<'a> {
+    pub fault: Fault<'a>,
+    pub to: Reports,
+}
+
+impl<'a> From<Fault<'a>> for StreamFault<'a> {
+    ghost use Rattle.std.specs.Prelude.{◌≡◌};
+    ghost use Rattle.flashnor.specs.declared.streams.Reports.TheVariants.{Errors};
+    ghost use Rattle.flashnor.specs.declared.streams.StreamFault.{StreamFault};
+
+    ghost from_gives = { λ fault refused. (refused.fault ≡ fault) × (refused.to ≡ Errors) };
+
+    fn from(fault: Fault<'a>) -> StreamFault<'a> {
+        StreamFault {
+            fault,
+            to: Reports::Errors,
+        }
+    }
+}
+
+// All roles, in their order.
+const ROLES: [Role; 7] = [
+    Role::Image,
+    Role::Status,
+    Role::Trace,
+    Role::Layout,
+    Role::Wanted,
+    Role::Output,
+    Role::Journal,
+];
+
+/// Checks that the program prints to no regular file that the job names, even if the job only reads that file.
+///
+/// Returns file fault 5 with the name of such a file, of the first role if there are several. Returns file fault 1 with
+/// a name that can't be looked up. Also returns file fault 1 with the name of a standard stream that can't be looked
+/// up, if the job may change or create a file.
+pub fn are_unprinted<'a, R: Store>(rt: &R, job: &ChipJob<'a>) -> Result<(), StreamFault<'a>>
+    ensures fails { IfErr result (λ refused. FailsFileRoles (R.state rt.now).view.nature job.now refused.fault) }
+    ensures to { IfErr result (λ refused. IsReportedTo (R.state rt.now).view.nature refused.fault refused.to) }
+{
+    if changes_files(job) {
+        found_streams(rt)?;
+    }
+    let output = file_printed(rt, job, Stream::Output)?;
+    let errors = file_printed(rt, job, Stream::Errors)?;
+    let (name, to) = match (output, errors) {
+        (Some(name), None) => (name, Reports::Errors),
+        (None, Some(name)) => (name, Reports::Output),
+        (Some(name), Some(_)) => (name, Reports::Nowhere),
+        (None, None) => return Ok(()),
+    };
+    Err(StreamFault {
+        fault: taken(name),
+        to,
+    })
+}
+
+// Returns the name of the job's first file to which this stream prints, if there is one. Returns file fault 1 if a name
+// can't be looked up.
+fn file_printed<'a, R: Store>(
+    rt: &R,
+    job: &ChipJob<'a>,
+    stream: Stream,
+) -> Result<Option<&'a str>, Fault<'a>>
+    ensures printed { IfOk result (λ found. IfSome found (λ name.
+        IsPrintedName (R.state rt.now).view.nature job.now name.now)) }
+    ensures fails { IfErr result (FailsFileRoles (R.state rt.now).view.nature job.now) }
+{
+    for role in ROLES {
+        if let Some(name) = printed_in_role(rt, job, stream, role)? {
+            return Ok(Some(name));
+        }
+    }
+    Ok(None)
+}
+
+// Returns the name of the job's file in this role, if the stream prints to it.
+#[tactic(auto, using(crate::proofs::OneRole::printed_name, crate::proofs::OneRole::unseen_fails))]
+fn printed_in_role<'a, R: Store>(
+    rt: &R,
+    job: &ChipJob<'a>,
+    stream: Stream,
+    role: Role,
+) -> Result<Option<&'a str>, Fault<'a>>
+    ensures printed { IfOk result (λ found. IfSome found (λ name.
+        IsPrintedName (R.state rt.now).view.nature job.now name.now)) }
+    ensures fails { IfErr result (FailsFileRoles (R.state rt.now).view.nature job.now) }
+{
+    let name = file_with_role(job, role);
+    if is_printed(rt, stream, name)? {
+        Ok(name)
+    } else {
+        Ok(None)
+    }
+}
+
+// True if the job may change or create a file: one of the chip's, the trace, or the file of a copy.
+fn changes_files(job: &ChipJob<'_>) -> bool
+    ensures { result ≡ changes_files job.now }
+{
+    writes_back(&job.task)
+        || file_with_role(job, Role::Trace).is_some()
+        || file_with_role(job, Role::Output).is_some()
+}
