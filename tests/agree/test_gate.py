@@ -22,7 +22,7 @@ class Gate(unittest.TestCase):
             (top / ".ci").mkdir()
             shutil.copy(TOP / ".ci/run", top / ".ci/run")
             for name in ("scripts/lint.sh", "scripts/agree.sh", "scripts/proved.sh", "tests/agree/run.py",
-                         "tests/examples.py", "tests/make.py", "tests/run.py", "tests/sweep/run.sh",
+                         "tests/examples.py", "tests/make.py", "tests/clone.sh", "tests/run.py", "tests/sweep/run.sh",
                          "tests/kill/run.sh", "tests/serprog/self.py", "tests/serprog/run.py"):
                 self.put(top / name, "#!/bin/sh\n" + parts.get(name, PASSED))
             self.put(top / "scripts/counts.py", "")
@@ -42,19 +42,19 @@ class Gate(unittest.TestCase):
     def test_all_passed(self):
         for environment in {}, {"CI": "true"}:
             status, lines = self.run_gate({}, **environment)
-            self.assertEqual((status, lines[-2:]), (0, ["57 passed, 0 failed, 0 skipped", "57 passed, 0 failed"]))
+            self.assertEqual((status, lines[-2:]), (0, ["62 passed, 0 failed, 0 skipped", "62 passed, 0 failed"]))
 
     def test_skipped_is_counted(self):
         status, lines = self.run_gate({"tests/kill/run.sh": SKIPPED, "tests/run.py": LEFT_OUT})
-        self.assertEqual((status, lines[-2:]), (0, ["52 passed, 0 failed, 2 skipped", "52 passed, 0 failed"]), lines)
+        self.assertEqual((status, lines[-2:]), (0, ["57 passed, 0 failed, 2 skipped", "57 passed, 0 failed"]), lines)
 
     def test_skipped_fails_with_ci(self):
         status, lines = self.run_gate({"tests/kill/run.sh": SKIPPED, "tests/run.py": LEFT_OUT}, CI="true")
-        self.assertEqual((status, lines[-2:]), (1, ["52 passed, 2 failed, 2 skipped", "52 passed, 2 failed"]), lines)
+        self.assertEqual((status, lines[-2:]), (1, ["57 passed, 2 failed, 2 skipped", "57 passed, 2 failed"]), lines)
 
     def test_failed(self):
         status, lines = self.run_gate({"tests/kill/run.sh": "echo kill: 4 passed, 1 failed; exit 1"})
-        self.assertEqual((status, lines[-1]), (1, "56 passed, 1 failed"), lines)
+        self.assertEqual((status, lines[-1]), (1, "61 passed, 1 failed"), lines)
 
 
 if __name__ == "__main__":
