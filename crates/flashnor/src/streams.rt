@@ -27,21 +27,6 @@ pub struct StreamFault<'a> {
     pub to: Reports,
 }
 
-impl<'a> From<Fault<'a>> for StreamFault<'a> {
-    ghost use Rattle.std.specs.Prelude.{◌≡◌};
-    ghost use Rattle.flashnor.specs.declared.streams.Reports.TheVariants.{Errors};
-    ghost use Rattle.flashnor.specs.declared.streams.StreamFault.{StreamFault};
-
-    ghost from_gives = { λ fault refused. (refused.fault ≡ fault) × (refused.to ≡ Errors) };
-
-    fn from(fault: Fault<'a>) -> StreamFault<'a> {
-        StreamFault {
-            fault,
-            to: Reports::Errors,
-        }
-    }
-}
-
 // All roles, in their order.
 const ROLES: [Role; 7] = [
     Role::Image,
@@ -62,11 +47,13 @@ pub fn are_unprinted<'a, R: Store>(rt: &R, job: &ChipJob<'a>) -> Result<(), Stre
     ensures fails { IfErr result (λ refused. FailsFileRoles (R.state rt.now).view.nature job.now refused.fault) }
     ensures to { IfErr result (λ refused. IsReportedTo (R.state rt.now).view.nature refused.fault refused.to) }
 {
-    if changes_files(job) {
-        found_streams(rt)?;
-    }
-    let output = file_printed(rt, job, Stream::Output)?;
-    let errors = file_printed(rt, job, Stream::Errors)?;
+    let (output, errors) = match files_printed(rt, job) {
+        Ok(names) => names,
+        Err(fault) => {
+            let to = Reports::Errors;
+            return Err(StreamFault { fault, to });
+        }
+    };
     let (name, to) = match (output, errors) {
         (Some(name), None) => (name, Reports::Errors),
         (None, Some(name)) => (name, Reports::Output),
@@ -77,6 +64,27 @@ pub fn are_unprinted<'a, R: Store>(rt: &R, job: &ChipJob<'a>) -> Result<(), Stre
         fault: taken(name),
         to,
     })
+}
+
+// Returns the names of the job's first files to which standard output and standard error print. Returns file fault 1 if
+// a stream or a name can't be looked up.
+#[tactic(auto, using(crate::proofs::OneRole::stream_fails))]
+fn files_printed<'a, R: Store>(
+    rt: &R,
+    job: &ChipJob<'a>,
+) -> Result<(Option<&'a str>, Option<&'a str>), Fault<'a>>
+    ensures output { IfOk result (λ found. IfSome found.0 (λ name.
+        IsPrintedName (R.state rt.now).view.nature job.now name.now)) }
+    ensures errors { IfOk result (λ found. IfSome found.1 (λ name.
+        IsPrintedName (R.state rt.now).view.nature job.now name.now)) }
+    ensures fails { IfErr result (FailsFileRoles (R.state rt.now).view.nature job.now) }
+{
+    if changes_files(job) {
+        found_streams(rt)?;
+    }
+    let output = file_printed(rt, job, Stream::Output)?;
+    let errors = file_printed(rt, job, Stream::Errors)?;
+    Ok((output, errors))
 }
 
 // Returns the name of the job's first file to which this stream prints, if there is one. Returns file fault 1 if a name
