@@ -203,7 +203,8 @@ pub record HasNotCompared (operation : Operation) (change : Change) (ranges : Op
   pub changed : BusState
   pub reported : Answer
   pub session : HasRunChange operation.named change ranges bytes file before after old changed (Ok reported)
-  pub fails : FailsToFollow (Ok reported) (is_compared operation change) operation.named ranges session.image changed new
+  pub fails : FailsToFollow (Ok reported) (is_compared operation change) operation.named ranges session.image
+      changed new
       (ended.NotCompared refusal)
 
 -- The identification found a chip for which `may_be_protected` is false, and nothing else was sent. Then creating the
@@ -308,7 +309,8 @@ DoesTask operation task.FlashSize ranges bytes before after old new outcome =
     HasLookedUp ReportsSize operation.named old new outcome
 DoesTask operation task.WpStatus ranges bytes before after old new outcome =
     HasReported ReportsProtection operation.named old new outcome
-DoesTask operation task.WpList ranges bytes before after old new outcome = HasReported ListsRanges operation.named old new outcome
+DoesTask operation task.WpList ranges bytes before after old new outcome =
+    HasReported ListsRanges operation.named old new outcome
 DoesTask operation (task.Read file regions) ranges bytes before after old new outcome =
     HasReadChip operation.named file.now ranges after.view old new outcome
 DoesTask operation (task.Verify file regions) ranges bytes before after old new outcome =

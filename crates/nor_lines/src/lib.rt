@@ -15,8 +15,8 @@
 //! - `streams.rt`: keeps the descriptors 0, 1 and 2 open, and prints by lines
 //!
 //! `specs/AnswerLines.antt`, `specs/FaultLines.antt` and `specs/ReasonLines.antt` define each line that this crate
-//! prints, except those of the argument parser. `specs/Files.antt` defines the faults of files, `specs/Readings.antt` and `specs/Sessions.antt` the
-//! results of the calls.
+//! prints, except those of the argument parser. `specs/Files.antt` defines the faults of files, `specs/Readings.antt`
+//! and `specs/Sessions.antt` the results of the calls.
 #![tactic(auto)]
 
 mod answers;

@@ -125,7 +125,8 @@ pub fn backup_restores_original()
 /// operation in progress is limited as `IsWithin` says.
 pub fn backup_restores_any()
     ensures { (backup : Content) (first : Chip) (state : BusState) → IsKnown first.config
-        → SavesWholeChip backup first → IsWithin (writable_addresses first) first state → CanRestore backup first state }
+        → SavesWholeChip backup first → IsWithin (writable_addresses first) first state
+        → CanRestore backup first state }
 {}
 
 /// After a backup on a modelled bus, the journal that is read from its sealed `telling` vault saves the whole chip. So

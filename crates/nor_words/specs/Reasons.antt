@@ -79,7 +79,8 @@ operation_choices given =
 
 -- the first option that is given
 abbrev pub first_given : List Choosing → Option OptionName
-first_given choices = option_map (λ (choosing : Choosing). choosing.1) (find (λ (choosing : Choosing). choosing.0) choices)
+first_given choices =
+    option_map (λ (choosing : Choosing). choosing.1) (find (λ (choosing : Choosing). choosing.0) choices)
 
 -- the reason with the first and the last operation that are given
 abbrev pub operations_reason : (first last : Option OptionName) → Reason

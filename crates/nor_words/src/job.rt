@@ -29,7 +29,8 @@ pub struct ChipJob<'a> {
 pub struct HardwareJob<'a> {
     /// The value of `-p`, which isn't parsed.
     pub programmer: &'a str,
-    /// The operation, or the first of the usage faults 4 to 8 with its reason. Fault 9 can't occur, because there is no `--rehearse`.
+    /// The operation, or the first of the usage faults 4 to 8 with its reason. Fault 9 can't occur, because there is no
+    /// `--rehearse`.
     /// If the program finds that the value of `-p` is wrong, it must report usage fault 3 instead of these faults.
     pub operation: Result<Operation<'a>, WrongArguments<'a>>,
 }
