@@ -1,13 +1,14 @@
 //! `request_of` and `operation_of`, which turn arguments into jobs, and the faults that arguments may have.
-ghost use Rattle.std.specs.Prelude.{◌≡◌, MatchResult, map, string_bytes};
+ghost use Rattle.std.specs.Prelude.{◌≡◌, IfOk, MatchResult, map, string_bytes, true};
+ghost use Rattle.clap.specs.Words.{FailsBy, HasMatchesOf, app_of, fault_of, is_simple_and_free, kind_of};
 ghost use Rattle.nor_words.specs.Words.{AreWrong, AreWrongForHardware, IsFault, IsHardwareJob, IsJob};
 
 use crate::given::Given;
 use crate::job::{HardwareJob, Job};
 use crate::options::{Help, make_hardware_options, make_options};
 use crate::reasons::WrongArguments;
-use clap::Error as WordsError;
 use clap::error::ErrorKind;
+use clap::{ArgMatches, Command, Error as WordsError};
 use std::alloc::{AllocError, Global};
 use std::fmt;
 use thiserror::Error;
@@ -119,7 +120,7 @@ pub fn explained_request_of<'a>(
 ) -> Result<Job<'a>, WrongArguments<'a>>
     ensures { MatchResult result (IsJob (map string_bytes words.now)) (AreWrong (map string_bytes words.now)) }
 {
-    let matches = make_options(alloc)?.try_get_matches_from(words)?;
+    let matches = parse_words(alloc, make_options(alloc)?, words)?;
     let given = Given::of(&matches);
     match given.job() {
         Ok(job) => Ok(job),
@@ -139,6 +140,40 @@ pub fn operation_of<'a>(
     ensures { MatchResult result (IsHardwareJob help.program.now (map string_bytes words.now))
         (AreWrongForHardware help.program.now (map string_bytes words.now)) }
 {
-    let matches = make_hardware_options(alloc, help)?.try_get_matches_from(words)?;
+    let matches = parse_words(alloc, make_hardware_options(alloc, help)?, words)?;
     Given::of_hardware(&matches).hardware_job()
+}
+
+// Parses the arguments. If one is unknown, the error's text has no tip: the parser would name an option that is spelled
+// alike but may do something else, as `--rehearse` for `--read`.
+fn parse_words<'a>(
+    alloc: Global,
+    mut options: Command<'a>,
+    words: &'a [String],
+) -> Result<ArgMatches<'a>, WordsError>
+    ensures matches { IfOk result (HasMatchesOf (app_of options.entry) (map string_bytes words.now)) }
+    ensures kinds { is_simple_and_free (app_of options.entry) ≡ true
+        → FailsBy (fault_of (app_of options.entry) (map string_bytes words.now)) result }
+{
+    match options.try_get_matches_from_mut(words) {
+        Ok(matches) => Ok(matches),
+        Err(error) if error.kind() == ErrorKind::UnknownArgument => {
+            Err(without_tip(alloc, &mut options, &error)?)
+        }
+        Err(error) => Err(error),
+    }
+}
+
+// Returns an error of the same kind, with the first paragraph of the error's text and the usage of the program.
+fn without_tip(
+    alloc: Global,
+    options: &mut Command<'_>,
+    error: &WordsError,
+) -> Result<WordsError, AllocError>
+    ensures { IfOk result (λ shorter. kind_of shorter ≡ kind_of error.now) }
+{
+    let text = format!(in alloc; "{error}")?;
+    let said = text.split("\n\n").next().unwrap_or_default();
+    let message = said.strip_prefix("error: ").unwrap_or(said);
+    options.error(error.kind(), message)
 }
