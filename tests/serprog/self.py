@@ -52,6 +52,8 @@ MISTAKES = {
     "compares with -N": "leaves_out_the_comparison",
     "is never quick": "restores_quickly",
     "changes any chip": "refuses_unknown_protection",
+    "always restores": "reads_twice",
+    "calls each chip unchanged": "reports_causes",
 }
 RIGHT = sorted(set(MISTAKES.values()))
 

@@ -13,6 +13,7 @@ from chip import CMP, PARTS, SECTOR, SRP0, SRP1, protected_range
 from stand_in_link import HELP, MISTAKE, Fault, Link, Stopped, arguments, check_usage, probe
 
 RESTORE = " Then restore the chip with --restore and the journal."
+UNCHANGED = " The chip was not changed."
 # The bits of both status bytes that protect.
 PROTECTION = 0x7C40
 UNPLUG = "Disconnect the programmer from power for a second before the next run."
@@ -328,13 +329,20 @@ def run(words):
     try:
         return job_of(given)(job)
     except Stopped as why:
+        after = RESTORE if "--restore" in given else after_change(job.link) if journal else ""
         if str(why).startswith("Chip fault"):
-            raise Fault("Error 12: stopped.", str(why)) from None
+            raise Fault("Error 12: stopped.", f"{why}{after}") from None
         if "two reads" in str(why):
             advice = "Lower the clock (spispeed=), shorten the wires, and try again."
         else:
-            advice = UNPLUG + (RESTORE if journal or "--restore" in given else "")
-        raise Fault("Error 12: stopped.", f"Cause: {why}. {advice}") from None
+            advice = UNPLUG
+        raise Fault("Error 12: stopped.", f"Cause: {why}. {advice}{after}") from None
+
+
+def after_change(link):
+    """Returns what the line of the cause says at its end if a change stopped."""
+    begun = link.has_changed and MISTAKE != "calls each chip unchanged" or MISTAKE == "always restores"
+    return RESTORE if begun else UNCHANGED
 
 
 def main():

@@ -1,5 +1,5 @@
 -- The commands that a job may send to the chip, on every bus.
-use Rattle.std.specs.Prelude.{◌≡◌, ◌⊎◌, ℕ, Bool, true, false, List, Some}
+use Rattle.std.specs.Prelude.{◌≡◌, ◌⊎◌, ℕ, true, List, Some}
 use Rattle.nor_model.specs.Bus.{BusState}
 use Rattle.nor_files.specs.Files.{FilesState, IsDurable, is_lawful}
 use Rattle.nor_request.specs.declared.request.What.{What}
@@ -11,12 +11,6 @@ use Rattle.nor_words.specs.declared.job.JournalUse.TheVariants as uses
 use Rattle.nor_words.specs.declared.job.Task.{Task}
 use Rattle.nor_words.specs.declared.job.Task.TheVariants as task
 use Rattle.nor_lines.specs.Requests.{what_of}
-
--- True if the task may change the chip: a change or a restore.
-abbrev pub changes : Task → Bool
-changes (task.Change change) = true
-changes (task.Restore journal) = true
-changes _ = false
 
 -- No modifying command was sent: the record of modifying commands is as it was.
 abbrev pub KeepsSent : (old new : BusState) → Type 0

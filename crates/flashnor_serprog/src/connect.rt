@@ -15,13 +15,13 @@ use std::os::unix::fs::FileTypeExt;
 
 const RELEASE_POWER_DOWN: u8 = 0xAB;
 
-/// The bus to a chip at a serial programmer: commands are sent together, and split if the programmer needs that; polls
-/// are paced; status registers are read twice and checked; IDs, SFDP and data are read twice; data is read ahead; and a
-/// terminal shows the progress.
-pub type ChipBus<'a> = Shown<'a, ReadAhead<ReadTwice<CheckedStatus<PacedBus<'a>>>>>;
+/// The bus to a chip at a serial programmer: commands are sent together; polls are paced, also those between the parts
+/// of a program; commands are split if the programmer needs that; status registers are read twice and checked; IDs,
+/// SFDP and data are read twice; data is read ahead; and a terminal shows the progress.
+pub type ChipBus<'a> = Shown<'a, ReadAhead<ReadTwice<CheckedStatus<PartsBus<'a>>>>>;
 
-// The bus whose polls are paced.
-type PacedBus<'a> = Paced<SplittingBus<BatchingBus<DevicePort>>, &'a HostRuntime>;
+// The bus that splits commands, over the one that paces polls.
+type PartsBus<'a> = SplittingBus<Paced<BatchingBus<DevicePort>, &'a HostRuntime>>;
 
 /// Opens and locks the device, identifies the programmer, sets its clock if `spispeed=` is given, and sets its chip
 /// select if `cs=` is given. Then wakes the chip, and sends no other transaction. A terminal shows, before the first
@@ -48,9 +48,9 @@ pub fn connect<'a>(
     }
     wake(&mut link).map_err(ProgrammerFault::Handshake)?;
     let longest_read = programmer.longest_read();
-    let batching = BatchingBus::over(link, programmer);
-    let splitting = SplittingBus::new(batching, programmer.longest_part(), longest_read);
-    let bus = CheckedStatus::new(Paced::new(splitting, rt));
+    let paced = Paced::new(BatchingBus::over(link, programmer), rt);
+    let splitting = SplittingBus::new(paced, programmer.longest_part(), longest_read);
+    let bus = CheckedStatus::new(splitting);
     let bus = match image {
         Some(image) => ReadTwice::expecting(bus, image),
         None => ReadTwice::new(bus),

@@ -1,5 +1,5 @@
 //! A run of the program: from its arguments to its exit status.
-ghost use Rattle.std.specs.Prelude.{◌≡◌, ◌≤◌, IfErr, IfOk, IsOk, OnOk, map, string_bytes};
+ghost use Rattle.std.specs.Prelude.{◌≡◌, ◌≤◌, IfErr, IfOk, IsOk, OnOk, map, string_bytes, true};
 ghost use Rattle.std.specs.Io.KnownBytes.{Appends};
 ghost use Rattle.nor_files.specs.Disk.{unknown};
 ghost use Rattle.nor_files.specs.Files.{AreUntouched};
@@ -7,7 +7,8 @@ ghost use Rattle.nor_lines.specs.Printing.{Prints};
 ghost use Rattle.nor_words.specs.Words.{arguments_of};
 ghost use Rattle.flashnor_serprog.specs.Run.{AreJobLines, AsksForHelp, EndsJob, HasRun, HasSucceeded, IsAskedFor};
 ghost use Rattle.flashnor_serprog.specs.Run.{IsEndedAs, IsHelpAskedBy, IsPrepared, is_unverified, unverified_line};
-ghost use Rattle.flashnor_serprog.specs.Sends.{SendsOnly, changes};
+ghost use Rattle.flashnor_serprog.specs.Sends.{SendsOnly};
+ghost use Rattle.flashnor_serprog.specs.declared.trouble.Left.TheVariants.{Unchanged};
 
 use crate::chip_faults::JobFault;
 use crate::connect::{ChipBus, connect};
@@ -17,7 +18,7 @@ use crate::progress::{Progress, Terminal};
 use crate::roles::have_one_role;
 use crate::setting::Setting;
 use crate::sources::{Sources, read_sources};
-use crate::trouble::{StopLine, Trouble};
+use crate::trouble::{Left, StopLine, Trouble};
 use nor_files::{Disk, Store};
 use nor_lines::{
     Answer, DIRECTORY, Fault, Outcome, help_of, print_answer, print_fault, print_help, unread,
@@ -193,7 +194,7 @@ fn run_prepared<R: Store, O: Write, E: Write>(
     match end_job(files, &mut bus, terminal, &operation, sources) {
         Ok(answer) => end_well(output, answer, unverified),
         Err(fault) => {
-            print_job_fault(errors, &fault, &bus, changes(&operation.task));
+            print_job_fault(errors, &fault, &bus, &operation.task);
             1
         }
     }
@@ -204,11 +205,11 @@ fn print_job_fault<E: Write>(
     errors: &mut E,
     fault: &JobFault<'_>,
     bus: &ChipBus<'_>,
-    changes: bool,
+    task: &Task<'_>,
 ) {
     let _ = writeln!(errors, "{fault}");
     if fault.is_stop() {
-        print_cause(errors, bus, changes);
+        print_cause(errors, bus, task);
     }
     if let Some(note) = fault.note() {
         let _ = writeln!(errors, "{note}");
@@ -282,22 +283,27 @@ fn is_unverified(task: &Task<'_>) -> bool
     }
 }
 
-// True if the task may change the chip.
-fn changes(task: &Task<'_>) -> bool
-    ensures { result ≡ changes task.now }
-{
-    matches!(task, Task::Change(_) | Task::Restore { .. })
-}
-
-// Prints the line that follows error 12: the cause, and advice. `changes` is true if the job may change the chip.
-fn print_cause<E: Write>(errors: &mut E, bus: &ChipBus<'_>, changes: bool) {
+// Prints the line that follows error 12: the cause, and advice.
+fn print_cause<E: Write>(errors: &mut E, bus: &ChipBus<'_>, task: &Task<'_>) {
     let twice = bus.inner().inner();
     let checked = twice.inner();
     let line = StopLine {
         failure: checked.inner().inner().inner().cause(),
         status: checked.fault(),
         differed: twice.differed(),
-        changes,
+        left: left_by(task, checked.has_begun()),
     };
     let _ = writeln!(errors, "{line}");
+}
+
+// Returns what a task left that stopped. `begun` is true if a modifying command was sent. A restore that sent none may
+// follow a session or a restore that sent some.
+fn left_by(task: &Task<'_>, begun: bool) -> Left
+    ensures { begun ≡ true → result ≡ Unchanged → ⊥ }
+{
+    match task {
+        Task::Change(_) if !begun => Left::Unchanged,
+        Task::Change(_) | Task::Restore { .. } => Left::Changed,
+        _ => Left::Reading,
+    }
 }

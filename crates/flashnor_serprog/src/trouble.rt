@@ -238,8 +238,19 @@ pub struct StopLine<'a> {
     pub status: Option<StatusFault>,
     /// True if two reads of the same bytes differed.
     pub differed: bool,
-    /// True if the job is a change or a restore, so that the chip may be changed.
-    pub changes: bool,
+    /// What the job left.
+    pub left: Left,
+}
+
+/// What a job that stopped left.
+#[derive(Clone, Copy)]
+pub enum Left {
+    /// The job changes no chip.
+    Reading,
+    /// A session that sent no modifying command.
+    Unchanged,
+    /// A session that sent one, or a restore: the chip may be changed.
+    Changed,
 }
 
 impl fmt::Display for StopLine<'_> {
@@ -250,10 +261,11 @@ impl fmt::Display for StopLine<'_> {
             (None, None) if self.differed => f.write_str(DIFFERED)?,
             (None, None) => f.write_str("Cause: unknown.")?,
         }
-        if self.changes {
-            f.write_str(" Then restore the chip with --restore and the journal.")?;
-        }
-        Ok(())
+        f.write_str(match self.left {
+            Left::Reading => "",
+            Left::Unchanged => " The chip was not changed.",
+            Left::Changed => " Then restore the chip with --restore and the journal.",
+        })
     }
 }
 

@@ -108,6 +108,13 @@ impl<B: Bus + Drop> CheckedStatus<B> {
     pub fn fault(&self) -> Option<StatusFault> {
         self.fault
     }
+
+    /// Returns whether a modifying command was ever passed on, even if the bus inside stopped there.
+    pub fn has_begun(&self) -> bool
+        ensures { result ≡ has_begun self.now }
+    {
+        self.known.is_changing
+    }
 }
 
 impl<B: Bus + Drop> CheckedStatus<B> {
