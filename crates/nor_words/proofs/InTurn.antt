@@ -1,28 +1,17 @@
 -- The pieces of a text, read one after the other.
 use Rattle.std.proofs.Common.{◌≡◌, ◌∙◌, ℕ, ◌+◌, ◌<◌, true, List, [], ◌∷◌, length, drop, get_or, lit<, ap, sym, arith}
-use Rattle.std.proofs.Common.{nat_eq}
-use Rattle.std.specs.List.{starts_with}
 use Rattle.std.specs.Str.Iter.{split_has_more, split_pattern, split_steps, split_text}
-use Rattle.std.specs.Str.Pattern.{FindsChar, FindsTextPrefix, StripsPrefix}
+use Rattle.std.specs.Str.Pattern.{FindsChar}
 use Rattle.std.proofs.lemmas.Iterator.{YieldsList}
 use Rattle.std.proofs.lemmas.Iterator.Splits.{YieldsList-from_str_split}
 use Rattle.std.proofs.lemmas.List.{at_drop_more, at_drop_all}
 use Rattle.nor_words.specs.Text.{Text, pieces_of}
-use Rattle.nor_words.proofs.Begins.{stripped}
 
 -- a text that is split at its commas yields its pieces
 pub yields_pieces : {made s : _} (text : Text) → s ≡ made → split_text made ≡ text → split_has_more made ≡ true
     → split_pattern {P = ℕ} made ≡ 44
     → YieldsList (split_steps FindsChar (λ a b. b ≡ a)) (λ x. x.now) s (pieces_of text)
 yields_pieces text gives is more pattern = rw gives (YieldsList-from_str_split 44 text (lit< tt) is more pattern)
-
--- a text that begins with `p` and is then split at its commas yields the pieces after `p`
-pub yields_stripped : {made s : _} (p : Text) {text rest : Text} → StripsPrefix (FindsTextPrefix p) text rest → s ≡ made
-    → split_text made ≡ rest → split_has_more made ≡ true → split_pattern {P = ℕ} made ≡ 44
-    → (starts_with nat_eq text p ≡ true)
-    × YieldsList (split_steps FindsChar (λ a b. b ≡ a)) (λ x. x.now) s (pieces_of (drop (length p) text))
-yields_stripped p cases gives is more pattern =
-    let begins = stripped p _ _ cases in (begins.0, yields_pieces _ gives (is ∙ begins.1) more pattern)
 
 -- the pieces from index n on are the piece at n and then those from n + 1 on
 pub turned : (pieces : List Text) (n : ℕ) (piece : Text) → (n < length pieces) × (piece ≡ get_or pieces n piece)

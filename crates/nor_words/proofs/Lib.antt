@@ -1,5 +1,4 @@
 pub mod InTurn
-pub mod Gathered
 pub mod Numerals
 pub mod Listed
 pub mod Begins

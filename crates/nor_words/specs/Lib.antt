@@ -11,5 +11,3 @@ pub mod Reasons
 -- The job that the arguments ask for.
 pub mod Job
 pub mod Words
--- Results of the private functions that parse values.
-pub mod Settings

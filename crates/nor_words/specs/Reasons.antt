@@ -48,10 +48,14 @@ first_flawed settings = find (is_flawed settings) settings
 abbrev pub has_known_key : Text → Bool
 has_known_key setting = list_any (λ known. has_key known.0 setting) keys
 
+-- The flaw of a setting that has one, if its key is `known` or not, and its value `valid` or not. If both are true,
+-- another setting has the same key.
+abbrev pub flaw_by : (known valid : Bool) → Flaw
+flaw_by known valid = if not known then flaw.Key else if valid then flaw.Twice else flaw.Value
+
 -- what is wrong with a setting that has a flaw
 abbrev pub flaw_of : Text → Flaw
-flaw_of setting =
-    if not (has_known_key setting) then flaw.Key else if is_setting setting then flaw.Twice else flaw.Value
+flaw_of setting = flaw_by (has_known_key setting) (is_setting setting)
 
 -- Holds if this is the reason why the value of `-p` is wrong: it doesn't begin with `dummy:`, or this is the first
 -- setting with a flaw, or no setting has one, so that `emulate=` is missing.

@@ -1,11 +1,13 @@
 //! The reason why the value of `-p` is wrong, and the settings in it that have a flaw.
 ghost use Rattle.std.specs.Prelude.{◌≡◌, option_map};
-ghost use Rattle.nor_words.specs.Programmer.{has_key, is_alone_in, is_setting};
+ghost use Rattle.nor_words.specs.Programmer.{are_settings, is_setting};
 ghost use Rattle.nor_words.specs.Reasons.{IsWrongProgrammer, first_flawed, flaw_of, has_known_key, is_flawed};
 ghost use Rattle.nor_words.specs.Text.{pieces_of};
 
+use crate::numbers::{read_byte, read_number, read_polls, read_unique};
+use crate::programmer::Emulated;
 use crate::reasons::{Flaw, Reason};
-use crate::settings::{Settings, split_setting};
+use crate::settings::{is_alone, split_setting};
 
 /// Returns the reason why this value of `-p` is wrong. Requires that it is wrong.
 pub fn programmer_reason(text: &str) -> Reason<'_>
@@ -20,6 +22,30 @@ pub fn programmer_reason(text: &str) -> Reason<'_>
             flaw: flaw_of(setting),
         },
         None => Reason::NoChip,
+    }
+}
+
+/// Returns whether each setting has a known key with a correct value, and no two settings have the same key.
+pub fn are_settings(list: &str) -> bool
+    ensures { result ≡ are_settings (pieces_of list.now) }
+{
+    list.split(',')
+        .all(|setting| is_setting(setting) && is_alone(list, setting))
+}
+
+// True if the setting has a known key with a correct value.
+fn is_setting(setting: &str) -> bool
+    ensures { result ≡ is_setting setting.now }
+{
+    let (key, value) = split_setting(setting);
+    match key {
+        "emulate" => Emulated::named(value).is_some(),
+        "image" | "status" | "trace" => !value.is_empty(),
+        "stop" => read_number(value).is_some(),
+        "unique" => read_unique(value).is_some(),
+        "busy" => read_polls(value).is_some(),
+        "power" => read_byte(value).is_some(),
+        _ => false,
     }
 }
 
@@ -38,39 +64,11 @@ fn is_flawed(list: &str, setting: &str) -> bool
     !is_setting(setting) || !is_alone(list, setting)
 }
 
-// True if the setting has a known key with a correct value.
-#[tactic(auto, using(crate::proofs::Gathered::refused_first))]
-fn is_setting(setting: &str) -> bool
-    ensures { result ≡ is_setting setting.now }
-{
-    Settings::default().take_in(setting).is_some()
-}
-
-// True if at most one setting of the list has the key of this one.
-fn is_alone(list: &str, setting: &str) -> bool
-    ensures { result ≡ is_alone_in (pieces_of list.now) setting.now }
-{
-    let (key, _) = split_setting(setting);
-    list.split(',').filter(|other| has_key(other, key)).count() <= 1
-}
-
-fn has_key(setting: &str, key: &str) -> bool
-    ensures { result ≡ has_key key.now setting.now }
-{
-    split_setting(setting).0 == key
-}
-
 // Returns what is wrong with a setting that has a flaw.
 fn flaw_of(setting: &str) -> Flaw
     ensures { result ≡ flaw_of setting.now }
 {
-    if !has_known_key(setting) {
-        Flaw::Key
-    } else if is_setting(setting) {
-        Flaw::Twice
-    } else {
-        Flaw::Value
-    }
+    Flaw::of(has_known_key(setting), is_setting(setting))
 }
 
 fn has_known_key(setting: &str) -> bool

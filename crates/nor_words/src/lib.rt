@@ -43,5 +43,6 @@ pub use numbers::read_number;
 pub use options::Help;
 pub use programmer::{Emulated, Programmer};
 pub use reasons::{Flaw, OptionName, Reason, WrongArguments};
+pub use settings::{is_alone, setting_value, split_setting};
 pub use stops::MOST_STOPS;
 pub use words::{UsageFault, explained_request_of, operation_of, request_of};

@@ -3,7 +3,9 @@ ghost use Rattle.std.specs.Prelude.{◌≡◌, false, option_map};
 ghost use Rattle.std.specs.Option.{MatchOption};
 ghost use Rattle.nor_probe.specs.Table.{IsEmulatedPart};
 
-use crate::settings::Settings;
+use crate::flaws::are_settings;
+use crate::numbers::{read_byte, read_number, read_polls, read_unique};
+use crate::settings::setting_value;
 use nor_model::Config;
 use nor_probe::{Part, emulated_part};
 
@@ -85,19 +87,19 @@ impl<'a> Programmer<'a> {
     pub fn read(text: &'a str) -> Option<Programmer<'a>>
         ensures { MatchOption result (is_programmer_text text.now ≡ false) (IsProgrammer text.now) }
     {
-        let mut settings = Settings::default();
-        for setting in text.strip_prefix("dummy:")?.split(',') {
-            settings.take_in(setting)?;
+        let list = text.strip_prefix("dummy:")?;
+        if !are_settings(list) {
+            return None;
         }
         Some(Programmer {
-            chip: settings.chip?,
-            image: settings.image,
-            status: settings.status,
-            trace: settings.trace,
-            stop: settings.stop,
-            unique: settings.unique,
-            busy: settings.busy,
-            power: settings.power,
+            chip: Emulated::named(setting_value(list, "emulate")?)?,
+            image: setting_value(list, "image"),
+            status: setting_value(list, "status"),
+            trace: setting_value(list, "trace"),
+            stop: setting_value(list, "stop").and_then(|value| read_number(value)),
+            unique: setting_value(list, "unique").and_then(|value| read_unique(value)),
+            busy: setting_value(list, "busy").and_then(|value| read_polls(value)),
+            power: setting_value(list, "power").and_then(|value| read_byte(value)),
         })
     }
 }

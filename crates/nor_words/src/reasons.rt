@@ -63,6 +63,22 @@ pub enum Flaw {
     Twice,
 }
 
+impl Flaw {
+    ghost use Rattle.nor_words.specs.Reasons.{flaw_by};
+
+    /// Returns the flaw of a setting that has one. `known` is true if its key is known, and `valid` if its value is also
+    /// one that this key may have.
+    pub fn of(known: bool, valid: bool) -> Flaw
+        ensures { result ≡ flaw_by known valid }
+    {
+        match (known, valid) {
+            (false, _) => Flaw::Key,
+            (true, false) => Flaw::Value,
+            (true, true) => Flaw::Twice,
+        }
+    }
+}
+
 /// The reason of a usage fault.
 #[derive(Clone, Copy)]
 pub enum Reason<'a> {

@@ -1,47 +1,30 @@
 //! The settings in the value of `-p`: `key=value`, separated by commas.
-ghost use Rattle.std.specs.Prelude.{◌≡◌, ◌&&◌, None, false, true, is_none, is_some};
-ghost use Rattle.std.specs.Option.{MatchOption};
-ghost use Rattle.nor_words.specs.Programmer.{is_file, is_setting};
-ghost use Rattle.nor_words.specs.Text.{key_of, value_of};
+ghost use Rattle.std.specs.Prelude.{◌≡◌, option_map};
+ghost use Rattle.nor_words.specs.Programmer.{has_key, is_alone_in, value_in};
+ghost use Rattle.nor_words.specs.Text.{key_of, pieces_of, value_of};
 
-use crate::numbers::{read_byte, read_number, read_polls, read_unique};
-use crate::programmer::Emulated;
-
-/// The settings that were taken in so far, by their keys.
-#[derive(Clone, Copy, Default)]
-pub struct Settings<'a> {
-    pub chip: Option<Emulated>,
-    pub image: Option<&'a str>,
-    pub status: Option<&'a str>,
-    pub trace: Option<&'a str>,
-    pub stop: Option<u64>,
-    pub unique: Option<[u8; 8]>,
-    pub busy: Option<u16>,
-    pub power: Option<u8>,
+/// Returns the value of the first setting of the list that has this key, or `None` if no setting has it.
+pub fn setting_value<'a>(list: &'a str, key: &str) -> Option<&'a str>
+    ensures { option_map (λ value. value.now) result ≡ value_in (pieces_of list.now) key.now }
+{
+    let setting = list.split(',').find(|setting| has_key(setting, key))?;
+    let (_, value) = split_setting(setting);
+    Some(value)
 }
 
-impl<'a> Settings<'a> {
-    ghost use Rattle.nor_words.specs.Settings.{AddsSetting, IsRefusedSetting};
+/// Returns whether at most one setting of the list has the key of this one.
+pub fn is_alone(list: &str, setting: &str) -> bool
+    ensures { result ≡ is_alone_in (pieces_of list.now) setting.now }
+{
+    let (key, _) = split_setting(setting);
+    list.split(',').filter(|other| has_key(other, key)).count() <= 1
+}
 
-    /// Takes in one more setting. Returns `None` if its key is unknown or was taken in before, or if its value isn't
-    /// valid for this key.
-    pub fn take_in(&mut self, setting: &'a str) -> Option<()>
-        ensures { MatchOption result (IsRefusedSetting setting.now self.old)
-            (λ _. (is_setting setting.now ≡ true) × AddsSetting setting.now self.old self.new) }
-    {
-        let (key, value) = split_setting(setting);
-        match key {
-            "emulate" => set(&mut self.chip, Emulated::named(value)),
-            "image" => set(&mut self.image, filled(value)),
-            "status" => set(&mut self.status, filled(value)),
-            "trace" => set(&mut self.trace, filled(value)),
-            "stop" => set(&mut self.stop, read_number(value)),
-            "unique" => set(&mut self.unique, read_unique(value)),
-            "busy" => set(&mut self.busy, read_polls(value)),
-            "power" => set(&mut self.power, read_byte(value)),
-            _ => None,
-        }
-    }
+// Returns whether the setting has this key.
+fn has_key(setting: &str, key: &str) -> bool
+    ensures { result ≡ has_key key.now setting.now }
+{
+    split_setting(setting).0 == key
 }
 
 /// Returns the key, which ends at the first `=`, and the value after that. Without an `=` the whole setting is the key,
@@ -53,24 +36,4 @@ pub fn split_setting(setting: &str) -> (&str, &str)
         Some(parts) => parts,
         None => (setting, ""),
     }
-}
-
-// Returns the name of a file, or `None` if it is empty.
-fn filled(name: &str) -> Option<&str>
-    ensures { MatchOption result (is_file name.now ≡ false)
-        (λ file. (is_file name.now ≡ true) × (file.now ≡ name.now)) }
-{
-    if name.is_empty() { None } else { Some(name) }
-}
-
-// Stores the value that was read. Returns `None`, and changes nothing, if a value is stored already or none was read.
-fn set<T: Copy>(place: &mut Option<T>, read: Option<T>) -> Option<()>
-    ensures { MatchOption result ((is_none place.old && is_some read) ≡ false)
-        (λ _. (place.old ≡ None) × (place.new ≡ read) × (is_some read ≡ true)) }
-{
-    if place.is_some() {
-        return None;
-    }
-    *place = Some(read?);
-    Some(())
 }

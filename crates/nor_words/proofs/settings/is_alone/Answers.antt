@@ -5,7 +5,7 @@ use Rattle.std.proofs.lemmas.Iterator.Splits.{YieldsList-from_str_split}
 use Rattle.std.proofs.lemmas.List.Sums.{length-filter}
 use Rattle.nor_words.specs.Programmer.{has_key}
 use Rattle.nor_words.specs.Text.{key_of, pieces_of}
-use Rattle.nor_words.proofs.flaws.is_alone.Goals as goal
+use Rattle.nor_words.proofs.settings.is_alone.Goals as goal
 
 pub returns : goal.returns
 returns c =
