@@ -1,5 +1,4 @@
 """Cases of --unlock, of --restore, of refusals, and of usage faults. The lines are those of docs/SPECIFICATION.md."""
-import re
 
 import reference
 from bench import check
@@ -211,15 +210,20 @@ def takes_stale_bytes(start):
         bench.expect(out=[reference.found("TINY64")])
 
 
-# Values of -p that are usage fault 3: those whose first wrong setting is the last one, and others with what is wrong.
-WRONG_SETTINGS = (
-    "serprog:dev=", "serprog:dev=DEV,", "serprog:dev=DEV,dev=DEV", "serprog:dev=DEV,image=x", "serprog:dev=DEV,spispeed=0",
-    "serprog:dev=DEV,spispeed=1M", "serprog:dev=DEV,spispeed=4294967296", "serprog:dev=DEV,spispeed=",
-    "serprog:dev=DEV,cs=256", "serprog:dev=DEV,cs=", "serprog:dev=DEV,cs=1,cs=1")
+# Values of -p that are usage fault 3, each with what is wrong: a setting with its flaw, and other texts.
+WRONG_SETTINGS = {
+    "": "unknown key in -p: ''", "dev=": "invalid value in -p: 'dev='", "dev=DEV,": "unknown key in -p: ''",
+    "dev=DEV,dev=DEV": "repeated key in -p: 'dev=DEV'", "dev=DEV,image=x": "unknown key in -p: 'image=x'",
+    "dev=DEV,dev": "repeated key in -p: 'dev=DEV'", "dev": "invalid value in -p: 'dev'",
+    "dev=DEV,spispeed=0": "invalid value in -p: 'spispeed=0'",
+    "dev=DEV,spispeed=1M": "invalid value in -p: 'spispeed=1M'",
+    "dev=DEV,spispeed=4294967296": "invalid value in -p: 'spispeed=4294967296'",
+    "dev=DEV,spispeed=": "invalid value in -p: 'spispeed='", "dev=DEV,cs=256": "invalid value in -p: 'cs=256'",
+    "dev=DEV,cs=": "invalid value in -p: 'cs='", "dev=DEV,cs=1,cs=2": "repeated key in -p: 'cs=1'",
+    "cs=1,image=x,cs=2": "repeated key in -p: 'cs=1'", "spispeed=1": "the value of -p lacks dev="}
 WRONG_PROGRAMMERS = {
     "dummy:emulate=TINY64": "the value of -p does not begin with 'serprog:'",
-    "serprog": "the value of -p does not begin with 'serprog:'", "serprog:": "wrong key or value in -p: ''",
-    "serprog:spispeed=1": "the value of -p lacks dev="}
+    "serprog": "the value of -p does not begin with 'serprog:'"}
 WRONG_ARGUMENTS = (
     (4, "-E --flash-size", "--flash-size and -E cannot be used together"),
     (5, "--wp-range 1 --journal j", "invalid value of --wp-range: '1'"), (6, "-E", "-E needs --journal"),
@@ -231,7 +235,7 @@ WRONG_ARGUMENTS = (
 def refuses_arguments(start):
     """Wrong arguments are usage faults, and nothing is sent."""
     bench = start()
-    settings = {text: f"wrong key or value in -p: '{re.split('[:,]', text)[-1]}'" for text in WRONG_SETTINGS}
+    settings = {f"serprog:{text}": why for text, why in WRONG_SETTINGS.items()}
     for text, why in {**settings, **WRONG_PROGRAMMERS}.items():
         got = bench.finish(bench.start_words([bench.program, "-p", bench.device(text)]))
         bench.compare(got, [], [bench.device(f"error: {why}"), "Usage fault 3."])

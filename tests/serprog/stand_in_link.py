@@ -54,19 +54,28 @@ def command(out, address):
     return out[:1] + address.to_bytes(3, "big") + out[4:]
 
 
+def flaw_of(key, value, count):
+    """Returns what is wrong with a setting of -p whose key is given so often, if something is."""
+    rule = {"dev": ".+", "spispeed": "0*[1-9][0-9]{0,9}", "cs": "[0-9]{1,3}"}.get(key)
+    if not rule:
+        return "unknown key"
+    if not re.fullmatch(rule, value) or \
+            (key != "dev" and (len(value) > 20 or int(value) > {"cs": 255, "spispeed": 0xFFFFFFFF}[key])):
+        return "invalid value"
+    return "repeated key" if count > 1 else ""
+
+
 def programmer_keys(text):
     """Returns the keys of -p."""
     if not text.startswith("serprog:"):
         raise usage(3, "error: the value of -p does not begin with 'serprog:'")
     if text.startswith("serprog:ip="):
         raise usage(3, "ip= is not supported. Give a device: -p serprog:dev=PATH.")
-    found = {}
-    for part in text.removeprefix("serprog:").split(","):
-        key, _, value = part.partition("=")
-        rule = {"dev": ".+", "spispeed": "0*[1-9][0-9]{0,9}", "cs": "[0-9]{1,3}"}.get(key)
-        if not rule or key in found or not re.fullmatch(rule, value) or \
-                (key != "dev" and (len(value) > 20 or int(value) > {"cs": 255, "spispeed": 0xFFFFFFFF}[key])):
-            raise usage(3, f"error: wrong key or value in -p: '{part}'")
+    found, parts = {}, [part.partition("=") for part in text.removeprefix("serprog:").split(",")]
+    for key, sign, value in parts:
+        flaw = flaw_of(key, value, [part[0] for part in parts].count(key))
+        if flaw:
+            raise usage(3, f"error: {flaw} in -p: '{key}{sign}{value}'")
         found[key] = value
     if "dev" not in found:
         raise usage(3, "error: the value of -p lacks dev=")

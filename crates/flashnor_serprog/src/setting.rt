@@ -1,15 +1,12 @@
 //! The value of the option `-p`.
 
-ghost use Rattle.std.specs.Prelude.{◌≡◌, ◌&&◌, None, false, is_none, is_some, true, if◌then◌else◌};
-ghost use Rattle.std.specs.Option.{MatchOption};
+ghost use Rattle.std.specs.Prelude.{◌≡◌, option_map};
 ghost use Rattle.std.specs.Result.{MatchResult};
-ghost use Rattle.nor_words.specs.Programmer.{is_file};
-ghost use Rattle.nor_words.specs.Text.{key_of, value_of};
-ghost use Rattle.flashnor_serprog.specs.Setting.{EndsWithRate, CannotBeStored, HasNoRate, IsSetting, IsWrongSetting, StoresSetting};
-ghost use Rattle.flashnor_serprog.specs.Setting.{chip_select_of, clock_of, may_have_value, names_network};
-ghost use Rattle.flashnor_serprog.specs.declared.setting.WrongSetting.TheVariants.{Flawed, Network};
+ghost use Rattle.nor_words.specs.Text.{pieces_of};
+ghost use Rattle.flashnor_serprog.specs.Setting.{EndsWithRate, HasNoRate, IsSetting, IsWrongBy, IsWrongSetting};
+ghost use Rattle.flashnor_serprog.specs.Setting.{chip_select_of, clock_of, first_wrong, has_serprog_key, is_serprog_setting, is_wrong, names_network};
 
-use nor_words::read_number;
+use nor_words::{Flaw, is_alone, read_number, setting_value, split_setting};
 
 /// The programmer that the value of `-p` describes. The value is `serprog:`, followed by `KEY=VALUE` pairs that are
 /// separated by commas, in any order, each key at most once. `dev=` is required.
@@ -32,80 +29,95 @@ pub enum WrongSetting<'a> {
     BaudRate { device: &'a str, rate: &'a str },
     /// The value doesn't begin with `serprog:`.
     NoPrefix,
-    /// The first wrong setting: its key is unknown, its value is wrong, or an earlier setting has its key.
-    Flawed(&'a str),
+    /// The first setting with a flaw.
+    Flawed { setting: &'a str, flaw: Flaw },
     /// No setting is wrong, but `dev=` is missing.
     NoDevice,
-}
-
-// The values parsed so far, by their keys.
-#[derive(Clone, Copy, Default)]
-struct Settings<'a> {
-    device: Option<&'a str>,
-    hertz: Option<u32>,
-    chip_select: Option<u8>,
 }
 
 impl<'a> Setting<'a> {
     /// Parses the value of `-p`. A `KEY=VALUE` pair ends at the next comma, and its key at the first `=`.
     ///
-    /// Returns `NoPrefix` if the text doesn't begin with `serprog:`. Otherwise returns `Network` if the first wrong
-    /// setting is `ip=..`, and `Flawed` if it is another one. If no setting is wrong, returns `NoDevice` if `dev=` is
-    /// missing, and `BaudRate` if the device ends with a colon and a decimal number (at most 20 digits, below 2^64).
+    /// Returns `NoPrefix` if the text doesn't begin with `serprog:`. Otherwise returns `Network` if the first setting
+    /// with a flaw is `ip=..`, and `Flawed` if it is another one. If no setting has a flaw, returns `NoDevice` if `dev=`
+    /// is missing, and `BaudRate` if the device ends with a colon and a decimal number (at most 20 digits, below 2^64).
     pub fn read(text: &'a str) -> Result<Setting<'a>, WrongSetting<'a>>
         ensures { MatchResult result (IsSetting text.now) (IsWrongSetting text.now) }
     {
         let Some(list) = text.strip_prefix("serprog:") else {
             return Err(WrongSetting::NoPrefix);
         };
-        let mut settings = Settings::default();
-        for setting in list.split(',') {
-            settings.take_in(setting)?;
+        if let Some(setting) = first_wrong(list) {
+            return Err(WrongSetting::of(setting));
         }
-        let Some(device) = settings.device else {
+        let Some(device) = setting_value(list, "dev") else {
             return Err(WrongSetting::NoDevice);
         };
         refuse_rate(device)?;
         Ok(Setting {
             device,
-            hertz: settings.hertz,
-            chip_select: settings.chip_select,
+            hertz: setting_value(list, "spispeed").and_then(|value| read_hertz(value)),
+            chip_select: setting_value(list, "cs").and_then(|value| read_select(value)),
         })
     }
 }
 
-impl<'a> Settings<'a> {
-    // Parses and stores one `KEY=VALUE` pair. Returns an error if the key is unknown or already stored, or the value is
-    // invalid: `Network` for `ip=..`, otherwise `Flawed`.
-    fn take_in(&mut self, setting: &'a str) -> Result<(), WrongSetting<'a>>
-        ensures { MatchResult result
-            (λ _. (may_have_value (key_of setting.now) (value_of setting.now) ≡ true)
-            × StoresSetting (key_of setting.now) (value_of setting.now) self.old self.new)
-            (λ wrong. (wrong ≡ (if names_network setting.now then Network else Flawed setting.entry))
-            × CannotBeStored (key_of setting.now) (value_of setting.now) self.old) }
+impl<'a> WrongSetting<'a> {
+    // Returns the error for a setting with a flaw.
+    fn of(setting: &'a str) -> WrongSetting<'a>
+        ensures { IsWrongBy setting.now result }
     {
-        match setting.split_once('=') {
-            Some(("ip", _)) => Err(WrongSetting::Network),
-            Some((key, value)) => self
-                .take_value(key, value)
-                .ok_or(WrongSetting::Flawed(setting)),
-            None => Err(WrongSetting::Flawed(setting)),
+        if names_network(setting) {
+            WrongSetting::Network
+        } else {
+            WrongSetting::Flawed {
+                setting,
+                flaw: Flaw::of(has_serprog_key(setting), is_serprog_setting(setting)),
+            }
         }
     }
+}
 
-    // Parses and stores the value of one key. Returns `None` if the key is unknown or already stored, or the value is
-    // invalid.
-    fn take_value(&mut self, key: &str, value: &'a str) -> Option<()>
-        ensures { MatchOption result (CannotBeStored key.now value.now self.old)
-            (λ _. (may_have_value key.now value.now ≡ true) × StoresSetting key.now value.now self.old self.new) }
-    {
-        match key {
-            "dev" => set(&mut self.device, filled(value)),
-            "spispeed" => set(&mut self.hertz, read_hertz(value)),
-            "cs" => set(&mut self.chip_select, read_select(value)),
-            _ => None,
-        }
+// Returns the first setting with an unknown key, with a wrong value, or with a key that another setting has too.
+fn first_wrong(list: &str) -> Option<&str>
+    ensures { option_map (λ setting. setting.now) result ≡ first_wrong (pieces_of list.now) }
+{
+    list.split(',').find(|setting| is_wrong(list, setting))
+}
+
+#[tactic(auto, unfolding(crate::specs::Setting::is_wrong))]
+fn is_wrong(list: &str, setting: &str) -> bool
+    ensures { result ≡ is_wrong (pieces_of list.now) setting.now }
+{
+    !is_serprog_setting(setting) || !is_alone(list, setting)
+}
+
+// True if the setting has a known key with a correct value.
+fn is_serprog_setting(setting: &str) -> bool
+    ensures { result ≡ is_serprog_setting setting.now }
+{
+    let (key, value) = split_setting(setting);
+    match key {
+        "dev" => !value.is_empty(),
+        "spispeed" => read_hertz(value).is_some(),
+        "cs" => read_select(value).is_some(),
+        _ => false,
     }
+}
+
+fn has_serprog_key(setting: &str) -> bool
+    ensures { result ≡ has_serprog_key setting.now }
+{
+    let (key, _) = split_setting(setting);
+    matches!(key, "dev" | "spispeed" | "cs")
+}
+
+// True for `ip=..`, as flashrom takes a programmer in the network, and for `ip` alone.
+fn names_network(setting: &str) -> bool
+    ensures { result ≡ names_network setting.now }
+{
+    let (key, _) = split_setting(setting);
+    key == "ip"
 }
 
 // Returns a clock in hertz, or `None` if the value is no number from 1 to 4,294,967,295: serprog has no clock of 0 Hz.
@@ -121,27 +133,6 @@ fn read_select(value: &str) -> Option<u8>
     ensures { result ≡ chip_select_of value.now }
 {
     u8::try_from(read_number(value)?).ok()
-}
-
-// Returns the name, or `None` if it is empty.
-fn filled(name: &str) -> Option<&str>
-    ensures { MatchOption result (is_file name.now ≡ false)
-        (λ file. (is_file name.now ≡ true) × (file.now ≡ name.now)) }
-{
-    if name.is_empty() { None } else { Some(name) }
-}
-
-// Stores the parsed value `read` in `place`. Returns `None`, and stores nothing, if `place` has a value already or
-// `read` is `None`.
-fn set<T: Copy>(place: &mut Option<T>, read: Option<T>) -> Option<()>
-    ensures { MatchOption result ((is_none place.old && is_some read) ≡ false)
-        (λ _. (place.old ≡ None) × (place.new ≡ read) × (is_some read ≡ true)) }
-{
-    if place.is_some() {
-        return None;
-    }
-    *place = Some(read?);
-    Some(())
 }
 
 // Returns `BaudRate` if the device ends with a colon and a number: flashrom's syntax is `dev=DEVICE:BAUD`.

@@ -4,7 +4,7 @@ ghost use Rattle.std.specs.Prelude.{◌≡◌};
 use crate::port::PortFault;
 use crate::setting::WrongSetting;
 use crate::status_line::{DIFFERED, StatusLine};
-use nor_lines::{Escaped, Fault};
+use nor_lines::{Escaped, Fault, text_of_flaw};
 use nor_serprog::{Failure, HandshakeFault, StatusFault};
 use nor_words::WrongArguments;
 use std::fmt;
@@ -93,9 +93,9 @@ impl fmt::Display for WrongSetting<'_> {
             WrongSetting::NoPrefix => {
                 f.write_str("error: the value of -p does not begin with 'serprog:'\n")
             }
-            WrongSetting::Flawed(setting) => {
+            WrongSetting::Flawed { setting, flaw } => {
                 let setting = Escaped(setting);
-                writeln!(f, "error: wrong key or value in -p: '{setting}'")
+                writeln!(f, "error: {} in -p: '{setting}'", text_of_flaw(*flaw))
             }
             WrongSetting::NoDevice => f.write_str("error: the value of -p lacks dev=\n"),
         }

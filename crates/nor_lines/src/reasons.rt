@@ -64,7 +64,8 @@ impl fmt::Display for ReasonLine<'_> {
     }
 }
 
-fn text_of_flaw(flaw: Flaw) -> &'static str
+/// Returns the words for a flaw of a setting.
+pub fn text_of_flaw(flaw: Flaw) -> &'static str
     ensures { result.now ≡ flaw_text flaw }
 {
     match flaw {
