@@ -439,12 +439,12 @@ def shows_what_a_power_loss_means(start):
 
 
 def needs_its_output(start):
-    """If a line can't be printed, the exit status is 1, and the job is done nevertheless."""
+    """If a line can't be printed, standard error says so, the exit status is 1, and the job is done nevertheless."""
     old, new = images("needs_its_output")
     bench = start(data=old)
     bench.write("new", new)
     for words in ("-r", "out"), ("-w", "new", "--journal", "j"), ("-h",):
-        check("status and faults", bench.run_unprinted(*words), (1, []))
+        check("status and faults", bench.run_unprinted(*words), (1, ["File fault 2: standard output."]))
     bench.check_file("out", old)
     bench.check_chip(new)
 

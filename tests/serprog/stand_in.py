@@ -5,6 +5,7 @@ self.py runs them. The stand-in knows the options that the cases use, and leaves
 variable MISTAKE names the mistake that it makes. Don't use it on a chip.
 """
 import hashlib
+import os
 import sys
 from pathlib import Path
 
@@ -347,8 +348,12 @@ def after_change(link):
 
 def main():
     try:
-        for line in run(sys.argv[1:]):
-            print(line)
+        lines = run(sys.argv[1:])
+        try:
+            print(*lines, sep="\n", flush=True)
+        except OSError:
+            print("File fault 2: standard output.", file=sys.stderr)
+            os._exit(1)
     except Fault as why:
         for line in why.args:
             print(line, file=sys.stderr)

@@ -21,7 +21,8 @@ use crate::sources::{Sources, read_sources};
 use crate::trouble::{Left, StopLine, Trouble};
 use nor_files::{Disk, Store};
 use nor_lines::{
-    Answer, DIRECTORY, Fault, Outcome, help_of, print_answer, print_fault, print_help, unread,
+    Answer, DIRECTORY, Fault, Outcome, help_of, lost_output, print_answer, print_fault, print_help,
+    unread,
 };
 use nor_session::Refusal;
 use nor_words::{HardwareJob, Operation, Task, operation_of};
@@ -105,18 +106,23 @@ fn end_early<O: Write, E: Write>(output: &mut O, errors: &mut E, trouble: &Troub
     if let Trouble::Fault(fault) = trouble
         && let Some(help) = help_of(fault)
     {
-        return status_of(print_help(output, help));
+        return status_of(print_help(output, help), errors);
     }
     let _ = writeln!(errors, "{trouble}");
     1
 }
 
-// Returns the exit status after an answer or the help: 0 if it was printed, 1 if printing failed.
-fn status_of(printed: io::Result<()>) -> u8
+// Returns the exit status after an answer or the help: 0 if it was printed. If not, prints file fault 2 of standard
+// output to `errors`, and returns 1.
+fn status_of<E: Write>(printed: io::Result<()>, errors: &mut E) -> u8
     ensures few { result ≤ 1 }
     ensures printed { result ≡ 0 → IsOk printed }
+    ensures quiet { IsOk printed → E.contents errors.new ≡ E.contents errors.old }
 {
-    if printed.is_ok() { 0 } else { 1 }
+    match printed {
+        Ok(()) => 0,
+        Err(_) => end_badly(errors, &lost_output()),
+    }
 }
 
 // A job whose files were read and whose programmer was identified.
@@ -192,7 +198,7 @@ fn run_prepared<R: Store, O: Write, E: Write>(
     let terminal = bus.terminal();
     let unverified = is_unverified(&operation.task);
     match end_job(files, &mut bus, terminal, &operation, sources) {
-        Ok(answer) => end_well(output, answer, unverified),
+        Ok(answer) => end_well(output, errors, answer, unverified),
         Err(fault) => {
             print_job_fault(errors, &fault, &bus, &operation.task);
             1
@@ -244,12 +250,17 @@ fn end_call<'a>(outcome: Outcome) -> Result<Answer, JobFault<'a>>
 }
 
 // Prints an answer, and returns the exit status, which is 0 only if all lines were printed.
-fn end_well<O: Write>(output: &mut O, answer: Answer, unverified: bool) -> u8
+fn end_well<O: Write, E: Write>(
+    output: &mut O,
+    errors: &mut E,
+    answer: Answer,
+    unverified: bool,
+) -> u8
     ensures few { result ≤ 1 }
     ensures printed { result ≡ 0
         → Prints (AreJobLines unverified answer) (O.contents output.old) (O.contents output.new) }
 {
-    status_of(print_lines(output, answer, unverified))
+    status_of(print_lines(output, answer, unverified), errors)
 }
 
 // Prints the lines of an answer and, if nothing was verified, the line that says so.
