@@ -2,7 +2,9 @@
 use Rattle.std.proofs.Common.{◌≡◌, ◌∙◌, ◌/◌, ℕ, false, List, [], length, refl, sym, ap, subst, arith, inl, inr}
 use Rattle.std.specs.Prelude.{Result, Ok, Err}
 use Rattle.std.proofs.lemmas.List.{append-nil}
-use Rattle.nor_model.specs.Chip.{Chip}
+use Rattle.std.proofs.lemmas.Bool.{false≢true}
+use Rattle.std.specs.Prelude.{IfErr}
+use Rattle.nor_model.specs.Chip.{Chip, IsSame}
 use Rattle.nor_model.specs.Power.{PowerLost}
 use Rattle.nor_model.specs.Bus.{BusState}
 use Rattle.nor_model.specs.Exchange.{Exchange}
@@ -17,15 +19,15 @@ use Rattle.nor_apply.specs.Within.{WorksIn}
 use Rattle.nor_request.specs.declared.request.Request.{Request}
 use Rattle.nor_request.specs.declared.report.Report.{Report}
 use Rattle.nor_request.specs.declared.refusal.Refusal.{Refusal}
-use Rattle.nor_request.specs.declared.refusal.Refusal.TheVariants.{Vault, Stopped}
+use Rattle.nor_request.specs.declared.refusal.Refusal.TheVariants.{NoChip, UnknownChip, OtherName, ImageSize, RegionOutside, NoProtection, UndefinedProtection, RangeNotOffered, StatusLocked, Protected, Vault, Stopped, Timeout, Mismatch, BadJournal, OtherChip, StatusDiffers, Memory, Output, OtherUnit}
 use Rattle.nor_session.specs.Bounds.{most_of}
 use Rattle.nor_session.specs.Headline.{CanRestore, KeepsOriginal, RestoresOriginal, open_addresses}
-use Rattle.nor_session.specs.Session.{SessionErrors, SessionModelled, SessionAlways}
-use Rattle.nor_session.specs.Restore.{RestoreErrors, RestoreModelled}
+use Rattle.nor_session.specs.Session.{HonestErrors, SessionErrors, SessionModelled, SessionAlways}
+use Rattle.nor_session.specs.Restore.{IsCheckedFirst, RestoreAlways, RestoreErrors, RestoreHonest, RestoreModelled}
 use Rattle.nor_session.proofs.InTurn.{lost_can_restore}
 use Rattle.nor_serprog.specs.Device.{PortState}
 use Rattle.nor_serprog.specs.Bus.{over_port}
-use Rattle.nor_wire.specs.Headline.{ReachesGenuine, CanRestoreChip, CanRestoreChipFrom, HadFewCalls, SessionFails, KeepsOriginalChip, SessionResults, RestoresOriginalChip}
+use Rattle.nor_wire.specs.Headline.{ReachesGenuine, CanRestoreChip, CanRestoreChipFrom, HadFewCalls, SessionFails, KeepsOriginalChip, SessionResults, RestoreFails, RefusesUnsent, RestoresOriginalChip}
 
 -- A bus over an honest port to a genuine chip is modelled.
 pub modelled : (port : PortState) (history : List Exchange) → ReachesGenuine port → IsModelled (over_port port history)
@@ -115,29 +117,77 @@ results request image old new history history' vault vault' (Ok report) always m
   };
   sealed = always.ends.sealed;
   errors = tt;
+  unsealed = tt;
+  accepted = λ sealed. (made.undo sealed).accepted;
 }
 results request image old new history history' vault vault' (Err refusal) always made = record {
   done = tt;
   sealed = tt;
   errors = fails request image old new history history' vault vault' refusal made.errors;
+  unsealed = always.answers.unsealed;
+  accepted = λ sealed. (made.undo sealed).accepted;
 }
 
 -- ---- a restore
 
+-- On every bus an error of a restore other than 12, 13 and 14 is one that it checks first, so nothing modifying was
+-- sent.
+pub refuses : (journal : Content) (old new : BusState) (result : Result Report Refusal)
+    → RestoreAlways journal old new result → IfErr result (RefusesUnsent old.sent new.sent)
+refuses journal old new (Ok report) always = tt
+refuses journal old new (Err NoChip) always = (always.only_reads refl).sent
+refuses journal old new (Err (UnknownChip fault)) always = (always.only_reads refl).sent
+refuses journal old new (Err OtherChip) always = (always.only_reads refl).sent
+refuses journal old new (Err OtherUnit) always = (always.only_reads refl).sent
+refuses journal old new (Err StatusDiffers) always = (always.only_reads refl).sent
+refuses journal old new (Err StatusLocked) always = (always.only_reads refl).sent
+refuses journal old new (Err Stopped) always = tt
+refuses journal old new (Err (Timeout address)) always = tt
+refuses journal old new (Err (Mismatch address)) always = tt
+refuses journal old new (Err OtherName) always = absurd (false≢true always.answers)
+refuses journal old new (Err (ImageSize chip image)) always = absurd (false≢true always.answers)
+refuses journal old new (Err RegionOutside) always = absurd (false≢true always.answers)
+refuses journal old new (Err NoProtection) always = absurd (false≢true always.answers)
+refuses journal old new (Err UndefinedProtection) always = absurd (false≢true always.answers)
+refuses journal old new (Err RangeNotOffered) always = absurd (false≢true always.answers)
+refuses journal old new (Err (Protected address)) always = absurd (false≢true always.answers)
+refuses journal old new (Err Vault) always = absurd (false≢true always.answers)
+refuses journal old new (Err (BadJournal fault)) always = absurd (false≢true always.answers)
+refuses journal old new (Err Memory) always = absurd (false≢true always.answers)
+refuses journal old new (Err (Output written)) always = absurd (false≢true always.answers)
+
+restore_fails : (journal : Content) (old new : PortState) (history history' : List Exchange) (refusal : Refusal)
+    → RestoreErrors journal (over_port old history) (over_port new history') refusal
+    → RestoreFails journal old refusal
+restore_fails journal old new history history' Stopped is =
+    few_calls (most_of (length journal.saved)) old new history history' is
+restore_fails journal old new history history' _ is = is
+
+same_refused : (most : ℕ) (old new : BusState) (refusal : Refusal) → HonestErrors most IsCheckedFirst old new refusal
+    → IsCheckedFirst refusal → IsSame old.chip new.chip
+same_refused most old new Stopped is checked = absurd (false≢true checked)
+same_refused most old new (Timeout address) is checked = absurd is
+same_refused most old new _ is checked = is checked
+
 pub restores : (journal : Content) (old new : PortState) (history history' : List Exchange)
     (result : Result Report Refusal)
     → RestoresOriginal journal (over_port old history) (over_port new history') result
+    → RestoreHonest journal (over_port old history) (over_port new history') result
     → RestoreModelled journal (over_port old history) (over_port new history') result
     → RestoresOriginalChip journal old new result
-restores journal old new history history' (Ok report) back made = record {
+restores journal old new history history' (Ok report) back fair made = record {
   within = λ first can.
       on_every_bus journal first (over_port new history') refl
       (back.within first (can (over_port old history) refl));
   back = λ first can. back.back first (can (over_port old history) refl);
   idle = made.done.made.idle;
   only_stops = λ first can. tt;
+  made = made.done.made;
+  kept = made.done.kept;
+  errors = tt;
+  same = tt;
 }
-restores journal old new history history' (Err refusal) back made = record {
+restores journal old new history history' (Err refusal) back fair made = record {
   within = λ first can.
       on_every_bus journal first (over_port new history') refl
       (back.within first (can (over_port old history) refl));
@@ -149,4 +199,9 @@ restores journal old new history history' (Err refusal) back made = record {
       λ r. RestoreErrors journal (over_port old history) (over_port new history') r in
       let ran = subst P stopped made.errors in
       (stopped, few_calls (most_of (length journal.saved)) old new history history' ran);
+  made = tt;
+  kept = tt;
+  errors = restore_fails journal old new history history' refusal made.errors;
+  same = same_refused (most_of (length journal.saved)) (over_port old history) (over_port new history') refusal
+      fair.honest_errors;
 }

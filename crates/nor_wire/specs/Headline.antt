@@ -1,7 +1,7 @@
 -- The main promises over serprog: on an honest port to a genuine chip, the original chip can be restored from the
 -- journal in a sealed faithful vault, wherever the port fails.
-use Rattle.std.specs.Prelude.{◌≡◌, ◌<◌, ◌*◌, ◌/◌, ℕ, true, false, List, length, Result, IfErr, OnOk}
-use Rattle.nor_model.specs.Chip.{Chip, IsSame}
+use Rattle.std.specs.Prelude.{◌≡◌, ◌≤◌, ◌<◌, ◌*◌, ◌/◌, ℕ, true, false, List, length, Result, IfErr, OnOk, ⊤}
+use Rattle.nor_model.specs.Chip.{Chip, IsSame, kept_in}
 use Rattle.nor_model.specs.Sent.{Sent}
 use Rattle.nor_model.specs.Bus.{BusState}
 use Rattle.nor_driver.specs.StatusWrites.{with_code}
@@ -11,13 +11,15 @@ use Rattle.nor_probe.specs.Known.{IsGenuine}
 use Rattle.nor_request.specs.declared.request.Request.{Request}
 use Rattle.nor_request.specs.declared.report.Report.{Report}
 use Rattle.nor_request.specs.declared.refusal.Refusal.{Refusal}
-use Rattle.nor_request.specs.declared.refusal.Refusal.TheVariants.{Vault, Stopped}
+use Rattle.nor_request.specs.declared.refusal.Refusal.TheVariants.{Vault, Stopped, Timeout, Mismatch}
+use Rattle.nor_request.specs.Refusal.{refusal_number}
 use Rattle.nor_request.specs.Request.{wanted, IsWantedCode}
 use Rattle.nor_scan.specs.SavedScan.{IsJournal}
-use Rattle.nor_scan.specs.Verdict.{IsVerdict}
+use Rattle.nor_scan.specs.Verdict.{IsAccepted, IsVerdict}
 use Rattle.nor_session.specs.Bounds.{most_of}
 use Rattle.nor_session.specs.Made.{IsTargetChip}
 use Rattle.nor_session.specs.Headline.{CanRestore}
+use Rattle.nor_session.specs.Restore.{IsCheckedFirst, IsRestoreVerdict, differing, restored}
 use Rattle.nor_serprog.specs.Device.{PortState}
 
 -- Holds for an honest port to a programmer whose chip is what its ID or SFDP says.
@@ -80,11 +82,29 @@ pub record SessionResults (request : Request) (image : List ℕ) (old new : Port
   pub sealed : OnOk result (vault'.sealed ≡ true)
   -- an error is the verdict, a failure of the vault, or a failure of the port (`SessionFails`)
   pub errors : IfErr result (SessionFails request image old vault vault')
+  -- after errors 1 to 11 the vault isn't sealed
+  pub unsealed : IfErr result (λ refusal. refusal_number refusal ≤ 11 → vault'.sealed ≡ false)
+  -- the vault is sealed only if the request is accepted
+  pub accepted : vault'.sealed ≡ true → IsAccepted request image old.device.chip
 
 -- ---- a restore
 
--- The promise of a restore on an honest port to a genuine chip, for each chip `first` that the journal can restore at
--- the start.
+-- Holds for errors 12 (stop), 13 (timeout) and 14 (mismatch), and for every other error if no modifying command was
+-- sent. A restore promises this on every port and for every journal.
+abbrev pub RefusesUnsent : (sent sent' : Sent) → Refusal → Type 0
+RefusesUnsent sent sent' Stopped = ⊤
+RefusesUnsent sent sent' (Timeout address) = ⊤
+RefusesUnsent sent sent' (Mismatch address) = ⊤
+RefusesUnsent sent sent' refusal = sent' ≡ sent
+
+-- Holds if the error of a restore is the verdict on the journal and the chip; or 12, and the port had too few calls
+-- left for the bound (`HadFewCalls`). A restore promises this on an honest port to a genuine chip, for every journal.
+abbrev pub RestoreFails : Content → PortState → Refusal → Type 0
+RestoreFails journal port Stopped = HadFewCalls (most_of (length journal.saved)) port
+RestoreFails journal port refusal = IsRestoreVerdict differing journal port.device.chip refusal
+
+-- The promise of a restore on an honest port to a genuine chip: for each chip `first` that the journal can restore at
+-- the start (`within`, `back`, `only_stops`), and for every journal (the other fields).
 pub record RestoresOriginalChip (journal : Content) (old new : PortState)
     (result : Result Report Refusal) : Type 0 where
   -- at every exit, wherever the port failed, the journal can still restore that chip
@@ -98,3 +118,10 @@ pub record RestoresOriginalChip (journal : Content) (old new : PortState)
   -- the only possible error is a stop, because the port failed and had too few calls left for the bound (`HadFewCalls`)
   pub only_stops : (first : Chip) → CanRestoreChip journal first old.device.chip
       → IfErr result (λ refusal. (refusal ≡ Stopped) × HadFewCalls (most_of (length journal.saved)) old)
+  -- after success the programmer's chip has the saved bytes and the journal's non-volatile status bits
+  pub made : OnOk result (IsTargetChip (restored journal old.device.chip.bytes) old.device.chip new.device.chip)
+  pub kept : OnOk result (new.device.chip.kept ≡ kept_in journal.status)
+  -- an error is the verdict, or a failure of the port (`RestoreFails`)
+  pub errors : IfErr result (RestoreFails journal old)
+  -- after an error that is checked first the programmer's chip is as it was
+  pub same : IfErr result (λ refusal. IsCheckedFirst refusal → IsSame old.device.chip new.device.chip)

@@ -1,9 +1,9 @@
 //! A session and a restore of the chip at a programmer.
-ghost use Rattle.std.specs.Prelude.{◌≡◌, true};
+ghost use Rattle.std.specs.Prelude.{◌≡◌, true, IfErr};
 ghost use Rattle.nor_journal.specs.Vault.{IsFresh};
-ghost use Rattle.nor_session.specs.Session.{SendsSaved, IsSavedCode};
+ghost use Rattle.nor_session.specs.Session.{SendsSaved, SessionReturns, IsSavedCode};
 ghost use Rattle.nor_serprog.specs.Bus.{port_in, sent_of, serprog_state};
-ghost use Rattle.nor_wire.specs.Headline.{ReachesGenuine, KeepsOriginalChip, SessionResults, RestoresOriginalChip};
+ghost use Rattle.nor_wire.specs.Headline.{ReachesGenuine, KeepsOriginalChip, SessionResults, RestoresOriginalChip, RefusesUnsent};
 
 use nor_journal::{Journal, Vault};
 use nor_serprog::{Port, SerprogBus};
@@ -19,7 +19,8 @@ use nor_session::{Refusal, Report, Request, restore, session};
 /// chip idle and the vault sealed.
 ///
 /// On an honest port to a genuine chip an error is the verdict on the request, 11 (the vault failed), or 12 (the port
-/// failed). On any other port it is one that `session` returns.
+/// failed), and the vault is sealed only if the request is accepted. On any other port the error is one that `session`
+/// returns. On every port the vault isn't sealed after an error from 1 to 11.
 pub fn session_over<P: Port + Drop, V: Vault>(
     bus: &mut SerprogBus<P>,
     vault: &mut V,
@@ -31,6 +32,7 @@ pub fn session_over<P: Port + Drop, V: Vault>(
         (sent_of bus.old) (sent_of bus.new) (V.state vault.new) }
     ensures results { ReachesGenuine (P.state (port_in bus.old)) → SessionResults request.now image.old
         (P.state (port_in bus.old)) (P.state (port_in bus.new)) (V.state vault.old) (V.state vault.new) result }
+    ensures answers { IfErr result (SessionReturns (V.state vault.old) (V.state vault.new)) }
 {
     session(bus, vault, image, request)
 }
@@ -40,9 +42,10 @@ pub fn session_over<P: Port + Drop, V: Vault>(
 ///
 /// The port may fail at any call, and inside any exchange. If it fails, connect again, and run the restore again. On an
 /// honest port to a genuine chip, if the journal can restore a chip at the start, it can restore that chip at every
-/// exit. In this case success leaves that chip, idle, and the only possible error is 12 (the port failed). In all other
-/// cases the errors are those of `restore`. On every port the modifying commands that are sent fit the journal
-/// (`SendsSaved`).
+/// exit. In this case success leaves that chip, idle, and the only possible error is 12 (the port failed). With any
+/// journal success leaves the saved bytes and status bits there, and an error is the verdict of `restore`, which leaves
+/// the chip as it was, or 12. On every port the modifying commands that are sent fit the journal (`SendsSaved`), and
+/// none is sent before an error other than 12, 13 and 14.
 pub fn restore_over<P: Port + Drop>(
     bus: &mut SerprogBus<P>,
     journal: &Journal<'_>,
@@ -51,6 +54,7 @@ pub fn restore_over<P: Port + Drop>(
         (P.state (port_in bus.old)) (P.state (port_in bus.new)) result }
     ensures sends { SendsSaved (IsSavedCode journal.now) 1 journal.now
         (serprog_state bus.old) (serprog_state bus.new) }
+    ensures refuses { IfErr result (RefusesUnsent (sent_of bus.old) (sent_of bus.new)) }
 {
     restore(bus, journal)
 }

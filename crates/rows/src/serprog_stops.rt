@@ -194,6 +194,26 @@ fn a_session_ends_with_its_last_call(rt: HostRuntime) {
     }
 }
 
+// A session that is refused seals nothing. Neither it nor a restore from another chip's journal changes the chip.
+#[test]
+fn refusals_change_nothing(rt: HostRuntime) {
+    let (row, other) = (Row::AGuardedByteIsProgrammed, Row::ABitRises);
+    let before = row.bus(&rt, rt.alloc(), Start::IDLE);
+    let chip = row.bus(&rt, rt.alloc(), Start::IDLE);
+    let mut bus = bus_to(&rt, rt.alloc(), chip, AMPLE, 0);
+    let mut vault = MemVault::new(rt.alloc());
+    let request = row.request(&rt, rt.alloc());
+    let refusal = session_over(&mut bus, &mut vault, &mut [0xFF; 16], &request).err();
+    assert!(rt; matches!(refusal, Some(Refusal::ImageSize { image: 16, .. })));
+    assert!(rt; !vault.is_sealed() && vault.bytes().is_empty());
+    assert_same(&rt, bus.port().chip(), &before, 0);
+    let sealed = Runs::new(&rt, rt.alloc(), other, Start::IDLE).cut(&rt, 25);
+    let journal = Journal::read(sealed.vault.bytes()).expect(&rt, "a journal");
+    let refusal = restore_over(&mut bus, &journal).err();
+    assert!(rt; matches!(refusal, Some(Refusal::OtherChip)));
+    assert_same(&rt, bus.port().chip(), &before, 1);
+}
+
 // The chip loses its power when the port fails while it sends a frame, after the opcode and address of the transaction
 // or after all of it. Each byte that a running page program or erase works on becomes 00h or FFh.
 #[test]
