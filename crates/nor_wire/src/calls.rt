@@ -3,7 +3,8 @@ ghost use Rattle.std.specs.Prelude.{◌≡◌, true, IfErr};
 ghost use Rattle.nor_journal.specs.Vault.{IsFresh};
 ghost use Rattle.nor_session.specs.Session.{SendsSaved, SessionReturns, IsSavedCode};
 ghost use Rattle.nor_serprog.specs.Bus.{port_in, sent_of, serprog_state};
-ghost use Rattle.nor_wire.specs.Headline.{ReachesGenuine, KeepsOriginalChip, SessionResults, RestoresOriginalChip, RefusesUnsent};
+ghost use Rattle.nor_wire.specs.Headline.{ReachesGenuine, KeepsOriginalChip, RefusesUnsent, RestoresOriginalChip};
+ghost use Rattle.nor_wire.specs.Headline.{SessionResults};
 
 use nor_journal::{Journal, Vault};
 use nor_serprog::{Port, SerprogBus};
