@@ -4,7 +4,8 @@ ghost use Rattle.std.specs.Prelude.{◌≡◌, option_map};
 ghost use Rattle.std.specs.Result.{MatchResult};
 ghost use Rattle.nor_words.specs.Text.{pieces_of};
 ghost use Rattle.flashnor_serprog.specs.Setting.{EndsWithRate, HasNoRate, IsSetting, IsWrongBy, IsWrongSetting};
-ghost use Rattle.flashnor_serprog.specs.Setting.{chip_select_of, clock_of, first_wrong, has_serprog_key, is_serprog_setting, is_wrong, names_network};
+ghost use Rattle.flashnor_serprog.specs.Setting.{chip_select_of, clock_of, first_wrong, has_serprog_key};
+ghost use Rattle.flashnor_serprog.specs.Setting.{is_serprog_setting, is_wrong, names_network};
 
 use nor_words::{Flaw, is_alone, read_number, setting_value, split_setting};
 
@@ -39,8 +40,9 @@ impl<'a> Setting<'a> {
     /// Parses the value of `-p`. A `KEY=VALUE` pair ends at the next comma, and its key at the first `=`.
     ///
     /// Returns `NoPrefix` if the text doesn't begin with `serprog:`. Otherwise returns `Network` if the first setting
-    /// with a flaw is `ip=..`, and `Flawed` if it is another one. If no setting has a flaw, returns `NoDevice` if `dev=`
-    /// is missing, and `BaudRate` if the device ends with a colon and a decimal number (at most 20 digits, below 2^64).
+    /// with a flaw is `ip=..`, and `Flawed` if it is another one. If no setting has a flaw, returns `NoDevice` if
+    /// `dev=` is missing, and `BaudRate` if the device ends with a colon and a decimal number (at most 20 digits, below
+    /// 2^64).
     pub fn read(text: &'a str) -> Result<Setting<'a>, WrongSetting<'a>>
         ensures { MatchResult result (IsSetting text.now) (IsWrongSetting text.now) }
     {

@@ -66,8 +66,8 @@ pub enum Flaw {
 impl Flaw {
     ghost use Rattle.nor_words.specs.Reasons.{flaw_by};
 
-    /// Returns the flaw of a setting that has one. `known` is true if its key is known, and `valid` if its value is also
-    /// one that this key may have.
+    /// Returns the flaw of a setting that has one. `known` is true if its key is known, and `valid` if also its value
+    /// is one that this key may have.
     pub fn of(known: bool, valid: bool) -> Flaw
         ensures { result ≡ flaw_by known valid }
     {
