@@ -1,5 +1,6 @@
 pub mod Pauses
 pub mod SameReply
+pub mod ReadParts
 pub mod Exchanges
 pub mod Replied
 pub mod Skipped

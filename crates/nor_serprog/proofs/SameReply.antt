@@ -32,7 +32,7 @@ IsReading _ = ⊥
 abbrev pub read_of : (idle : Bool) → Command → Command
 read_of idle command = if idle then command else Ignored
 
-still_after_reading : (command : Command) (sent : List ℕ) (old mid : Chip) (first : List ℕ) → IsReading command
+pub still_after_reading : (command : Command) (sent : List ℕ) (old mid : Chip) (first : List ℕ) → IsReading command
     → Does command sent old first mid → Still old mid
 still_after_reading (ReadData at) sent old mid first is one = record { config = one.config; bytes = one.bytes; busy = one.busy }
 still_after_reading ReadId sent old mid first is one = record { config = one.config; bytes = one.bytes; busy = one.busy }
@@ -52,7 +52,7 @@ same_byte ReadUnique old mid is s i = ap (λ (c : Config). slice_index_or c.uniq
 same_byte Ignored old mid is s i = refl
 same_byte _ old mid is s i = absurd is
 
-reading_or_none : (idle : Bool) (command : Command) → IsReading command → IsReading (read_of idle command)
+pub reading_or_none : (idle : Bool) (command : Command) → IsReading command → IsReading (read_of idle command)
 reading_or_none true command is = is
 reading_or_none false command is = tt
 

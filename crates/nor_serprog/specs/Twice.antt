@@ -1,7 +1,8 @@
 -- A bus that reads data twice, as contracts see it.
-use Rattle.std.specs.Prelude.{◌≡◌, ◌==◌, ◌||◌, ℕ, Bool, false, Option, None, Some, length, List, [], ◌∷◌}
+use Rattle.std.specs.Prelude.{◌≡◌, ◌==◌, ◌||◌, ℕ, Bool, false, Option, None, Some, List, [], ◌∷◌}
 use Rattle.std.proofs.Common.{Vec, Global}
-use Rattle.nor_serprog.specs.ReadsAs.{address_in, part, view_of}
+use Rattle.nor_serprog.specs.ReadsAs.{view_of}
+use Rattle.nor_serprog.specs.Again.{RepeatsDiffering, CarriesDiffering}
 use Rattle.nor_model.specs.Bus.{BusState, Carries}
 use Rattle.nor_model.specs.Exchange.{Exchange}
 use Rattle.nor_model.specs.History.{replied}
@@ -19,11 +20,19 @@ has_differed twice = twice.differed
 abbrev pub expected_of : {B : Type 0} → ReadTwice B → Option (Vec ℕ Global)
 expected_of twice = twice.expected
 
--- An image is expected, and the reply to a transaction equals it at the transaction's address.
-abbrev pub Expects : {B : Type 0} → ReadTwice B → (out answer : List ℕ) → Type 0
-Expects twice out answer = elim twice.expected [
+-- An image is expected. The read of data `out` had the reply `answer`, and then only parts of it were read again: at
+-- least each byte that differs from the image (`RepeatsDiffering`).
+abbrev pub RepeatsUnexpected : {B : Type 0} → ReadTwice B → (out answer : List ℕ) → (old new : List Exchange) → Type 0
+RepeatsUnexpected twice out answer old new = elim twice.expected [
   | None ↦ ⊥
-  | Some image ↦ answer ≡ part image.items (address_in out) (length answer)
+  | Some image ↦ RepeatsDiffering image.items out answer old new
+]
+
+-- The transactions of `RepeatsUnexpected`, carried out by a well-behaved bus.
+abbrev pub CarriesUnexpected : {B : Type 0} → ReadTwice B → (out answer : List ℕ) → (old new : BusState) → Type 0
+CarriesUnexpected twice out answer old new = elim twice.expected [
+  | None ↦ ⊥
+  | Some image ↦ CarriesDiffering image.items out answer old new
 ]
 
 -- The transactions that the bus was asked to carry out, each with its reply, the last one first. A read that the bus

@@ -11,6 +11,7 @@
 //! - `batch.rt`: frames that are sent together
 //! - `batching.rt`: a bus that sends modifying commands together with the next transaction
 //! - `ahead.rt`: a bus that reads ahead
+//! - `again.rt`: reads a reply again, or the sectors of it that differ from an image
 //! - `paced.rt`: a bus that pauses between polls of a busy chip
 //! - `parts.rt`: reads and programs that are carried out in parts
 //! - `splitting.rt`: a bus that splits transactions to the limits of a programmer
@@ -18,6 +19,7 @@
 //! - `status.rt`: a bus that reads the status registers twice, and checks status writes
 #![tactic(auto)]
 
+mod again;
 mod ahead;
 mod batch;
 mod batching;

@@ -1,17 +1,22 @@
 //! A bus that reads IDs, SFDP and data twice.
-ghost use Rattle.std.specs.Prelude.{◌≡◌, ◌≢◌, ◌≤◌, ◌⊎◌, ◌∷◌, [], true, false, ℕ, List, length, OnOk, OnErr};
+ghost use Rattle.std.specs.Prelude.{◌≡◌, ◌≤◌, ◌⊎◌, ◌∷◌, [], true, false, None, Some, length, OnOk, OnErr, IfOk};
 ghost use Rattle.std.proofs.lemmas.Bool.{false≢true};
-ghost use Rattle.nor_model.specs.Bus.{IsHonestFor, SameNature, Stops, Carries, Records};
-ghost use Rattle.nor_model.specs.History.{exchange_of};
-ghost use Rattle.nor_serprog.specs.ReadsAs.{view_of};
-ghost use Rattle.nor_serprog.specs.Twice.{twice_of, has_differed, expected_of, Expects, begins_read};
-ghost use Rattle.nor_serprog.specs.Twice.{EndsTwice, ReadsTwice, history_of, twice_state};
+ghost use Rattle.nor_model.specs.Bus.{BusState, IsHonestFor, SameNature, Stops, Carries, Records};
+ghost use Rattle.nor_model.specs.History.{exchange_of, replied};
+ghost use Rattle.nor_serprog.specs.ReadsAs.{view_of, KeepsRecord};
+ghost use Rattle.nor_serprog.specs.Again.{FirstRead};
+ghost use Rattle.nor_serprog.specs.Twice.{twice_of, has_differed, expected_of, begins_read, history_of, twice_state};
+ghost use Rattle.nor_serprog.specs.Twice.{EndsTwice, ReadsTwice, RepeatsUnexpected, CarriesUnexpected};
 
+use crate::again::{is_repeated, is_repeated_or_expected};
 use crate::ahead::data_address;
 use nor_model::{Bus, History, Stopped};
 
 // The greatest length of a read: a block of `ReadAhead`.
 const LONGEST_READ: usize = 65536;
+
+// The first address that three bytes can't represent.
+const ADDRESSES_END: usize = 1 << 24;
 
 const READ_DATA: u8 = 0x03;
 
@@ -26,18 +31,21 @@ const READ_ID: u8 = 0x9F;
 /// the journal, and a restore writes it to the chip; or the wrong chip is found. A read of more than 65,536 bytes is
 /// rejected: nothing is sent.
 ///
-/// If an image is expected (`expecting`), a read of data whose reply equals the image at its address is carried out
-/// once. If that is the image of a session, each sector that its journal saves was read twice: a session saves no
-/// sector that equals its image.
+/// If an image is expected (`expecting`), a read of data that sends four bytes is carried out once. After that only the
+/// sectors of its reply that differ from the image at the same addresses are read again, neighbouring ones together. A
+/// sector of which the reply has only a part counts by that part. If that is the image of a session, each sector that
+/// its journal saves was read twice: a session saves only sectors that differ from its image, and reads each one with a
+/// single transaction.
 ///
-/// An error that is the same in both reads is not detected. A read over this bus may be two transactions over the bus
-/// inside, so this bus is not honest as `Bus` defines it, even if the bus inside is. On any bus, a read that succeeds
-/// had the same reply twice, or returned the expected bytes. If the bus inside is honest and takes a read of this
-/// length, a read of at most 65,536 bytes fails only if no transaction is left afterwards.
+/// An error that is the same in both reads is not detected. A read over this bus may be several transactions over the
+/// bus inside, so this bus is not honest as `Bus` defines it, even if the bus inside is. On any bus, each byte that a
+/// successful read returned is the expected one, or a later transaction returned the same byte for the same address. If
+/// the bus inside is honest and takes a read of this length, a read of at most 65,536 bytes fails only if no
+/// transaction is left afterwards.
 ///
-/// The history has each transaction over this bus with its reply; one that failed or was rejected has none. A read that
-/// the bus inside carried out twice is in the history once. In contracts, what was sent and the result of the last poll
-/// are those of the bus inside.
+/// The history has each transaction over this bus with its reply; one that failed or was rejected has none. A read of
+/// which the bus inside carried out all or a part twice is in the history once. In contracts, what was sent and the
+/// result of the last poll are those of the bus inside.
 #[derive(Drop)]
 pub struct ReadTwice<B> {
     bus: B,
@@ -53,7 +61,7 @@ impl<B: Bus + Drop> ReadTwice<B> {
         ensures bus { twice_of result ≡ bus }
         ensures differed { has_differed result ≡ false }
         ensures history { history_of result ≡ [] }
-        ensures expected { (out answer : List ℕ) → Expects result out answer → ⊥ }
+        ensures expected { expected_of result ≡ None }
     {
         ReadTwice {
             bus,
@@ -64,12 +72,13 @@ impl<B: Bus + Drop> ReadTwice<B> {
         }
     }
 
-    /// Returns a bus that reads data twice over `bus`, except for data that equals `image` at its address. The first
-    /// byte of `image` is the one at address 0.
+    /// Returns a bus that reads data twice over `bus`, except for sectors that equal `image` at their address. The
+    /// first byte of `image` is the one at address 0.
     pub fn expecting(bus: B, image: Vec<u8>) -> ReadTwice<B>
         ensures bus { twice_of result ≡ bus }
         ensures differed { has_differed result ≡ false }
         ensures history { history_of result ≡ [] }
+        ensures expected { expected_of result ≡ Some image }
     {
         ReadTwice {
             bus,
@@ -95,21 +104,6 @@ impl<B: Bus + Drop> ReadTwice<B> {
     }
 }
 
-impl<B> ReadTwice<B> {
-    // Returns whether the reply to a read equals the expected bytes at its address.
-    fn is_expected(&self, out: &[u8], reply: &[u8]) -> bool
-        ensures { result ≡ true → Expects self.now out.now reply.now }
-    {
-        match (&self.expected, data_address(out)) {
-            (Some(image), Some(address)) => {
-                let start = address as usize;
-                image.get(start..start + reply.len()) == Some(reply)
-            }
-            _ => false,
-        }
-    }
-}
-
 impl<B: Bus> ReadTwice<B> {
     // Makes one transaction, and does not add it to the history. The clause `records` is about the state after the
     // caller has added it.
@@ -117,10 +111,13 @@ impl<B: Bus> ReadTwice<B> {
         ensures once { IsHonestFor out.now (length reply.old) (B.state (twice_of self.old))
             → begins_read out.now ≡ false
             → OnOk result (Carries out.now reply.new (B.state (twice_of self.old)) (B.state (twice_of self.new))) }
-        ensures same { begins_read out.now ≡ true → OnOk result (Expects self.old out.now reply.new
+        ensures same { begins_read out.now ≡ true → OnOk result (
+            RepeatsUnexpected self.old out.now reply.new
+            (B.state (twice_of self.old)).history (B.state (twice_of self.new)).history
             ⊎ EndsTwice out.now reply.new (B.state (twice_of self.old)).history (B.state (twice_of self.new)).history) }
         ensures twice { IsHonestFor out.now (length reply.old) (B.state (twice_of self.old))
-            → begins_read out.now ≡ true → OnOk result (Expects self.old out.now reply.new
+            → begins_read out.now ≡ true → OnOk result (
+            CarriesUnexpected self.old out.now reply.new (B.state (twice_of self.old)) (B.state (twice_of self.new))
             ⊎ ReadsTwice out.now reply.new (B.state (twice_of self.old)) (B.state (twice_of self.new))) }
         ensures no_difference { IsHonestFor out.now (length reply.old) (B.state (twice_of self.old))
             → length reply.old ≤ 65536 → OnErr result ((B.state (twice_of self.new)).left ≡ 0) }
@@ -137,17 +134,45 @@ impl<B: Bus> ReadTwice<B> {
             return Err(Stopped);
         }
         self.bus.transfer(out, &mut *reply)?;
-        if self.is_expected(out, reply) {
-            return Ok(());
-        }
-        let buffer = &mut self.again[..];
-        let again = &mut buffer[..reply.len()];
-        self.bus.transfer(out, &mut *again)?;
-        if !are_same(reply, again) {
+        if !self.is_confirmed(out, reply)? {
             self.differed = true;
             return Err(Stopped);
         }
         Ok(())
+    }
+
+    // Carries out a read again whose reply was `reply`, or reads only the sectors again that differ from the image.
+    // Returns whether all replies are the same. The clauses with `before` are about the first read, before this call.
+    fn is_confirmed(&mut self, out: &[u8], reply: &[u8]) -> Result<bool, Stopped>
+        requires reads { begins_read out.now ≡ true }
+        requires len { length reply.now ≤ 65536 }
+        ensures nature { SameNature (B.state (twice_of self.old)) (B.state (twice_of self.new)) }
+        ensures record { KeepsRecord (B.state (twice_of self.old)) (B.state (twice_of self.new)) }
+        ensures history { history_of self.new ≡ history_of self.old }
+        ensures expected { expected_of self.new ≡ expected_of self.old }
+        ensures remembers { has_differed self.new ≡ has_differed self.old }
+        ensures same { (before : BusState)
+            → (B.state (twice_of self.old)).history ≡ replied out.now reply.now ∷ before.history
+            → IfOk result (λ same. same ≡ true → RepeatsUnexpected self.old out.now reply.now before.history
+            (B.state (twice_of self.new)).history
+            ⊎ EndsTwice out.now reply.now before.history (B.state (twice_of self.new)).history) }
+        ensures twice { (before : BusState) → IsHonestFor out.now (length reply.now) before
+            → FirstRead out.now reply.now before (B.state (twice_of self.old))
+            → IfOk result (λ same. same ≡ true
+            → CarriesUnexpected self.old out.now reply.now before (B.state (twice_of self.new))
+            ⊎ ReadsTwice out.now reply.now before (B.state (twice_of self.new))) }
+        ensures no_difference { (before : BusState) → IsHonestFor out.now (length reply.now) before
+            → FirstRead out.now reply.now before (B.state (twice_of self.old)) → IfOk result (λ same. same ≡ true) }
+        ensures fails { IsHonestFor out.now (length reply.now) (B.state (twice_of self.old))
+            → OnErr result ((B.state (twice_of self.new)).left ≡ 0) }
+    {
+        let again = &mut self.again[..];
+        match (&self.expected, data_address(out)) {
+            (Some(image), Some(address)) if address as usize + reply.len() <= ADDRESSES_END => {
+                is_repeated_or_expected(&mut self.bus, image, address, reply, again)
+            }
+            _ => is_repeated(&mut self.bus, out, reply, again),
+        }
     }
 }
 
@@ -169,10 +194,13 @@ impl<B: Bus> Bus for ReadTwice<B> {
         ensures once { IsHonestFor out.now (length reply.old) (B.state (twice_of self.old))
             → begins_read out.now ≡ false
             → OnOk result (Carries out.now reply.new (B.state (twice_of self.old)) (B.state (twice_of self.new))) }
-        ensures same { begins_read out.now ≡ true → OnOk result (Expects self.old out.now reply.new
+        ensures same { begins_read out.now ≡ true → OnOk result (
+            RepeatsUnexpected self.old out.now reply.new
+            (B.state (twice_of self.old)).history (B.state (twice_of self.new)).history
             ⊎ EndsTwice out.now reply.new (B.state (twice_of self.old)).history (B.state (twice_of self.new)).history) }
         ensures twice { IsHonestFor out.now (length reply.old) (B.state (twice_of self.old))
-            → begins_read out.now ≡ true → OnOk result (Expects self.old out.now reply.new
+            → begins_read out.now ≡ true → OnOk result (
+            CarriesUnexpected self.old out.now reply.new (B.state (twice_of self.old)) (B.state (twice_of self.new))
             ⊎ ReadsTwice out.now reply.new (B.state (twice_of self.old)) (B.state (twice_of self.new))) }
         ensures no_difference { IsHonestFor out.now (length reply.old) (B.state (twice_of self.old))
             → length reply.old ≤ 65536 → OnErr result ((B.state (twice_of self.new)).left ≡ 0) }
@@ -198,11 +226,4 @@ fn is_read(out: &[u8]) -> bool
     ensures { result ≡ begins_read out.now }
 {
     matches!(out, [READ_DATA | READ_ID | READ_SFDP | READ_UNIQUE, ..])
-}
-
-fn are_same(first: &[u8], second: &[u8]) -> bool
-    ensures same { result ≡ true → second.now ≡ first.now }
-    ensures differ { result ≡ false → second.now ≢ first.now }
-{
-    first == second
 }

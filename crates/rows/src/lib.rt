@@ -47,6 +47,7 @@
 //! - `serprog_buses.rt`: transactions over the buses, commands that wait, and faults of the programmer and the port
 //! - `serprog_stops.rt`: sessions and restores over an honest port (nor_wire), which fails at each of its calls in turn
 //! - `serprog_wrappers.rt`: paced polls, and readings that are made twice
+//! - `serprog_again.rt`: which sectors of a reading are read again
 //!
 //! Single calls:
 //!
@@ -103,6 +104,8 @@ mod rewritten;
 mod row;
 #[cfg(test)]
 mod runs;
+#[cfg(test)]
+mod serprog_again;
 #[cfg(test)]
 mod serprog_buses;
 #[cfg(test)]

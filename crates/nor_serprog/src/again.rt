@@ -1,0 +1,147 @@
+//! Reads a reply again: the whole reply, or the sectors of it that differ from an image.
+ghost use Rattle.std.specs.Prelude.{◌≡◌, ◌≢◌, ◌<◌, ◌≤◌, ◌+◌, ◌/◌, ◌∷◌, true, false, ℕ, length, OnErr, IfOk};
+ghost use Rattle.nor_model.specs.Bus.{IsHonestFor, SameNature, Carries};
+ghost use Rattle.nor_model.specs.History.{replied};
+ghost use Rattle.nor_serprog.specs.ReadsAs.{part, KeepsRecord};
+ghost use Rattle.nor_serprog.specs.Twice.{begins_read};
+ghost use Rattle.nor_serprog.specs.Again.{CarriesOther};
+ghost use Rattle.nor_serprog.specs.Again.{IsExpected, DiffersInSector, DiffersBetween, data_read, RepeatsBelow, HasData};
+
+use nor_geometry::SECTOR_LEN;
+use nor_model::{Bus, Stopped};
+
+const READ_DATA: u8 = 0x03;
+
+// Neighbouring sectors of a reply that all equal the image, or that all differ from it.
+#[derive(Clone, Copy)]
+struct Run {
+    // The index of the first byte after them.
+    end: usize,
+    is_expected: bool,
+}
+
+// Carries out the read `out` again, whose reply was `reply`. Returns whether the reply is the same. `again` is
+// overwritten.
+pub(crate) fn is_repeated<B: Bus>(
+    bus: &mut B,
+    out: &[u8],
+    reply: &[u8],
+    again: &mut [u8],
+) -> Result<bool, Stopped>
+    requires { length reply.now ≤ length again.old }
+    ensures nature { SameNature (B.state bus.old) (B.state bus.new) }
+    ensures record { begins_read out.now ≡ true → KeepsRecord (B.state bus.old) (B.state bus.new) }
+    ensures repeated { IfOk result (λ same. same ≡ true
+        → (B.state bus.new).history ≡ replied out.now reply.now ∷ (B.state bus.old).history) }
+    ensures carries { IsHonestFor out.now (length reply.now) (B.state bus.old) → IfOk result (λ same. same ≡ true
+        → Carries out.now reply.now (B.state bus.old) (B.state bus.new)) }
+    ensures differs { IsHonestFor out.now (length reply.now) (B.state bus.old) → IfOk result (λ same. same ≡ false
+        → CarriesOther out.now reply.now (B.state bus.old) (B.state bus.new)) }
+    ensures stops { IsHonestFor out.now (length reply.now) (B.state bus.old)
+        → OnErr result ((B.state bus.new).left ≡ 0) }
+{
+    let second = &mut again[..reply.len()];
+    bus.transfer(out, &mut *second)?;
+    Ok(are_same(reply, second))
+}
+
+// Reads those sectors of `reply` again that differ from the image. `reply` was read from `address` on. Returns whether
+// all replies are the same. Neighbouring sectors are read with one transaction. `again` is overwritten.
+pub(crate) fn is_repeated_or_expected<B: Bus>(
+    bus: &mut B,
+    image: &[u8],
+    address: u32,
+    reply: &[u8],
+    again: &mut [u8],
+) -> Result<bool, Stopped>
+    requires fits { address + length reply.now ≤ 16777216 }
+    requires len { length reply.now ≤ length again.old }
+    ensures nature { SameNature (B.state bus.old) (B.state bus.new) }
+    ensures record { KeepsRecord (B.state bus.old) (B.state bus.new) }
+    ensures repeated { IfOk result (λ same. same ≡ true
+        → RepeatsBelow image.now address reply.now (length reply.now) (B.state bus.old) (B.state bus.new)) }
+    ensures same { IsHonestFor (data_read address) (length reply.now) (B.state bus.old)
+        → HasData (B.state bus.old).chip address reply.now → IfOk result (λ same. same ≡ true) }
+    ensures stops { IsHonestFor (data_read address) (length reply.now) (B.state bus.old)
+        → OnErr result ((B.state bus.new).left ≡ 0) }
+{
+    let mut done = 0;
+    while done < reply.len() {
+        let run = run_from(image, address, reply, done);
+        if !run.is_expected {
+            let out = data_read(address + done as u32);
+            if !is_repeated(bus, &out, &reply[done..run.end], again)? {
+                return Ok(false);
+            }
+        }
+        done = run.end;
+    }
+    Ok(true)
+}
+
+// Returns the longest run of sectors that begins with the byte with the index `from` of a reply.
+fn run_from(image: &[u8], address: u32, reply: &[u8], from: usize) -> Run
+    requires fits { address + length reply.now ≤ 16777216 }
+    requires some { from < length reply.now }
+    ensures after { from < result.end }
+    ensures within { result.end ≤ length reply.now }
+    ensures expected { result.is_expected ≡ true → (i : ℕ) → from ≤ i → i < result.end
+        → IsExpected image.now address reply.now i }
+    ensures differs { result.is_expected ≡ false → (i : ℕ) → from ≤ i → i < result.end
+        → DiffersInSector image.now address reply.now i }
+{
+    let mut end = sector_end(address, from, reply.len());
+    let is_expected = is_at(image, address, reply, from, end);
+    while end < reply.len() {
+        let next = sector_end(address, end, reply.len());
+        if is_at(image, address, reply, end, next) != is_expected {
+            break;
+        }
+        end = next;
+    }
+    Run { end, is_expected }
+}
+
+// Returns the index of the first byte after the sector of the byte with the index `from`, or `len` if the reply ends
+// before.
+fn sector_end(address: u32, from: usize, len: usize) -> usize
+    requires fits { address + len ≤ 16777216 }
+    requires some { from < len }
+    ensures after { from < result }
+    ensures within { result ≤ len }
+    ensures sector { (i : ℕ) → from ≤ i → i < result → (address + i) / 4096 ≡ (address + from) / 4096 }
+{
+    let left = SECTOR_LEN as usize - (address as usize + from) % SECTOR_LEN as usize;
+    len.min(from + left)
+}
+
+// Returns whether the bytes with the indices from `from` up to `to`, but not `to`, of a reply equal the image.
+fn is_at(image: &[u8], address: u32, reply: &[u8], from: usize, to: usize) -> bool
+    requires some { from < to }
+    requires within { to ≤ length reply.now }
+    requires fits { address + to ≤ 16777216 }
+    ensures equal { result ≡ true → (i : ℕ) → from ≤ i → i < to → IsExpected image.now address reply.now i }
+    ensures differs { result ≡ false → DiffersBetween image.now address reply.now from to }
+{
+    let start = address as usize;
+    match image.get(start + from..start + to) {
+        Some(expected) => are_same(expected, &reply[from..to]),
+        None => false,
+    }
+}
+
+// Returns the bytes that a read of data from this address on sends.
+fn data_read(address: u32) -> [u8; 4]
+    requires { address ≤ 16777215 }
+    ensures { result ≡ data_read address }
+{
+    let [_, high, middle, low] = address.to_be_bytes();
+    [READ_DATA, high, middle, low]
+}
+
+fn are_same(first: &[u8], second: &[u8]) -> bool
+    ensures same { result ≡ true → second.now ≡ first.now }
+    ensures differ { result ≡ false → second.now ≢ first.now }
+{
+    first == second
+}

@@ -1,0 +1,193 @@
+//! Which sectors of a read `ReadTwice` reads again, if it expects an image.
+
+use nor_chip::{Bus, Config, Delays, Meter, SimBus, Spoil, SpoiltBus, TraceBus};
+use nor_serprog::ReadTwice;
+use std::alloc::Global;
+use std::process::Abort;
+use std::test::Fail;
+
+// Where a read begins and how long it is, which addresses of the image differ from the chip, and the traced lines of
+// the transactions. The bus inside ignores the transaction `spoilt`, whose reply is then FFh in each byte.
+#[derive(Clone, Copy)]
+struct Reading {
+    out: [u8; 4],
+    len: usize,
+    differing: &'static [usize],
+    spoilt: u64,
+    lines: &'static [u8],
+    succeeds: bool,
+}
+
+// A read of the first 20,480 bytes, the five sectors from address 0 on, whose image differs at these addresses.
+const fn five_sectors(differing: &'static [usize], lines: &'static [u8]) -> Reading {
+    Reading {
+        out: [0x03, 0x00, 0x00, 0x00],
+        len: 20_480,
+        differing,
+        spoilt: 0,
+        lines,
+        succeeds: true,
+    }
+}
+
+// Returns the bytes of a chip of 64 KiB. None is FFh, and no two sectors are equal.
+fn contents(alloc: Global) -> Result<Vec<u8>, Fail> {
+    let mut bytes = vec![in alloc; 0; 65536]?;
+    for (address, byte) in bytes.iter_mut().enumerate() {
+        *byte = (address % 251) as u8;
+    }
+    Ok(bytes)
+}
+
+// Carries out a reading, and compares its result, its reply and the lines of its transactions.
+fn check(rt: &impl Abort, alloc: Global, reading: Reading) -> Result<(), Fail> {
+    let idle = Delays { now: 0, each: 0 };
+    let mut image = contents(alloc)?;
+    for address in reading.differing {
+        if let Some(byte) = image.get_mut(*address) {
+            *byte ^= 0x80;
+        }
+    }
+    let mut chip = SimBus::new(Config::tiny64(), contents(alloc)?, [0x00, 0x00], idle)?;
+    chip.allow(u64::MAX);
+    let mut lines = Vec::new(alloc);
+    let mut reply = vec![in alloc; 0; reading.len]?;
+    let inside = TraceBus::new(
+        SpoiltBus::new(chip, Spoil::Drop(reading.spoilt)),
+        &mut lines,
+    );
+    let mut bus = ReadTwice::expecting(inside, image);
+    let read = bus.transfer(&reading.out, &mut reply);
+    let at = usize::from(reading.out[2]) * 256 + usize::from(reading.out[3]);
+    assert_eq!(rt; read.is_ok(), reading.succeeds, "{:?}", reading.differing);
+    assert_eq!(rt;
+        bus.differed(),
+        !reading.succeeds,
+        "{:?}",
+        reading.differing
+    );
+    assert!(rt; contents(alloc)?.get(at..at + reading.len) == Some(&reply[..]));
+    assert!(rt;
+        lines.as_slice() == reading.lines,
+        "{:?}",
+        reading.differing
+    );
+    Ok(())
+}
+
+// A byte that differs makes its sector be read again, and no other. Neighbouring sectors are read together.
+#[test]
+fn only_differing_sectors_are_read_again(rt: HostRuntime) -> Result<(), Fail> {
+    for reading in [
+        five_sectors(&[], b"03000000 > 20480 bytes\n"),
+        five_sectors(&[0], b"03000000 > 20480 bytes\n03000000 > 4096 bytes\n"),
+        five_sectors(
+            &[0x2FFF],
+            b"03000000 > 20480 bytes\n03002000 > 4096 bytes\n",
+        ),
+        five_sectors(
+            &[0x1000, 0x3000, 0x3FFF],
+            b"03000000 > 20480 bytes\n03001000 > 4096 bytes\n03003000 > 4096 bytes\n",
+        ),
+        five_sectors(
+            &[0x1FFF, 0x2000, 0x4FFF],
+            b"03000000 > 20480 bytes\n03001000 > 8192 bytes\n03004000 > 4096 bytes\n",
+        ),
+        five_sectors(
+            &[0x0, 0x1000, 0x2000, 0x3000, 0x4000],
+            b"03000000 > 20480 bytes\n03000000 > 20480 bytes\n",
+        ),
+    ] {
+        check(&rt, rt.alloc(), reading)?;
+    }
+    Ok(())
+}
+
+// A read that begins and ends inside a sector: only the bytes of the read are read again, in the first and the last
+// sector, too.
+#[test]
+fn parts_of_sectors_are_read_again(rt: HostRuntime) -> Result<(), Fail> {
+    let reading = Reading {
+        out: [0x03, 0x00, 0x0F, 0xF0],
+        len: 8192,
+        ..five_sectors(&[0xFFF, 0x2FEF], b"")
+    };
+    check(
+        &rt,
+        rt.alloc(),
+        Reading {
+            lines: b"03000ff0 > 8192 bytes\n03000ff0 > 16 bytes\n03002000 > 4080 bytes\n",
+            ..reading
+        },
+    )?;
+    check(
+        &rt,
+        rt.alloc(),
+        Reading {
+            differing: &[0x2FEF],
+            lines: b"03000ff0 > 8192 bytes\n03002000 > 4080 bytes\n",
+            ..reading
+        },
+    )?;
+    check(
+        &rt,
+        rt.alloc(),
+        Reading {
+            differing: &[0xFEF, 0x2FF0],
+            lines: b"03000ff0 > 8192 bytes\n",
+            ..reading
+        },
+    )
+}
+
+// A second read that differs stops the bus, and nothing is sent after it: the first second read, the last one, and that
+// of a last sector of which the read has only a part.
+#[test]
+fn a_sector_that_differs_stops_the_bus(rt: HostRuntime) -> Result<(), Fail> {
+    let reading = Reading {
+        spoilt: 2,
+        succeeds: false,
+        ..five_sectors(
+            &[0x1000, 0x3000],
+            b"03000000 > 20480 bytes\n03001000 > 4096 bytes\n",
+        )
+    };
+    check(&rt, rt.alloc(), reading)?;
+    check(
+        &rt,
+        rt.alloc(),
+        Reading {
+            spoilt: 3,
+            lines: b"03000000 > 20480 bytes\n03001000 > 4096 bytes\n03003000 > 4096 bytes\n",
+            ..reading
+        },
+    )?;
+    check(
+        &rt,
+        rt.alloc(),
+        Reading {
+            len: 8193,
+            differing: &[0x2000],
+            lines: b"03000000 > 8193 bytes\n03002000 > ff\n",
+            ..reading
+        },
+    )
+}
+
+// A read that no image or no address describes is repeated whole: past the end of the image, and of an ID.
+#[test]
+fn other_reads_are_repeated_whole(rt: HostRuntime) -> Result<(), Fail> {
+    let mut lines = Vec::new(rt.alloc());
+    let idle = Delays { now: 0, each: 0 };
+    let mut chip = SimBus::new(Config::tiny64(), contents(rt.alloc())?, [0x00, 0x00], idle)?;
+    chip.allow(u64::MAX);
+    let image = vec![in rt.alloc(); 0xFE; 5000]?;
+    let mut bus = ReadTwice::expecting(TraceBus::new(chip, &mut lines), image);
+    bus.transfer(&[0x9F], &mut [0; 3])?;
+    let mut reply = vec![in rt.alloc(); 0; 4096]?;
+    bus.transfer(&[0x03, 0x00, 0x10, 0x00], &mut reply)?;
+    assert!(rt; contents(rt.alloc())?.get(0x1000..0x2000) == Some(&reply[..]));
+    let sent = b"9f > fe1010\n9f > fe1010\n03001000 > 4096 bytes\n03001000 > 4096 bytes\n";
+    assert!(rt; lines.as_slice() == sent.as_slice());
+    Ok(())
+}
