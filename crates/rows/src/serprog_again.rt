@@ -6,7 +6,7 @@ use std::alloc::Global;
 use std::process::Abort;
 use std::test::Fail;
 
-// Where a read begins and how long it is, which addresses of the image differ from the chip, and the traced lines of
+// The bytes and the length of a read, the addresses at which the image differs from the chip, and the traced lines of
 // the transactions. The bus inside ignores the transaction `spoilt`, whose reply is then FFh in each byte.
 #[derive(Clone, Copy)]
 struct Reading {
@@ -66,7 +66,9 @@ fn check(rt: &impl Abort, alloc: Global, reading: Reading) -> Result<(), Fail> {
         "{:?}",
         reading.differing
     );
-    assert!(rt; contents(alloc)?.get(at..at + reading.len) == Some(&reply[..]));
+    let bytes = contents(alloc)?;
+    let read_bytes = bytes.get(at..).and_then(|rest| rest.get(..reading.len));
+    assert!(rt; read_bytes == Some(&reply[..]));
     assert!(rt;
         lines.as_slice() == reading.lines,
         "{:?}",
@@ -75,7 +77,7 @@ fn check(rt: &impl Abort, alloc: Global, reading: Reading) -> Result<(), Fail> {
     Ok(())
 }
 
-// A byte that differs makes its sector be read again, and no other. Neighbouring sectors are read together.
+// Only sectors in which a byte differs are read again. Neighbouring ones are read together.
 #[test]
 fn only_differing_sectors_are_read_again(rt: HostRuntime) -> Result<(), Fail> {
     for reading in [
@@ -103,80 +105,68 @@ fn only_differing_sectors_are_read_again(rt: HostRuntime) -> Result<(), Fail> {
     Ok(())
 }
 
-// A read that begins and ends inside a sector: only the bytes of the read are read again, in the first and the last
-// sector, too.
+// A read that begins and ends inside a sector: in the first and the last sector, too, only bytes of the read are read
+// again, and only if one of them differs.
 #[test]
 fn parts_of_sectors_are_read_again(rt: HostRuntime) -> Result<(), Fail> {
-    let reading = Reading {
-        out: [0x03, 0x00, 0x0F, 0xF0],
-        len: 8192,
-        ..five_sectors(&[0xFFF, 0x2FEF], b"")
-    };
-    check(
-        &rt,
-        rt.alloc(),
-        Reading {
-            lines: b"03000ff0 > 8192 bytes\n03000ff0 > 16 bytes\n03002000 > 4080 bytes\n",
-            ..reading
-        },
-    )?;
-    check(
-        &rt,
-        rt.alloc(),
-        Reading {
-            differing: &[0x2FEF],
-            lines: b"03000ff0 > 8192 bytes\n03002000 > 4080 bytes\n",
-            ..reading
-        },
-    )?;
-    check(
-        &rt,
-        rt.alloc(),
-        Reading {
-            differing: &[0xFEF, 0x2FF0],
-            lines: b"03000ff0 > 8192 bytes\n",
-            ..reading
-        },
-    )
+    let cases: [(&'static [usize], &'static [u8]); 3] = [
+        (
+            &[0xFFF, 0x2FEF],
+            b"03000ff0 > 8192 bytes\n03000ff0 > 16 bytes\n03002000 > 4080 bytes\n",
+        ),
+        (&[0x2FEF], b"03000ff0 > 8192 bytes\n03002000 > 4080 bytes\n"),
+        (&[0xFEF, 0x2FF0], b"03000ff0 > 8192 bytes\n"),
+    ];
+    for (differing, lines) in cases {
+        let reading = Reading {
+            out: [0x03, 0x00, 0x0F, 0xF0],
+            len: 8192,
+            ..five_sectors(differing, lines)
+        };
+        check(&rt, rt.alloc(), reading)?;
+    }
+    Ok(())
 }
 
-// A second read that differs stops the bus, and nothing is sent after it: the first second read, the last one, and that
-// of a last sector of which the read has only a part.
+// A second read that differs stops the bus, and nothing is sent after it. That is tried with the first of two second
+// reads, with the other one, and with that of a last sector of which the read has only one byte.
 #[test]
 fn a_sector_that_differs_stops_the_bus(rt: HostRuntime) -> Result<(), Fail> {
-    let reading = Reading {
-        spoilt: 2,
-        succeeds: false,
-        ..five_sectors(
+    let cases: [(u64, usize, &'static [usize], &'static [u8]); 3] = [
+        (
+            2,
+            20_480,
             &[0x1000, 0x3000],
             b"03000000 > 20480 bytes\n03001000 > 4096 bytes\n",
-        )
-    };
-    check(&rt, rt.alloc(), reading)?;
-    check(
-        &rt,
-        rt.alloc(),
-        Reading {
-            spoilt: 3,
-            lines: b"03000000 > 20480 bytes\n03001000 > 4096 bytes\n03003000 > 4096 bytes\n",
-            ..reading
-        },
-    )?;
-    check(
-        &rt,
-        rt.alloc(),
-        Reading {
-            len: 8193,
-            differing: &[0x2000],
-            lines: b"03000000 > 8193 bytes\n03002000 > ff\n",
-            ..reading
-        },
-    )
+        ),
+        (
+            3,
+            20_480,
+            &[0x1000, 0x3000],
+            b"03000000 > 20480 bytes\n03001000 > 4096 bytes\n03003000 > 4096 bytes\n",
+        ),
+        (
+            2,
+            8193,
+            &[0x2000],
+            b"03000000 > 8193 bytes\n03002000 > ff\n",
+        ),
+    ];
+    for (spoilt, len, differing, lines) in cases {
+        let reading = Reading {
+            spoilt,
+            len,
+            succeeds: false,
+            ..five_sectors(differing, lines)
+        };
+        check(&rt, rt.alloc(), reading)?;
+    }
+    Ok(())
 }
 
-// A read that no image or no address describes is repeated whole: past the end of the image, and of an ID.
+// A read of the ID is repeated, and so is a sector that the image does not have to its end.
 #[test]
-fn other_reads_are_repeated_whole(rt: HostRuntime) -> Result<(), Fail> {
+fn other_reads_are_repeated(rt: HostRuntime) -> Result<(), Fail> {
     let mut lines = Vec::new(rt.alloc());
     let idle = Delays { now: 0, each: 0 };
     let mut chip = SimBus::new(Config::tiny64(), contents(rt.alloc())?, [0x00, 0x00], idle)?;
