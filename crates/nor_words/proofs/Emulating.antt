@@ -1,6 +1,7 @@
 -- The operation of a program for hardware, from the job on an emulated chip.
-use Rattle.std.proofs.Common.{◌≡◌, None, Some, arith, codes}
-use Rattle.std.specs.Prelude.{not}
+use Rattle.std.proofs.Common.{◌≡◌, Bool, None, Option, Some, arith, codes, option_map}
+use Rattle.std.specs.Prelude.{is_some, not}
+use Rattle.std.specs.Borrow.{Bor}
 use Rattle.nor_words.specs.Text.{Text}
 use Rattle.nor_words.specs.Given.{Texts}
 use Rattle.nor_words.specs.Faults.{first_fault, usage_faults}
@@ -19,13 +20,19 @@ emulated given = record given { programmer = Some any_chip }
 task-same : (given : Texts) (asked : Task) → IsTask (emulated given) asked → IsTask given asked
 task-same given asked is = grind arith
 
+-- an option with a value has one, whether its text is seen as a borrow or as bytes
+pub given_text : (text : Option (Bor Text)) (is : Bool) → is ≡ is_some text → is ≡ is_some (option_map (λ t. t.now) text)
+given_text None is same = same
+given_text (Some text) is same = same
+
 -- an operation that the options ask for on an emulated chip is the one that they ask for
-pub operation-asked : (given : Texts) (on_chip : ChipJob)
+pub operation-asked : (given : Texts) (on_chip : ChipJob) (backup : Bool) → backup ≡ is_some given.backup
     → (first_fault (usage_faults (emulated given)) ≡ None) × IsAsked (emulated given) (job.Chip on_chip)
     → IsOperation given (record {
       named = on_chip.named;
       verifies_all = not given.no_verify_all;
       is_quick = given.quick;
+      is_backup = backup;
       task = on_chip.task;
     })
-operation-asked given on_chip is = search task-same
+operation-asked given on_chip backup same is = search task-same

@@ -1,7 +1,7 @@
 -- The values that the arguments give the options.
 use Rattle.std.specs.Prelude.{◌||◌, ℕ, Bool, false, Option, None, List, [], ◌∷◌, codes, is_some, option_map}
 use Rattle.std.specs.List.{count_by}
-use Rattle.std.specs.Option.{option_map_or}
+use Rattle.std.specs.Option.{option_map_or, option_or}
 use Rattle.std.specs.Str.{bytes_eq}
 use Rattle.clap.specs.Words.{Row, first_of, matches_of}
 use Rattle.nor_words.specs.Text.{Text}
@@ -26,6 +26,8 @@ pub record Texts : Type 0 where
   pub erase : Bool
   pub wp_range : Option Text
   pub restore : Option Text
+  -- `--backup FILE`
+  pub backup : Option Text
   -- `--quick`
   pub quick : Bool
   -- `--journal FILE`, `--rehearse N,N,..`
@@ -51,7 +53,7 @@ text_in rows id = first_of id rows
 abbrev pub is_set_in : List Row → Text → Bool
 is_set_in rows id = is_flag_set (first_of id rows)
 
--- the options in the matches of a parse for flashnor, which has neither `-N` nor `--quick`
+-- the options in the matches of a parse for flashnor, which has none of `--backup`, `-N` and `--quick`
 abbrev pub given_in : List Row → Texts
 given_in rows = record {
   programmer = text_in rows (codes "programmer");
@@ -66,6 +68,7 @@ given_in rows = record {
   erase = is_set_in rows (codes "erase");
   wp_range = text_in rows (codes "wp-range");
   restore = text_in rows (codes "restore");
+  backup = None;
   quick = false;
   journal = text_in rows (codes "journal");
   rehearse = text_in rows (codes "rehearse");
@@ -80,12 +83,13 @@ given_in rows = record {
 abbrev pub given_by : List Text → Texts
 given_by words = given_in (matches_of options words)
 
--- the options in the matches of a parse for a program for hardware, which has `-N` and `--quick`, but neither `-L` nor
--- `--rehearse`
+-- the options in the matches of a parse for a program for hardware, which has `--backup`, `-N` and `--quick`, but
+-- neither `-L` nor `--rehearse`
 abbrev pub hardware_given_in : List Row → Texts
 hardware_given_in rows = record (given_in rows) {
   list = false;
   rehearse = None;
+  backup = text_in rows (codes "backup");
   quick = is_set_in rows (codes "quick");
   no_verify_all = is_set_in rows (codes "noverify-all");
 }
@@ -109,6 +113,7 @@ texts_of given = record {
   erase = given.erase;
   wp_range = option_map (λ text. text.now) given.wp_range;
   restore = option_map (λ text. text.now) given.restore;
+  backup = option_map (λ text. text.now) given.backup;
   quick = given.quick;
   journal = option_map (λ text. text.now) given.journal;
   rehearse = option_map (λ text. text.now) given.rehearse;
@@ -128,7 +133,12 @@ abbrev pub operations : Texts → ℕ
 operations given = how_many (
     given.list ∷ given.flash_size ∷ given.wp_status ∷ given.wp_list
     ∷ is_some given.read ∷ is_some given.verify
-    ∷ is_some given.write ∷ given.erase ∷ is_some given.wp_range ∷ is_some given.restore ∷ [])
+    ∷ is_some given.write ∷ given.erase ∷ is_some given.wp_range ∷ is_some given.restore
+    ∷ is_some given.backup ∷ [])
+
+-- the file that the chip is read into: the value of `-r`, or else of `--backup`
+abbrev pub output_of : Texts → Option Text
+output_of given = option_or given.read given.backup
 
 -- true for `-w` or `-E`, which change the bytes of the chip
 abbrev pub is_new_content : Texts → Bool

@@ -1,10 +1,10 @@
 -- The job that options without a fault ask for, and its parts.
-use Rattle.std.specs.Prelude.{◌≡◌, true, false, MatchResult, Option, Some, None, not, option_and_then, option_map}
+use Rattle.std.specs.Prelude.{◌≡◌, true, false, MatchResult, Option, Some, None, is_some, not, option_and_then, option_map}
 use Rattle.std.specs.Borrow.{Bor}
 use Rattle.std.specs.Option.{IsSomeAnd}
 use Rattle.nor_probe.specs.Table.{name_of}
 use Rattle.nor_words.specs.Faults.{first_fault, operation_faults}
-use Rattle.nor_words.specs.Given.{Texts, operations}
+use Rattle.nor_words.specs.Given.{Texts, operations, output_of}
 use Rattle.nor_words.specs.Numbers.{range_of}
 use Rattle.nor_words.specs.Programmer.{IsProgrammer}
 use Rattle.nor_words.specs.Reasons.{IsReason}
@@ -62,7 +62,7 @@ IsTask given task.Probe = operations given ≡ 0
 IsTask given task.FlashSize = given.flash_size ≡ true
 IsTask given task.WpStatus = given.wp_status ≡ true
 IsTask given task.WpList = given.wp_list ≡ true
-IsTask given (task.Read file regions) = NamesFile given.read file × IsRegions given regions
+IsTask given (task.Read file regions) = NamesFile (output_of given) file × IsRegions given regions
 IsTask given (task.Verify file regions) = NamesFile given.verify file × IsRegions given regions
 IsTask given (task.Change change) = IsChange given change
 IsTask given (task.Restore journal) = NamesFile given.restore journal
@@ -82,12 +82,13 @@ IsAsked given (job.Chip on_chip) = (given.list ≡ false) × IsChipJob given on_
 -- ---- programs for hardware
 
 -- Holds if the options have none of the faults 4 to 9, and ask for this operation: the name is the value of `-c`, and
--- `-N` and `--quick` say how the operation is performed.
+-- `-N`, `--quick` and `--backup` say how the operation is performed.
 pub record IsOperation (given : Texts) (operation : Operation) : Type 0 where
   pub sound : first_fault (operation_faults given) ≡ None
   pub named : operation.named ≡ option_map name_of given.chip
   pub verifies_all : operation.verifies_all ≡ not given.no_verify_all
   pub is_quick : operation.is_quick ≡ given.quick
+  pub is_backup : operation.is_backup ≡ is_some given.backup
   pub task : IsTask given operation.task
 
 -- Holds if the fault is the first of the faults 4 to 9 that the options have, and the reason is its reason.

@@ -101,6 +101,10 @@ options =
 abbrev pub is_for_hardware : Text → Bool
 is_for_hardware id = not (bytes_eq id (codes "list")) && not (bytes_eq id (codes "rehearse"))
 
+-- `--backup`, which only programs for hardware have
+abbrev pub backup_rule : Rule
+backup_rule = by_name (valued (codes "backup"))
+
 -- `-N` or `--noverify-all`, which only programs for hardware have
 abbrev pub no_verify_all_rule : Rule
 no_verify_all_rule = by_letter (codes "N") (by_name (flag (codes "noverify-all")))
@@ -114,11 +118,12 @@ abbrev pub shared_options : Text → App
 shared_options program =
     with_rules (no_options_of program) (filter (λ rule. is_for_hardware rule.id) most_rules)
 
--- the command of a program for hardware with this name: the options of flashnor except `-L` and `--rehearse`, and `-N`
--- and `--quick`
+-- the command of a program for hardware with this name: the options of flashnor except `-L` and `--rehearse`, and
+-- `--backup`, `-N` and `--quick`
 abbrev pub hardware_options : Text → App
 hardware_options program =
-    with_rule (with_rule (with_rule (shared_options program) no_verify_all_rule) quick_rule) help_rule
+    with_rule (with_rule (with_rule (with_rule (shared_options program) backup_rule) no_verify_all_rule) quick_rule)
+    help_rule
 
 -- ---- the table in src/options.rt
 

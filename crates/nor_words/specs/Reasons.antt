@@ -28,6 +28,7 @@ option_text option.Write = codes "-w"
 option_text option.Erase = codes "-E"
 option_text option.WpRange = codes "--wp-range"
 option_text option.Restore = codes "--restore"
+option_text option.Backup = codes "--backup"
 option_text option.Journal = codes "--journal"
 option_text option.Rehearse = codes "--rehearse"
 option_text option.NoVerify = codes "-n"
@@ -79,7 +80,8 @@ operation_choices given =
     (given.list, option.List) ∷ (given.flash_size, option.FlashSize) ∷ (given.wp_status, option.WpStatus)
     ∷ (given.wp_list, option.WpList) ∷ (is_some given.read, option.Read) ∷ (is_some given.verify, option.Verify)
     ∷ (is_some given.write, option.Write) ∷ (given.erase, option.Erase)
-    ∷ (is_some given.wp_range, option.WpRange) ∷ (is_some given.restore, option.Restore) ∷ []
+    ∷ (is_some given.wp_range, option.WpRange) ∷ (is_some given.restore, option.Restore)
+    ∷ (is_some given.backup, option.Backup) ∷ []
 
 -- the first option that is given
 abbrev pub first_given : List Choosing → Option OptionName

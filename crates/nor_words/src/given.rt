@@ -40,6 +40,7 @@ pub struct Given<'a> {
     erase: bool,
     wp_range: Option<&'a str>,
     restore: Option<&'a str>,
+    backup: Option<&'a str>,
     quick: bool,
     layout: Option<&'a str>,
     names: Option<&'a str>,
@@ -53,7 +54,7 @@ pub struct Given<'a> {
 impl<'a> Given<'a> {
     ghost use Rattle.nor_words.specs.Given.{texts_of};
 
-    /// Collects the options of flashnor, which has neither `-N` nor `--quick`, from the matches of `clap`.
+    /// Collects the options of flashnor, which has none of `--backup`, `-N` and `--quick`, from the matches of `clap`.
     pub fn of(matches: &ArgMatches<'a>) -> Given<'a>
         ensures { texts_of result ≡ given_in (rows_of (found_of matches.now)) }
     {
@@ -70,6 +71,7 @@ impl<'a> Given<'a> {
             erase: is_set(matches, "erase"),
             wp_range: matches.get_str("wp-range"),
             restore: matches.get_str("restore"),
+            backup: None,
             quick: false,
             layout: matches.get_str("layout"),
             names: matches.get_str("include"),
@@ -81,13 +83,15 @@ impl<'a> Given<'a> {
         }
     }
 
-    /// Collects the options of a program for hardware: also `-N` and `--quick`, but neither `-L` nor `--rehearse`.
+    /// Collects the options of a program for hardware: also `--backup`, `-N` and `--quick`, but neither `-L` nor
+    /// `--rehearse`.
     pub fn of_hardware(matches: &ArgMatches<'a>) -> Given<'a>
         ensures { texts_of result ≡ hardware_given_in (rows_of (found_of matches.now)) }
     {
         Given {
             list: false,
             rehearse: None,
+            backup: matches.get_str("backup"),
             quick: is_set(matches, "quick"),
             no_verify_all: is_set(matches, "noverify-all"),
             ..Given::of(matches)
@@ -144,6 +148,7 @@ impl<'a> Given<'a> {
                 named,
                 verifies_all: !self.no_verify_all,
                 is_quick: self.quick,
+                is_backup: self.backup.is_some(),
                 task,
             }),
             Ok(Job::List) => Err(self.explained(UsageFault::TwoOperations)),
@@ -256,6 +261,7 @@ impl<'a> Given<'a> {
             self.erase,
             self.wp_range.is_some(),
             self.restore.is_some(),
+            self.backup.is_some(),
         ];
         asked.iter().filter(|asked| **asked).count()
     }
@@ -369,7 +375,8 @@ impl<'a> Given<'a> {
         }
     }
 
-    // Returns an operation other than `Change`: a read, a comparison, a report, a restore, or only the identification.
+    // Returns an operation other than `Change`: a read or a backup, a comparison, a report, a restore, or only the
+    // identification.
     // Requires options without `-L`, `-w`, `-E`, `--wp-range` and fault 7.
     fn plain_task(&self) -> Task<'a>
         requires { ((texts_of self.now).list ≡ false) × (asks_change (texts_of self.now) ≡ false)
@@ -377,7 +384,7 @@ impl<'a> Given<'a> {
         ensures { IsTask (texts_of self.now) result }
     {
         let regions = self.regions();
-        match (self.read, self.verify, self.restore) {
+        match (self.read.or(self.backup), self.verify, self.restore) {
             (Some(file), _, _) => Task::Read { file, regions },
             (None, Some(file), _) => Task::Verify { file, regions },
             (None, None, Some(journal)) => Task::Restore { journal },

@@ -44,6 +44,8 @@ pub struct Operation<'a> {
     pub verifies_all: bool,
     /// `--quick`: a restore rewrites only the saved sectors that differ.
     pub is_quick: bool,
+    /// `--backup`: the file of `Task::Read` is a new journal, which saves the whole chip.
+    pub is_backup: bool,
     pub task: Task<'a>,
 }
 
@@ -58,7 +60,8 @@ pub enum Task<'a> {
     WpStatus,
     /// `--wp-list`: list the ranges that can be protected.
     WpList,
-    /// `-r FILE`: read the chip into the named file.
+    /// `-r FILE`: read the chip into the named file. A program for hardware also has `--backup FILE`, which is this task
+    /// with `Operation::is_backup`.
     Read {
         file: &'a str,
         regions: Option<Regions<'a>>,

@@ -2,7 +2,7 @@
 ghost use Rattle.std.specs.Prelude.{◌≡◌, IfOk, fold, map};
 ghost use Rattle.clap.specs.Words.{app_of};
 ghost use Rattle.nor_words.specs.Options.{options, no_options_of, help_rule, most_rules, IsOption};
-ghost use Rattle.nor_words.specs.Options.{no_verify_all_rule, quick_rule};
+ghost use Rattle.nor_words.specs.Options.{backup_rule, no_verify_all_rule, quick_rule};
 ghost use Rattle.nor_words.specs.Options.{hardware_options, is_for_hardware, named, chosen, with_choice, with_hardware_choice};
 
 use clap::{Arg, ArgAction, Command};
@@ -220,13 +220,14 @@ pub struct Help {
 }
 
 /// Returns the `clap` command of a program for hardware. It has all options except `-L`, which needs no chip, and
-/// `--rehearse`, which needs an emulated one; and two that flashnor lacks, `-N`
-/// and `--quick`. Fails only if memory runs out.
+/// `--rehearse`, which needs an emulated one; and three that flashnor lacks, `--backup`, `-N` and `--quick`. Fails only
+/// if memory runs out.
 pub fn make_hardware_options<'a>(alloc: Global, help: Help) -> Result<Command<'a>, AllocError>
     ensures { IfOk result (λ command. app_of command ≡ hardware_options help.program.now) }
 {
     let chosen = add_hardware_choices(alloc, new_command(alloc, help), choices())?;
-    let compared = chosen.arg(no_verify_all_option(alloc))?;
+    let saved = chosen.arg(backup_option(alloc))?;
+    let compared = saved.arg(no_verify_all_option(alloc))?;
     let restored = compared.arg(quick_option(alloc))?;
     restored.arg(help_option(alloc))
 }
@@ -310,6 +311,16 @@ impl Choice {
             None => arg.long(self.name),
         }
     }
+}
+
+fn backup_option<'a>(alloc: Global) -> Arg<'a>
+    ensures { IsOption backup_rule result }
+{
+    Arg::new(alloc, "backup")
+        .long("backup")
+        .value_name("FILE")
+        .help("Save the whole chip in a new journal, for --restore")
+        .action(ArgAction::Set)
 }
 
 fn no_verify_all_option<'a>(alloc: Global) -> Arg<'a>

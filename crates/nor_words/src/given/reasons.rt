@@ -82,7 +82,7 @@ impl<'a> Given<'a> {
     }
 
     // Returns the operations in the order of the help, and for each whether it is given.
-    fn operation_choices(&self) -> [(bool, OptionName); 10]
+    fn operation_choices(&self) -> [(bool, OptionName); 11]
         ensures { result ≡ operation_choices (texts_of self.now) }
     {
         [
@@ -96,6 +96,7 @@ impl<'a> Given<'a> {
             (self.erase, OptionName::Erase),
             (self.wp_range.is_some(), OptionName::WpRange),
             (self.restore.is_some(), OptionName::Restore),
+            (self.backup.is_some(), OptionName::Backup),
         ]
     }
 

@@ -11,9 +11,11 @@ returns c =
     let listed = c.in_ok-chosen.ensures ∙ all-added _ c.choices.result.now c.choices.ensures in
     let all = listed
     ∙ ap (λ (app : App). with_rules app (filter (λ rule. is_for_hardware rule.id) most_rules)) c.new_command.ensures in
+    let saved = c.in_ok-saved.ensures.shape c.backup_option.ensures.local
+    ∙ ap₂ with_rule all c.backup_option.ensures.rule in
     let compared = c.in_ok-compared.ensures.shape c.no_verify_all_option.ensures.local
-    ∙ ap₂ with_rule all c.no_verify_all_option.ensures.rule in
+    ∙ ap₂ with_rule saved c.no_verify_all_option.ensures.rule in
     let restored = c.in_ok-restored.ensures.shape c.quick_option.ensures.local
     ∙ ap₂ with_rule compared c.quick_option.ensures.rule in
-    IfOk-weaker c.arg-3.result _ _ (λ command adds.
-    adds.shape c.help_option.ensures.local ∙ ap₂ with_rule restored c.help_option.ensures.rule) c.arg-3.ensures
+    IfOk-weaker c.arg-4.result _ _ (λ command adds.
+    adds.shape c.help_option.ensures.local ∙ ap₂ with_rule restored c.help_option.ensures.rule) c.arg-4.ensures
