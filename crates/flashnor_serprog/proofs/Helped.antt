@@ -9,6 +9,7 @@ use Rattle.nor_words.specs.Faults.{first_fault, operation_faults}
 use Rattle.nor_words.specs.Given.{Texts}
 use Rattle.nor_words.specs.Job.{IsWrongOperation}
 use Rattle.nor_words.specs.Words.{AreWrongForHardware, IsHardwareFault, hardware_refusals_of}
+use Rattle.nor_words.specs.declared.job.Operation.{Operation}
 use Rattle.nor_words.specs.declared.job.Task.{Task}
 use Rattle.nor_words.specs.declared.reasons.Reason.{Reason}
 use Rattle.nor_words.specs.declared.reasons.WrongArguments.{WrongArguments}
@@ -18,6 +19,7 @@ use Rattle.nor_words.proofs.Sound.{cases}
 use Rattle.nor_lines.specs.Printing.{IsAnswered}
 use Rattle.nor_lines.specs.declared.messages.Fault.{Fault}
 use Rattle.nor_lines.specs.declared.messages.Fault.TheVariants as end
+use Rattle.flashnor_serprog.specs.Backups.{IsExistingBackup}
 use Rattle.flashnor_serprog.specs.Run.{ArgumentsAskForHelp, program}
 use Rattle.flashnor_serprog.specs.Sources.{FailsRoles, FailsSources}
 
@@ -51,6 +53,12 @@ pub roles-ask : (nature : Nature) (device : Bor Text) (job : Task) (fault : Faul
     → IsAnswered (Err fault) → ⊥
 roles-ask nature device job (end.Usage fault reason) fails is = grind arith
 roles-ask nature device job _ fails is = is
+
+-- a backup whose file exists already is no request for help
+pub backup-ask : (view : View) (operation : Operation) (fault : Fault) → IsExistingBackup view operation fault
+    → IsAnswered (Err fault) → ⊥
+backup-ask view operation (end.Usage fault reason) fails is = grind arith
+backup-ask view operation _ fails is = is
 
 -- no fault of reading the files of a job is a request for help
 pub sources-ask : (view : View) (job : Task) (fault : Fault) → FailsSources view job fault → IsAnswered (Err fault) → ⊥

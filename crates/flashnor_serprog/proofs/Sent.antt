@@ -24,7 +24,7 @@ use Rattle.nor_lines.specs.declared.answers.Answer.{Answer}
 use Rattle.nor_lines.specs.declared.messages.Fault.{Fault}
 use Rattle.nor_lines.specs.declared.messages.Fault.TheVariants as end
 use Rattle.flashnor_serprog.specs.Jobs.{DoesTask, FailsBefore, FailsComparison, FailsPerform, FailsToChange}
-use Rattle.flashnor_serprog.specs.Jobs.{FailsToFollow, HasChangedBy, HasRunChange, IsBufferOf, IsFollowed}
+use Rattle.flashnor_serprog.specs.Jobs.{FailsToFollow, HasChangedBy, HasReadBy, HasRunChange, IsBufferOf, IsFollowed}
 use Rattle.flashnor_serprog.specs.Jobs.{IsNamedFirst, is_compared}
 use Rattle.flashnor_serprog.specs.Run.{EndsJob, IsEndedAs}
 use Rattle.flashnor_serprog.specs.declared.chip_faults.JobFault.{JobFault}
@@ -137,6 +137,14 @@ named_reads : (named : Option ChipName) (old new : BusState) → IsNamedFirst na
 named_reads None old new same = same_keeps_sent old new same
 named_reads (Some name) old new found = found.1.always.only_reads.sent
 
+read_sends : (backup : Bool) (named : Option ChipName) (file : Text) (ranges : Option (List Span)) (before : View)
+    (after : FilesState) (old new : BusState) (outcome : Result Answer Refusal)
+    → HasReadBy backup named file ranges before after old new outcome → KeepsSent old new
+read_sends true named file ranges before after old new outcome does =
+    reads_on old does.found new does.identified.always.only_reads.sent does.saved.ran.always.only_reads.sent
+read_sends false named file ranges before after old new outcome does =
+    reads_on old does.found new does.identified.always.only_reads.sent does.read.read.always.only_reads.sent
+
 task_sends : (operation : Operation) (job : Task) (ranges : Option (List Span)) (bytes : List ℕ) (before : View)
     (after : FilesState) (old new : BusState) (outcome : Result Answer Refusal)
     → DoesTask operation job ranges bytes before after old new outcome → SendsOnly job bytes old new after
@@ -145,7 +153,7 @@ task_sends operation task.FlashSize ranges bytes before after old new outcome do
 task_sends operation task.WpStatus ranges bytes before after old new outcome does = does.always.only_reads.sent
 task_sends operation task.WpList ranges bytes before after old new outcome does = does.always.only_reads.sent
 task_sends operation (task.Read file regions) ranges bytes before after old new outcome does =
-    reads_on old does.found new does.identified.always.only_reads.sent does.read.read.always.only_reads.sent
+    read_sends operation.is_backup operation.named file.now ranges before after old new outcome does
 task_sends operation (task.Verify file regions) ranges bytes before after old new outcome does = does.always.only_reads.sent
 task_sends operation (task.Change change) ranges bytes before after old new outcome does =
     change_sends operation change ranges bytes change.journal_use before after old new outcome does

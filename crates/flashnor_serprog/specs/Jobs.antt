@@ -35,7 +35,7 @@ use Rattle.nor_words.specs.declared.words.UsageFault.TheVariants as usage
 use Rattle.nor_lines.specs.Files.{IsMaking}
 use Rattle.nor_lines.specs.Readings.{AnswersCall, HasReadOut, HasReported, HasVerified, ListsRanges, ReportsProtection}
 use Rattle.nor_lines.specs.Requests.{request_for}
-use Rattle.nor_lines.specs.Sessions.{HasRunInFile, ReportsDone}
+use Rattle.nor_lines.specs.Sessions.{HasBackedUpInFile, HasRunInFile, ReportsDone}
 use Rattle.nor_lines.specs.declared.answers.Answer.{Answer}
 use Rattle.nor_lines.specs.declared.answers.Answer.TheVariants as answer
 use Rattle.nor_lines.specs.declared.messages.Fault.{Fault}
@@ -95,6 +95,21 @@ pub record HasReadChip (named : Option ChipName) (file : Text) (ranges : Option 
   pub chip : Found
   pub identified : HasIdentified named old found (Ok chip)
   pub read : HasReadOut named file ranges found new after outcome
+
+-- The chip was identified, and then saved whole in a journal in a new file, or the saving failed.
+pub record HasSavedChip (named : Option ChipName) (file : Text) (before : View) (after : FilesState)
+    (old new : BusState) (outcome : Result Answer Refusal) : Type 0 where
+  pub found : BusState
+  pub chip : Found
+  pub identified : HasIdentified named old found (Ok chip)
+  pub saved : HasBackedUpInFile named file before after found new outcome
+
+-- for a backup the chip was saved whole in a journal; otherwise it was read into the file, in the given ranges
+abbrev pub HasReadBy : (backup : Bool) → Option ChipName → (file : Text) → (ranges : Option (List Span))
+    → (before : View) → (after : FilesState) → (old new : BusState) → Result Answer Refusal → Type 0
+HasReadBy true named file ranges before after old new outcome = HasSavedChip named file before after old new outcome
+HasReadBy false named file ranges before after old new outcome =
+    HasReadChip named file ranges after.view old new outcome
 
 -- the faults of a read before it reads the chip's contents
 abbrev pub FailsToRead : Option ChipName → Text → View → (old new : BusState) → Fault → Type 0
@@ -312,7 +327,7 @@ DoesTask operation task.WpStatus ranges bytes before after old new outcome =
 DoesTask operation task.WpList ranges bytes before after old new outcome =
     HasReported ListsRanges operation.named old new outcome
 DoesTask operation (task.Read file regions) ranges bytes before after old new outcome =
-    HasReadChip operation.named file.now ranges after.view old new outcome
+    HasReadBy operation.is_backup operation.named file.now ranges before after old new outcome
 DoesTask operation (task.Verify file regions) ranges bytes before after old new outcome =
     HasVerified operation.named ranges bytes old new outcome
 DoesTask operation (task.Change change) ranges bytes before after old new outcome =

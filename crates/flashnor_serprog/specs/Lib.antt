@@ -1,4 +1,5 @@
 pub mod Setting
+pub mod Backups
 pub mod Jobs
 pub mod Sends
 pub mod Sources

@@ -40,7 +40,7 @@ pub record SendsRestore (bytes : List ℕ) (old new : BusState) : Type 0 where
   pub sends : SendsSaved (IsSavedCode journal.content) 1 journal.content old new
 
 -- Holds if a job sent only what it may. A change or a restore sent no modifying command, or only what its journal
--- allows. Any other job sent no modifying command.
+-- allows. Any other job sent no modifying command, whether it reads the chip into a file or saves it in a journal.
 abbrev pub SendsOnly : Task → (bytes : List ℕ) → (old new : BusState) → FilesState → Type 0
 SendsOnly (task.Change change) bytes old new after =
     SendsChange (what_of change.wanted) change.journal_use old new after

@@ -31,11 +31,15 @@ sector, then stays unnoticed.
 --restore rewrites each saved sector. --quick rewrites only those that differ:
 use it only if the chip never lost its power while it was being changed.
 
+--backup saves the whole chip in a new journal. Make one before the first write
+of a board, and keep it: --restore can restore any sector from it, even one that
+was erased by a wrong address on the wire, which no journal of a change has.
+
 After a run that was killed, disconnect the programmer from power for a second
 before the next run.
 
-Examples: read the chip; write an image and keep a journal; restore the chip:
-  flashnor_serprog -p serprog:dev=/dev/ttyACM0 -r chip.bin
+Examples: save the chip; write an image and keep a journal; restore the chip:
+  flashnor_serprog -p serprog:dev=/dev/ttyACM0 --backup whole.journal
   flashnor_serprog -p serprog:dev=/dev/ttyACM0 -w new.bin --journal j
   flashnor_serprog -p serprog:dev=/dev/ttyACM0 --restore j
 

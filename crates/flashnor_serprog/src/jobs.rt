@@ -10,6 +10,7 @@ ghost use Rattle.flashnor_serprog.specs.Jobs.{HasReadChip, HasRestored, HasRunRe
 ghost use Rattle.flashnor_serprog.specs.Jobs.{IsFollowed, IsNamedFirst, IsNoJournal, ReportsFound, ReportsSize};
 ghost use Rattle.flashnor_serprog.specs.Jobs.{changes_bytes, is_compared, may_be_protected};
 
+use crate::backups::backup_chip;
 use crate::chip_faults::JobFault;
 use crate::progress::{Progress, Terminal};
 use crate::sources::Sources;
@@ -36,9 +37,10 @@ use std::alloc::{AllocError, Global};
 ///
 /// `terminal` receives the line that says what a session or restore will change.
 ///
-/// A read identifies the chip before it empties its file, so a file is kept if there is no chip. A write or an erase
-/// identifies the chip before its journal is created: an erase to know the chip's size, and both because chip fault 1
-/// refuses a chip that may be protected in a way that this program doesn't know.
+/// A read identifies the chip before it empties its file, so a file is kept if there is no chip. A backup identifies it
+/// before its file is created. A write or an erase identifies the chip before its journal is created: an erase to know
+/// the chip's size, and both because chip fault 1 refuses a chip that may be protected in a way that this program
+/// doesn't know.
 pub fn perform<'a, R: Store, B: Progress>(
     rt: &mut R,
     bus: &mut B,
@@ -60,6 +62,7 @@ pub fn perform<'a, R: Store, B: Progress>(
         Task::FlashSize => Ok(report_size(bus, named)),
         Task::WpStatus => Ok(report_protection(bus, named)),
         Task::WpList => Ok(list_ranges(bus, named)),
+        Task::Read { file, .. } if operation.is_backup => Ok(backup_chip(rt, bus, named, *file)?),
         Task::Read { file, .. } => Ok(read_chip(rt, bus, named, *file, sources.included.as_ref())?),
         Task::Verify { .. } => Ok(verify_chip(bus, named, sources)),
         Task::Change(change) => change_chip(rt, bus, terminal, operation, change, sources),
@@ -90,8 +93,8 @@ fn find<B: Bus>(bus: &mut B, named: Option<ChipName>) -> Result<Found, Refusal>
     Ok(probe(bus, named)?)
 }
 
-// Identifies the chip before a call that does more. An error of the identification is the fault of the run.
-fn find_first<'a, B: Bus>(bus: &mut B, named: Option<ChipName>) -> Result<Found, Fault<'a>>
+/// Identifies the chip before a call that does more. An error of the identification is the fault of the run.
+pub fn find_first<'a, B: Bus>(bus: &mut B, named: Option<ChipName>) -> Result<Found, Fault<'a>>
     ensures ok { IfOk result (λ found. HasIdentified named (B.state bus.old) (B.state bus.new) (Ok found)) }
     ensures err { IfErr result (FailsToFind named (B.state bus.old) (B.state bus.new)) }
 {

@@ -13,11 +13,13 @@
 //! - `progress.rt`: a bus that prints the progress of a job to standard error
 //! - `connect.rt`: opens the device and identifies the programmer
 //! - `jobs.rt`: performs a job on the chip
+//! - `backups.rt`: saves a whole chip in a new journal
 //! - `status_line.rt`: the lines for a status write that was refused, or that the chip did not store
 //! - `chip_faults.rt`: the faults with which a job ends, and the lines of those that `flashnor` lacks
 //! - `trouble.rt`: the reasons why a run ends early, and their printed lines
 #![tactic(auto)]
 
+mod backups;
 mod chip_faults;
 mod connect;
 mod help;

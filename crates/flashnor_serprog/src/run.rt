@@ -10,6 +10,7 @@ ghost use Rattle.flashnor_serprog.specs.Run.{IsEndedAs, IsHelpAskedBy, IsPrepare
 ghost use Rattle.flashnor_serprog.specs.Sends.{SendsOnly};
 ghost use Rattle.flashnor_serprog.specs.declared.trouble.Left.TheVariants.{Unchanged};
 
+use crate::backups::check_new;
 use crate::chip_faults::JobFault;
 use crate::connect::{ChipBus, connect};
 use crate::help::HELP;
@@ -146,6 +147,7 @@ fn prepare<'a, 'b, R: Store>(
 {
     let (setting, operation) = read_words(rt.alloc(), words)?;
     have_one_role(files, setting.device, &operation.task)?;
+    check_new(files, &operation)?;
     let sources = read_sources(files, &operation.task)?;
     let image = sources.image_of(&operation.task);
     match connect(rt, setting, image) {

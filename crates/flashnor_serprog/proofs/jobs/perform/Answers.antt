@@ -17,8 +17,15 @@ pub returns-in-WpList : goal.returns-in-WpList
 returns-in-WpList g c = rw c.in-WpList.is (search (rules, stays_same, c.list_ranges.ensures))
 
 pub returns-in-Read : goal.returns-in-Read
-returns-in-Read g c = rw c.in-Read.is (record {
-  ok = rw c.as_ref.ensures.value at c.in_ok-read_chip-in-Read.ensures.ok;
+returns-in-Read g c = rw (c.in-Read.is, c.if-operation.true) (record {
+  ok = c.in_ok-backup_chip-in-Read.ensures.ok;
+  err = tt;
+  others = c.backup_chip.ensures.others;
+})
+
+pub returns-in-Read-2 : goal.returns-in-Read-2
+returns-in-Read-2 g c = rw (c.in-Read-2.is, c.if-operation.false) (record {
+  ok = rw c.as_ref.ensures.value at c.in_ok-read_chip-in-Read-2.ensures.ok;
   err = tt;
   others = c.read_chip.ensures.others;
 })

@@ -1,5 +1,5 @@
 use Rattle.std.proofs.lemmas.Result.{err_from_is_err_and}
-use Rattle.flashnor_serprog.proofs.Helped.{roles-ask, sources-ask}
+use Rattle.flashnor_serprog.proofs.Helped.{backup-ask, roles-ask, sources-ask}
 use Rattle.flashnor_serprog.proofs.run.prepare.Goals as goal
 
 pub returns-in_err-have_one_role-clause-help : goal.returns-in_err-have_one_role-clause-help
@@ -9,6 +9,12 @@ returns-in_err-have_one_role-clause-help g c =
     rw (p.1, p.2) (λ is. absurd (roles-ask (g.R.Store.state c.args.files.now).view.nature
     c.in_ok-setting.setting.device c.in_ok-setting.operation.task c.in_err-have_one_role.field-0.0
     c.in_err-have_one_role.ensures.err is))
+
+pub returns-in_err-check_new-clause-help : goal.returns-in_err-check_new-clause-help
+returns-in_err-check_new-clause-help g c =
+    let p = err_from_is_err_and c.from_residual-in_err-check_new.result c.from_residual-in_err-check_new.ensures.1 in
+    rw (p.1, p.2) (λ is. absurd (backup-ask (g.R.Store.state c.args.files.now).view c.in_ok-setting.operation
+    c.in_err-check_new.field-0.0 c.in_err-check_new.ensures is))
 
 pub returns-in_err-sources-clause-help : goal.returns-in_err-sources-clause-help
 returns-in_err-sources-clause-help g c =

@@ -1,0 +1,16 @@
+-- A backup whose file exists already.
+use Rattle.std.specs.Prelude.{◌≡◌, Some, true}
+use Rattle.nor_files.specs.Files.{View}
+use Rattle.nor_files.specs.Files.Failure.{There}
+use Rattle.nor_words.specs.declared.job.Operation.{Operation}
+use Rattle.nor_lines.specs.Stored.{Happens}
+use Rattle.nor_lines.specs.Tasks.{made_by}
+use Rattle.nor_lines.specs.declared.messages.Fault.{Fault}
+use Rattle.nor_lines.specs.declared.messages.Fault.TheVariants as end
+use Rattle.nor_lines.specs.declared.messages.FileFault.TheVariants as file
+
+-- the operation is a backup, and the fault is that its file already exists
+abbrev pub IsExistingBackup : View → Operation → Fault → Type 0
+IsExistingBackup view operation (end.File file.Exists of) = (operation.is_backup ≡ true)
+    × ((made_by operation.task ≡ Some of) × Happens view (There of.now))
+IsExistingBackup view operation _ = ⊥

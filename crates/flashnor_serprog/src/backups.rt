@@ -1,0 +1,51 @@
+//! Saves a whole chip in a new journal.
+ghost use Rattle.std.specs.Prelude.{◌≡◌, IfErr, IfOk, true};
+ghost use Rattle.nor_files.specs.Files.{OthersStay, is_lawful};
+ghost use Rattle.flashnor_serprog.specs.Backups.{IsExistingBackup};
+ghost use Rattle.flashnor_serprog.specs.Jobs.{FailsToRead, HasSavedChip};
+
+use crate::jobs::find_first;
+use crate::progress::Progress;
+use nor_files::Store;
+use nor_geometry::SECTOR_LEN;
+use nor_lines::{Fault, FileFault, Outcome, backup_in_file};
+use nor_probe::ChipName;
+use nor_words::{Operation, Task};
+
+/// Checks that the file of a backup does not exist. A job that is no backup passes.
+///
+/// Returns file fault 4 if the file exists.
+pub fn check_new<'a, R: Store>(rt: &R, operation: &Operation<'a>) -> Result<(), Fault<'a>>
+    ensures { IfErr result (IsExistingBackup (R.state rt.now).view operation.now) }
+{
+    match &operation.task {
+        Task::Read { file, .. } if operation.is_backup && rt.is_there(*file) => {
+            let (fault, name) = (FileFault::Exists, *file);
+            Err(Fault::File { fault, name })
+        }
+        _ => Ok(()),
+    }
+}
+
+/// Identifies the chip, and saves all of it in a journal in the file of this name, which must not exist. Sends no
+/// modifying command.
+///
+/// The chip is identified before the file is created, so no file is created if there is no chip. The outer error is one
+/// of the identification or of creating the file. The inner error is one of `backup`, after which the file may hold
+/// only a part of the journal.
+pub fn backup_chip<'a, R: Store, B: Progress>(
+    rt: &mut R,
+    bus: &mut B,
+    named: Option<ChipName>,
+    file: &'a str,
+) -> Result<Outcome, Fault<'a>>
+    ensures ok { IfOk result (HasSavedChip named file.now (R.state rt.old).view (R.state rt.new)
+        (B.state bus.old) (B.state bus.new)) }
+    ensures err { IfErr result (FailsToRead named file.now (R.state rt.old).view (B.state bus.old) (B.state bus.new)) }
+    ensures others { is_lawful (R.state rt.old).view ≡ true
+        → OthersStay file.now (R.state rt.old) (R.state rt.new) }
+{
+    let found = find_first(bus, named)?;
+    bus.expect_reads((found.size / SECTOR_LEN) as usize);
+    backup_in_file(rt, bus, named, file)
+}
