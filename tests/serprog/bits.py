@@ -17,7 +17,7 @@ SAMPLE = 64
 UNIQUE = bytes(range(8))
 NUMBER = 48
 LAYOUT = b"030000:030fff one\n"
-REGION = ("-l", "layout", "-i", "one", "--journal", "j")
+REGION = ("-N", "-l", "layout", "-i", "one", "--journal", "j")
 RESTORE = ("--restore", "j")
 
 
@@ -74,7 +74,7 @@ def unlock():
     steps, read = reference.change(old, new, [NUMBER], False), [reference.read_sector(NUMBER)]
     plan = reference.identify("W25Q64FV") + read + reference.write_status(b"\0\x02") + steps \
         + reference.write_status(status) + read
-    plan = reference.whole_run("W25Q64FV", plan, [NUMBER])
+    plan = reference.whole_run("W25Q64FV", plan)
     return Work("W25Q64FV", ("-w", "new", "--unlock", *REGION), old, new, status, status, plan,
                 reference.journal("W25Q64FV", old, [NUMBER], status, UNIQUE))
 
@@ -83,7 +83,7 @@ def blank():
     """-w of a blank region on a sector with one bit that isn't set."""
     old, new, status = chip_with("W25Q64FV", b"\xff\xfb"), chip_with("W25Q64FV", b""), b"\0\x02"
     plan = reference.session("W25Q64FV", old, new, [NUMBER])
-    plan = reference.whole_run("W25Q64FV", plan, [NUMBER])
+    plan = reference.whole_run("W25Q64FV", plan)
     return Work("W25Q64FV", ("-w", "new", *REGION), old, new, status, status, plan,
                 reference.journal("W25Q64FV", old, [NUMBER], status, UNIQUE))
 

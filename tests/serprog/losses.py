@@ -45,7 +45,7 @@ def chip_images(changed):
 
 def session_wire(old, new):
     """Returns the transactions over the wire of a run with a session."""
-    plan = reference.whole_run("TINY64", reference.session("TINY64", old, new), range(16))
+    plan = reference.whole_run("TINY64", reference.session("TINY64", old, new), True)
     return reference.carried(plan, chip=Chip("TINY64", old), image=new)
 
 

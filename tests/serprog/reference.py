@@ -197,14 +197,18 @@ def read_out(part, numbers):
     return probe(part) * 2 + [read_sector(it) for it in numbers]
 
 
-def whole_run(part, plan, numbers=None):
+def read_whole(part):
+    """Returns the plan that identifies the chip and reads all of it."""
+    return probe(part) + [read_sector(it) for it in range(PARTS[part].size // SECTOR)]
+
+
+def whole_run(part, plan, is_compared=False, has_regions=False):
     """Returns the plan of -w or -E with this session.
 
-    The chip is identified before the journal is created. After a session that verifies, it is identified again, and all
-    sectors with an included address are compared: `numbers`, or `None` with -n.
+    The chip is identified before the journal is created. If the change is compared, the whole chip is read after the
+    session and, if the change has regions, also before it.
     """
-    comparison = [] if numbers is None else probe(part) + [read_sector(it) for it in numbers]
-    return probe(part) + plan + comparison
+    return probe(part) + read_whole(part) * (is_compared and has_regions) + plan + read_whole(part) * is_compared
 
 
 def touched(old, target):

@@ -30,7 +30,7 @@ def unlocks(start):
     last = [reference.read_sector(LAST)]
     plan = reference.identify("W25Q64FV") + last + reference.write_status(b"\0\0") + last \
         + reference.operation(bytes.fromhex("027fffff00")) + reference.write_status(b"\x04\0") + last
-    bench.check_frames(reference.whole_run("W25Q64FV", plan, [LAST]))
+    bench.check_frames(reference.whole_run("W25Q64FV", plan, True, True))
 
 
 def refuses_protected(start):
@@ -40,7 +40,8 @@ def refuses_protected(start):
     bench.write("new", new)
     bench.write("layout", LAYOUT)
     bench.expect("-w", "new", "-l", "layout", "-i", "last", "--journal", "j", err=["Error 10: protected at 0x7ff000."])
-    bench.check_frames(reference.whole_run("W25Q64FV", reference.identify("W25Q64FV") + [reference.read_sector(LAST)]))
+    plan = reference.identify("W25Q64FV") + [reference.read_sector(LAST)]
+    bench.check_frames(reference.whole_run("W25Q64FV", reference.read_whole("W25Q64FV") + plan))
     bench.check_chip(old, b"\x04\0")
 
 
@@ -130,11 +131,22 @@ def refuses_images(start):
 
 
 def refuses_regions(start):
-    """A wrong layout is a layout fault, and a region outside the chip is error 5. The chip isn't changed."""
+    """A wrong layout is a layout fault, and a region outside the chip is error 5. The chip isn't changed.
+
+    Errors 4 and 5 come before the whole chip is read. With -N they come from the session, after the journal's creation.
+    """
     bench = start(data=bytes(SIZE))
     bench.write("layout", b"0:fff a\n10000:10fff b\n")
     bench.write("wrong", b"0:fff a\n2000:1000 b\n")
-    bench.expect("-E", "-l", "layout", "-i", "b", "--journal", "j", err=["Error 5: region outside the chip."])
+    bench.write("short", bytes(SIZE - 1))
+    for words, error in ((("-E",), "Error 5: region outside the chip."),
+                         (("-w", "short"), f"Error 4: image of {SIZE - 1} bytes, chip of {SIZE} bytes.")):
+        words = (*words, "-l", "layout", "-i", "b", "--journal", "j")
+        bench.expect(*words, err=[error])
+        bench.check_frames(reference.probe("TINY64"))
+        bench.check_absent("j")
+        bench.expect(*words, "-N", err=[error])
+        bench.path("j").unlink()
     bench.expect("-E", "-l", "wrong", "-i", "a", "--journal", "k",
                  err=["error: the end is below the start", "Layout fault 3 at line 2."])
     bench.check_nothing_sent()
@@ -184,7 +196,7 @@ def uses_small_programmers(start):
         plan = reference.session("TINY64", old, new)
         bench.expect("-w", "new", "--journal", "j", out=[reference.found("TINY64"), reference.done(plan, old, new)])
         bench.check_chip(new)
-        bench.check_frames(reference.whole_run("TINY64", plan, ALL))
+        bench.check_frames(reference.whole_run("TINY64", plan, True))
 
 
 def fills_no_buffer(start):
@@ -196,7 +208,7 @@ def fills_no_buffer(start):
         bench = start(data=old, latency=0.002, buffer=buffer, lacks=() if buffer else (0x04,))
         bench.write("new", new)
         bench.expect("-w", "new", "--journal", "j", out=[reference.found("TINY64"), reference.done(plan, old, new)])
-        wire = reference.whole_run("TINY64", plan, ALL)
+        wire = reference.whole_run("TINY64", plan, True)
         wanted = reference.writes(bench.carried(wire), buffer)
         check(f"bytes of each write, with a buffer of {buffer}", bench.server.ways[-len(wanted) :], wanted)
         bench.check_frames(wire)

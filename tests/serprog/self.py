@@ -49,6 +49,7 @@ MISTAKES = {
     "does not say what is unprotected": "reports_an_unprotected_chip",
     "skips equal sectors": "restores_marginal_bytes",
     "compares nothing": "compares_the_rest",
+    "compares included sectors only": "compares_excluded_sectors",
     "compares with -N": "leaves_out_the_comparison",
     "is never quick": "restores_quickly",
     "changes any chip": "refuses_unknown_protection",

@@ -124,6 +124,8 @@ class Job:
         image = read_file(self.given["-w"]) if "-w" in self.given else None
         self.found(self.given.get("-c"))
         self.check_unknown()
+        leaves_out = "-n" in self.given or ("-N" in self.given and MISTAKE != "compares with -N")
+        before = b"" if self.ranges is None or leaves_out else self.read_whole(image)
         Path(self.given["--journal"]).touch()
         self.link.count = 0
         line = self.found(self.given.get("-c"))
@@ -138,11 +140,18 @@ class Job:
         self.put_journal(old, [] if MISTAKE == "saves nothing" else saved, status)
         self.apply(old, target, saved, status, "-n" not in self.given)
         done = self.done(saved)
-        leaves_out = "-n" in self.given or ("-N" in self.given and MISTAKE != "compares with -N")
         if not leaves_out and MISTAKE != "compares nothing":
             self.found(self.given.get("-c"))
-            self.compare(target, [reference.read_sector(it) for it in numbers])
+            every = numbers if MISTAKE == "compares included sectors only" else range(self.size // SECTOR)
+            self.compare(mixed(before, image, self.ranges), [reference.read_sector(it) for it in every])
         return line, done, *["Nothing was verified (-n)."] * ("-n" in self.given)
+
+    def read_whole(self, image):
+        """Returns the bytes of the whole chip, read before a change with regions."""
+        self.check_length(b"\xff" * self.size if image is None else image)
+        included_sectors(self.ranges, self.size)
+        self.found(self.given.get("-c"))
+        return self.scan(range(self.size // SECTOR))
 
     def check_unknown(self):
         """Refuses a chip whose protection bits are unknown and may be set."""
@@ -150,12 +159,12 @@ class Job:
             raise Fault(f"Chip fault 1: status 1 of this chip is {self.link.status:02X}h.")
 
     def compare(self, target, reads):
-        """Compares all included sectors with the target."""
+        """Compares these sectors with the target."""
         try:
             self.verify_sectors(target, reads)
         except Fault as why:
             address = str(why).rpartition(" ")[2]
-            raise Fault(f"Chip fault 4: the chip differs from the image at {address}") from None
+            raise Fault(f"Chip fault 4: the chip differs from its target at {address}") from None
 
     def check_protection(self, saved, status):
         self.lifts = False

@@ -193,7 +193,7 @@ def compares_the_rest(start):
     bench.write("new", new)
     address = first_difference(old, new)
     begins("the run", bench.run("-w", "new", "--journal", "j"),
-           [f"Chip fault 4: the chip differs from the image at 0x{address:06x}."])
+           [f"Chip fault 4: the chip differs from its target at 0x{address:06x}."])
     bench.check_file("j", reference.journal("TINY64", old, (2, 7, 15)))
     bench.server.traits.wrong_address = ()
     check("the restore", bench.run("--restore", "j").status, 0)
@@ -215,6 +215,48 @@ def leaves_the_rest_out(start):
     bench.check_file("j", reference.journal("TINY64", old, (2, 7, 15)))
     bench.server.traits.wrong_address = ()
     bench.expect("-v", "new", err=[f"Error 14: bytes differ at 0x{first_difference(bench.chip.data, new):06x}."])
+
+
+def change_outside(seed):
+    """Returns a chip's bytes, an image, and the chip after a change of sector 6 that reaches sector 2 instead.
+
+    The image differs from the chip in sector 6, and at addresses outside the regions, which must stay.
+    """
+    old, new = images(seed, (6,))
+    wrong = old[: 2 * SECTOR] + new[6 * SECTOR : 7 * SECTOR] + old[3 * SECTOR :]
+    return old, bytes(byte ^ 0xFF for byte in new[:SECTOR]) + new[SECTOR:], wrong
+
+
+def compares_excluded_sectors(start):
+    """With regions, a wrong address bit that reaches a sector outside them is chip fault 4, with its address.
+
+    With -N it isn't noticed. Bytes outside the regions are compared with those from before, and not with the image.
+    """
+    old, image, wrong = change_outside("compares_excluded_sectors")
+    words = ("-w", "image", "-l", "layout", "-i", "six", "--journal", "j")
+    plan = reference.session("TINY64", old, old[: 6 * SECTOR] + image[6 * SECTOR :], [6])
+    for option, is_compared in ((), True), (("-N",), False):
+        whole = reference.whole_run("TINY64", plan, is_compared, True)
+        wire = reference.carried(whole, chip=Chip("TINY64", old), image=image)
+        first = next(at for at, (out, _) in enumerate(wire, 1) if out[0] in reference.CHANGING)
+        later = (at for at, (out, _) in enumerate(wire, 1) if at > first and out[0] == 0x9F)
+        bench = start(data=old, wrong_address=(first, next(later) - 2 if is_compared else len(wire), 14))
+        bench.write("image", image)
+        bench.write("layout", b"6000:6fff six\n0:ffff all\n")
+        got = bench.run(*words, *option)
+        if is_compared:
+            begins("the run", got, [
+                f"Chip fault 4: the chip differs from its target at 0x{first_difference(old, wrong):06x}."])
+        else:
+            bench.compare(got, [reference.found("TINY64"), reference.report(plan, 1)], [])
+        bench.check_chip(wrong)
+        bench.check_file("j", reference.journal("TINY64", old, [6]))
+        bench.server.traits.wrong_address = ()
+        bench.path("j").unlink()
+        bench.chip.data[:] = old
+        bench.expect(*words, *option, out=[reference.found("TINY64"), reference.report(plan, 1)])
+        bench.check_frames(whole)
+        bench.check_chip(old[: 6 * SECTOR] + image[6 * SECTOR :])
 
 
 def refuses_unknown_protection(start):
@@ -289,4 +331,5 @@ def loses_the_power_lock(start):
 
 CASES = [compares_replies, believes_busy, reads_status_writes_back, reports_an_unprotected_chip,
          finds_torn_status_writes, restores_marginal_bytes, finds_a_wrong_erase, compares_the_rest,
-         leaves_the_rest_out, refuses_unknown_protection, finds_lost_programs, wakes_the_chip, loses_the_power_lock]
+         leaves_the_rest_out, compares_excluded_sectors, refuses_unknown_protection, finds_lost_programs, wakes_the_chip,
+         loses_the_power_lock]

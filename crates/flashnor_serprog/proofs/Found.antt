@@ -5,7 +5,6 @@ use Rattle.nor_model.specs.Bus.{BusState}
 use Rattle.nor_probe.specs.declared.probes.Found.{Found}
 use Rattle.nor_probe.specs.declared.table.ChipName.{ChipName}
 use Rattle.nor_request.specs.declared.refusal.Refusal.{Refusal}
-use Rattle.nor_request.specs.declared.refusal.Refusal.TheVariants.{Memory}
 use Rattle.nor_files.specs.Files.{FilesState, View}
 use Rattle.nor_layout.specs.declared.ranges.Span.{Span}
 use Rattle.nor_words.specs.Text.{Text}
@@ -23,11 +22,24 @@ use Rattle.nor_lines.specs.declared.answers.Answer.{Answer}
 use Rattle.nor_lines.specs.declared.messages.Fault.{Fault}
 use Rattle.nor_lines.specs.declared.messages.Fault.TheVariants as end
 use Rattle.flashnor_serprog.specs.Jobs.{DoesTask, FailsChange, FailsComparison, FailsPerform, FailsToChange}
-use Rattle.flashnor_serprog.specs.Jobs.{FailsToFill, FailsToFind}
-use Rattle.flashnor_serprog.specs.Jobs.{FailsToFollow, HasChangedAndCompared, HasChangedBy, HasIdentified}
-use Rattle.flashnor_serprog.specs.Jobs.{HasNotCompared, HasRunChange, IsBufferOf, IsRefusedAsProtected, is_compared}
+use Rattle.flashnor_serprog.specs.Following.{FailsToFollow}
+use Rattle.flashnor_serprog.specs.Jobs.{FailsToFill, FailsToFind, FailsToTarget, HasChangedAndCompared, HasChangedBy}
+use Rattle.flashnor_serprog.specs.Jobs.{HasIdentified, HasNotCompared, HasRunChange, IsBufferOf, IsProtected}
+use Rattle.flashnor_serprog.specs.Jobs.{IsRefusedAsProtected, is_compared, ranges_of}
 use Rattle.flashnor_serprog.specs.declared.chip_faults.JobFault.{JobFault}
 use Rattle.flashnor_serprog.specs.declared.chip_faults.JobFault.TheVariants as ended
+
+-- the result of a call, as the result or the fault of a run
+module _ {T : Type 0} (P : T → Type 0) (Q : Refusal → Type 0) where
+  pub passes_ok : (outcome : Result T Refusal) (result : Result T Fault) → IsReportedAs outcome result
+      → IfOk outcome P → IfOk result P
+  passes_ok (Ok found) result returned is = rw returned is
+  passes_ok (Err refusal) result returned is = rw returned tt
+
+  pub passes_err : (outcome : Result T Refusal) (result : Result T Fault) → IsReportedAs outcome result
+      → IfErr outcome Q → IfErr result (λ fault. (refusal : Refusal) × Q refusal × (fault ≡ end.Refused refusal))
+  passes_err (Ok found) result returned is = rw returned tt
+  passes_err (Err refusal) result returned is = rw returned (refusal, is, refl)
 
 module _ (named : Option ChipName) (old new : BusState) where
   pub found_first : (outcome : Result Found Refusal) (result : Result Found Fault) → HasIdentified named old new outcome
@@ -40,72 +52,75 @@ module _ (named : Option ChipName) (old new : BusState) where
   fails_first (Ok found) result is returned = rw returned tt
   fails_first (Err refusal) result is returned = rw returned (refusal, is, refl)
 
-  memory_making : (file : Text) (view : View) (fault : Fault) → fault ≡ end.Refused Memory → IsMaking view file fault
-  memory_making file view fault is = rw is refl
+  -- Only an identification that found a chip which may be protected is reported as chip fault 1.
+  refused : (target : Wanted) (ranges : Option (List Span)) (bytes : List ℕ) (byte : ℕ)
+      → FailsToTarget named target ranges bytes old new (ended.Protected byte) → IsProtected named old new byte
+  refused target ranges bytes byte (inl is) = is
+  refused target ranges bytes byte (inr made) = absurd (cc made.2)
 
-  fills : (target : Wanted) (file : Bor Text) (view : View) (fault : Fault)
-      → FailsToFill named target old new (ended.Fault fault)
-      → FailsToChange named target (uses.Journal file) view old new fault
-  fills (wanted.Write image) file view fault (inl found) = inl found
-  fills (wanted.Write image) file view fault (inr made) =
-      inr (made.0, made.1, memory_making file.now view fault (cc made.2))
-  fills wanted.Erase file view fault (inl found) = inl found
-  fills wanted.Erase file view fault (inr made) =
-      inr (made.0, made.1, memory_making file.now view fault (cc made.2))
-  fills (wanted.Range start len) file view fault fails = absurd fails
-
-  refuses : (target : Wanted) (file : Bor Text) (view : View) (after : FilesState) (byte : ℕ) → after.view ≡ view
-      → FailsToFill named target old new (ended.Protected byte)
+  refuses : (target : Wanted) (ranges : Option (List Span)) (bytes : List ℕ) (file : Bor Text) (view : View)
+      (after : FilesState) (byte : ℕ) → after.view ≡ view
+      → FailsToFill named target ranges bytes old new (ended.Protected byte)
       → IsRefusedAsProtected named target (uses.Journal file) view after old new byte
-  refuses (wanted.Write image) file view after byte same (inl refused) =
-      record { changes = refl; journalled = refl; protected = refused; unmade = same }
-  refuses (wanted.Write image) file view after byte same (inr made) = absurd (cc made.2)
-  refuses wanted.Erase file view after byte same (inl refused) =
-      record { changes = refl; journalled = refl; protected = refused; unmade = same }
-  refuses wanted.Erase file view after byte same (inr made) = absurd (cc made.2)
-  refuses (wanted.Range start len) file view after byte same fails = absurd fails
+  refuses (wanted.Write image) ranges bytes file view after byte same fails = record {
+    changes = refl;
+    journalled = refl;
+    protected = refused (wanted.Write image) ranges bytes byte fails;
+    unmade = same;
+  }
+  refuses wanted.Erase ranges bytes file view after byte same fails = record {
+    changes = refl;
+    journalled = refl;
+    protected = refused wanted.Erase ranges bytes byte fails;
+    unmade = same;
+  }
+  refuses (wanted.Range start len) ranges bytes file view after byte same fails = absurd fails
 
-  compares_none : (target : Wanted) (refusal : Refusal)
-      → FailsToFill named target old new (ended.NotCompared refusal) → ⊥
-  compares_none (wanted.Write image) refusal (inl fails) = fails
-  compares_none (wanted.Write image) refusal (inr made) = absurd (cc made.2)
-  compares_none wanted.Erase refusal (inl fails) = fails
-  compares_none wanted.Erase refusal (inr made) = absurd (cc made.2)
-  compares_none (wanted.Range start len) refusal fails = fails
+  targets_none : (target : Wanted) (ranges : Option (List Span)) (bytes : List ℕ) (refusal : Refusal)
+      → FailsToTarget named target ranges bytes old new (ended.NotCompared refusal) → ⊥
+  targets_none target ranges bytes refusal (inl fails) = fails
+  targets_none target ranges bytes refusal (inr made) = absurd (cc made.2)
 
-  -- A fault of creating the journal, or of copying the buffer of a session, is a fault of a change with a journal in a
-  -- file.
-  pub start_fails : (target : Wanted) (bytes image : List ℕ) (file : Bor Text) (view : View) (fault : Fault)
-      → IsBufferOf named target bytes old new image → IsMaking view file.now fault
-      → FailsToChange named target (uses.Journal file) view old new fault
-  start_fails (wanted.Write from) bytes image file view fault buffer making = inr (buffer.0, buffer.1, making)
-  start_fails wanted.Erase bytes image file view fault buffer making = inr (buffer.0, buffer.1, making)
-  start_fails (wanted.Range start len) bytes image file view fault buffer making = (buffer.0, making)
+  compares_none : (target : Wanted) (ranges : Option (List Span)) (bytes : List ℕ) (refusal : Refusal)
+      → FailsToFill named target ranges bytes old new (ended.NotCompared refusal) → ⊥
+  compares_none (wanted.Write image) ranges bytes refusal fails =
+      targets_none (wanted.Write image) ranges bytes refusal fails
+  compares_none wanted.Erase ranges bytes refusal fails = targets_none wanted.Erase ranges bytes refusal fails
+  compares_none (wanted.Range start len) ranges bytes refusal fails = fails
 
 module _ (operation : Operation) (old new : BusState) (change : Change) (ranges : Option (List Span))
     (bytes : List ℕ) (file : Bor Text) (view : View) (after : FilesState) where
   -- A fault of making the buffer of a session is a fault of a change with a journal in a file, if the files are as they
   -- were.
   pub fill_fails : (kept : JournalUse) (fault : JobFault) → kept ≡ uses.Journal file → after.view ≡ view
-      → FailsToFill operation.named change.wanted old new fault
+      → FailsToFill operation.named change.wanted (ranges_of operation change ranges) bytes old new fault
       → FailsChange operation change ranges bytes kept view after old new fault
-  fill_fails kept (ended.Fault fault) is same fails =
-      rw is (fills operation.named old new change.wanted file view fault fails)
+  fill_fails kept (ended.Fault fault) is same fails = rw is (inl fails)
   fill_fails kept (ended.Protected byte) is same fails =
-      rw is (refuses operation.named old new change.wanted file view after byte same fails)
+      rw is (refuses operation.named old new change.wanted _ bytes file view after byte same fails)
   fill_fails kept (ended.NotCompared refusal) is same fails =
-      absurd (compares_none operation.named old new change.wanted refusal fails)
+      absurd (compares_none operation.named old new change.wanted _ bytes refusal fails)
+
+module _ (operation : Operation) (old new : BusState) (change : Change) (ranges : Option (List Span))
+    (bytes : List ℕ) (file : Bor Text) (view : View) where
+  -- A fault of creating the journal, or of copying the buffer of a session, is a fault of a change with a journal in a
+  -- file.
+  pub start_fails : (image : List ℕ) (fault : Fault)
+      → IsBufferOf operation.named change.wanted (ranges_of operation change ranges) bytes old new image
+      → IsMaking view file.now fault
+      → FailsToChange operation change ranges bytes (uses.Journal file) view old new fault
+  start_fails image fault buffer making = inr (image, buffer, making)
 
 -- ---- the comparison after a session
 
-module _ (named : Option ChipName) (ranges : Option (List Span)) (target : List ℕ) (old new : BusState) where
+module _ (named : Option ChipName) (target : List ℕ) (old new : BusState) where
   follows_none : (found : Answer) (compared : Bool) (fault : Fault)
-      → FailsToFollow (Ok found) compared named ranges target old new (ended.Fault fault) → ⊥
+      → FailsToFollow (Ok found) compared named target old new (ended.Fault fault) → ⊥
   follows_none found true fault fails = fails
   follows_none found false fault fails = fails
 
   follows_unprotected : (found : Answer) (compared : Bool) (byte : ℕ)
-      → FailsToFollow (Ok found) compared named ranges target old new (ended.Protected byte) → ⊥
+      → FailsToFollow (Ok found) compared named target old new (ended.Protected byte) → ⊥
   follows_unprotected found true byte fails = fails
   follows_unprotected found false byte fails = fails
 
@@ -123,13 +138,13 @@ module _ (operation : Operation) (change : Change) (ranges : Option (List Span))
   not_compared refusal fails = rw is fails
 
   pub follow_fails : (session : Result Answer Refusal) (fault : JobFault)
-      → (ran : HasRunChange operation.named change ranges bytes file.now view after old changed session)
-      → FailsToFollow session (is_compared operation change) operation.named ranges ran.image changed new fault
+      → (ran : HasRunChange operation change ranges bytes file.now view after old changed session)
+      → FailsToFollow session (is_compared operation change) operation.named ran.image changed new fault
       → FailsChange operation change ranges bytes kept view after old new fault
   follow_fails (Ok found) (ended.Fault fault) ran fails =
-      absurd (follows_none operation.named ranges ran.image changed new found (is_compared operation change) fault fails)
+      absurd (follows_none operation.named ran.image changed new found (is_compared operation change) fault fails)
   follow_fails (Ok found) (ended.Protected byte) ran fails =
-      absurd (follows_unprotected operation.named ranges ran.image changed new found (is_compared operation change) byte fails)
+      absurd (follows_unprotected operation.named ran.image changed new found (is_compared operation change) byte fails)
   follow_fails (Ok found) (ended.NotCompared refusal) ran fails =
       not_compared refusal (record { changed = changed; reported = found; session = ran; fails = fails })
   follow_fails (Err refusal) fault ran fails = absurd fails

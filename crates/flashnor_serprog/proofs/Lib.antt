@@ -1,4 +1,5 @@
 pub mod Found
+pub mod Merged
 pub mod Sent
 pub mod Helped
 pub mod Rates

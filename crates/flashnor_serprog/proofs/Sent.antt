@@ -4,8 +4,10 @@ use Rattle.nor_model.specs.Bus.{BusState}
 use Rattle.nor_files.specs.Files.{FilesState, View, is_lawful}
 use Rattle.nor_journal.specs.Text.{Content as Journal}
 use Rattle.nor_layout.specs.declared.ranges.Span.{Span}
+use Rattle.nor_probe.specs.declared.probes.Found.{Found}
 use Rattle.nor_probe.specs.declared.table.ChipName.{ChipName}
 use Rattle.nor_request.specs.declared.refusal.Refusal.{Refusal}
+use Rattle.nor_request.specs.declared.refusal.Refusal.TheVariants.{Memory}
 use Rattle.nor_request.specs.declared.request.Request.{Request}
 use Rattle.nor_request.specs.declared.request.What.{What}
 use Rattle.nor_session.specs.Session.{SendsSaved}
@@ -23,9 +25,10 @@ use Rattle.nor_lines.specs.Sessions.{HasRunInFile}
 use Rattle.nor_lines.specs.declared.answers.Answer.{Answer}
 use Rattle.nor_lines.specs.declared.messages.Fault.{Fault}
 use Rattle.nor_lines.specs.declared.messages.Fault.TheVariants as end
+use Rattle.flashnor_serprog.specs.Following.{FailsToFollow, FailsToMerge, IsFollowed, IsWholeTarget}
 use Rattle.flashnor_serprog.specs.Jobs.{DoesTask, FailsBefore, FailsComparison, FailsPerform, FailsToChange}
-use Rattle.flashnor_serprog.specs.Jobs.{FailsToFollow, HasChangedBy, HasReadBy, HasRunChange, IsBufferOf, IsFollowed}
-use Rattle.flashnor_serprog.specs.Jobs.{IsNamedFirst, is_compared}
+use Rattle.flashnor_serprog.specs.Jobs.{FailsToFill, FailsToTarget, HasChangedBy, HasReadBy, HasRunChange, HasTarget}
+use Rattle.flashnor_serprog.specs.Jobs.{IsBufferOf, IsNamedFirst, asked_bytes, is_compared}
 use Rattle.flashnor_serprog.specs.Run.{EndsJob, IsEndedAs}
 use Rattle.flashnor_serprog.specs.declared.chip_faults.JobFault.{JobFault}
 use Rattle.flashnor_serprog.specs.declared.chip_faults.JobFault.TheVariants as ended
@@ -80,10 +83,24 @@ module _ (request : Request) (image : List ℕ) (file : Text) (before : View) (a
   session_sends : KeepsSent old new ⊎ (is_lawful after.view ≡ true → SendsJournalled request.what file old new after)
   session_sends = by_seal ran.vault'.sealed refl
 
-buffer_reads : (named : Option ChipName) (target : Wanted) (bytes : List ℕ) (old new : BusState) (image : List ℕ)
-    → IsBufferOf named target bytes old new image → KeepsSent old new
-buffer_reads named (wanted.Range start len) bytes old new image is = same_keeps_sent old new is.0
-buffer_reads named _ bytes old new image is = is.1.identified.always.only_reads.sent
+target_reads : (named : Option ChipName) (ranges : Option (List Span)) (image : List ℕ) (old new : BusState)
+    (target : List ℕ) → IsWholeTarget named ranges image old new target → KeepsSent old new
+target_reads named None image old new target is = same_keeps_sent old new is.0
+target_reads named (Some spans) image old new target is = is.read.always.only_reads.sent
+
+made_reads : (named : Option ChipName) (target : Wanted) (ranges : Option (List Span)) (bytes : List ℕ)
+    (old new : BusState) (image : List ℕ) → HasTarget named target ranges bytes old new image → KeepsSent old new
+made_reads named target ranges bytes old new image is =
+    reads_on old is.found new is.changeable.identified.always.only_reads.sent
+    (target_reads named ranges _ is.found new image is.is)
+
+buffer_reads : (named : Option ChipName) (target : Wanted) (ranges : Option (List Span)) (bytes : List ℕ)
+    (old new : BusState) (image : List ℕ) → IsBufferOf named target ranges bytes old new image → KeepsSent old new
+buffer_reads named (wanted.Range start len) ranges bytes old new image is = same_keeps_sent old new is.0
+buffer_reads named (wanted.Write file) ranges bytes old new image is =
+    made_reads named (wanted.Write file) ranges bytes old new image is
+buffer_reads named wanted.Erase ranges bytes old new image is =
+    made_reads named wanted.Erase ranges bytes old new image is
 
 -- nothing that may modify a chip was sent after the session
 module _ (what : What) (file : Text) (old changed new : BusState) (after : FilesState)
@@ -101,27 +118,26 @@ module _ (what : What) (file : Text) (old changed new : BusState) (after : Files
   reads_after (inl kept) = inl (reads_on old changed new kept same)
   reads_after (inr sends) = inr (λ lawful. journalled_before (sends lawful))
 
-run_sends : (named : Option ChipName) (change : Change) (ranges : Option (List Span)) (bytes : List ℕ)
+run_sends : (operation : Operation) (change : Change) (ranges : Option (List Span)) (bytes : List ℕ)
     (file : Text) (before : View) (after : FilesState) (old new : BusState) (outcome : Result Answer Refusal)
-    → HasRunChange named change ranges bytes file before after old new outcome
+    → HasRunChange operation change ranges bytes file before after old new outcome
     → KeepsSent old new ⊎ (is_lawful after.view ≡ true
     → SendsJournalled (what_of change.wanted) file old new after)
-run_sends named change ranges bytes file before after old new outcome ran =
+run_sends operation change ranges bytes file before after old new outcome ran =
     session_sends _ ran.image file before after old ran.found new outcome ran.ran
-    (buffer_reads named change.wanted bytes old ran.found ran.image ran.buffer)
+    (buffer_reads operation.named change.wanted _ bytes old ran.found ran.image ran.buffer)
 
-follow_reads : (session : Result Answer Refusal) (compared : Bool) (named : Option ChipName)
-    (ranges : Option (List Span)) (target : List ℕ) (old new : BusState)
-    → IsFollowed session compared named ranges target old new → KeepsSent old new
-follow_reads (Ok found) true named ranges target old new is = is.1.always.only_reads.sent
-follow_reads (Ok found) false named ranges target old new is = same_keeps_sent old new is
-follow_reads (Err refusal) compared named ranges target old new is = same_keeps_sent old new is
+follow_reads : (session : Result Answer Refusal) (compared : Bool) (named : Option ChipName) (target : List ℕ)
+    (old new : BusState) → IsFollowed session compared named target old new → KeepsSent old new
+follow_reads (Ok found) true named target old new is = is.1.always.only_reads.sent
+follow_reads (Ok found) false named target old new is = same_keeps_sent old new is
+follow_reads (Err refusal) compared named target old new is = same_keeps_sent old new is
 
-fails_reads : (found : Answer) (compared : Bool) (named : Option ChipName) (ranges : Option (List Span))
-    (target : List ℕ) (old new : BusState) (refusal : Refusal)
-    → FailsToFollow (Ok found) compared named ranges target old new (ended.NotCompared refusal) → KeepsSent old new
-fails_reads found true named ranges target old new refusal is = is.always.only_reads.sent
-fails_reads found false named ranges target old new refusal is = absurd is
+fails_reads : (found : Answer) (compared : Bool) (named : Option ChipName) (target : List ℕ) (old new : BusState)
+    (refusal : Refusal) → FailsToFollow (Ok found) compared named target old new (ended.NotCompared refusal)
+    → KeepsSent old new
+fails_reads found true named target old new refusal is = is.always.only_reads.sent
+fails_reads found false named target old new refusal is = absurd is
 
 change_sends : (operation : Operation) (change : Change) (ranges : Option (List Span)) (bytes : List ℕ)
     (kept : JournalUse) (before : View) (after : FilesState) (old new : BusState) (outcome : Result Answer Refusal)
@@ -129,8 +145,8 @@ change_sends : (operation : Operation) (change : Change) (ranges : Option (List 
     → SendsChange (what_of change.wanted) kept old new after
 change_sends operation change ranges bytes (uses.Journal file) before after old new outcome does =
     reads_after _ file.now old does.changed new after
-    (follow_reads outcome (is_compared operation change) operation.named ranges does.session.image does.changed new does.followed)
-    (run_sends operation.named change ranges bytes file.now before after old does.changed outcome does.session)
+    (follow_reads outcome (is_compared operation change) operation.named does.session.image does.changed new does.followed)
+    (run_sends operation change ranges bytes file.now before after old does.changed outcome does.session)
 change_sends operation change ranges bytes (uses.Rehearse stops) before after old new outcome does = absurd does
 
 named_reads : (named : Option ChipName) (old new : BusState) → IsNamedFirst named old new → KeepsSent old new
@@ -162,19 +178,48 @@ task_sends operation (task.Restore journal) ranges bytes before after old new ou
   sends = sends_after _ _ old does.found new (named_reads operation.named old does.found does.first) does.ran.always.sends;
 })
 
+merge_fails_reads : (named : Option ChipName) (size : ℕ) (ranges : Option (List Span)) (image : List ℕ)
+    (old new : BusState) (refusal : Refusal) → FailsToMerge named size ranges image old new refusal → KeepsSent old new
+merge_fails_reads named size None image old new refusal fails = absurd fails
+merge_fails_reads named size (Some spans) image old new refusal (inl unfit) = same_keeps_sent old new unfit.0
+merge_fails_reads named size (Some spans) image old new refusal (inr (inl read)) = read.2.always.only_reads.sent
+merge_fails_reads named size (Some spans) image old new refusal (inr (inr other)) = other.read.always.only_reads.sent
+
+no_target_reads : (named : Option ChipName) (target : Wanted) (ranges : Option (List Span)) (bytes : List ℕ)
+    (old found new : BusState) (chip : Found) (refusal : Refusal)
+    → ((new ≡ found) × (refusal ≡ Memory))
+    ⊎ FailsToMerge named chip.size ranges (asked_bytes target bytes chip) found new refusal → KeepsSent found new
+no_target_reads named target ranges bytes old found new chip refusal (inl short) = same_keeps_sent found new short.0
+no_target_reads named target ranges bytes old found new chip refusal (inr fails) =
+    merge_fails_reads named chip.size ranges _ found new refusal fails
+
+target_fails : (named : Option ChipName) (target : Wanted) (ranges : Option (List Span)) (bytes : List ℕ)
+    (old new : BusState) (fault : Fault) → FailsToTarget named target ranges bytes old new (ended.Fault fault)
+    → KeepsSent old new
+target_fails named target ranges bytes old new fault (inl found) = found.1.always.only_reads.sent
+target_fails named target ranges bytes old new fault (inr made) =
+    reads_on old made.1.found new made.1.changeable.identified.always.only_reads.sent
+    (no_target_reads named target ranges bytes old made.1.found new made.1.chip made.0 made.1.fails)
+
+fill_reads : (named : Option ChipName) (target : Wanted) (ranges : Option (List Span)) (bytes : List ℕ)
+    (old new : BusState) (fault : Fault) → FailsToFill named target ranges bytes old new (ended.Fault fault)
+    → KeepsSent old new
+fill_reads named (wanted.Write image) ranges bytes old new fault fails =
+    target_fails named (wanted.Write image) ranges bytes old new fault fails
+fill_reads named wanted.Erase ranges bytes old new fault fails =
+    target_fails named wanted.Erase ranges bytes old new fault fails
+fill_reads named (wanted.Range start len) ranges bytes old new fault fails = absurd fails
+
 -- a change that fails before its session sends no modifying command
-fails_change : (named : Option ChipName) (target : Wanted) (kept : JournalUse) (view : View) (old new : BusState)
-    (fault : Fault) → FailsToChange named target kept view old new fault → KeepsSent old new
-fails_change named target (uses.Rehearse stops) view old new fault fails = same_keeps_sent old new fails.0
-fails_change named (wanted.Range start len) (uses.Journal file) view old new fault fails =
+fails_change : (operation : Operation) (change : Change) (ranges : Option (List Span)) (bytes : List ℕ)
+    (kept : JournalUse) (view : View) (old new : BusState) (fault : Fault)
+    → FailsToChange operation change ranges bytes kept view old new fault → KeepsSent old new
+fails_change operation change ranges bytes (uses.Rehearse stops) view old new fault fails =
     same_keeps_sent old new fails.0
-fails_change named (wanted.Write image) (uses.Journal file) view old new fault (inl found) =
-    found.1.always.only_reads.sent
-fails_change named (wanted.Write image) (uses.Journal file) view old new fault (inr made) =
-    made.1.identified.always.only_reads.sent
-fails_change named wanted.Erase (uses.Journal file) view old new fault (inl found) = found.1.always.only_reads.sent
-fails_change named wanted.Erase (uses.Journal file) view old new fault (inr made) =
-    made.1.identified.always.only_reads.sent
+fails_change operation change ranges bytes (uses.Journal file) view old new fault (inl fails) =
+    fill_reads operation.named change.wanted _ bytes old new fault fails
+fails_change operation change ranges bytes (uses.Journal file) view old new fault (inr begun) =
+    buffer_reads operation.named change.wanted _ bytes old new begun.0 begun.1
 
 sends_none : (what : What) (kept : JournalUse) (old new : BusState) (after : FilesState) → KeepsSent old new
     → SendsChange what kept old new after
@@ -186,9 +231,6 @@ fails_sends : (named : Option ChipName) (job : Task) (bytes : List ℕ) (view : 
     → SendsOnly job bytes old new after
 fails_sends named (task.Read file regions) bytes view after old new fault (inl found) = found.1.always.only_reads.sent
 fails_sends named (task.Read file regions) bytes view after old new fault (inr made) = made.1.always.only_reads.sent
-fails_sends named (task.Change change) bytes view after old new fault fails =
-    sends_none _ change.journal_use old new after
-    (fails_change named change.wanted change.journal_use view old new fault fails)
 fails_sends named (task.Restore journal) bytes view after old new fault (inl found) = inl found.1.always.only_reads.sent
 fails_sends named (task.Restore journal) bytes view after old new fault (inr none) = inl (same_keeps_sent old new none.0)
 fails_sends named _ bytes view after old new fault fails = absurd fails
@@ -199,16 +241,17 @@ comparison_sends : (operation : Operation) (change : Change) (ranges : Option (L
     → SendsChange (what_of change.wanted) kept old new after
 comparison_sends operation change ranges bytes (uses.Journal file) before after old new refusal fails =
     reads_after _ file.now old fails.changed new after
-    (fails_reads fails.reported (is_compared operation change) operation.named ranges fails.session.image fails.changed new refusal
+    (fails_reads fails.reported (is_compared operation change) operation.named fails.session.image fails.changed new refusal
     fails.fails)
-    (run_sends operation.named change ranges bytes file.now before after old fails.changed (Ok fails.reported) fails.session)
+    (run_sends operation change ranges bytes file.now before after old fails.changed (Ok fails.reported) fails.session)
 comparison_sends operation change ranges bytes (uses.Rehearse stops) before after old new refusal fails = absurd fails
 
 task_fails_sends : (operation : Operation) (job : Task) (ranges : Option (List Span)) (bytes : List ℕ) (view : View)
     (after : FilesState) (old new : BusState) (fault : JobFault)
     → FailsPerform operation job ranges bytes view after old new fault → SendsOnly job bytes old new after
 task_fails_sends operation (task.Change change) ranges bytes view after old new (ended.Fault fault) fails =
-    fails_sends operation.named (task.Change change) bytes view after old new fault fails
+    sends_none _ change.journal_use old new after
+    (fails_change operation change ranges bytes change.journal_use view old new fault fails)
 task_fails_sends operation (task.Change change) ranges bytes view after old new (ended.Protected byte) fails =
     sends_none _ change.journal_use old new after fails.protected.identified.always.only_reads.sent
 task_fails_sends operation (task.Change change) ranges bytes view after old new (ended.NotCompared refusal) fails =

@@ -40,6 +40,7 @@ use Rattle.nor_lines.specs.declared.answers.Answer.{Answer}
 use Rattle.nor_lines.specs.declared.answers.Answer.TheVariants as answer
 use Rattle.nor_lines.specs.declared.messages.Fault.{Fault}
 use Rattle.nor_lines.specs.declared.messages.Fault.TheVariants as end
+use Rattle.flashnor_serprog.specs.Following.{FailsToFollow, FailsToMerge, IsFollowed, IsWholeTarget, ranges_if}
 use Rattle.flashnor_serprog.specs.declared.chip_faults.JobFault.{JobFault}
 use Rattle.flashnor_serprog.specs.declared.chip_faults.JobFault.TheVariants as ended
 
@@ -144,65 +145,81 @@ FailsToAdmit named old new (ended.NotCompared refusal) = ⊥
 
 -- ---- changes
 
--- The buffer of a session. For a write or an erase the chip was identified, and `may_be_protected` is false for it. The
--- buffer of an erase has FFh for each of the chip's bytes, and that of a write the given bytes. For a protection range
--- nothing was sent.
-abbrev pub IsBufferOf : Option ChipName → Wanted → (bytes : List ℕ) → (old new : BusState) → (image : List ℕ) → Type 0
-IsBufferOf named (wanted.Write file) bytes old new image =
-    (chip : Found) × IsChangeable named old new chip × (image ≡ bytes)
-IsBufferOf named wanted.Erase bytes old new image =
-    (chip : Found) × IsChangeable named old new chip × (image ≡ replicate chip.size 255)
-IsBufferOf named (wanted.Range start len) bytes old new image = (new ≡ old) × (image ≡ bytes)
+-- the bytes that a write or an erase asks for: those of its image, or FFh for each byte of the chip
+abbrev pub asked_bytes : Wanted → (bytes : List ℕ) → Found → List ℕ
+asked_bytes wanted.Erase bytes chip = replicate chip.size 255
+asked_bytes target bytes chip = bytes
 
--- The faults of making the buffer of a write or an erase: those of `FailsToAdmit`, or memory ran out after the
--- identification. For a protection range there is none.
-abbrev pub FailsToFill : Option ChipName → Wanted → (old new : BusState) → JobFault → Type 0
-FailsToFill named (wanted.Range start len) old new fault = ⊥
-FailsToFill named _ old new fault = FailsToAdmit named old new fault
-    ⊎ ((chip : Found) × IsChangeable named old new chip × (fault ≡ ended.Fault (end.Refused Memory)))
-
--- The session of a change was run with its journal in a new file. For a write or an erase the chip was identified
--- before the session, and `may_be_protected` was false for it (`IsBufferOf`).
-pub record HasRunChange (named : Option ChipName) (change : Change) (ranges : Option (List Span)) (bytes : List ℕ)
-    (file : Text) (before : View) (after : FilesState) (old new : BusState)
-    (outcome : Result Answer Refusal) : Type 0 where
+-- The chip was identified, and `may_be_protected` is false for it. Then the target of a write or an erase was made
+-- (`IsWholeTarget`).
+pub record HasTarget (named : Option ChipName) (target : Wanted) (ranges : Option (List Span)) (bytes : List ℕ)
+    (old new : BusState) (image : List ℕ) : Type 0 where
+  pub chip : Found
   pub found : BusState
-  pub image : List ℕ
-  pub buffer : IsBufferOf named change.wanted bytes old found image
-  pub ran : HasRunInFile (request_for change named ranges) image file before after found new outcome
+  pub changeable : IsChangeable named old found chip
+  pub is : IsWholeTarget named ranges (asked_bytes target bytes chip) found new image
+
+-- The buffer of a session. For a write or an erase it is the target (`HasTarget`). For a protection range nothing was
+-- sent, and it is the given bytes.
+abbrev pub IsBufferOf : Option ChipName → Wanted → (ranges : Option (List Span)) → (bytes : List ℕ)
+    → (old new : BusState) → (image : List ℕ) → Type 0
+IsBufferOf named (wanted.Range start len) ranges bytes old new image = (new ≡ old) × (image ≡ bytes)
+IsBufferOf named target ranges bytes old new image = HasTarget named target ranges bytes old new image
+
+-- The identification found a chip for which `may_be_protected` is false. Then making the target returned this error: of
+-- `FailsToMerge`, or that memory ran out before anything more was sent.
+pub record HasNoTarget (named : Option ChipName) (target : Wanted) (ranges : Option (List Span)) (bytes : List ℕ)
+    (old new : BusState) (refusal : Refusal) : Type 0 where
+  pub chip : Found
+  pub found : BusState
+  pub changeable : IsChangeable named old found chip
+  pub fails : ((new ≡ found) × (refusal ≡ Memory))
+      ⊎ FailsToMerge named chip.size ranges (asked_bytes target bytes chip) found new refusal
+
+-- The faults of making the target of a write or an erase: those of `FailsToAdmit`, or an error after the identification
+-- (`HasNoTarget`).
+abbrev pub FailsToTarget : Option ChipName → Wanted → (ranges : Option (List Span)) → (bytes : List ℕ)
+    → (old new : BusState) → JobFault → Type 0
+FailsToTarget named target ranges bytes old new fault = FailsToAdmit named old new fault
+    ⊎ ((refusal : Refusal) × HasNoTarget named target ranges bytes old new refusal
+    × (fault ≡ ended.Fault (end.Refused refusal)))
+
+-- the faults of making the buffer of a session; for a protection range there is none
+abbrev pub FailsToFill : Option ChipName → Wanted → (ranges : Option (List Span)) → (bytes : List ℕ)
+    → (old new : BusState) → JobFault → Type 0
+FailsToFill named (wanted.Range start len) ranges bytes old new fault = ⊥
+FailsToFill named target ranges bytes old new fault = FailsToTarget named target ranges bytes old new fault
 
 -- true for a write and an erase
 abbrev pub changes_bytes : Wanted → Bool
 changes_bytes (wanted.Range start len) = false
 changes_bytes _ = true
 
--- true if all included addresses are compared after this change: after a write or an erase without `-n` and `-N`
+-- true if the whole chip is compared after this change: after a write or an erase without `-n` and `-N`
 abbrev pub is_compared : Operation → Change → Bool
 is_compared operation change = changes_bytes change.wanted && (change.verify && operation.verifies_all)
 
--- What follows the session of a change. If the session succeeded and the change is compared, the chip was compared with
--- the target at the included addresses, and was equal (`HasVerified`). Otherwise nothing was sent.
-abbrev pub IsFollowed : (session : Result Answer Refusal) → (compared : Bool) → Option ChipName → Option (List Span)
-    → (target : List ℕ) → (old new : BusState) → Type 0
-IsFollowed (Ok found) true named ranges target old new =
-    (verified : Answer) × HasVerified named ranges target old new (Ok verified)
-IsFollowed (Ok found) false named ranges target old new = new ≡ old
-IsFollowed (Err refusal) compared named ranges target old new = new ≡ old
+-- the ranges outside which the chip is read before a change: those of a change that is compared
+abbrev pub ranges_of : Operation → Change → Option (List Span) → Option (List Span)
+ranges_of operation change ranges = ranges_if (is_compared operation change) ranges
 
--- The session of a change succeeded, the change is compared, and the comparison returned the error of this fault.
-abbrev pub FailsToFollow : (session : Result Answer Refusal) → (compared : Bool) → Option ChipName
-    → Option (List Span) → (target : List ℕ) → (old new : BusState) → JobFault → Type 0
-FailsToFollow (Ok found) true named ranges target old new (ended.NotCompared refusal) =
-    HasVerified named ranges target old new (Err refusal)
-FailsToFollow _ compared named ranges target old new fault = ⊥
+-- The session of a change was run with its journal in a new file. Before it the session's buffer was made
+-- (`IsBufferOf`): for a write or an erase the chip was identified, and `may_be_protected` was false for it.
+pub record HasRunChange (operation : Operation) (change : Change) (ranges : Option (List Span)) (bytes : List ℕ)
+    (file : Text) (before : View) (after : FilesState) (old new : BusState)
+    (outcome : Result Answer Refusal) : Type 0 where
+  pub found : BusState
+  pub image : List ℕ
+  pub buffer : IsBufferOf operation.named change.wanted (ranges_of operation change ranges) bytes old found image
+  pub ran : HasRunInFile (request_for change operation.named ranges) image file before after found new outcome
 
--- The session of a change was run with its journal in a new file, and followed by its comparison.
+-- The session of a change was run with its journal in a new file, and followed by the comparison with its buffer.
 pub record HasChangedAndCompared (operation : Operation) (change : Change) (ranges : Option (List Span))
     (bytes : List ℕ) (file : Text) (before : View) (after : FilesState) (old new : BusState)
     (outcome : Result Answer Refusal) : Type 0 where
   pub changed : BusState
-  pub session : HasRunChange operation.named change ranges bytes file before after old changed outcome
-  pub followed : IsFollowed outcome (is_compared operation change) operation.named ranges session.image changed new
+  pub session : HasRunChange operation change ranges bytes file before after old changed outcome
+  pub followed : IsFollowed outcome (is_compared operation change) operation.named session.image changed new
 
 -- A change was made with its journal in a new file (`HasChangedAndCompared`). Never holds for a rehearsal, since this
 -- program rehearses nothing.
@@ -217,26 +234,27 @@ pub record HasNotCompared (operation : Operation) (change : Change) (ranges : Op
     (file : Text) (before : View) (after : FilesState) (old new : BusState) (refusal : Refusal) : Type 0 where
   pub changed : BusState
   pub reported : Answer
-  pub session : HasRunChange operation.named change ranges bytes file before after old changed (Ok reported)
-  pub fails : FailsToFollow (Ok reported) (is_compared operation change) operation.named ranges session.image
-      changed new
+  pub session : HasRunChange operation change ranges bytes file before after old changed (Ok reported)
+  pub fails : FailsToFollow (Ok reported) (is_compared operation change) operation.named session.image changed new
       (ended.NotCompared refusal)
 
--- The identification found a chip for which `may_be_protected` is false, and nothing else was sent. Then creating the
--- journal failed, or memory ran out. The fault is one that `IsMaking` allows.
-abbrev pub FailsToBeginChange : Option ChipName → Text → View → (old new : BusState) → Fault → Type 0
-FailsToBeginChange named file view old new fault =
-    (chip : Found) × IsChangeable named old new chip × IsMaking view file fault
+-- The buffer of the session was made (`IsBufferOf`). Then creating the journal failed, or memory ran out. The fault is
+-- one that `IsMaking` allows.
+abbrev pub FailsToBeginChange : Operation → Change → Option (List Span) → (bytes : List ℕ) → Text → View
+    → (old new : BusState) → Fault → Type 0
+FailsToBeginChange operation change ranges bytes file view old new fault = (image : List ℕ)
+    × IsBufferOf operation.named change.wanted (ranges_of operation change ranges) bytes old new image
+    × IsMaking view file fault
 
--- The faults of a change before its session, except chip fault 1. Nothing was sent, except for a write or an erase,
--- which identifies the chip first. A rehearsal always has a usage fault.
-abbrev pub FailsToChange : Option ChipName → Wanted → JournalUse → View → (old new : BusState) → Fault → Type 0
-FailsToChange named wanted (uses.Rehearse stops) view old new fault =
+-- The faults of a change before its session, except chip fault 1: those of making the session's buffer and of creating
+-- its journal. A rehearsal always has a usage fault.
+abbrev pub FailsToChange : Operation → Change → Option (List Span) → (bytes : List ℕ) → JournalUse → View
+    → (old new : BusState) → Fault → Type 0
+FailsToChange operation change ranges bytes (uses.Rehearse stops) view old new fault =
     (new ≡ old) × (fault ≡ end.Usage usage.Journal because.Unsaid)
-FailsToChange named (wanted.Range start len) (uses.Journal file) view old new fault =
-    (new ≡ old) × IsMaking view file.now fault
-FailsToChange named _ (uses.Journal file) view old new fault =
-    FailsToFind named old new fault ⊎ FailsToBeginChange named file.now view old new fault
+FailsToChange operation change ranges bytes (uses.Journal file) view old new fault =
+    FailsToFill operation.named change.wanted (ranges_of operation change ranges) bytes old new (ended.Fault fault)
+    ⊎ FailsToBeginChange operation change ranges bytes file.now view old new fault
 
 -- true if the journal of a change is kept in a file
 abbrev pub has_journal_file : JournalUse → Bool
@@ -263,7 +281,7 @@ FailsComparison operation change ranges bytes (uses.Rehearse stops) before after
 abbrev pub FailsChange : Operation → Change → Option (List Span) → (bytes : List ℕ) → JournalUse
     → (before : View) → (after : FilesState) → (old new : BusState) → JobFault → Type 0
 FailsChange operation change ranges bytes kept before after old new (ended.Fault fault) =
-    FailsToChange operation.named change.wanted kept before old new fault
+    FailsToChange operation change ranges bytes kept before old new fault
 FailsChange operation change ranges bytes kept before after old new (ended.Protected status1) =
     IsRefusedAsProtected operation.named change.wanted kept before after old new status1
 FailsChange operation change ranges bytes kept before after old new (ended.NotCompared refusal) =
@@ -335,12 +353,9 @@ DoesTask operation (task.Change change) ranges bytes before after old new outcom
 DoesTask operation (task.Restore journal) ranges bytes before after old new outcome =
     HasRestored operation bytes old new outcome
 
--- the faults with which each task may end before the call that `DoesTask` describes; none for a task that isn't named
--- here
+-- the faults with which a read or a restore may end before the call that `DoesTask` describes; none for another task
 abbrev pub FailsBefore : Option ChipName → Task → (bytes : List ℕ) → View → (old new : BusState) → Fault → Type 0
 FailsBefore named (task.Read file regions) bytes view old new fault = FailsToRead named file.now view old new fault
-FailsBefore named (task.Change change) bytes view old new fault =
-    FailsToChange named change.wanted change.journal_use view old new fault
 FailsBefore named (task.Restore journal) bytes view old new fault =
     FailsToFind named old new fault ⊎ IsNoJournal bytes old new fault
 FailsBefore named _ bytes view old new fault = ⊥

@@ -1,5 +1,6 @@
 pub mod Setting
 pub mod Backups
+pub mod Following
 pub mod Jobs
 pub mod Sends
 pub mod Sources

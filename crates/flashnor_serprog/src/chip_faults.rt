@@ -14,8 +14,8 @@ pub enum JobFault<'a> {
     /// Chip fault 1, before a write or an erase: the chip has no row in the table, and at least one of the bits 2 to 6
     /// of its status 1 is set. Nothing was changed, and the journal was not created.
     Protected { status1: u8 },
-    /// The change was made, and each sector that it touched was read back. Then the comparison of all included
-    /// addresses with the target returned this error: 14 is printed as chip fault 4.
+    /// The change was made, and each sector that it touched was read back. Then the comparison of the whole chip with
+    /// its target returned this error: 14 is printed as chip fault 4.
     NotCompared { refusal: Refusal },
 }
 
@@ -54,7 +54,7 @@ impl JobFault<'_> {
     }
 
     /// Returns the line that follows the fault's own, if there is one: after a change that was made, the comparison
-    /// of all included addresses failed with another error than a difference.
+    /// of the whole chip failed with another error than a difference.
     pub fn note(&self) -> Option<&'static str> {
         match self {
             JobFault::NotCompared {
@@ -68,7 +68,7 @@ impl JobFault<'_> {
 
 const NOT_COMPARED: &str =
     "The change was made, and its sectors were verified. Only the comparison \
-    of all included addresses is missing.";
+    of the whole chip is missing.";
 
 impl fmt::Display for JobFault<'_> {
     fn fmt<W: fmt::Write>(&self, f: &mut fmt::Formatter<W>) -> fmt::Result {
@@ -84,7 +84,7 @@ impl fmt::Display for JobFault<'_> {
                 refusal: Refusal::Mismatch { address },
             } => write!(
                 f,
-                "Chip fault 4: the chip differs from the image at 0x{address:06x}. {DIFFERS}"
+                "Chip fault 4: the chip differs from its target at 0x{address:06x}. {DIFFERS}"
             ),
             JobFault::NotCompared { refusal } => write!(
                 f,

@@ -4,21 +4,22 @@ ghost use Rattle.nor_files.specs.Files.{Name, OthersStay, KeepsFile, is_lawful};
 ghost use Rattle.nor_lines.specs.Tasks.{journal_of, made_by};
 ghost use Rattle.nor_lines.specs.Readings.{HasVerified};
 ghost use Rattle.nor_lines.specs.Stored.{IsNot};
+ghost use Rattle.flashnor_serprog.specs.Following.{FailsToMerge, IsWholeTarget};
 ghost use Rattle.flashnor_serprog.specs.Jobs.{DoesTask, FailsChange, FailsPerform, FailsToAdmit, FailsToFill, FailsToFind};
-ghost use Rattle.flashnor_serprog.specs.Jobs.{FailsToFollow, FailsToRead, HasChangedBy, HasIdentified, HasLookedUp};
+ghost use Rattle.flashnor_serprog.specs.Jobs.{FailsToRead, HasChangedBy, HasIdentified, HasLookedUp};
 ghost use Rattle.flashnor_serprog.specs.Jobs.{HasReadChip, HasRestored, HasRunRestore, IsBufferOf, IsChangeable};
-ghost use Rattle.flashnor_serprog.specs.Jobs.{IsFollowed, IsNamedFirst, IsNoJournal, ReportsFound, ReportsSize};
+ghost use Rattle.flashnor_serprog.specs.Jobs.{IsNamedFirst, IsNoJournal, ReportsFound, ReportsSize};
 ghost use Rattle.flashnor_serprog.specs.Jobs.{changes_bytes, is_compared, may_be_protected};
 
 use crate::backups::backup_chip;
 use crate::chip_faults::JobFault;
+use crate::following::{complete, follow, ranges_if, sectors_before_change, sectors_to_read};
 use crate::progress::{Progress, Terminal};
 use crate::sources::Sources;
 use nor_chip::Bus;
 use nor_files::Store;
-use nor_geometry::SECTOR_LEN;
 use nor_journal::Journal;
-use nor_layout::{Ranges, includes_in_sector};
+use nor_layout::Ranges;
 use nor_lines::{
     Answer, Fault, Outcome, erased, list_ranges, or_fault, read_to_file, report_protection,
     request_for, session_in_file, verify_image,
@@ -155,8 +156,9 @@ fn verify_chip<B: Progress>(bus: &mut B, named: Option<ChipName>, sources: Sourc
     verify_image(bus, named, &bytes, included.as_ref())
 }
 
-// Changes the chip, with its journal in a new file. After a write or an erase, compares the chip with its target at all
-// included addresses, except with `-n` or `-N`.
+// Changes the chip, with its journal in a new file. After a write or an erase, compares the whole chip with its target,
+// except with `-n` or `-N`. For a change with regions, the target has the bytes that the chip had before the session at
+// all addresses outside them.
 //
 // Returns a usage fault for a rehearsal, which this program doesn't perform, and chip fault 1 for a write or an erase
 // of a chip that may be protected in a way that isn't known.
@@ -183,16 +185,21 @@ fn change_chip<'a, R: Store, B: Progress>(
         }));
     };
     let named = operation.named;
+    let compared = is_compared(operation, change);
     let Sources { included, bytes } = sources;
     let request = request_for(change, named, included);
-    let target = fill_buffer(bus, named, change.wanted, bytes, rt.alloc())?;
+    let ranges = ranges_if(compared, request.included.as_ref());
+    let target = fill_buffer(bus, named, change.wanted, ranges, bytes, rt.alloc())?;
     let mut image = copy_of(&target, rt.alloc())?;
-    bus.expect_reads(sectors_to_read(image.len(), request.included.as_ref()));
+    bus.expect_reads(sectors_before_change(
+        image.len(),
+        request.included.as_ref(),
+        ranges.is_some(),
+    ));
     let outcome = session_in_file(rt, bus, *file, &mut image, &request, |announcement| {
         terminal.print_session(announcement)
     })?;
-    let (compared, included) = (is_compared(operation, change), request.included.as_ref());
-    follow(bus, outcome, compared, named, &target, included)
+    follow(bus, outcome, compared, named, &target)
 }
 
 // Returns a copy of these bytes, or an error if memory runs out.
@@ -202,40 +209,11 @@ fn copy_of(bytes: &[u8], alloc: Global) -> Result<Vec<u8>, AllocError>
     bytes.to_vec(alloc)
 }
 
-// True if all included addresses are compared after this change: after a write or an erase, except with `-n` or `-N`.
+// True if the whole chip is compared after this change: after a write or an erase, except with `-n` or `-N`.
 fn is_compared(operation: &Operation<'_>, change: &Change<'_>) -> bool
     ensures { result ≡ is_compared operation.now change.now }
 {
     changes_bytes(change.wanted) && (change.verify && operation.verifies_all)
-}
-
-// After a session that succeeded, compares the chip with the target at the included addresses, if the change is
-// `compared`. Returns the outcome of the session; or, if the comparison fails, its error as the fault of the job.
-fn follow<'a, B: Progress>(
-    bus: &mut B,
-    outcome: Outcome,
-    compared: bool,
-    named: Option<ChipName>,
-    target: &[u8],
-    included: Option<&Ranges>,
-) -> Result<Outcome, JobFault<'a>>
-    ensures ok { IfOk result (λ ended. (ended ≡ outcome) × IsFollowed outcome compared named
-        (option_copied included.entry) target.now (B.state bus.old) (B.state bus.new)) }
-    ensures err { IfErr result (FailsToFollow outcome compared named
-        (option_copied included.entry) target.now (B.state bus.old) (B.state bus.new)) }
-{
-    let answer = match outcome {
-        Ok(answer) => answer,
-        Err(refusal) => return Ok(Err(refusal)),
-    };
-    if !compared {
-        return Ok(Ok(answer));
-    }
-    bus.expect_comparison(sectors_to_read(target.len(), included));
-    match verify_image(bus, named, target, included) {
-        Ok(_) => Ok(Ok(answer)),
-        Err(refusal) => Err(JobFault::NotCompared { refusal }),
-    }
 }
 
 /// True for a write and an erase.
@@ -245,41 +223,52 @@ pub fn changes_bytes(wanted: Wanted<'_>) -> bool
     !matches!(wanted, Wanted::Range { .. })
 }
 
-// Returns the buffer of a session: for an erase FFh for each byte of the chip; otherwise `bytes`. For a write or an
-// erase the chip is identified, and must be one that may be changed.
-fn fill_buffer<'a, B: Bus>(
+// Returns the target of a change, which is the buffer of its session. An erase has FFh for each byte of the chip, a
+// write the bytes of its image; with `ranges`, the bytes outside them are the chip's own. A protection range has no
+// target, so its buffer is `bytes`. For a write or an erase the chip is identified, and must be one that may be changed.
+fn fill_buffer<'a, B: Progress>(
     bus: &mut B,
     named: Option<ChipName>,
     wanted: Wanted<'a>,
+    ranges: Option<&Ranges>,
     bytes: Vec<u8>,
     alloc: Global,
 ) -> Result<Vec<u8>, JobFault<'a>>
-    ensures ok { IfOk result (λ image. IsBufferOf named wanted.entry bytes.items
+    ensures ok { IfOk result (λ image. IsBufferOf named wanted.entry (option_copied ranges.entry) bytes.items
         (B.state bus.old) (B.state bus.new) image.items) }
-    ensures err { IfErr result (FailsToFill named wanted.entry (B.state bus.old) (B.state bus.new)) }
+    ensures err { IfErr result (FailsToFill named wanted.entry (option_copied ranges.entry) bytes.items
+        (B.state bus.old) (B.state bus.new)) }
 {
     match wanted {
         Wanted::Write { .. } => {
-            find_changeable(bus, named)?;
-            Ok(bytes)
+            let found = find_changeable(bus, named)?;
+            Ok(make_target(bus, named, found.size, ranges, bytes, alloc)?)
         }
         Wanted::Erase => {
             let found = find_changeable(bus, named)?;
-            Ok(erased(alloc, found.size)?)
+            let blank = erased(alloc, found.size)?;
+            Ok(make_target(bus, named, found.size, ranges, blank, alloc)?)
         }
         Wanted::Range { .. } => Ok(bytes),
     }
 }
 
-// Returns the number of sectors with an included address on a chip of `size` bytes. If `included` is `None`, these are
-// all sectors.
-fn sectors_to_read(size: usize, included: Option<&Ranges>) -> usize {
-    // `size` may be the length of an image that fits no chip. The call then returns its error before it reads a sector,
-    // so no line has this number.
-    let sectors = u32::try_from(size / SECTOR_LEN as usize).unwrap_or(0);
-    (0..sectors)
-        .filter(|sector| includes_in_sector(included, *sector))
-        .count()
+// Returns the target of a write or an erase of a chip of `size` bytes. An error of `complete` is the fault of the run.
+fn make_target<'a, B: Progress>(
+    bus: &mut B,
+    named: Option<ChipName>,
+    size: u32,
+    ranges: Option<&Ranges>,
+    image: Vec<u8>,
+    alloc: Global,
+) -> Result<Vec<u8>, Fault<'a>>
+    ensures ok { IfOk result (λ target. IsWholeTarget named (option_copied ranges.entry) image.items
+        (B.state bus.old) (B.state bus.new) target.items) }
+    ensures err { IfErr result (λ fault. (refusal : Refusal)
+        × FailsToMerge named size (option_copied ranges.entry) image.items (B.state bus.old) (B.state bus.new) refusal
+        × (fault ≡ Fault.Refused refusal)) }
+{
+    or_fault(complete(bus, named, size, ranges, image, alloc))
 }
 
 // Restores the chip from the bytes of a journal: erases and programs every saved sector, whatever it reads, or with

@@ -14,6 +14,7 @@
 //! - `connect.rt`: opens the device and identifies the programmer
 //! - `jobs.rt`: performs a job on the chip
 //! - `backups.rt`: saves a whole chip in a new journal
+//! - `following.rt`: the target of a change, and the comparison of the whole chip with it
 //! - `status_line.rt`: the lines for a status write that was refused, or that the chip did not store
 //! - `chip_faults.rt`: the faults with which a job ends, and the lines of those that `flashnor` lacks
 //! - `trouble.rt`: the reasons why a run ends early, and their printed lines
@@ -22,6 +23,7 @@
 mod backups;
 mod chip_faults;
 mod connect;
+mod following;
 mod help;
 mod jobs;
 mod port;

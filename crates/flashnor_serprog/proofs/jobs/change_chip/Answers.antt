@@ -7,19 +7,22 @@ pub returns-in_err-target-clause-err : goal.returns-in_err-target-clause-err
 returns-in_err-target-clause-err g c =
     let p = err_from_is_err_and c.from_residual.result c.from_residual.ensures.1 in
     rw (p.1, p.2) (fill_fails c.args.operation.now _ _ c.args.change.now _ _ c.in-Journal.file _ _ _ _ c.in-Journal.is refl
-    c.in_err-target.ensures.err)
+    (rw (c.ranges_if-ranges.ensures, c.as_ref.ensures.value, c.request_for-request.ensures, c.is_compared-compared.ensures) at c.in_err-target.ensures.err))
 
 pub returns-in_err-image-clause-err : goal.returns-in_err-image-clause-err
 returns-in_err-image-clause-err g c =
     let p = err_from_is_err_and c.from_residual-in_err-image.result c.from_residual-in_err-image.ensures.1 in
-    rw (p.1, p.2, c.in-Journal.is) (start_fails c.args.operation.now.named _ _ c.args.change.now.wanted _ _ c.in-Journal.file _ _
-    c.in_ok-target.ensures.ok refl)
+    rw (p.1, p.2, c.in-Journal.is) (start_fails c.args.operation.now _ _ c.args.change.now _ _ c.in-Journal.file
+    (g.R.Store.state c.args.rt.now).view _ _
+    (rw (c.ranges_if-ranges.ensures, c.as_ref.ensures.value, c.request_for-request.ensures, c.is_compared-compared.ensures) at c.in_ok-target.ensures.ok) refl)
 
 pub returns-in_err-outcome-clause-err : goal.returns-in_err-outcome-clause-err
 returns-in_err-outcome-clause-err g c =
     let p = err_from_is_err_and c.from_residual-in_err-outcome.result c.from_residual-in_err-outcome.ensures.1 in
-    rw (p.1, p.2, c.in-Journal.is, c.in_err-outcome.ensures.unsent, c.expect_reads.ensures) (start_fails c.args.operation.now.named
-    _ _ c.args.change.now.wanted _ _ c.in-Journal.file _ _ c.in_ok-target.ensures.ok c.in_err-outcome.ensures.err)
+    rw (p.1, p.2, c.in-Journal.is, c.in_err-outcome.ensures.unsent, c.expect_reads.ensures) (start_fails c.args.operation.now
+    _ _ c.args.change.now _ _ c.in-Journal.file
+    (g.R.Store.state c.args.rt.now).view _ _
+    (rw (c.ranges_if-ranges.ensures, c.as_ref.ensures.value, c.request_for-request.ensures, c.is_compared-compared.ensures) at c.in_ok-target.ensures.ok) c.in_err-outcome.ensures.err)
 
 pub returns-clause-ok : goal.returns-clause-ok
 returns-clause-ok g c = IfOk-weaker c.follow.result _ _ (λ outcome followed. changed_by c.args.operation.now c.args.change.now
@@ -29,10 +32,10 @@ returns-clause-ok g c = IfOk-weaker c.follow.result _ _ (λ outcome followed. ch
       session = record {
         found = g.B.Bus.state c.fill_buffer.new.bus;
         image = c.in_ok-target.target.items;
-        buffer = c.in_ok-target.ensures.ok;
+        buffer = rw (c.ranges_if-ranges.ensures, c.as_ref.ensures.value, c.request_for-request.ensures, c.is_compared-compared.ensures) at c.in_ok-target.ensures.ok;
         ran = rw (c.request_for-request.ensures, c.deref_mut.ensures.value, c.in_ok-image.ensures, c.deref.ensures.value, c.expect_reads.ensures) at c.in_ok-outcome.ensures.ok;
       };
-      followed = rw (c.is_compared-compared.ensures, c.as_ref-included.ensures.value, c.request_for-request.ensures, c.deref-2.ensures.value) at followed.1;
+      followed = rw (c.is_compared-compared.ensures, c.deref-2.ensures.value) at followed.1;
     }))) c.follow.ensures.ok
 
 pub returns-clause-err : goal.returns-clause-err
@@ -41,6 +44,6 @@ returns-clause-err g c = MatchResult-weaker c.follow.result c.follow.ensures.err
     c.in_ok-outcome.outcome fault (record {
       found = g.B.Bus.state c.fill_buffer.new.bus;
       image = c.in_ok-target.target.items;
-      buffer = c.in_ok-target.ensures.ok;
+      buffer = rw (c.ranges_if-ranges.ensures, c.as_ref.ensures.value, c.request_for-request.ensures, c.is_compared-compared.ensures) at c.in_ok-target.ensures.ok;
       ran = rw (c.request_for-request.ensures, c.deref_mut.ensures.value, c.in_ok-image.ensures, c.deref.ensures.value, c.expect_reads.ensures) at c.in_ok-outcome.ensures.ok;
-    }) (rw (c.is_compared-compared.ensures, c.as_ref-included.ensures.value, c.request_for-request.ensures, c.deref-2.ensures.value) at fails))
+    }) (rw (c.is_compared-compared.ensures, c.deref-2.ensures.value) at fails))

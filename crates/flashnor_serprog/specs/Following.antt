@@ -1,0 +1,103 @@
+-- The target of a change, which the whole chip is compared with after a write or an erase, and that comparison.
+use Rattle.std.specs.Prelude.{◌≡◌, ◌≢◌, ◌<◌, ◌⊎◌, ℕ, Bool, true, false, List, Option, None, Some, Result, Ok, Err}
+use Rattle.std.specs.Prelude.{length, slice_index}
+use Rattle.nor_model.specs.Bus.{BusState}
+use Rattle.nor_journal.specs.Vault.{VaultState, new_vault}
+use Rattle.nor_layout.specs.Ranges.{contains}
+use Rattle.nor_layout.specs.Sectors.{ReachesPast, merged_byte}
+use Rattle.nor_layout.specs.declared.ranges.Span.{Span}
+use Rattle.nor_probe.specs.Known.{IsModelled}
+use Rattle.nor_probe.specs.declared.table.ChipName.{ChipName}
+use Rattle.nor_read.specs.Reading.{ReadOutAlways, ReadOutHonest, ReadOutModelled}
+use Rattle.nor_request.specs.declared.refusal.Refusal.{Refusal}
+use Rattle.nor_request.specs.declared.refusal.Refusal.TheVariants.{ImageSize, Memory, Output, RegionOutside}
+use Rattle.nor_request.specs.declared.report.Report.{Report}
+use Rattle.nor_lines.specs.Readings.{HasVerified}
+use Rattle.nor_lines.specs.declared.answers.Answer.{Answer}
+use Rattle.flashnor_serprog.specs.declared.chip_faults.JobFault.{JobFault}
+use Rattle.flashnor_serprog.specs.declared.chip_faults.JobFault.TheVariants as ended
+
+-- ---- the target
+
+-- The whole chip was read by `read_out`, without ranges, into a new faithful vault, or the call returned an error. The
+-- call kept its promises, and `bytes` are all that the vault accepted.
+pub record HasReadWhole (named : Option ChipName) (old new : BusState) (bytes : List ℕ)
+    (result : Result Report Refusal) : Type 0 where
+  pub filled : VaultState
+  pub always : ReadOutAlways named None old new (new_vault true) filled result
+  pub honest : old.honest ≡ true → ReadOutHonest named None old new result
+  pub modelled : IsModelled old → ReadOutModelled named None old new (new_vault true) filled result
+  pub holds : bytes ≡ filled.bytes
+
+-- The whole chip was read, and has as many bytes as the image. The target has the image's byte at each address in these
+-- spans, and at every other address the byte that was read.
+pub record IsMerged (named : Option ChipName) (spans : List Span) (image : List ℕ) (old new : BusState)
+    (target : List ℕ) : Type 0 where
+  pub chip : List ℕ
+  pub report : Report
+  pub read : HasReadWhole named old new chip (Ok report)
+  pub whole : length image ≡ length chip
+  pub long : length target ≡ length chip
+  pub bytes : (a : ℕ) → a < length chip
+      → slice_index target a ≡ merged_byte (contains spans) (slice_index image) (slice_index chip) a
+
+-- The target of a change: the bytes that the chip must have after it. `ranges` are the ranges of a change that is
+-- compared and has regions: then the chip was read, and the target has the bytes that were read at all addresses
+-- outside the ranges. Without ranges nothing was sent, and the target is the image.
+abbrev pub IsWholeTarget : Option ChipName → (ranges : Option (List Span)) → (image : List ℕ) → (old new : BusState)
+    → (target : List ℕ) → Type 0
+IsWholeTarget named None image old new target = (new ≡ old) × (target ≡ image)
+IsWholeTarget named (Some spans) image old new target = IsMerged named spans image old new target
+
+-- the ranges of a change if it is compared; otherwise none, since the chip is then not read before the session
+abbrev pub ranges_if : (compared : Bool) → Option (List Span) → Option (List Span)
+ranges_if true ranges = ranges
+ranges_if false ranges = None
+
+-- Holds for error 4 if the image is not as long as a chip of this size, and for error 5 if an address in these spans is
+-- past the end of that chip.
+abbrev pub IsUnfit : (size : ℕ) → List Span → (image : List ℕ) → Refusal → Type 0
+IsUnfit size spans image (ImageSize chip len) = (chip ≡ size) × (len ≡ length image) × (length image ≢ size)
+IsUnfit size spans image RegionOutside = ReachesPast (Some spans) size
+IsUnfit size spans image _ = ⊥
+
+-- an error of reading a chip into memory: if the vault refused a piece (error 19), memory ran out (error 18)
+abbrev pub into_memory : Refusal → Refusal
+into_memory (Output written) = Memory
+into_memory refusal = refusal
+
+-- The chip was read, and has another size than the image, which fits the chip that was identified before.
+pub record IsOtherRead (named : Option ChipName) (image : List ℕ) (old new : BusState) (refusal : Refusal) : Type 0 where
+  pub bytes : List ℕ
+  pub report : Report
+  pub read : HasReadWhole named old new bytes (Ok report)
+  pub is : refusal ≡ ImageSize report.found.size (length image)
+  pub differ : length image ≢ report.found.size
+
+-- The errors of making the target of a change that is compared and has regions: the image doesn't fit the chip of this
+-- size, and nothing was sent (`IsUnfit`); or the reading returned the error; or a chip of another size was read.
+abbrev pub FailsToMerge : Option ChipName → (size : ℕ) → (ranges : Option (List Span)) → (image : List ℕ)
+    → (old new : BusState) → Refusal → Type 0
+FailsToMerge named size None image old new refusal = ⊥
+FailsToMerge named size (Some spans) image old new refusal = ((new ≡ old) × IsUnfit size spans image refusal)
+    ⊎ (((bytes : List ℕ) × (why : Refusal) × HasReadWhole named old new bytes (Err why) × (refusal ≡ into_memory why))
+    ⊎ IsOtherRead named image old new refusal)
+
+-- ---- the comparison
+
+-- What follows the session of a change. If the session succeeded and the change is compared, the whole chip was
+-- compared with the target, and was equal (`HasVerified`). Otherwise nothing was sent.
+abbrev pub IsFollowed : (session : Result Answer Refusal) → (compared : Bool) → Option ChipName → (target : List ℕ)
+    → (old new : BusState) → Type 0
+IsFollowed (Ok found) true named target old new =
+    (verified : Answer) × HasVerified named None target old new (Ok verified)
+IsFollowed (Ok found) false named target old new = new ≡ old
+IsFollowed (Err refusal) compared named target old new = new ≡ old
+
+-- The session of a change succeeded, the change is compared, and the comparison of the whole chip with the target
+-- returned the error of this fault.
+abbrev pub FailsToFollow : (session : Result Answer Refusal) → (compared : Bool) → Option ChipName → (target : List ℕ)
+    → (old new : BusState) → JobFault → Type 0
+FailsToFollow (Ok found) true named target old new (ended.NotCompared refusal) =
+    HasVerified named None target old new (Err refusal)
+FailsToFollow _ compared named target old new fault = ⊥
