@@ -32,8 +32,8 @@ def carried(plan, longest=BLOCK, chip=None, image=None):
 
     First the chip is woken. Data is read ahead: a read that goes on where the last block ended reads a block of twice
     the length, up to the limit and the next multiple of 64 KiB. A block is forgotten at each other transaction. It is
-    read twice, unless it equals the image that is expected; `chip` is a model of the chip before the plan, which is
-    changed. Other replies are compared as `compared` says.
+    read twice. If an image is expected, only the sectors that differ from it are read again; `chip` is a model of the
+    chip before the plan, which is changed. Other replies are compared as `compared` says.
     """
     found, begin, end, step, last = [WAKES], 0, 0, 0, 0
     for out, replies in plan:
@@ -48,8 +48,22 @@ def carried(plan, longest=BLOCK, chip=None, image=None):
         if at < begin or at + replies > end:
             step = min(2 * step, longest // SECTOR * SECTOR) if at == end > begin else replies
             begin, end = at, at + max(replies, min(step, BLOCK - at % BLOCK))
-            is_expected = image is not None and chip.read_data(begin, end - begin) == image[begin:end]
-            found += [(out, end - begin)] * (1 if is_expected else 2)
+            again = [(begin, end)] if image is None else differing(chip.read_data(begin, end - begin), image, begin)
+            found.append((out, end - begin))
+            found += [(command(READ_DATA, start), stop - start) for start, stop in again]
+    return found
+
+
+def differing(data, image, begin):
+    """Returns where the sectors of data from the address `begin` on differ from an image; neighbours are joined."""
+    found, end = [], begin + len(data)
+    for at in range(begin // SECTOR * SECTOR, end, SECTOR):
+        start, stop = max(at, begin), min(at + SECTOR, end)
+        if data[start - begin : stop - begin] == image[start:stop]:
+            continue
+        if found and found[-1][1] == start:
+            start = found.pop()[0]
+        found.append((start, stop))
     return found
 
 
