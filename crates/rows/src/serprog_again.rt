@@ -39,33 +39,43 @@ fn contents(alloc: Global) -> Result<Vec<u8>, Fail> {
     Ok(bytes)
 }
 
+// Returns a bus to a chip with these bytes that carries out every transaction.
+fn chip(bytes: Vec<u8>) -> Result<SimBus, Fail> {
+    let idle = Delays { now: 0, each: 0 };
+    let mut chip = SimBus::new(Config::tiny64(), bytes, [0x00, 0x00], idle)?;
+    chip.allow(u64::MAX);
+    Ok(chip)
+}
+
+// Carries out a transaction with an expected image, and traces those of the bus inside. Returns whether it succeeded,
+// and whether two reads differed.
+fn transact(
+    inside: SpoiltBus<SimBus>,
+    lines: &mut Vec<u8>,
+    image: Vec<u8>,
+    out: &[u8],
+    reply: &mut [u8],
+) -> (bool, bool) {
+    let mut bus = ReadTwice::expecting(TraceBus::new(inside, lines), image);
+    let succeeds = bus.transfer(out, reply).is_ok();
+    (succeeds, bus.differed())
+}
+
 // Carries out a reading, and compares its result, its reply and the lines of its transactions.
 fn check(rt: &impl Abort, alloc: Global, reading: Reading) -> Result<(), Fail> {
-    let idle = Delays { now: 0, each: 0 };
     let mut image = contents(alloc)?;
     for address in reading.differing {
         if let Some(byte) = image.get_mut(*address) {
             *byte ^= 0x80;
         }
     }
-    let mut chip = SimBus::new(Config::tiny64(), contents(alloc)?, [0x00, 0x00], idle)?;
-    chip.allow(u64::MAX);
     let mut lines = Vec::new(alloc);
     let mut reply = vec![in alloc; 0; reading.len]?;
-    let inside = TraceBus::new(
-        SpoiltBus::new(chip, Spoil::Drop(reading.spoilt)),
-        &mut lines,
-    );
-    let mut bus = ReadTwice::expecting(inside, image);
-    let read = bus.transfer(&reading.out, &mut reply);
+    let inside = SpoiltBus::new(chip(contents(alloc)?)?, Spoil::Drop(reading.spoilt));
+    let result = transact(inside, &mut lines, image, &reading.out, &mut reply);
+    let expected = (reading.succeeds, !reading.succeeds);
+    assert_eq!(rt; result, expected, "{:?}", reading.differing);
     let at = usize::from(reading.out[2]) * 256 + usize::from(reading.out[3]);
-    assert_eq!(rt; read.is_ok(), reading.succeeds, "{:?}", reading.differing);
-    assert_eq!(rt;
-        bus.differed(),
-        !reading.succeeds,
-        "{:?}",
-        reading.differing
-    );
     let bytes = contents(alloc)?;
     let read_bytes = bytes.get(at..).and_then(|rest| rest.get(..reading.len));
     assert!(rt; read_bytes == Some(&reply[..]));
@@ -168,16 +178,15 @@ fn a_sector_that_differs_stops_the_bus(rt: HostRuntime) -> Result<(), Fail> {
 #[test]
 fn other_reads_are_repeated(rt: HostRuntime) -> Result<(), Fail> {
     let mut lines = Vec::new(rt.alloc());
-    let idle = Delays { now: 0, each: 0 };
-    let mut chip = SimBus::new(Config::tiny64(), contents(rt.alloc())?, [0x00, 0x00], idle)?;
-    chip.allow(u64::MAX);
-    let image = vec![in rt.alloc(); 0xFE; 5000]?;
-    let mut bus = ReadTwice::expecting(TraceBus::new(chip, &mut lines), image);
-    bus.transfer(&[0x9F], &mut [0; 3])?;
     let mut reply = vec![in rt.alloc(); 0; 4096]?;
-    bus.transfer(&[0x03, 0x00, 0x10, 0x00], &mut reply)?;
+    for out in [&[0x9F_u8][..], &[0x03, 0x00, 0x10, 0x00]] {
+        let image = vec![in rt.alloc(); 0xFE; 5000]?;
+        let inside = SpoiltBus::new(chip(contents(rt.alloc())?)?, Spoil::Drop(0));
+        let result = transact(inside, &mut lines, image, out, &mut reply);
+        assert_eq!(rt; result, (true, false));
+    }
     assert!(rt; contents(rt.alloc())?.get(0x1000..0x2000) == Some(&reply[..]));
-    let sent = b"9f > fe1010\n9f > fe1010\n03001000 > 4096 bytes\n03001000 > 4096 bytes\n";
+    let sent = b"9f > 4096 bytes\n9f > 4096 bytes\n03001000 > 4096 bytes\n03001000 > 4096 bytes\n";
     assert!(rt; lines.as_slice() == sent.as_slice());
     Ok(())
 }
