@@ -98,7 +98,7 @@ pub record HasReadChip (named : Option ChipName) (file : Text) (ranges : Option 
   pub read : HasReadOut named file ranges found new after outcome
 
 -- The chip was identified, and then saved whole in a journal in a new file, or the saving failed.
-pub record HasSavedChip (named : Option ChipName) (file : Text) (before : View) (after : FilesState)
+pub record HasBackedUpChip (named : Option ChipName) (file : Text) (before : View) (after : FilesState)
     (old new : BusState) (outcome : Result Answer Refusal) : Type 0 where
   pub found : BusState
   pub chip : Found
@@ -108,7 +108,7 @@ pub record HasSavedChip (named : Option ChipName) (file : Text) (before : View) 
 -- for a backup the chip was saved whole in a journal; otherwise it was read into the file, in the given ranges
 abbrev pub HasReadBy : (backup : Bool) → Option ChipName → (file : Text) → (ranges : Option (List Span))
     → (before : View) → (after : FilesState) → (old new : BusState) → Result Answer Refusal → Type 0
-HasReadBy true named file ranges before after old new outcome = HasSavedChip named file before after old new outcome
+HasReadBy true named file ranges before after old new outcome = HasBackedUpChip named file before after old new outcome
 HasReadBy false named file ranges before after old new outcome =
     HasReadChip named file ranges after.view old new outcome
 

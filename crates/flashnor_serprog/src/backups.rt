@@ -2,7 +2,7 @@
 ghost use Rattle.std.specs.Prelude.{◌≡◌, IfErr, IfOk, true};
 ghost use Rattle.nor_files.specs.Files.{OthersStay, is_lawful};
 ghost use Rattle.flashnor_serprog.specs.Backups.{IsExistingBackup};
-ghost use Rattle.flashnor_serprog.specs.Jobs.{FailsToRead, HasSavedChip};
+ghost use Rattle.flashnor_serprog.specs.Jobs.{FailsToRead, HasBackedUpChip};
 
 use crate::jobs::find_first;
 use crate::progress::Progress;
@@ -39,7 +39,7 @@ pub fn backup_chip<'a, R: Store, B: Progress>(
     named: Option<ChipName>,
     file: &'a str,
 ) -> Result<Outcome, Fault<'a>>
-    ensures ok { IfOk result (HasSavedChip named file.now (R.state rt.old).view (R.state rt.new)
+    ensures ok { IfOk result (HasBackedUpChip named file.now (R.state rt.old).view (R.state rt.new)
         (B.state bus.old) (B.state bus.new)) }
     ensures err { IfErr result (FailsToRead named file.now (R.state rt.old).view (B.state bus.old) (B.state bus.new)) }
     ensures others { is_lawful (R.state rt.old).view ≡ true
