@@ -107,8 +107,6 @@ def restore_tiny():
 
 
 WORKS = {f"bits_{it.__name__}": it for it in (protect, restore_range, unlock, blank, restore, restore_tiny)}
-# The jobs that run.py tries without names. A run of the others takes seconds of processor time, for an image of 8 MiB.
-GATE = [it for it in WORKS if it not in ("bits_unlock", "bits_blank")]
 
 
 def wire(work):

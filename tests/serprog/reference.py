@@ -216,6 +216,11 @@ def read_whole(part):
     return probe(part) + [read_sector(it) for it in range(PARTS[part].size // SECTOR)]
 
 
+def backup(part):
+    """Returns the plan of --backup. The program probes before it creates the file."""
+    return probe(part) + identify(part) + [read_sector(it) for it in range(PARTS[part].size // SECTOR)]
+
+
 def whole_run(part, plan, is_compared=False, has_regions=False):
     """Returns the plan of -w or -E with this session.
 

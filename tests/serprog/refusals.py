@@ -278,7 +278,8 @@ def prints_help(start):
     got = bench.finish(bench.start_words([bench.program, "-h"]))
     check("exit status and standard error", (got.status, got.err), (0, []))
     help_text = "\n".join(got.out)
-    options = "-p -c -r -w -v -E --flash-size --wp-status --wp-list --wp-range --restore -l -i -n --unlock --journal"
+    options = "-p -c -r -w -v -E --flash-size --wp-status --wp-list --wp-range --restore -l -i -n --unlock --journal " \
+        "--backup -N --quick"
     check("options that the help lacks", [it for it in options.split() if it not in help_text], [])
     bench.check_nothing_sent()
 

@@ -2,7 +2,7 @@
 """tests/serprog/run.py PROGRAM: the program flashnor-serprog with a serial programmer at a pseudo-terminal.
 
 The programmer is server.py, and its chip is a model from the datasheets (chip.py). The cases are in options.py,
-refusals.py, faults.py and wire.py. bits.py tries each single wrong bit of each reply, and misses each single frame.
+backups.py, refusals.py, faults.py and wire.py. bits.py tries each single wrong bit of each reply, and misses each single frame.
 losses.py kills the program, and loses replies, at each transaction of a session and of its restores; busy.py does so
 while the chip is busy. What the program must send and print is computed by reference.py, without the program.
 
@@ -18,6 +18,7 @@ from concurrent.futures import ProcessPoolExecutor
 from functools import partial
 from pathlib import Path
 
+import backups
 import bits
 import busy
 import faults
@@ -28,7 +29,8 @@ import refusals
 import wire
 from bench import Bench, Differs
 
-CASES = {case.__name__: case for module in (options, refusals, faults, wire, narrow, busy) for case in module.CASES}
+MODULES = (options, backups, refusals, faults, wire, narrow, busy)
+CASES = {case.__name__: case for module in MODULES for case in module.CASES}
 
 
 def try_case(program, name):
@@ -70,7 +72,7 @@ def main(words):
     if not words or not os.access(words[0], os.X_OK):
         sys.exit("usage: tests/serprog/run.py PROGRAM [NAME..]")
     sys.stdout.reconfigure(errors="backslashreplace", line_buffering=True)
-    program, names = Path(words[0]).resolve(), words[1:] or [*CASES, "losses", *bits.GATE]
+    program, names = Path(words[0]).resolve(), words[1:] or [*CASES, "losses", *bits.WORKS]
     jobs = [it for it in names if it.startswith("bits_")]
     names = [it for it in names if it not in jobs]
     tries = [partial(try_case, program, name) for name in names if name != "losses"]

@@ -55,6 +55,10 @@ MISTAKES = {
     "changes any chip": "refuses_unknown_protection",
     "always restores": "reads_twice",
     "calls each chip unchanged": "reports_causes",
+    "saves half of the chip": "saves_the_chip",
+    "overwrites backups": "makes_a_new_file",
+    "creates a backup first": "makes_a_new_file",
+    "seals a backup first": "is_cut",
 }
 RIGHT = sorted(set(MISTAKES.values()))
 

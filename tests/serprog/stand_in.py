@@ -98,6 +98,24 @@ class Job:
         Path(name).write_bytes(mixed(b"\xff" * self.size, data, self.ranges))
         return line, f"Read {self.size} bytes."
 
+    def backup(self):
+        name = Path(self.given["--backup"])
+        if MISTAKE == "creates a backup first":
+            name.touch()
+        self.found(self.given.get("-c"))
+        try:
+            name.touch()
+        except OSError:
+            raise Fault(f"File fault 2: {name}.") from None
+        line = self.found(self.given.get("-c"))
+        status = self.open_status()
+        numbers = range(self.size // SECTOR // (2 if MISTAKE == "saves half of the chip" else 1))
+        if MISTAKE == "seals a backup first":
+            name.write_bytes(reference.journal(self.part, b"\xff" * self.size, numbers, status, self.unique))
+        data = self.scan(numbers)
+        name.write_bytes(reference.journal(self.part, data, numbers, status, self.unique))
+        return line, f"Read {self.size} bytes."
+
     def verify(self):
         image = read_file(self.given["-v"])
         line = self.found(self.given.get("-c"))
@@ -307,8 +325,9 @@ class Job:
 
 def job_of(given):
     """Returns the function that does the operation."""
-    for words, job in ((("-r",), Job.read), (("-v",), Job.verify), (("-w", "-E"), Job.change),
-                       (("--restore",), Job.restore), (("--wp-status", "--wp-list", "--wp-range"), Job.protection)):
+    for words, job in ((("-r",), Job.read), (("--backup",), Job.backup), (("-v",), Job.verify),
+                       (("-w", "-E"), Job.change), (("--restore",), Job.restore),
+                       (("--wp-status", "--wp-list", "--wp-range"), Job.protection)):
         if any(it in given for it in words):
             return job
     if "--flash-size" in given:
@@ -329,6 +348,11 @@ def run(words):
     regions(given)
     if "--restore" in given and len(Path(given["--restore"]).read_bytes()) % (SECTOR + 4) not in (61,):
         raise Fault(*UNSEALED)
+    backup = given.get("--backup")
+    if backup and os.path.realpath(backup) == os.path.realpath(keys["dev"]):
+        raise Fault(f"File fault 5: {backup}.")
+    if backup and Path(backup).exists() and MISTAKE != "overwrites backups":
+        raise Fault(f"File fault 4: {backup}.")
     journal = given.get("--journal")
     if journal and Path(journal).exists() and MISTAKE != "overwrites journals":
         raise Fault(f"File fault 4: {journal}.")

@@ -12,8 +12,9 @@ MISTAKE = os.environ.get("MISTAKE", "")
 STTY = "stty -F {} raw -echo clocal -hupcl min 0 time 50"
 ROW = bytes.fromhex("10100010000010101000000010001010")
 FIRMWARE = ". Install other firmware on it."
-OPERATIONS = ("--flash-size", "--wp-status", "--wp-list", "-r", "-v", "-w", "-E", "--wp-range", "--restore")
-TAKE_VALUES = ("-p", "-c", "-r", "-w", "-v", "--wp-range", "--restore", "-l", "-i", "--journal")
+OPERATIONS = ("--flash-size", "--wp-status", "--wp-list", "-r", "-v", "-w", "-E", "--wp-range", "--restore",
+              "--backup")
+TAKE_VALUES = ("-p", "-c", "-r", "-w", "-v", "--wp-range", "--restore", "--backup", "-l", "-i", "--journal")
 # Mistakes that don't forget what was read at these opcodes.
 KEPT = {"keeps blocks at programs": (0x05, 0x06, 0x02), "keeps blocks at erases": (0x05, 0x06, *ERASES, 0xC7),
         "keeps blocks at status writes": (0x05, 0x06, 0x01)}

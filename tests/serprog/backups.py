@@ -1,0 +1,190 @@
+"""Cases of --backup, which saves the whole chip in a new journal, and of restores from it."""
+import reference
+from bench import check
+from chip import SECTOR
+from faults import DIFFER
+from losses import UNSEALED, session_wire
+from options import ALL, FREE, SIZE, images
+from refusals import LARGE
+from wire import STOPPED, begins, check_unchanged
+
+UNIQUE = bytes(range(8))
+BACKUP = ("--backup", "whole")
+# How the whole chip can be restored: each saved sector is rewritten, or each that differs.
+WAYS = (("--restore", "whole"), ("--restore", "whole", "--quick"))
+
+
+def large_chip():
+    """Returns the bytes of a W25Q64FV whose first and last sectors aren't blank."""
+    return bytes(range(256)) * 32 + b"\xff" * (LARGE - 16384) + bytes(range(255, -1, -1)) * 32
+
+
+def saves_the_chip(start):
+    """--backup saves each sector, the status bits and the unique ID in a new journal, and changes nothing."""
+    for part, old, status in ("TINY64", images("saves_the_chip")[0], b"\0\0"), \
+            ("W25Q64FV", large_chip(), b"\x84\x02"):
+        bench = start(part, data=old, status=status, unique=UNIQUE)
+        lines = [reference.found(part), f"Read {len(old)} bytes."]
+        bench.expect(*BACKUP, out=lines)
+        bench.check_frames(reference.backup(part))
+        bench.check_file("whole", reference.journal(part, old, range(len(old) // SECTOR), status, UNIQUE))
+        check_unchanged(bench, old, status)
+        bench.expect("--backup", "named", "-c", "SFDP" if part == "TINY64" else part, out=lines)
+        bench.check_frames(reference.backup(part))
+
+
+def shows_how_much_is_saved(start):
+    """On a terminal the scan of a backup has lines with the number of sectors of the chip."""
+    start().expect_at_terminal(*BACKUP, lines=["identify 1", "scan: sector 1 of 16"])
+    bench = start("W25Q64FV")
+    bench.expect_at_terminal(*BACKUP, lines=[
+        "identify 1", *(f"scan: sector {n} of 2048" for n in range(1, 2048, 256))])
+
+
+def restores_other_sectors(start):
+    """A backup restores a sector that no session touched, with --quick and without. The session's journal doesn't."""
+    old, new = images("restores_other_sectors")
+    for words in WAYS:
+        bench = start(data=old)
+        bench.write("new", new)
+        check("the backup", bench.run(*BACKUP).status, 0)
+        check("the session", bench.run("-w", "new", "--journal", "j").status, 0)
+        bench.chip.data[5 * SECTOR + 7 : 9 * SECTOR] = b"\0" * (4 * SECTOR - 7)
+        check("the session's restore", bench.run("--restore", "j").status, 0)
+        now = bytes(bench.chip.data)
+        check("sectors that still differ", reference.touched(now, old), [5, 6, 8])
+        plan = reference.restore("TINY64", old, ALL)
+        line = reference.report(plan, len(ALL))
+        if "--quick" in words:
+            plan = reference.session("TINY64", now, old)
+            line = reference.done(plan, now, old)
+        bench.expect(*words, out=[reference.found("TINY64"), line])
+        bench.check_frames(plan)
+        bench.check_chip(old)
+        bench.check_file("whole", reference.journal("TINY64", old, ALL))
+
+
+def restores_a_locked_chip(start):
+    """A backup of a chip with a locked protected range is error 9 without --quick. With --quick it can restore."""
+    old = large_chip()
+    damaged = b"\0" * SECTOR + old[SECTOR:]
+    for status, is_protected in (b"\x84\0", True), (b"\x80\0", False):
+        bench = start("W25Q64FV", data=old, status=status)
+        check("the backup", bench.run(*BACKUP).status, 0)
+        # Sector 0 is not in the protected range, which is the end of the chip.
+        bench.chip.data[:] = damaged
+        if is_protected:
+            bench.expect("--restore", "whole", err=["Error 9: status locked."])
+            check_unchanged(bench, damaged, status)
+            check("the quick restore", bench.run("--restore", "whole", "--quick").status, 0)
+        else:
+            check("the restore", bench.run("--restore", "whole").status, 0)
+        bench.check_chip(old, status)
+
+
+def restores_after_wrong_addresses(start):
+    """After a wrong address bit of an erase, or of a whole change, a backup restores the chip as it was."""
+    for numbers, is_one in ((1, 2, 7, 15), True), ((2, 7, 15), False):
+        old, new = images("restores_after_wrong_addresses", numbers)
+        wire = session_wire(old, new)
+        first = next(at for at, (out, _) in enumerate(wire, 1) if out[0] == 0x20)
+        after = next(at for at, (out, _) in enumerate(wire, 1) if at > first and out[0] == 0x9F)
+        last = first if is_one else after - 2
+        for words in WAYS:
+            bench = start(data=old)
+            bench.write("new", new)
+            check("the backup", bench.run(*BACKUP).status, 0)
+            bench.server.traits.wrong_address = (first, last, 14)
+            first_word = "Error 14:" if is_one else "Chip fault 4:"
+            begins("the session", bench.run("-w", "new", "--journal", "j"), [first_word])
+            bench.server.traits.wrong_address = ()
+            check("the session's restore", bench.run("--restore", "j").status, 0)
+            check("the chip is as before", bench.chip.data == old, False)
+            check(" ".join(words), bench.run(*words).status, 0)
+            bench.check_chip(old)
+
+
+def makes_a_new_file(start):
+    """A file that exists is file fault 4, and stays as it is. Without a chip, or with another one, none is created."""
+    old, _ = images("makes_a_new_file")
+    bench = start(data=old)
+    for content in b"", old, reference.journal("TINY64", old, [1]):
+        bench.write("whole", content)
+        bench.expect(*BACKUP, err=["File fault 4: whole."])
+        bench.check_file("whole", content)
+        bench.check_nothing_sent()
+    bench.expect("--backup", "dev", err=["File fault 5: dev."])
+    bench.expect("--backup", "none/whole", err=["File fault 2: none/whole."])
+    bench.path("whole").unlink()
+    bench.expect(*BACKUP, "-c", "W25Q64FV", err=["Error 3: another chip than named."])
+    bench.check_frames(reference.probe("TINY64"))
+    bench.check_absent("whole")
+    bench.chip.transfer = lambda out, replies: (b"\0" if out == b"\x05" else b"\xff") * replies
+    bench.expect(*BACKUP, err=["Error 1: no chip."])
+    bench.check_absent("whole")
+
+
+def takes_no_other_option(start):
+    """--backup is an operation, which takes neither a journal nor regions, -n, -N, --unlock or --quick."""
+    bench = start(data=FREE)
+    bench.write("layout", b"0:fff first\n")
+    for fault, words, why in (
+            (4, "-r out", "-r and --backup cannot be used together"),
+            (4, "--restore j", "--restore and --backup cannot be used together"),
+            (4, "-E --journal j", "-E and --backup cannot be used together"),
+            (6, "--journal j", "--journal needs -w, -E or --wp-range"),
+            (7, "-l layout -i first", "-l and -i need -r, -v, -w or -E"), (7, "-i first", "-i needs -l"),
+            (8, "-n", "-n needs -w or -E"), (8, "-N", "-N needs -w or -E"), (8, "--unlock", "--unlock needs -w or -E"),
+            (8, "--quick", "--quick needs --restore")):
+        bench.expect(*BACKUP, *words.split(), err=[f"error: {why}", f"Usage fault {fault}."])
+        bench.check_absent("whole")
+    bench.check_nothing_sent()
+
+
+def check_begun(bench, old):
+    """Checks that the chip is as it was, and that no file, or a part of a journal, was left, which restores nothing."""
+    check_unchanged(bench, old, b"\0\0")
+    if not bench.path("whole").exists():
+        return
+    begun, journal = bench.path("whole").read_bytes(), reference.journal("TINY64", old, ALL)
+    check("the file is a part of the journal", begun == journal[: len(begun)] and len(begun) < len(journal), True)
+    for words in WAYS:
+        bench.expect(*words, err=UNSEALED)
+        bench.check_nothing_sent()
+    bench.path("whole").unlink()
+
+
+def saves_no_wrong_bit(start):
+    """One wrong bit in a reply stops a backup. What is left of its journal is refused (error 15)."""
+    old, _ = images("saves_no_wrong_bit")
+    wire = reference.carried(reference.backup("TINY64"))
+    bench = start(data=old)
+    for number, (out, replies) in enumerate(wire, 1):
+        for byte in {0, replies // 2, replies - 1} if replies else ():
+            # A wrong BUSY bit of a poll costs one more poll, and nothing else.
+            bench.server.traits.wrong_bits = {number: (byte, 3)}
+            begins(f"transaction {number}, {out.hex()}", bench.run(*BACKUP), [STOPPED, DIFFER])
+            check_begun(bench, old)
+
+
+def is_cut(start):
+    """A backup that is killed, or loses a reply or the programmer, leaves no journal that --restore accepts."""
+    old, _ = images("is_cut")
+    wire = reference.carried(reference.backup("TINY64"))
+    bench = start(data=old)
+    for number in range(2, len(wire) + 1):
+        for event in "kill", "lose", "unplug":
+            got = bench.run(*BACKUP, events={number: event})
+            check("status 0", got.status == 0, False)
+            if event != "kill":
+                begins(event, got, [STOPPED])
+            bench.plug()
+            if number > len(reference.carried(reference.probe("TINY64"))):
+                check("the file was created", bench.path("whole").exists(), True)
+            check_begun(bench, old)
+    bench.expect(*BACKUP, out=[reference.found("TINY64"), f"Read {SIZE} bytes."])
+    bench.check_file("whole", reference.journal("TINY64", old, ALL))
+
+
+CASES = [saves_the_chip, shows_how_much_is_saved, restores_other_sectors, restores_a_locked_chip,
+         restores_after_wrong_addresses, makes_a_new_file, takes_no_other_option, saves_no_wrong_bit, is_cut]
