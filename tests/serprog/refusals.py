@@ -4,7 +4,7 @@ import reference
 from bench import check
 from chip import SECTOR
 from losses import UNSEALED
-from options import ALL, FREE, SIZE, images
+from options import FREE, SIZE, images
 
 LARGE = 1 << 23
 FOUND = "Found W25Q64FV (ef4017), 8388608 bytes."

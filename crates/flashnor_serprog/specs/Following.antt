@@ -67,7 +67,8 @@ into_memory (Output written) = Memory
 into_memory refusal = refusal
 
 -- The chip was read, and has another size than the image, which fits the chip that was identified before.
-pub record IsOtherRead (named : Option ChipName) (image : List ℕ) (old new : BusState) (refusal : Refusal) : Type 0 where
+pub record IsOtherRead (named : Option ChipName) (image : List ℕ) (old new : BusState)
+    (refusal : Refusal) : Type 0 where
   pub bytes : List ℕ
   pub report : Report
   pub read : HasReadWhole named old new bytes (Ok report)

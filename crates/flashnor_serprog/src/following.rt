@@ -4,8 +4,8 @@ ghost use Rattle.nor_journal.specs.MemVault.{held_by};
 ghost use Rattle.nor_journal.specs.Vault.{new_vault};
 ghost use Rattle.nor_layout.specs.Ranges.{contains};
 ghost use Rattle.nor_layout.specs.Sectors.{merged_byte};
-ghost use Rattle.flashnor_serprog.specs.Following.{FailsToFollow, FailsToMerge, HasReadWhole, IsFollowed, IsWholeTarget};
-ghost use Rattle.flashnor_serprog.specs.Following.{into_memory, ranges_if};
+ghost use Rattle.flashnor_serprog.specs.Following.{FailsToFollow, FailsToMerge, HasReadWhole, IsFollowed};
+ghost use Rattle.flashnor_serprog.specs.Following.{IsWholeTarget, into_memory, ranges_if};
 
 use crate::chip_faults::JobFault;
 use crate::progress::Progress;
@@ -13,7 +13,7 @@ use nor_chip::Bus;
 use nor_geometry::SECTOR_LEN;
 use nor_journal::MemVault;
 use nor_layout::{Ranges, includes_in_sector};
-use nor_lines::{Outcome, verify_image};
+use nor_lines::{Fault, Outcome, or_fault, verify_image};
 use nor_probe::ChipName;
 use nor_read::read_out;
 use nor_session::{Refusal, Report};
@@ -24,22 +24,23 @@ use std::alloc::Global;
 ///
 /// With `ranges`, returns error 4 (`image` isn't as long as the chip), 5 (an address in the ranges isn't on the chip),
 /// 18 (out of memory) or another error of `read_out`.
-pub fn complete<B: Progress>(
+pub fn complete<'a, B: Progress>(
     bus: &mut B,
     named: Option<ChipName>,
     size: u32,
     ranges: Option<&Ranges>,
     image: Vec<u8>,
     alloc: Global,
-) -> Result<Vec<u8>, Refusal>
+) -> Result<Vec<u8>, Fault<'a>>
     ensures ok { IfOk result (λ target. IsWholeTarget named (option_copied ranges.entry) image.items
         (B.state bus.old) (B.state bus.new) target.items) }
-    ensures err { IfErr result (FailsToMerge named size (option_copied ranges.entry) image.items
-        (B.state bus.old) (B.state bus.new)) }
+    ensures err { IfErr result (λ fault. (refusal : Refusal)
+        × FailsToMerge named size (option_copied ranges.entry) image.items (B.state bus.old) (B.state bus.new) refusal
+        × (fault ≡ Fault.Refused refusal)) }
 {
     match ranges {
         None => Ok(image),
-        Some(included) => merge_chip(bus, named, size, included, image, alloc),
+        Some(included) => or_fault(merge_chip(bus, named, size, included, image, alloc)),
     }
 }
 

@@ -4,7 +4,6 @@ ghost use Rattle.nor_files.specs.Files.{Name, OthersStay, KeepsFile, is_lawful};
 ghost use Rattle.nor_lines.specs.Tasks.{journal_of, made_by};
 ghost use Rattle.nor_lines.specs.Readings.{HasVerified};
 ghost use Rattle.nor_lines.specs.Stored.{IsNot};
-ghost use Rattle.flashnor_serprog.specs.Following.{FailsToMerge, IsWholeTarget};
 ghost use Rattle.flashnor_serprog.specs.Jobs.{DoesTask, FailsChange, FailsPerform, FailsToAdmit, FailsToFill, FailsToFind};
 ghost use Rattle.flashnor_serprog.specs.Jobs.{FailsToRead, HasChangedBy, HasIdentified, HasLookedUp};
 ghost use Rattle.flashnor_serprog.specs.Jobs.{HasReadChip, HasRestored, HasRunRestore, IsBufferOf, IsChangeable};
@@ -242,33 +241,15 @@ fn fill_buffer<'a, B: Progress>(
     match wanted {
         Wanted::Write { .. } => {
             let found = find_changeable(bus, named)?;
-            Ok(make_target(bus, named, found.size, ranges, bytes, alloc)?)
+            Ok(complete(bus, named, found.size, ranges, bytes, alloc)?)
         }
         Wanted::Erase => {
             let found = find_changeable(bus, named)?;
             let blank = erased(alloc, found.size)?;
-            Ok(make_target(bus, named, found.size, ranges, blank, alloc)?)
+            Ok(complete(bus, named, found.size, ranges, blank, alloc)?)
         }
         Wanted::Range { .. } => Ok(bytes),
     }
-}
-
-// Returns the target of a write or an erase of a chip of `size` bytes. An error of `complete` is the fault of the run.
-fn make_target<'a, B: Progress>(
-    bus: &mut B,
-    named: Option<ChipName>,
-    size: u32,
-    ranges: Option<&Ranges>,
-    image: Vec<u8>,
-    alloc: Global,
-) -> Result<Vec<u8>, Fault<'a>>
-    ensures ok { IfOk result (λ target. IsWholeTarget named (option_copied ranges.entry) image.items
-        (B.state bus.old) (B.state bus.new) target.items) }
-    ensures err { IfErr result (λ fault. (refusal : Refusal)
-        × FailsToMerge named size (option_copied ranges.entry) image.items (B.state bus.old) (B.state bus.new) refusal
-        × (fault ≡ Fault.Refused refusal)) }
-{
-    or_fault(complete(bus, named, size, ranges, image, alloc))
 }
 
 // Restores the chip from the bytes of a journal: erases and programs every saved sector, whatever it reads, or with

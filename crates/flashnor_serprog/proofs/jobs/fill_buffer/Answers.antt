@@ -4,11 +4,11 @@ use Rattle.nor_request.specs.declared.refusal.Refusal.TheVariants.{Memory}
 use Rattle.flashnor_serprog.specs.declared.chip_faults.JobFault.TheVariants as ended
 use Rattle.flashnor_serprog.proofs.jobs.fill_buffer.Goals as goal
 
-pub returns-in_err-make_target-in-Write-clause-err : goal.returns-in_err-make_target-in-Write-clause-err
-returns-in_err-make_target-in-Write-clause-err g c =
-    let p = err_from_is_err_and c.from_residual-in_err-make_target-in-Write.result
-    c.from_residual-in_err-make_target-in-Write.ensures.1 in
-    let e = c.in_err-make_target-in-Write.ensures.err in
+pub returns-in_err-complete-in-Write-clause-err : goal.returns-in_err-complete-in-Write-clause-err
+returns-in_err-complete-in-Write-clause-err g c =
+    let p = err_from_is_err_and c.from_residual-in_err-complete-in-Write.result
+    c.from_residual-in_err-complete-in-Write.ensures.1 in
+    let e = c.in_err-complete-in-Write.ensures.err in
     rw (p.1, p.2, c.in-Write.is) (inr (
       e.0,
       record {
@@ -35,11 +35,11 @@ returns-in_err-blank-in-Erase-clause-err g c =
       refl,
     ))
 
-pub returns-in_err-make_target-in-Erase-clause-err : goal.returns-in_err-make_target-in-Erase-clause-err
-returns-in_err-make_target-in-Erase-clause-err g c =
-    let p = err_from_is_err_and c.from_residual-in_err-make_target-in-Erase.result
-    c.from_residual-in_err-make_target-in-Erase.ensures.1 in
-    let e = rw c.in_ok-blank-in-Erase.ensures at c.in_err-make_target-in-Erase.ensures.err in
+pub returns-in_err-complete-in-Erase-clause-err : goal.returns-in_err-complete-in-Erase-clause-err
+returns-in_err-complete-in-Erase-clause-err g c =
+    let p = err_from_is_err_and c.from_residual-in_err-complete-in-Erase.result
+    c.from_residual-in_err-complete-in-Erase.ensures.1 in
+    let e = rw c.in_ok-blank-in-Erase.ensures at c.in_err-complete-in-Erase.ensures.err in
     rw (p.1, p.2, c.in-Erase.is) (inr (
       e.0,
       record {
@@ -51,18 +51,18 @@ returns-in_err-make_target-in-Erase-clause-err g c =
       ap ended.Fault e.2,
     ))
 
-pub returns-in_ok-make_target-in-Write-clause-ok : goal.returns-in_ok-make_target-in-Write-clause-ok
-returns-in_ok-make_target-in-Write-clause-ok g c = rw c.in-Write.is (record {
+pub returns-in_ok-complete-in-Write-clause-ok : goal.returns-in_ok-complete-in-Write-clause-ok
+returns-in_ok-complete-in-Write-clause-ok g c = rw c.in-Write.is (record {
   chip = c.in_ok-found-in-Write.found;
   found = g.B.Bus.state c.find_changeable.new.bus;
   changeable = c.in_ok-found-in-Write.ensures.ok;
-  is = c.in_ok-make_target-in-Write.ensures.ok;
+  is = c.in_ok-complete-in-Write.ensures.ok;
 })
 
-pub returns-in_ok-make_target-in-Erase-clause-ok : goal.returns-in_ok-make_target-in-Erase-clause-ok
-returns-in_ok-make_target-in-Erase-clause-ok g c = rw c.in-Erase.is (record {
+pub returns-in_ok-complete-in-Erase-clause-ok : goal.returns-in_ok-complete-in-Erase-clause-ok
+returns-in_ok-complete-in-Erase-clause-ok g c = rw c.in-Erase.is (record {
   chip = c.in_ok-found-in-Erase.found;
   found = g.B.Bus.state c.find_changeable-in-Erase.new.bus;
   changeable = c.in_ok-found-in-Erase.ensures.ok;
-  is = rw c.in_ok-blank-in-Erase.ensures at c.in_ok-make_target-in-Erase.ensures.ok;
+  is = rw c.in_ok-blank-in-Erase.ensures at c.in_ok-complete-in-Erase.ensures.ok;
 })
