@@ -65,8 +65,8 @@ def take_keys(told, page):
         text for _, heads, column, cell in cells_of("docs/FLASHROM.md") if heads[column] == "flashnor"
         for text in quoted(cell) if re.fullmatch(r"[a-z]+=[A-Z]+", text)])
     names = {key.partition("=")[0] for key in keys}
-    words = [token.text for token in tokens("nor_words/src/settings.rt")]
-    same("keys", parser={word.strip('"') for word, after in zip(words, words[1:]) if (word[0], after) == ('"', "=>")},
+    words = [token.text for token in tokens("nor_words/src/flaws.rt")]
+    same("keys", parser={word.strip('"') for word, after in zip(words, words[1:]) if word[0] == '"' and after in "=>|"},
          help=names, completion={word[len("dummy:") : -1] for word in completed("-p dummy:")})
     same("keys with files", help={key.partition("=")[0] for key in keys if key.endswith("=FILE")},
          completion={name for name in names if f"dummy:{name}=there" in completed(f"-p dummy:{name}=")})

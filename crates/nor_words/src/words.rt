@@ -130,8 +130,8 @@ pub fn explained_request_of<'a>(
 
 /// Returns the job of a program for hardware that the arguments ask for, or one of the usage faults 1, 2 and 10 with
 /// its reason. `words` has the arguments without the program's name. The options are those of flashnor except `-L` and
-/// `--rehearse`, and `-N` and `--quick`. The value of `-p` isn't parsed. Fault 10, out of memory, may be returned for
-/// any arguments.
+/// `--rehearse`, and also `--backup`, `-N` and `--quick`. The value of `-p` isn't parsed. Fault 10, out of memory, may
+/// be returned for any arguments.
 pub fn operation_of<'a>(
     alloc: Global,
     help: Help,
