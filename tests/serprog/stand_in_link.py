@@ -341,13 +341,13 @@ class Link:
         return self.block[at - self.begin :][:length]
 
     def read_twice(self, at, length):
-        """Returns data. It is read twice, unless it equals the image."""
-        out = b"\x03" + at.to_bytes(3, "big")
-        block = self.operate(out, length)
-        if MISTAKE == "reads once" or block == self.image[at : at + length]:
+        """Returns data. It is read twice, or only its sectors that differ from the image."""
+        block = self.operate(reference.command(3, at), length)
+        if MISTAKE == "reads once":
             return block
-        if self.operate(out, length) != block:
-            raise Stopped(DIFFER)
+        for start, stop in reference.differing(block, self.image, at) if self.image else [(at, at + length)]:
+            if self.operate(reference.command(3, start), stop - start) != block[start - at : stop - at]:
+                raise Stopped(DIFFER)
         return block
 
     def operate(self, out, length):
