@@ -99,6 +99,8 @@ class Bench:
         self.command = " ".join(map(str, words[1:]))
         self.before = copy.deepcopy(self.chip) if self.remembers else None
         names = [name for option, name in zip(words, words[1:]) if option in ("-w", "-v") and self.remembers]
+        # Data is read once only if the whole chip is compared with the image in the end.
+        names = names if not {"-n", "-N", "--noverify-all"} & set(words) else []
         self.image = self.path(names[0]).read_bytes() if names and self.path(names[0]).exists() else None
         process = subprocess.Popen(words, cwd=self.folder, stdin=subprocess.DEVNULL, stdout=out,
                                    stderr=err, env=dict(os.environ, LC_ALL="C"))

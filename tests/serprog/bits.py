@@ -11,7 +11,7 @@ from typing import NamedTuple
 
 import reference
 from bench import Bench, Differs, check
-from chip import ONCE, PARTS, READ_DATA, SECTOR, Chip
+from chip import ONCE, PARTS, READ_DATA, SECTOR
 
 SAMPLE = 64
 UNIQUE = bytes(range(8))
@@ -111,8 +111,7 @@ WORKS = {f"bits_{it.__name__}": it for it in (protect, restore_range, unlock, bl
 
 def wire(work):
     """Returns the transactions over the wire of a job."""
-    chip = Chip(work.part, work.before, work.status)
-    return reference.carried(work.plan, chip=chip, image=work.after if "-w" in work.words else None)
+    return reference.carried(work.plan)
 
 
 def sweeps(name):

@@ -344,7 +344,7 @@ def run(words):
     for option in ("-w", "-v", "-l", "--restore"):
         if option in given:
             content = read_file(given[option])
-            image = content if option in ("-w", "-v") else image
+            image = content if option == "-v" or option == "-w" and not {"-n", "-N"} & set(given) else image
     regions(given)
     if "--restore" in given and len(Path(given["--restore"]).read_bytes()) % (SECTOR + 4) not in (61,):
         raise Fault(*UNSEALED)

@@ -206,11 +206,11 @@ def compares_the_rest(start):
 def leaves_the_rest_out(start):
     """With -N the same wrong address bit isn't noticed. A later -v finds it, and the journal has the saved sectors."""
     old, new = images("leaves_the_rest_out", (2, 7, 15))
-    wire = session_wire(old, new)
+    plan = reference.session("TINY64", old, new)
+    wire = reference.carried(reference.whole_run("TINY64", plan))
     first = next(at for at, (out, _) in enumerate(wire, 1) if out[0] in reference.CHANGING)
     bench = start(data=old, wrong_address=(first, len(wire), 14))
     bench.write("new", new)
-    plan = reference.session("TINY64", old, new)
     bench.expect("-w", "new", "-N", "--journal", "j", out=[reference.found("TINY64"), reference.done(plan, old, new)])
     bench.check_file("j", reference.journal("TINY64", old, (2, 7, 15)))
     bench.server.traits.wrong_address = ()
@@ -237,7 +237,7 @@ def compares_excluded_sectors(start):
     plan = reference.session("TINY64", old, old[: 6 * SECTOR] + image[6 * SECTOR :], [6])
     for option, is_compared in ((), True), (("-N",), False):
         whole = reference.whole_run("TINY64", plan, is_compared, True)
-        wire = reference.carried(whole, chip=Chip("TINY64", old), image=image)
+        wire = reference.carried(whole, chip=Chip("TINY64", old), image=image if is_compared else None)
         first = next(at for at, (out, _) in enumerate(wire, 1) if out[0] in reference.CHANGING)
         later = (at for at, (out, _) in enumerate(wire, 1) if at > first and out[0] == 0x9F)
         bench = start(data=old, wrong_address=(first, next(later) - 2 if is_compared else len(wire), 14))

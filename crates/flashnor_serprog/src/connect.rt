@@ -27,8 +27,8 @@ type PartsBus<'a> = SplittingBus<Paced<BatchingBus<DevicePort>, &'a HostRuntime>
 /// select if `cs=` is given. Then wakes the chip, and sends no other transaction. A terminal shows, before the first
 /// exchange, what to do if no reply ever arrives. Returns a programmer fault from 1 to 11 if one of these steps fails.
 ///
-/// If `image` is given, data that equals `image` is read once. It must be the image that the job writes or compares:
-/// then no data that was read once gets into a journal.
+/// If `image` is given, data that equals `image` is read once. It must be the image with which the job compares the chip
+/// in the end: then no data that was read once gets into a journal, and no sector that was misread stays unnoticed.
 pub fn connect<'a>(
     rt: &'a HostRuntime,
     setting: Setting<'_>,

@@ -208,8 +208,8 @@ fn copy_of(bytes: &[u8], alloc: Global) -> Result<Vec<u8>, AllocError>
     bytes.to_vec(alloc)
 }
 
-// True if the whole chip is compared after this change: after a write or an erase, except with `-n` or `-N`.
-fn is_compared(operation: &Operation<'_>, change: &Change<'_>) -> bool
+/// True if the whole chip is compared after this change: after a write or an erase, except with `-n` or `-N`.
+pub fn is_compared(operation: &Operation<'_>, change: &Change<'_>) -> bool
     ensures { result ≡ is_compared operation.now change.now }
 {
     changes_bytes(change.wanted) && (change.verify && operation.verifies_all)

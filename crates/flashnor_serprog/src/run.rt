@@ -149,7 +149,7 @@ fn prepare<'a, 'b, R: Store>(
     have_one_role(files, setting.device, &operation.task)?;
     check_new(files, &operation)?;
     let sources = read_sources(files, &operation.task)?;
-    let image = sources.image_of(&operation.task);
+    let image = sources.image_of(&operation);
     match connect(rt, setting, image) {
         Ok(bus) => Ok(Prepared {
             operation,

@@ -5,6 +5,7 @@ ghost use Rattle.nor_lines.specs.Requests.{AreRangesOf, FailsToInclude};
 ghost use Rattle.nor_lines.specs.Stored.{IsRead};
 ghost use Rattle.flashnor_serprog.specs.Sources.{AreSources, FailsImage, FailsJournal, FailsSources, IsImage, IsThere};
 
+use crate::jobs::is_compared;
 use nor_files::Store;
 use nor_journal::Journal;
 use nor_layout::Ranges;
@@ -12,7 +13,7 @@ use nor_lines::{
     Fault, FileFault, MOST_IMAGE_BYTES, journal_of, read_file, read_included, read_journal,
 };
 use nor_session::Refusal;
-use nor_words::{Change, Task, Wanted};
+use nor_words::{Change, Operation, Task, Wanted};
 
 /// The contents of the files that a job reads.
 #[derive(Drop)]
@@ -24,11 +25,15 @@ pub struct Sources {
 }
 
 impl Sources {
-    /// Returns a copy of the image that a task writes or compares, or `None` if it has no image or memory runs out.
-    pub fn image_of(&self, task: &Task<'_>) -> Option<Vec<u8>> {
-        match task {
+    /// Returns a copy of the image that a job compares the whole chip with: that of `-v`, and that of `-w` except with
+    /// `-n` or `-N`. Returns `None` for any other job, or if memory runs out.
+    ///
+    /// Data that equals this image is read once. A sector that was misread as equal is then found in the comparison
+    /// after `-w`. Without that comparison it would stay unwritten, with `Done`.
+    pub fn image_of(&self, operation: &Operation<'_>) -> Option<Vec<u8>> {
+        match &operation.task {
             Task::Verify { .. } => self.bytes.clone().ok(),
-            Task::Change(change) => match change.wanted {
+            Task::Change(change) if is_compared(operation, change) => match change.wanted {
                 Wanted::Write { .. } => self.bytes.clone().ok(),
                 _ => None,
             },
