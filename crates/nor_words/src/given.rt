@@ -2,7 +2,7 @@
 ghost use Rattle.std.specs.Prelude.{◌≡◌, ◌&&◌, ◌||◌, None, Some, false, true, is_some, not, option_map, option_and_then, MatchOption, MatchResult};
 ghost use Rattle.std.specs.Option.{IsSomeAnd};
 ghost use Rattle.clap.specs.Words.{found_of, rows_of};
-ghost use Rattle.nor_words.specs.Given.{given_in, hardware_given_in, is_set_in, operations, is_new_content, asks_change, takes_regions};
+ghost use Rattle.nor_words.specs.Given.{given_in, hardware_given_in, operations, is_new_content, asks_change, takes_regions};
 ghost use Rattle.nor_words.specs.Faults.{first_fault, has_unneeded, has_wrong_journal, has_wrong_regions, is_no, passes_test, usage_faults};
 ghost use Rattle.nor_words.specs.Job.{IsAsked, IsHardwareAsked, IsJournalUse, IsOperation, IsRegions, IsTask, IsWantedByArguments, IsWrongOperation, LacksProgrammer};
 ghost use Rattle.nor_words.specs.Numbers.{range_of};
@@ -10,6 +10,7 @@ ghost use Rattle.nor_words.specs.Programmer.{IsProgrammer, has_stop, is_programm
 ghost use Rattle.nor_words.specs.Stops.{stops_of};
 ghost use Rattle.nor_words.specs.Text.{reads};
 
+use crate::given::flags::is_set;
 use crate::job::{Change, ChipJob, HardwareJob, Job, JournalUse, Operation, Regions, Task, Wanted};
 use crate::numbers::read_range;
 use crate::programmer::Programmer;
@@ -20,6 +21,7 @@ use arrayvec::ArrayVec;
 use clap::ArgMatches;
 use nor_probe::ChipName;
 
+mod flags;
 mod reasons;
 
 // A value of `-p` without a fault.
@@ -393,15 +395,5 @@ impl<'a> Given<'a> {
             (None, None, None) if self.wp_list => Task::WpList,
             (None, None, None) => Task::Probe,
         }
-    }
-}
-
-// True if the flag is set: `clap` then has the value `true` for it.
-fn is_set(matches: &ArgMatches<'_>, flag: &str) -> bool
-    ensures { result ≡ is_set_in (rows_of (found_of matches.now)) flag.now }
-{
-    match matches.get_str(flag) {
-        Some(value) => value == "true",
-        None => false,
     }
 }

@@ -14,6 +14,7 @@
 //! - `words.rt`: `request_of`, `operation_of` for programs for hardware, and the usage faults
 //! - `options.rt`: the options, as `clap` parses them and as the help shows them
 //! - `given.rt`: the values of the options; the job that they ask for, or the first fault that they have
+//! - `given/flags.rt`: whether a flag is set
 //! - `given/reasons.rt`: the reason of each fault that the options have
 //! - `reasons.rt`: the types of reasons
 //! - `flaws.rt`: the reason why the value of `-p` is wrong

@@ -1,6 +1,6 @@
 use Rattle.std.proofs.Common.{rules}
 use Rattle.clap.proofs.WalkLemmas.{first_value-rows}
-use Rattle.nor_words.proofs.given.is_set.Goals as goal
+use Rattle.nor_words.proofs.given.flags.is_set.Goals as goal
 
 pub returns-in-Some : goal.returns-in-Some
 returns-in-Some c = search (rules, first_value-rows)

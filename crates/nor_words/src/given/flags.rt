@@ -1,0 +1,16 @@
+//! The flags, which take no value.
+ghost use Rattle.std.specs.Prelude.{◌≡◌};
+ghost use Rattle.clap.specs.Words.{found_of, rows_of};
+ghost use Rattle.nor_words.specs.Given.{is_set_in};
+
+use clap::ArgMatches;
+
+/// Returns whether the flag is set: `clap` then has the value `true` for it.
+pub fn is_set(matches: &ArgMatches<'_>, flag: &str) -> bool
+    ensures { result ≡ is_set_in (rows_of (found_of matches.now)) flag.now }
+{
+    match matches.get_str(flag) {
+        Some(value) => value == "true",
+        None => false,
+    }
+}
