@@ -27,8 +27,9 @@ type PartsBus<'a> = SplittingBus<Paced<BatchingBus<DevicePort>, &'a HostRuntime>
 /// select if `cs=` is given. Then wakes the chip, and sends no other transaction. A terminal shows, before the first
 /// exchange, what to do if no reply ever arrives. Returns a programmer fault from 1 to 11 if one of these steps fails.
 ///
-/// If `image` is given, data that equals `image` is read once. It must be the image with which the job compares the chip
-/// in the end: then no data that was read once gets into a journal, and no sector that was misread stays unnoticed.
+/// If `image` is given, data that equals `image` is read once. It must be the image with which the job compares the
+/// chip at its end. Then no data that was read once gets into a journal. After a write, that comparison finds a sector
+/// that was misread as equal; with `-v` it stays unnoticed.
 pub fn connect<'a>(
     rt: &'a HostRuntime,
     setting: Setting<'_>,

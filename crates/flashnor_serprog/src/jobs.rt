@@ -4,7 +4,8 @@ ghost use Rattle.nor_files.specs.Files.{Name, OthersStay, KeepsFile, is_lawful};
 ghost use Rattle.nor_lines.specs.Tasks.{journal_of, made_by};
 ghost use Rattle.nor_lines.specs.Readings.{HasVerified};
 ghost use Rattle.nor_lines.specs.Stored.{IsNot};
-ghost use Rattle.flashnor_serprog.specs.Jobs.{DoesTask, FailsChange, FailsPerform, FailsToAdmit, FailsToFill, FailsToFind};
+ghost use Rattle.flashnor_serprog.specs.Jobs.{DoesTask, FailsChange, FailsPerform, FailsToAdmit, FailsToFill};
+ghost use Rattle.flashnor_serprog.specs.Jobs.{FailsToFind};
 ghost use Rattle.flashnor_serprog.specs.Jobs.{FailsToRead, HasChangedBy, HasIdentified, HasLookedUp};
 ghost use Rattle.flashnor_serprog.specs.Jobs.{HasReadChip, HasRestored, HasRunRestore, IsBufferOf, IsChangeable};
 ghost use Rattle.flashnor_serprog.specs.Jobs.{IsNamedFirst, IsNoJournal, ReportsFound, ReportsSize};
@@ -169,8 +170,8 @@ fn change_chip<'a, R: Store, B: Progress>(
     change: &Change<'a>,
     sources: Sources,
 ) -> Result<Outcome, JobFault<'a>>
-    ensures ok { IfOk result (HasChangedBy operation.now change.now sources.included sources.bytes.items change.now.journal_use
-        (R.state rt.old).view (R.state rt.new) (B.state bus.old) (B.state bus.new)) }
+    ensures ok { IfOk result (HasChangedBy operation.now change.now sources.included sources.bytes.items
+        change.now.journal_use (R.state rt.old).view (R.state rt.new) (B.state bus.old) (B.state bus.new)) }
     ensures err { IfErr result (FailsChange operation.now change.now sources.included sources.bytes.items
         change.now.journal_use (R.state rt.old).view (R.state rt.new) (B.state bus.old) (B.state bus.new)) }
     ensures others { is_lawful (R.state rt.old).view ≡ true → (name : Name)
@@ -224,7 +225,8 @@ pub fn changes_bytes(wanted: Wanted<'_>) -> bool
 
 // Returns the target of a change, which is the buffer of its session. An erase has FFh for each byte of the chip, a
 // write the bytes of its image; with `ranges`, the bytes outside them are the chip's own. A protection range has no
-// target, so its buffer is `bytes`. For a write or an erase the chip is identified, and must be one that may be changed.
+// target, so its buffer is `bytes`. For a write or an erase the chip is identified, and must be one that may be
+// changed.
 fn fill_buffer<'a, B: Progress>(
     bus: &mut B,
     named: Option<ChipName>,

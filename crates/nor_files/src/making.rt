@@ -39,9 +39,9 @@ where
     }
 }
 
-/// Creates the named file, or opens it for a log. A regular file is locked, and truncated only later. A journal is never
-/// truncated, since it may be the only way to restore a chip: the error is `There`. Any other kind of file, such as a
-/// FIFO, a device or a terminal, is opened as it is, without a lock.
+/// Creates the named file, or opens it for a log. A regular file is locked, and truncated only later. A journal is
+/// never truncated, since it may be the only way to restore a chip: the error is `There`. A FIFO, a device or a
+/// terminal is opened as it is, without a lock.
 pub fn open_log<R: Files>(files: &R, name: &str) -> Result<LogFile<R::File>, CreateFault>
 where
     R::File: LockFile,

@@ -289,8 +289,8 @@ pub trait Store: AllocGlobal {
     fn is_kept(&self, name: &str) -> bool
         ensures { result ≡ false → (state self.now).view.nature.fails (Unwritten name.now) ≡ true };
 
-    /// Creates or truncates the named file, and lends it as a log. `Disk` refuses to truncate a journal. It truncates an
-    /// existing file only before the first write, or at a flush if nothing was written.
+    /// Creates or truncates the named file, and lends it as a log. `Disk` refuses to truncate a journal. It truncates
+    /// an existing file only before the first write, or at a flush if nothing was written.
     fn log_in(&mut self, name: &str) -> Result<Self::Log, CreateFault>
         ensures nature { (state self.new).view.nature ≡ (state self.old).view.nature }
         ensures alone { is_lawful (state self.old).view ≡ true

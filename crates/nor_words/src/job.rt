@@ -60,8 +60,8 @@ pub enum Task<'a> {
     WpStatus,
     /// `--wp-list`: list the ranges that can be protected.
     WpList,
-    /// `-r FILE`: read the chip into the named file. A program for hardware also has `--backup FILE`, which is this task
-    /// with `Operation::is_backup`.
+    /// `-r FILE`: read the chip into the named file. A program for hardware also has `--backup FILE`, which is this
+    /// task with `Operation::is_backup`.
     Read {
         file: &'a str,
         regions: Option<Regions<'a>>,
