@@ -152,7 +152,7 @@ serprog: toolchain ## runs the program for serial programmers on the cases of te
 agree: ## compares help, pages and completion with the sources
 	@bash scripts/agree.sh
 
-statement: ## makes docs/STATEMENT.md and docs/STATEMENT-FULL.md from the sources
+statement: ## makes docs/STATEMENT.md, and its appendices out/STATEMENT-FULL.md, from the sources
 	@python3 scripts/statement.py
 
 lint: ## checks each script with its linter (shellcheck, a C compiler, pyflakes)

@@ -3,7 +3,8 @@
 
 The pages are README.md, CONTRIBUTING.md, CHANGELOG.md, docs/, the README files of tests/, the manual pages, and the
 header comment (`//!`) of each file of crates/*/src. A word is taken as a path if it has the ending of a file's name, or
-begins with the name of a directory; `*` or `NAME` as a part of it matches anything. `specs/Chip` and the like are files
+begins with the name of a directory, but not of `out`, which has built files; `*` or `NAME` as a part of it matches
+anything. `specs/Chip` and the like are files
 of a crate that the line or its title names; in a header comment, of that crate. In header comments and on the pages of
 NAMING, each name between backticks must also be the name of something. Each missing file or name is printed with its
 line, and then the exit status is 1.
@@ -60,6 +61,8 @@ def names_of_crates():
 def is_path(word):
     """Returns whether a word is taken as the path of a file or a directory."""
     first, _, rest = word.partition("/")
+    if first == "out":
+        return False
     if rest and first in names_of_crates():
         return True
     return first in FOLDERS and "/" in word or re.search(rf"\w\.({'|'.join(ENDINGS)})$", word) is not None

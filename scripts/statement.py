@@ -1,12 +1,12 @@
 #!/usr/bin/env python3
-"""scripts/statement.py [--check]: the pages docs/STATEMENT.md and docs/STATEMENT-FULL.md, made from the sources.
+"""scripts/statement.py [--check]: writes docs/STATEMENT.md and out/STATEMENT-FULL.md from the sources.
 
 STATEMENT.md has the contracts of HEADLINE and each definition of specs/ and type of src/ that they need, in an order in
 which each is explained before it is used. It describes the definitions of NAMES, and leaves out fields of the records
-of FIELDS. STATEMENT-FULL.md has all these, and further contracts, in appendices. A definition by one equation has its
-signature in it. With --check the script compares the pages with what it would write, prints each difference, and ends
-with status 1 if there is one. It fails if a name isn't found, if SUBJECTS lacks the file of a definition, if
-docs/NOTATION.md doesn't explain a name of a library, and if STATEMENT.md is too long.
+of FIELDS. STATEMENT-FULL.md, which isn't committed, has all these, and further contracts, in appendices. A definition
+by one equation has its signature in it. With --check the script writes nothing: it compares STATEMENT.md with what it
+would write, prints each difference, and ends with status 1 if there is one. It fails if a name isn't found, if SUBJECTS
+lacks the file of a definition, if docs/NOTATION.md doesn't explain a name of a library, and if STATEMENT.md is too long.
 """
 import copy
 import difflib
@@ -21,11 +21,11 @@ from sources import TOP, Word, fail, source
 from statement_lines import count, lines_of
 from statement_parts import APPENDICES, ELSEWHERE, FIELDS, HEADLINE, MOST_LINES, NAMES, NOTES, SUBJECTS
 
-PAGE, FULL, NOTATION = "docs/STATEMENT.md", "docs/STATEMENT-FULL.md", "docs/NOTATION.md"
+PAGE, FULL, NOTATION = "docs/STATEMENT.md", "out/STATEMENT-FULL.md", "docs/NOTATION.md"
 PROSE = "scripts/statement_page.md"
 FULL_HEAD = """# The statement: appendices
 
-[STATEMENT.md](STATEMENT.md) has the headline and what it needs. This page has everything else on which its calls, and
+[STATEMENT.md](../docs/STATEMENT.md) has the headline and what it needs. This page has everything else on which its calls, and
 the files of a run, rest: the definitions that STATEMENT.md only describes, the whole of each record of which it has
 some fields, and further contracts with all their clauses. Each appendix begins with what breaks if it is wrong. A
 definition is on the first of these pages and appendices that needs it. `make statement` makes this page from the
@@ -71,7 +71,7 @@ def with_fields(word, kept):
     if missing := set(kept) - set(re.findall(r"(?m)^  pub (\w+) :", "\n".join(lines))):
         fail(f"'{word.name}' has no field {' '.join(sorted(missing))}")
     part = copy.copy(word)
-    part.code = [*lines, f"  -- also, in STATEMENT-FULL.md: {', '.join(others)}"]
+    part.code = [*lines, f"  -- also, in the appendices: {', '.join(others)}"]
     return part
 
 
@@ -194,10 +194,10 @@ def letters():
     return {title: f"{chr(ord('A') + at)}. {title}" for at, title in enumerate(APPENDICES)}
 
 
-def link(title, text):
-    """Returns a link to an appendix."""
+def link(title):
+    """Returns a link from the head of the appendices to one of them."""
     anchor = re.sub(r"[^\w -]", "", letters()[title]).lower().replace(" ", "-")
-    return f"[{text}]({FULL.rpartition('/')[2]}#{anchor})"
+    return f"[{letters()[title]}](#{anchor})"
 
 
 def names(page, appendices):
@@ -211,7 +211,7 @@ def names(page, appendices):
     for title, part in appendices.items():
         mine = [word for word in part.uses if word in left]
         mine.sort(key=lambda word: list(NAMES).index(word.name))
-        lines += [f"From appendix {link(title, letters()[title])}:", ""] if mine else []
+        lines += [f"From appendix {letters()[title]}:", ""] if mine else []
         lines += [*(f"- {NAMES[word.name]}" for word in mine), *([""] if mine else [])]
         left -= set(mine)
     if left:
@@ -257,12 +257,11 @@ def pages():
     check_notation(libraries)
     told = f"{sum(len(part.uses) for part in appendices.values()):,} definitions, " \
         f"{sum(part.lines() for part in appendices.values()):,} lines"
-    contents = [f"- {link(title, letters()[title]).replace(FULL.rpartition('/')[2], '')}: {part.told()}"
-                for title, part in appendices.items()]
+    contents = [f"- {link(title)}: {part.told()}" for title, part in appendices.items()]
     defined = body(page, set(), itertools.count(1))
     check_prose(texts.read(PROSE), [*defined, *full])
     prose = texts.read(PROSE).replace("{told}", page.told())
-    prose = re.sub(r"\{(\w)\}", lambda at: link(list(APPENDICES)[ord(at[1]) - ord("A")], at[1]), prose)
+    prose = re.sub(r"\{(\w)\}", lambda at: list(letters().values())[ord(at[1]) - ord("A")][0], prose)
     prose = prose.replace("{names}", "\n".join(names(page, appendices)))
     prose = prose.replace("{definitions}", "\n".join(defined))
     head = FULL_HEAD.format(told=f"{told} without comments and blanks")
@@ -283,13 +282,14 @@ def check(path, lines):
 
 
 def main():
-    """Writes the pages, or compares them with those that are there."""
+    """Writes the pages, or compares the one that is committed with what it would write."""
     sys.stdout.reconfigure(encoding="utf-8")
     found, told = pages()
     print(f"statement: {told}")
     if sys.argv[1:] == ["--check"]:
-        sys.exit(sum(check(path, lines) for path, lines in found.items()) > 0)
+        sys.exit(check(PAGE, found[PAGE]) > 0)
     for path, lines in found.items():
+        (TOP / path).parent.mkdir(exist_ok=True)
         (TOP / path).write_text("\n".join(lines) + "\n", encoding="utf-8")
 
 

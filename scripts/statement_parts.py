@@ -1,4 +1,4 @@
-"""What docs/STATEMENT.md and docs/STATEMENT-FULL.md have: contracts, names, appendices, and the order of subjects.
+"""What docs/STATEMENT.md and out/STATEMENT-FULL.md have: contracts, names, appendices, and the order of subjects.
 
 This is the only file of the scripts that names definitions; scripts/statement_page.md has the prose of STATEMENT.md.
 """

@@ -17,7 +17,6 @@ WORDS, FAULTS, LIMITS = (["env", "PYTHONPATH=scripts", "python3", f"scripts/agre
                          for part in ("words", "faults", "limits"))
 ROWS = ["python3", "scripts/promises.py"]
 PATHS = ["python3", "scripts/paths.py"]
-COUNTS = ["python3", "scripts/counts.py"]
 STATEMENT = ["python3", "scripts/statement.py", "--check"]
 CRATES = ["python3", "scripts/crates.py"]
 TWICE = ["python3", "scripts/twice.py"]
@@ -28,16 +27,9 @@ PLANTS = {
     "a clause of another call": (
         AGREE, "README.md", r"`session`: `unsent`, `same`, `restorable`", "`probe`: `unsent`, `same`, `restorable`",
         r"README.md:\d+: `probe` has no clause `unsent`: crates/nor_probe/src/"),
-    "a clause of a call's neighbour": (
-        ROWS, "README.md", r"`session`, `done`", "`session`, `back`", "`session` has no clause `back`"),
-    "a premise for a clause": (
-        ROWS, "README.md", r"`session`, `done`", "`session`, `steady`", "`session` has no clause `steady`"),
     "what a caller owes for a clause": (
         ROWS, "docs/PROMISES.md", r"`rehearse`, `restores_original`", "`rehearse`, `fresh`",
         "`rehearse` has no clause `fresh`"),
-    "the clause that a row had": (
-        ROWS, "docs/PROMISES.md", r"`rehearse`, `honest` \(`IsNoBusError`\)", "`rehearse`, `fails`",
-        "`rehearse` has no clause `fails`"),
     "a call that isn't there": (
         ROWS, "docs/PROMISES.md", r"`Layout::include`: ", "`Layout::includes`: ",
         "there is no call, law or definition `Layout::includes`"),
@@ -50,25 +42,17 @@ PLANTS = {
     "a definition that the clause doesn't say": (
         ROWS, "docs/PROMISES.md", r"`honest` \(`IsNoBusError`\)", "`modelled` (`IsNoBusError`)",
         "`modelled` doesn't say `IsNoBusError`"),
-    "a field of another clause": (
-        ROWS, "docs/PROMISES.md", r"`done` \(`latch`, ", "`spares` (`latch`, ", "`spares` doesn't say `latch`"),
     "a field that a record hasn't": (
         ROWS, "docs/PROMISES.md", r"`MayChange`: `gentle`", "`MayChange`: `gently`", "`MayChange` has no `gently`"),
     "a law among laws that isn't there": (
         ROWS, "docs/PROMISES.md", r"`restore_written_over`, `same_written_over`",
         "`restore_written_over`, `same_written`", "no clause `same_written`"),
-    "a clause of an operation that isn't there": (
-        ROWS, "docs/PROMISES.md", r"`write_status`: `leaves` \|", "`write_status`: `leave` |",
-        "`program_page` has no clause `leave`"),
     "two promises as one": (
         ROWS, "docs/PROMISES.md", r"`session`, `restore`: `unwritten`, `spares`",
         "`session`: `unwritten`, `restore`: `spares`", "two colons between names"),
     "a parenthesis that is open": (
         ROWS, "docs/PROMISES.md", r"`done` \(`IsReportedFor`\) \|", "`done` (`IsReportedFor` |",
         "a parenthesis isn't closed"),
-    "a test that isn't there": (
-        ROWS, "docs/PROMISES.md", r"`a_busy_chip_is_waited_for`", "`a_busy_chip_waits`",
-        "there is no test `a_busy_chip_waits`"),
     "a function for a test": (
         ROWS, "docs/PROMISES.md", r"`a_busy_chip_is_waited_for`", "`stop_at_each`",
         "there is no test `stop_at_each`"),
@@ -77,8 +61,6 @@ PLANTS = {
     "a transcript that isn't there": (
         ROWS, "docs/PROMISES.md", r"`all sets of W25Q64FV`", "`all sets of W25Q32FV`",
         "has no case `all sets of W25Q32FV`"),
-    "a definition of a premise that isn't there": (
-        ROWS, "docs/PROMISES.md", r"`AreAtRest` \|", "`AreAtRests` |", "there is no name `AreAtRests`"),
     "a premise that isn't there": (
         ROWS, "docs/PROMISES.md", r"\| `IsModelled` \|", "| `IsModeled` |", "there is no name `IsModeled`"),
     "a table without its column": (
@@ -87,21 +69,10 @@ PLANTS = {
     "an edit that isn't there": (
         AGREE, "docs/PROMISES.md", r"crates/\*/must-fail", "nor_scan/must-fail/seal_when_stoped.edit",
         r"docs/PROMISES.md:\d+: there is no nor_scan"),
-    "an edit of another crate": (
-        PATHS, "docs/PROMISES.md", r"crates/\*/must-fail", "nor_plan/must-fail/seal_when_stopped.edit",
-        "there is no nor_plan/must-fail/seal_when_stopped.edit"),
-    "a case's file that isn't there": (
-        PATHS, "docs/PROMISES.md", r"`tests/cases/layouts\.case`", "`tests/cases/layout.case`",
-        "there is no tests/cases/layout.case"),
-    "a source of a page that isn't there": (
-        PATHS, "README.md", r"docs/DECISIONS\.md", "docs/REASONS.md", "there is no docs/REASONS.md"),
     "a crate that the page doesn't name": (
         PATHS, "docs/ARCHITECTURE.md", r"\| `nor_geometry` \|.*\n", "", "docs/ARCHITECTURE.md names no crate nor_geometry"),
     "a source without a head": (
         PATHS, "crates/nor_plan/src/set.rt", r"//!.*\n", "", "crates/nor_plan/src/set.rt has no head"),
-    "a head's file that isn't there": (
-        PATHS, "crates/nor_read/src/lib.rt", r"`specs/Reading\.antt`", "`specs/Readings.antt`",
-        r"crates/nor_read/src/lib.rt:\d+: there is no specs/Readings"),
     "a head's file of another crate": (
         PATHS, "crates/nor_read/src/lib.rt", r"`specs/Reading\.antt`", "`specs/Saving.antt`",
         "there is no specs/Saving.antt"),
@@ -110,7 +81,7 @@ PLANTS = {
     "a page's definitions in another crate": (
         PATHS, "docs/ARCHITECTURE.md", r"`specs/Within` says", "`specs/Guard` says", "there is no specs/Guard"),
     "an option that the help hasn't": (
-        WORDS, "tests/cases/help.case", r"(?m)^\|       --unlock .*\n", "",
+        AGREE, "tests/cases/help.case", r"(?m)^\|       --unlock .*\n", "",
         "options: manual has '--unlock', help hasn't"),
     "an option that the completion offers": (
         WORDS, "completion/flashnor.bash", r"--journal --rehearse -h", "--journal --rehearse --force -h",
@@ -129,10 +100,8 @@ PLANTS = {
     "a size of an emulated chip": (
         WORDS, "README.md", r"TINY64 \(64 KiB", "TINY64 (32 KiB", "emulated chips: README has .*32768"),
     "an option that flashnor hasn't, beside flashrom's": (
-        AGREE, "docs/FLASHROM.md", r"with `--unlock`", "with `--unlocks`",
+        WORDS, "docs/FLASHROM.md", r"with `--unlock`", "with `--unlocks`",
         "all options: pages has '--unlocks', help hasn't"),
-    "a common option that flashnor hasn't": (
-        WORDS, "docs/FLASHROM.md", r"`-v FILE`, `-n`", "`-v FILE`, `-N`", "all options: pages has '-N', help hasn't"),
     "a key that flashnor hasn't, beside flashrom's": (
         WORDS, "docs/FLASHROM.md", r"`busy=N`", "`busier=N`",
         "keys with values: FLASHROM has 'busier=N', help hasn't"),
@@ -142,66 +111,25 @@ PLANTS = {
     "a test that isn't there, for what only tests show": (
         ROWS, "docs/TESTING.md", r"`a_spoilt_reply_is_taken_as_it_is`", "`a_spoilt_reply_is_taken_anyway`",
         r"docs/TESTING.md:\d+: there is no test `a_spoilt_reply_is_taken_anyway`"),
-    "a suite's goal that isn't there": (
-        ROWS, "docs/TESTING.md", r"\| `make storm` \|", "| `make storms` |", "the Makefile has no goal `storms`"),
-    "a mutant of the random test that isn't there": (
-        ROWS, "docs/TESTING.md", r"\| `last_touched_sector_left_out`;", "| `last_touched_sector`;",
-        r"docs/TESTING.md:\d+: there is no name `last_touched_sector`"),
-    "a page without its table of tests": (
-        ROWS, "docs/TESTING.md", r"\| Behaviour \| Test \|", "| Behaviour | Shown by |",
-        "TESTING.md has no table with a column 'Test'"),
-    "a number of cases": (
-        AGREE, "docs/TESTING.md", r"\d+ cases \|", "7 cases |", r"TESTING.md says 'about 7 cases', and it is \d+"),
-    "a number of transcripts": (
-        COUNTS, "docs/TESTING.md", r"(examples \| about )\d+ cases", "examples | about 70 cases",
-        r"TESTING.md says 'about 70 cases'"),
-    "a row of counts that isn't there": (
-        COUNTS, "docs/TESTING.md", r"\| Cases of the built", "| Cases of a built",
-        "TESTING.md has no row 'Cases of the built program'"),
-    "a version of the Makefile": (
-        AGREE, "Makefile", r"(?m)^VERSION := .*", "VERSION := 9.9", "version: Makefile has '9.9', parser hasn't"),
-    "a version of the manual page": (
-        WORDS, "man/flashnor.8", r'"flashnor [^"]*"', '"flashnor 9.9"',
-        "version: manual has '9.9', parser hasn't"),
-    "a version of what has changed": (
-        WORDS, "CHANGELOG.md", r"(?m)^## \[\d[^]]*", "## [9.9", "version: CHANGELOG has '9.9', parser hasn't"),
     "a version without its date": (
         WORDS, "CHANGELOG.md", r"(?m)^(## \[\d[^]]*\]) - .*", "## [1.0]", "version: nothing found in CHANGELOG"),
-    "a version of the program": (
-        WORDS, "crates/nor_words/src/options.rt", r'about: "flashnor [^:]*:', 'about: "flashnor 9.9:',
-        "version: parser has '9.9', manual hasn't"),
     "a message of an error": (
         AGREE, "man/flashnor.8", r"(?m)^8\trange not", "8\trange never",
         "pages has 'Error 8: range never offered.', sources hasn't"),
-    "a message of an error in the sources": (
-        FAULTS, "crates/nor_request/src/refusal.rt", r'"range not offered"', '"range unknown"',
-        "sources has 'Error 8: range unknown.', pages hasn't"),
     "an error that a page shows": (
         FAULTS, "README.md", r"Error 12: stopped", "Error 12: halted", "errors shown: README has 'Error 12: halted.'"),
-    "an error less": (
-        FAULTS, "man/flashnor.8", r"(?m)^18\t.*\n", "", "pages hasn't"),
     "an error less of hardware": (
         FAULTS, "docs/HARDWARE.md", r"(?m)^\| 13 \| .*\n", "", "sources has 'Error 13: timeout at _.', pages hasn't"),
-    "a usage fault less": (
-        FAULTS, "man/flashnor.8", r"(?m)^10\t.*\n", "", "numbers of Usage faults: sources has '10', page hasn't"),
     "an option of a usage fault": (
         FAULTS, "man/flashnor.8", r"(?m)^8\t\\-n or", "8\t\\-c or", "options of usage faults: manual has '8 -c'"),
-    "a layout fault of another number": (
-        FAULTS, "man/flashnor.8", r"(?m)^3\tthe end is", "9\tthe end is", "numbers of Layout faults: page has '9'"),
     "a file fault in two lines": (
         FAULTS, "man/flashnor.8", r"(?m)^5\tT\{\nhas two", "6\tT{\nhas two", "numbers of File faults: page has '6'"),
     "an SFDP fault of another number": (
         FAULTS, "docs/SPECIFICATION.md", r"\| 8 \| the 4 KiB", "| 9 | the 4 KiB",
         "numbers of SFDP faults: page has '9'"),
-    "a journal fault of another number": (
-        FAULTS, "man/flashnor-journal.5", r"(?m)^7\tthe digest", "8\tthe digest",
-        "numbers of Journal faults: page has '8'"),
     "the length of a journal": (
         AGREE, "man/flashnor-journal.5", r"takes 61 bytes", "takes 53 bytes",
         "bytes of an empty journal: 61 in the sources, journal has 53"),
-    "a limit of the sources": (
-        LIMITS, "crates/nor_layout/src/region.rt", r"REGIONS: usize = 64", "REGIONS: usize = 65",
-        "regions: 65 in the sources, SPECIFICATION has 64"),
     "a limit that no page has": (
         LIMITS, "docs/SPECIFICATION.md", r"65,536 polls in a row", "many polls in a row",
         "polls: 65,536 in the sources, and no page has '# polls in a row'"),
@@ -210,14 +138,8 @@ PLANTS = {
     "a result that isn't printed": (
         FAULTS, "man/flashnor.8", r"(?m)^Mode: open", "Mode: open, idle",
         "lines of results: examples has 'Mode: _, idle'"),
-    "an equation that a page hasn't": (
-        AGREE, "docs/STATEMENT-FULL.md", r"(?m)^most_status_writes _ unlock = .*\n", "",
-        "STATEMENT-FULL.md is to have 'most_status_writes _ unlock = "),
-    "a field that the headline's page hasn't": (
-        STATEMENT, "docs/STATEMENT.md", r"(?m)^  restorable : .*\n", "", "STATEMENT.md is to have '  restorable : "),
-    "an appendix without what breaks": (
-        STATEMENT, "docs/STATEMENT-FULL.md", r"(?m)^\*\*If this is wrong, .*\n", "",
-        r"STATEMENT-FULL.md is to have '\*\*If this is wrong, "),
+    "a field that the page hasn't": (
+        AGREE, "docs/STATEMENT.md", r"(?m)^  restorable : .*\n", "", "STATEMENT.md is to have '  restorable : "),
     "a page that is too long": (
         STATEMENT, "crates/nor_session/specs/Headline.antt", r"(?m)^  pub unsent : ",
         "".join(f"  pub unsent{at} : vault.sealed ≡ vault.sealed\n" for at in range(40)) + "  pub unsent : ",
@@ -245,15 +167,9 @@ PLANTS = {
         "NAMES of scripts/statement_parts.py has what STATEMENT.md doesn't use: OnlyReads"),
     "a name that no appendix has": (
         STATEMENT, "scripts/statement_parts.py", r'(?m)^ +"Ranges": "nor_layout.*\n', "", "no appendix has Ranges"),
-    "a field of the page that isn't there": (
-        STATEMENT, "scripts/statement_parts.py", r'"made code is_wanted kept"', '"made code is_wanted keeps"',
-        "'IsDone' has no field keeps"),
     "a clause of the page that isn't there": (
         STATEMENT, "scripts/statement_parts.py", r"sessions.rt keeps always", "sessions.rt keeps ever",
         "'session' has no clause ever"),
-    "a clause of the summary that another call has": (
-        ROWS, "docs/STATEMENT.md", r"`restore`: `within` \|", "`restore`: `restorable` |",
-        r"STATEMENT.md:\d+: `restore` has no clause `restorable`"),
     "a name of the prose that no definition has": (
         STATEMENT, "scripts/statement_page.md", r"\(`RanOut`, `most_of`\)", "(`RunsOut`, `most_of`)",
         "names RunsOut, which no definition has"),
@@ -262,17 +178,9 @@ PLANTS = {
         "describes another name than IsChip"),
     "a name of a library without its notation": (
         STATEMENT, "docs/NOTATION.md", r"`bit_and a b`, ", "", "docs/NOTATION.md doesn't explain bit_and"),
-    "a sign without its notation": (
-        STATEMENT, "docs/NOTATION.md", r"`A ⊎ B`, ", "", "docs/NOTATION.md doesn't explain ⊎"),
     "a notation that no formula has": (
         STATEMENT, "docs/NOTATION.md", r"\| `codes s`, ", "| `codes s`, `words s`, ",
         "docs/NOTATION.md explains words, which the pages don't have"),
-    "a comment between equations": (
-        STATEMENT, "crates/nor_session/specs/Session.antt", r"(?m)^most_status_writes _ unlock",
-        "-- else two\nmost_status_writes _ unlock", "is to have '-- else two'"),
-    "an equation of nothing": (
-        STATEMENT, "crates/nor_session/specs/Session.antt", r"(?m)^most_status_writes _ unlock",
-        "most_status_write _ unlock", "'most_status_write _ unlock = .*' belongs to no definition"),
 }
 
 if shutil.which("rt"):
@@ -281,18 +189,15 @@ if shutil.which("rt"):
     PLANTS["a kit with another logic"] = (
         WORDS, "README.md", r"logic `\w+`", "logic `none`", "the kit's logic: README has 'none', rt hasn't")
 
-# Changes of the sources' layout that change no meaning: the file, the pattern, and the text that replaces the match.
+# Changes of the sources' layout that change no meaning: the part that reads the file, the file, the pattern, and the text
+# that replaces the match. tests/agree/test_sources.py has those of functions and their contracts.
 HARMLESS = {
-    "a requires with a name": ("crates/nor_journal/src/records.rt", r"requires \{ 4100", "requires there { 4100"),
-    "a signature on three lines": (
-        "crates/nor_words/src/numbers.rt", r"read_unique\(text: &str\)", "read_unique(\n    text: &str\n)"),
-    "a comment between an attribute and its fn": (
-        "crates/rows/src/once.rt", r"#\[test\]\n(?=fn a_stop_ends_each_call)", "#[test]\n// {each} of them\n"),
-    "a constant on three lines": ("crates/nor_layout/src/region.rt", r"usize = 64;", "usize =\n    // most\n    64;"),
+    "a constant on three lines": (
+        LIMITS, "crates/nor_layout/src/region.rt", r"usize = 64;", "usize =\n    // most\n    64;"),
     "a message in another form": (
-        "crates/nor_request/src/refusal.rt", r'f\.write_str\("stopped"\)',
+        FAULTS, "crates/nor_request/src/refusal.rt", r'f\.write_str\("stopped"\)',
         '{\n                "stopped".fmt(f)\n            }'),
-    "a key on two lines": ("crates/nor_words/src/flaws.rt", r'"busy" =>', '"busy"\n                =>'),
+    "a key on two lines": (WORDS, "crates/nor_words/src/flaws.rt", r'"busy" =>', '"busy"\n                =>'),
 }
 
 
@@ -353,7 +258,7 @@ class Plants(unittest.TestCase):
             trees = Trees(folder, 1)
             for name, change in HARMLESS.items():
                 with self.subTest(name):
-                    self.assertEqual(trees.run(AGREE, *change), (0, []))
+                    self.assertEqual(trees.run(*change), (0, []))
 
 
 if __name__ == "__main__":
