@@ -22,7 +22,6 @@ part scripts/agree/limits.py                       # limits and other numbers
 part scripts/statement.py --check                  # the pages of the statement: what they have, and their size
 part scripts/promises.py                           # names of calls, clauses and tests in tables
 part scripts/paths.py                              # names of files
-part scripts/counts.py                             # how many cases and runs there are
 part scripts/crates.py                             # the dependencies of each crate
 part scripts/twice.py                              # definitions with one name
 exit $status

@@ -7,9 +7,9 @@ import tempfile
 import unittest
 
 TOP = pathlib.Path(__file__).resolve().parent.parent.parent
-PASSED = "echo 5 passed, 0 failed"
+PASSED = "echo 20000 passed, 0 failed"
 SKIPPED = "echo 'skipped: kill, since there is no C compiler (cc)'"
-LEFT_OUT = "echo 'left out: a case (there is no setpriv)'; echo 5 passed, 0 failed"
+LEFT_OUT = "echo 'left out: a case (there is no setpriv)'; echo 20000 passed, 0 failed"
 
 
 class Gate(unittest.TestCase):
@@ -25,7 +25,6 @@ class Gate(unittest.TestCase):
                          "tests/examples.py", "tests/make.py", "tests/clone.sh", "tests/run.py", "tests/sweep/run.sh",
                          "tests/kill/run.sh", "tests/serprog/self.py", "tests/serprog/run.py"):
                 self.put(top / name, "#!/bin/sh\n" + parts.get(name, PASSED))
-            self.put(top / "scripts/counts.py", "")
             # (the gate removes storm's program, and this part builds it)
             self.put(top / "scripts/proved.sh", "#!/bin/sh\nmkdir -p crates/storm/out && "
                                                 f"cp tests/make.py crates/storm/out/storm\n{PASSED}")
@@ -42,19 +41,20 @@ class Gate(unittest.TestCase):
     def test_all_passed(self):
         for environment in {}, {"CI": "true"}:
             status, lines = self.run_gate({}, **environment)
-            self.assertEqual((status, lines[-2:]), (0, ["62 passed, 0 failed, 0 skipped", "62 passed, 0 failed"]))
+            self.assertEqual((status, lines[-2:]), (0, ["240001 passed, 0 failed, 0 skipped", "240001 passed, 0 failed"]))
 
-    def test_skipped_is_counted(self):
-        status, lines = self.run_gate({"tests/kill/run.sh": SKIPPED, "tests/run.py": LEFT_OUT})
-        self.assertEqual((status, lines[-2:]), (0, ["57 passed, 0 failed, 2 skipped", "57 passed, 0 failed"]), lines)
-
-    def test_skipped_fails_with_ci(self):
-        status, lines = self.run_gate({"tests/kill/run.sh": SKIPPED, "tests/run.py": LEFT_OUT}, CI="true")
-        self.assertEqual((status, lines[-2:]), (1, ["57 passed, 2 failed, 2 skipped", "57 passed, 2 failed"]), lines)
+    def test_skipped_is_counted_and_fails_with_ci(self):
+        parts = {"tests/kill/run.sh": SKIPPED, "tests/run.py": LEFT_OUT}
+        for environment, failed in ({}, 0), ({"CI": "true"}, 2):
+            status, lines = self.run_gate(parts, **environment)
+            counts = f"220001 passed, {failed} failed"
+            self.assertEqual((status, lines[-2:]), (failed > 0, [f"{counts}, 2 skipped", counts]), lines)
 
     def test_failed(self):
-        status, lines = self.run_gate({"tests/kill/run.sh": "echo kill: 4 passed, 1 failed; exit 1"})
-        self.assertEqual((status, lines[-1]), (1, "61 passed, 1 failed"), lines)
+        for said in ("echo kill: 19999 passed, 1 failed; exit 1", "echo 9 passed, 0 failed", "echo passed", "exit 1",
+                     "echo 20000 passed, 0 failed; exit 1"):
+            status, lines = self.run_gate({"tests/kill/run.sh": said})
+            self.assertEqual((status, lines[-1].split()[2:]), (1, ["1", "failed"]), lines)
 
 
 if __name__ == "__main__":
