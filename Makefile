@@ -158,8 +158,8 @@ statement: ## makes docs/STATEMENT.md, and its appendices out/STATEMENT-FULL.md,
 lint: ## checks each script with its linter (shellcheck, a C compiler, pyflakes)
 	@scripts/lint.sh
 
-quick: toolchain ## makes checks that need no proof, in a few minutes
-	@scripts/quick.sh '$(PROGRAM)'
+quick: toolchain ## makes checks that need no proof, in a few minutes; CRATES='nor_words flashnor' tries only these
+	@scripts/quick.sh '$(PROGRAM)' $(CRATES)
 
 case: toolchain ## plays one case of crates/transcripts/stdin: make case NAME='a read runs on over the end'
 	@scripts/case.sh "$$NAME"

@@ -1,9 +1,10 @@
 #!/usr/bin/env bash
-# scripts/quick.sh [PROGRAM]: makes checks that need no proof, in a few minutes.
+# scripts/quick.sh [PROGRAM [CRATE..]]: makes checks that need no proof, in a few minutes.
 #
 # It checks that the sources are formatted, that the pages agree, and that each crate compiles. It runs the programs as
 # `rt ci` does: with the files `args`, `stdin` and `data/` of their crates, and each must print what `stdout` has and
-# end with the status in `status`. If flashnor or transcripts is built from these sources, it must pass its cases.
+# end with the status in `status`. If crates are given, only these and what they need are compiled and run. If flashnor
+# or transcripts is built from these sources, it must pass its cases.
 # Nothing is proved. The end of the output of what failed is shown, the last line has the counts, and the exit status is
 # 1 if anything failed. Some programs and tests would run for minutes in such a build: `rows` and `bench` are only
 # compiled, and `storm` and `transcripts` are given one case.
@@ -11,6 +12,7 @@ set -euo pipefail
 
 top=$(cd "$(dirname "$0")/.." && pwd)
 program=$(realpath -m "${1:-$top/crates/flashnor/out/flashnor}")
+tried=("${@:2}")
 work=$(mktemp -d)
 trap 'rm -rf "$work"' EXIT
 passed=0
@@ -26,6 +28,13 @@ if ! command -v rt > /dev/null; then
     exit 1
 fi
 cd "$top"
+if ((${#tried[@]} == 0)); then
+    # The largest crates first, so that none of them runs alone at the end.
+    mapfile -t tried < <(du -s crates/*/src | sort -rn | sed 's|.*crates/\(.*\)/src|\1|')
+fi
+for crate in "${tried[@]}"; do
+    [[ -d crates/$crate/src ]] || { echo "there is no crate '$crate'" >&2; exit 1; }
+done
 
 # count NAME STATUS LOG: prints how a step ended, and its output if it failed.
 count() {
@@ -159,10 +168,8 @@ on_built() {
 step "layout of the sources" is_laid_out
 step "the pages agree" bash scripts/agree.sh
 echo "1 passed, 0 failed" > "$work/one_passed"
-# The largest crates first, so that none of them runs alone at the end.
-du -s crates/*/src | sort -rn | sed 's|.*crates/\(.*\)/src|\1|' |
-    xargs -P "${RT_JOBS:-$(nproc)}" -I{} bash -c "try_crate {} '$work' || true"
-for crate in crates/*; do count_try "${crate#crates/}"; done
+printf '%s\n' "${tried[@]}" | xargs -P "${RT_JOBS:-$(nproc)}" -I{} bash -c "try_crate {} '$work' || true"
+while IFS= read -r crate; do count_try "$crate"; done < <(printf '%s\n' "${tried[@]}" | sort)
 on_built "the built program" "$program" tests/run.py "$program"
 on_built "the built transcripts" crates/transcripts/out/transcripts play_transcripts
 echo "quick: $passed passed, $failed failed"

@@ -193,6 +193,11 @@ def tried(tree, expect):
                " ".join([*(f"--data {it}=data/{it}" for it in data), "--", *words]))
     expect("the cases that transcripts is given", re.findall("(?m)^case ", given["transcripts.stdin"]), ["case "])
     expect("the cases that storm is given", given["storm"].split()[-3:], ["--", "1", "1"])
+    shutil.rmtree(tree.work / "tried")
+    status, said = tree.make("quick", "CRATES=rows flashnor nor_plan")
+    expect("a quick look at some crates", (status, said.splitlines()[-1]), (0, "quick: 4 passed, 0 failed"))
+    expect("those crates", {it.stem for it in (tree.work / "tried").iterdir()}, {"rows", "flashnor"})
+    expect("a quick look at no crate", tree.make("quick", "CRATES=nor_plans")[0] != 0, True)
     for what, (crate, script, _) in WRONG_TRIES.items():
         shutil.rmtree(tree.work / "as", ignore_errors=True)
         tree.put(f"as/{crate}", script if "exit" in script else
