@@ -1,8 +1,9 @@
 # shellcheck shell=bash
-# Completion of flashnor's command line for bash, from 3.2 on. Source this file, or install it (make install).
+# Completion of the command lines of flashnor and flashnor-serprog for bash, from 3.2 on. Source this file, or install it
+# (make install).
 #
 # To test it without a keyboard, set COMP_LINE, COMP_POINT, COMP_WORDS and COMP_CWORD as bash does, with ':' and '=' as
-# words of their own, call _flashnor, and read COMPREPLY.
+# words of their own, call _flashnor or _flashnor_serprog, and read COMPREPLY.
 
 # The chips of the table, as -L lists them.
 _flashnor_chips=(W25Q64FV W25Q128FV)
@@ -50,8 +51,8 @@ _flashnor_files() {
     _flashnor_answer "$word" "${names[@]}"
 }
 
-# Offers values of -p: the programmer, its keys (each once), the emulated chips, and files for the keys that name one.
-# The file of a trace is truncated, so only directories are offered for it, as for -r.
+# Offers values of flashnor's -p: the programmer, its keys (each once), the emulated chips, and files for the keys that
+# name one. The file of a trace is truncated, so only directories are offered for it, as for -r.
 _flashnor_programmer() {
     local word=$1 key keys=()
     compopt -o nospace 2> /dev/null
@@ -81,6 +82,29 @@ _flashnor_programmer() {
     esac
 }
 
+# Offers values of flashnor-serprog's -p: the programmer, its keys (each once), and files for dev=.
+_flashnor_serprog_programmer() {
+    local word=$1 key keys=()
+    compopt -o nospace 2> /dev/null
+    if [[ $word != serprog:* ]]; then
+        _flashnor_answer "$word" serprog:
+        return
+    fi
+    local last=${word#serprog:}
+    last=${last##*,}
+    local front=${word%"$last"}
+    case $last in
+        dev=*) _flashnor_files "$word" "${front}dev=" -f ;;
+        *=*) ;;
+        *)
+            for key in dev spispeed cs; do
+                [[ ,${front#serprog:} == *",$key="* ]] || keys+=("$front$key=")
+            done
+            _flashnor_answer "$word" "${keys[@]}"
+            ;;
+    esac
+}
+
 # Offers the regions of the layout file that -l names on this line, except those that -i has already. Offers begin with
 # the part of the word up to its last comma.
 _flashnor_regions() {
@@ -99,32 +123,36 @@ _flashnor_regions() {
 # Succeeds if this word is an operation. A line has only one operation.
 _flashnor_is_operation() {
     case ${1%%=*} in
-        -r | -w | -v | -E | -L | --flash-size | --wp-status | --wp-list | --wp-range | --restore) ;;
+        -r | -w | -v | -E | -L | --flash-size | --wp-status | --wp-list | --wp-range | --restore | --backup) ;;
         *) return 1 ;;
     esac
 }
 
-# Offers the options that the line doesn't have yet, without a second operation.
+# Offers those of the given options that the line doesn't have yet, without a second operation.
 _flashnor_options() {
-    local option given operation='' rest=()
+    local word=$1 option given operation='' rest=()
     for given in "${words[@]:0:${#words[@]}-1}"; do
         _flashnor_is_operation "$given" && operation=$given
     done
-    for option in -p -r -w -v -E --flash-size --wp-status --wp-list --wp-range --restore -L -c -l -i -n --unlock \
-        --journal --rehearse -h; do
+    for option in "${@:2}"; do
         [[ -n $operation ]] && _flashnor_is_operation "$option" && continue
         [[ " ${words[*]:0:${#words[@]}-1} " == *" $option "* ]] || rest+=("$option")
     done
-    _flashnor_answer "$1" "${rest[@]}"
+    _flashnor_answer "$word" "${rest[@]}"
 }
 
-_flashnor() {
-    local words=() word before
+# Stores the words of the line in `words`, the one that is being typed in `word`, and the one before it in `before`.
+_flashnor_begin() {
     COMPREPLY=()
     _flashnor_words
     word=${words[${#words[@]} - 1]}
     before=''
-    ((${#words[@]} > 1)) && before=${words[${#words[@]} - 2]}
+    ((${#words[@]} < 2)) || before=${words[${#words[@]} - 2]}
+}
+
+_flashnor() {
+    local words=() word before
+    _flashnor_begin
     case $before in
         -p) _flashnor_programmer "$word" ;;
         -c) _flashnor_answer "$word" "${_flashnor_chips[@]}" SFDP ;;
@@ -136,10 +164,37 @@ _flashnor() {
             case $word in
                 --restore=*) _flashnor_files "$word" "${word%%=*}=" -f ;;
                 --journal=*) _flashnor_files "$word" "${word%%=*}=" -d ;;
-                *) _flashnor_options "$word" ;;
+                *)
+                    _flashnor_options "$word" -p -r -w -v -E --flash-size --wp-status --wp-list --wp-range --restore \
+                        -L -c -l -i -n --unlock --journal --rehearse -h
+                    ;;
+            esac
+            ;;
+    esac
+}
+
+_flashnor_serprog() {
+    local words=() word before
+    _flashnor_begin
+    case $before in
+        -p) _flashnor_serprog_programmer "$word" ;;
+        -c) _flashnor_answer "$word" "${_flashnor_chips[@]}" SFDP ;;
+        -w | -v | -l | --restore) _flashnor_files "$word" "" -f ;;
+        -r | --journal | --backup) _flashnor_files "$word" "" -d ;;
+        -i) _flashnor_regions "$word" ;;
+        --wp-range) ;;
+        *)
+            case $word in
+                --restore=*) _flashnor_files "$word" "${word%%=*}=" -f ;;
+                --journal=* | --backup=*) _flashnor_files "$word" "${word%%=*}=" -d ;;
+                *)
+                    _flashnor_options "$word" -p -r -w -v -E --backup --restore --flash-size --wp-status --wp-list \
+                        --wp-range -c -l -i --journal --unlock -n -N --noverify-all --quick -h
+                    ;;
             esac
             ;;
     esac
 }
 
 complete -F _flashnor flashnor
+complete -F _flashnor_serprog flashnor-serprog

@@ -113,9 +113,14 @@ count_writes() {
 starts() { python3 "$top/tests/starts.py"; }
 
 # `make ..`: runs a target of the repository's Makefile with the program that is tested, even if the sources are newer.
-make() { command make --no-print-directory -s -C "$top" PROGRAM="$program" SOURCES= "$@"; }
+# flashnor-serprog may not be built: its stand-in in tests/serprog takes its place.
+make() {
+    command make --no-print-directory -s -C "$top" PROGRAM="$program" HARDWARE="$top/tests/serprog/stand_in.py" \
+        SOURCES= "$@"
+}
 
-# `completion LINE`: prints what bash offers at the end of this line, one offer per line.
+# `completion LINE`: prints what bash offers at the end of this line, one offer per line. The line begins with the name
+# of a program.
 completion() {
     local COMP_LINE=$1 COMP_POINT=${#1} COMP_WORDBREAKS=$' \t\n"\'><=;|&(:' COMP_WORDS=() COMP_CWORD COMPREPLY=()
     local rest=$1 word
@@ -132,6 +137,6 @@ completion() {
     done
     COMP_CWORD=$((${#COMP_WORDS[@]} - 1))
     . "$top/completion/flashnor.bash"
-    _flashnor
+    "_${COMP_WORDS[0]//-/_}"
     ((${#COMPREPLY[@]} == 0)) || printf '%s\n' "${COMPREPLY[@]}"
 }
