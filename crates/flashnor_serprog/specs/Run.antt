@@ -29,7 +29,7 @@ use Rattle.flashnor_serprog.specs.declared.trouble.Trouble.TheVariants as troubl
 
 -- the name of this program, for `clap`
 abbrev pub program : Text
-program = codes "flashnor_serprog"
+program = codes "flashnor-serprog"
 
 -- Holds if the arguments ask for this operation, and the value of `-p` names this device.
 pub record IsAskedFor (words : List Text) (device : Bor Text) (operation : Operation) : Type 0 where

@@ -5,8 +5,8 @@ use nor_words::Help;
 /// The parts of the help that differ between the two programs: the program's name, and the text before and after the
 /// list of options.
 pub const HELP: Help = Help {
-    program: "flashnor_serprog",
-    about: "flashnor_serprog 1.0: programs SPI NOR flash at a serial programmer, and can restore it.",
+    program: "flashnor-serprog",
+    about: "flashnor-serprog 1.0: programs SPI NOR flash at a serial programmer, and can restore it.",
     notes: NOTES,
 };
 
@@ -39,9 +39,9 @@ After a run that was killed, disconnect the programmer from power for a second
 before the next run.
 
 Examples: save the chip; write an image and keep a journal; restore the chip:
-  flashnor_serprog -p serprog:dev=/dev/ttyACM0 --backup whole.journal
-  flashnor_serprog -p serprog:dev=/dev/ttyACM0 -w new.bin --journal j
-  flashnor_serprog -p serprog:dev=/dev/ttyACM0 --restore j
+  flashnor-serprog -p serprog:dev=/dev/ttyACM0 --backup whole.journal
+  flashnor-serprog -p serprog:dev=/dev/ttyACM0 -w new.bin --journal j
+  flashnor-serprog -p serprog:dev=/dev/ttyACM0 --restore j
 
 Usage fault 1: an argument is not an option, or an option lacks its value
 Usage fault 2: there is no -p
