@@ -1,0 +1,148 @@
+"""Cases of the manual page flashnor-serprog(8): bash runs its examples and its blocks of commands.
+
+In a command, the port of the page becomes that of the modelled programmer. A file that the page shows by `cat` has the
+content that the page shows.
+"""
+import os
+import re
+import subprocess
+import sys
+from pathlib import Path
+
+import reference
+from bench import LONGEST, check
+from losses import UNSEALED, session_wire
+from options import ALL, images
+from refusals import LARGE
+
+TESTS = Path(__file__).resolve().parents[1]
+sys.path.append(str(TESTS))
+import pages  # noqa: E402
+
+PORT = "/dev/ttyACM0"
+SETTING = f"serprog:dev={PORT},spispeed=1000000"
+
+
+def blocks():
+    """Returns the blocks of the manual page, without its formatting."""
+    text = (TESTS.parent / "man/flashnor-serprog.8").read_text(encoding="utf-8")
+    return pages.examples_of(text)
+
+
+def block_with(part):
+    """Returns the only block of commands, without output, that contains this text."""
+    found = [it for it in blocks() if not it.startswith("$ ") and part in it]
+    check(f"blocks with '{part}'", len(found), 1)
+    return found[0]
+
+
+def run_in_shell(bench, commands, variables=None):
+    """Runs these commands by bash in the directory of the programmer, and returns the lines of both streams."""
+    programs = bench.path("programs")
+    if not programs.exists():
+        programs.mkdir()
+        (programs / "flashnor-serprog").symlink_to(bench.program)
+    bench.server.begin({})
+    bench.command = commands
+    own = {"LC_ALL": "C", "PATH": f"{programs}:{os.environ['PATH']}"}
+    given = {name: value.replace(PORT, str(bench.path("dev"))) for name, value in (variables or {}).items()}
+    done = subprocess.run(["bash", "-c", commands.replace(PORT, str(bench.path("dev")))], cwd=bench.folder,
+                          env={**os.environ, **own, **given}, stdin=subprocess.DEVNULL, stdout=subprocess.PIPE,
+                          stderr=subprocess.STDOUT, timeout=LONGEST, check=False)
+    return done.stdout.decode(errors="backslashreplace").splitlines()
+
+
+def steps():
+    """Returns the steps of the examples: each command, with the lines that it prints."""
+    found = []
+    for line in re.sub(r" \\\n +", " ", "\n".join(it for it in blocks() if it.startswith("$ "))).splitlines():
+        if line.startswith("$ "):
+            found.append((line[2:], []))
+        elif line:
+            found[-1][1].append(line)
+    return found
+
+
+def plays_the_examples(start):
+    """Each command of the examples prints what the page shows, on the chip and the image that the page describes."""
+    bench = start("W25Q64FV", data=b"\0" + b"\xff" * (LARGE - 1))
+    bench.write("new.bin", b"\1" + b"\xff" * (LARGE - 1))
+    variables = {}
+    for command, lines in steps():
+        if setting := re.fullmatch(r"(\w+)=(\S+)", command):
+            variables[setting[1]] = setting[2]
+        if command.startswith("cat "):
+            bench.write(command[4:], "".join(f"{line}\n" for line in lines).encode())
+        check(command, run_in_shell(bench, command, variables), lines)
+    check("commands", len(steps()) > 8, True)
+    bench.check_chip(b"\0" + b"\xff" * (LARGE - 1))
+
+
+def makes_the_first_write(start):
+    """The first write of a board, as the page gives it, backs the chip up and writes. Without a backup it stops."""
+    old, new = images("makes_the_first_write")
+    for is_there in False, True:
+        bench = start(data=old)
+        bench.write("new.bin", new)
+        if is_there:
+            bench.write("whole.journal", b"")
+        lines = run_in_shell(bench, block_with("-w new.bin"))
+        if is_there:
+            check("lines", lines, ["File fault 4: whole.journal."])
+            bench.check_chip(old)
+            bench.check_absent("j1")
+        else:
+            check("lines", lines[:3], [reference.found("TINY64"), "Read 65536 bytes.", reference.found("TINY64")])
+            check("the last line", [it.startswith("Done: ") for it in lines[3:]], [True])
+            bench.check_chip(new)
+            bench.check_file("whole.journal", reference.journal("TINY64", old, ALL))
+            bench.check_file("j1", reference.journal("TINY64", old, (1, 2, 7, 15)))
+
+
+def rescues_in_four_lines(start):
+    """After a kill at any point of a session, the four lines of RECOVERY restore the chip, or it wasn't changed."""
+    old, new = images("rescues_in_four_lines")
+    wire = session_wire(old, new)
+    sealed = next(at for at, (out, _) in enumerate(wire, 1) if out[0] in reference.CHANGING)
+    for number in sealed - 1, sealed, sealed + 1, sealed + 40, len(wire):
+        bench = start(data=old)
+        bench.write("new.bin", new)
+        bench.write("before.bin", old)
+        bench.run("-w", "new.bin", "--journal", "j1", events={number: "kill"})
+        check("the session was killed", bench.server.killed, True)
+        bench.plug()
+        lines = run_in_shell(bench, block_with("--restore j1\n#"), {"P": SETTING})
+        restored = [reference.found("TINY64"), reference.report(reference.restore("TINY64", old, (1, 2, 7, 15)), 4)]
+        first = UNSEALED if number < sealed else restored
+        check("lines", lines, [*first, reference.found("TINY64"), "Verified."])
+        bench.check_chip(old)
+        check("the copy", bench.path("j1.copy").read_bytes(), bench.path("j1").read_bytes())
+
+
+def restores_after_chip_fault_4(start):
+    """The block of chip fault 4 restores the session's journal, and then the backup."""
+    old, new = images("restores_after_chip_fault_4")
+    bench = start(data=old)
+    bench.write("new.bin", new)
+    check("the backup", bench.run("--backup", "whole.journal").status, 0)
+    check("the session", bench.run("-w", "new.bin", "--journal", "j1").status, 0)
+    bench.chip.data[0x5000:0x6000] = b"\xff" * 4096
+    lines = run_in_shell(bench, block_with("whole.journal --quick"), {"P": SETTING})
+    check("lines", [it.partition(" ")[0] for it in lines], ["Found", "Done:"] * 2)
+    bench.check_chip(old)
+
+
+def compares_journals(start):
+    """The block that compares a journal with a backup recognizes the board, and a chip with another unique ID."""
+    old, new = images("compares_journals")
+    for unique, is_this in (bytes(range(8)), True), (bytes(8), False):
+        bench = start(data=old, unique=bytes(range(8)))
+        bench.write("new.bin", new)
+        check("the session", bench.run("-w", "new.bin", "--journal", "j1").status, 0)
+        bench.write("whole.journal", reference.journal("TINY64", old, ALL, unique=unique))
+        lines = run_in_shell(bench, block_with("cmp -n 19"))
+        check("the board", lines[-1] == "this board", is_this)
+
+
+CASES = [plays_the_examples, makes_the_first_write, rescues_in_four_lines, restores_after_chip_fault_4,
+         compares_journals]
