@@ -12,23 +12,27 @@ WORDS := -p dummy:emulate=TINY64,image=chip.bin -w new.bin --rehearse 25
 SOURCES := crates.txt HANDLES \
   $(shell find $(wildcard crates/*/src crates/*/specs crates/*/proofs) -type d -o -name '*.rt' -o -name '*.antt')
 
-# The program's name as a target, with its spaces escaped.
+# The names of both programs as targets, with their spaces escaped.
 blank := $(subst ,, )
 BUILT := $(subst $(blank),\ ,$(PROGRAM))
+BUILT_HARDWARE := $(subst $(blank),\ ,$(HARDWARE))
 
-# The directories of `make install`, below DESTDIR if that is given. The program goes to bin, since it works only on
-# files and needs no special permissions; flashrom, which drives hardware, is in sbin.
+# Fails if a source that was edited during the build is newer than the program with this name.
+is_new = @newer=$$(find $(SOURCES) -maxdepth 0 -newer '$(1)' -print -quit) && \
+	if [ -n "$$newer" ]; then echo "$(1) is older than $$newer" >&2; exit 1; fi
+
+# The directories of `make install`, below DESTDIR if that is given. Both programs go to bin: flashnor works only on
+# files, and flashnor-serprog on a serial port, which the members of a group (often `dialout`) may open.
 PREFIX ?= /usr/local
 INTO = $(DESTDIR)$(PREFIX)
-IN_BIN = $(INTO)/bin/flashnor
-IN_MAN = $(INTO)/share/man/man8/flashnor.8
-IN_MAN5 = $(INTO)/share/man/man5/flashnor-journal.5
-IN_COMPLETIONS = $(INTO)/share/bash-completion/completions/flashnor
+IN_BIN = $(INTO)/bin
+IN_MAN = $(INTO)/share/man
+IN_COMPLETIONS = $(INTO)/share/bash-completion/completions
 
 # The contents of the archive of `make dist`.
 VERSION := 1.0
 DIST := out/flashnor-$(VERSION)
-MANUALS := man/flashnor.8 man/flashnor-journal.5
+MANUALS := man/flashnor.8 man/flashnor-serprog.8 man/flashnor-journal.5
 COMPLETION := completion/flashnor.bash
 # README, the licence if there is one, and each page that README or a manual page names.
 PAGES = README.md $(wildcard LICEN[CS]E*) $(sort $(shell grep -ohE '[A-Za-z_-]+(/[A-Za-z_-]+)*\.md' README.md $(MANUALS)))
@@ -37,26 +41,35 @@ PAGES = README.md $(wildcard LICEN[CS]E*) $(sort $(shell grep -ohE '[A-Za-z_-]+(
 SEED := 1
 COUNT := 1000
 
-.PHONY: all help build toolchain demo try files bench compare storm sweep kill runs serprog install uninstall dist \
-  agree statement lint quick case prove check price clean
+.PHONY: all help build hardware toolchain demo try files bench compare storm sweep kill runs serprog install \
+  uninstall dist agree statement lint quick case prove check price clean
 
-all: build ## proves and builds the program and the crates below it
+all: build hardware ## proves and builds both programs, and the crates below them
 
 help: ## lists the targets
 	@sed -n 's/^\([a-z]*\):.*## \(.*\)/\1	\2/p' Makefile | expand -t 12
 
 # This also runs the program once.
-build: toolchain files
-	@echo "This proves all that the program stands on: twenty minutes on four cores, and up to 3 GB a prover."
+build: toolchain files ## proves and builds flashnor only, for emulated chips
+	@echo "This proves flashnor and all crates below it: twenty minutes on four cores, and up to 3 GB per prover."
 	@echo "('make demo' shows without a proof what it does.)"
 	@scripts/proved.sh crates/flashnor/out/flashnor env -C crates/flashnor \
 	  rt run -- -p 'dummy:emulate=TINY64,image=$(SCRATCH)/chip.bin' -w '$(SCRATCH)/new.bin' --rehearse 25
 
-# (a source that was edited during the build is newer than the program)
+# This also runs the program once, for its help, which is printed only if the run fails.
+hardware: toolchain ## proves and builds flashnor-serprog only, for real boards
+	@echo "This proves flashnor-serprog and all crates below it: a few minutes if flashnor is proved already."
+	@mkdir -p '$(SCRATCH)'
+	@scripts/proved.sh crates/flashnor_serprog/out/flashnor_serprog env -C crates/flashnor_serprog \
+	  rt run -- -h > '$(SCRATCH)/help' || { cat '$(SCRATCH)/help'; exit 1; }
+
 $(BUILT): $(SOURCES)
 	@$(MAKE) --no-print-directory build
-	@newer=$$(find $(SOURCES) -maxdepth 0 -newer '$(PROGRAM)' -print -quit) && \
-	if [ -n "$$newer" ]; then echo "$(PROGRAM) is older than $$newer" >&2; exit 1; fi
+	$(call is_new,$(PROGRAM))
+
+$(BUILT_HARDWARE): $(SOURCES)
+	@$(MAKE) --no-print-directory hardware
+	$(call is_new,$(HARDWARE))
 
 # The prover and the compiler are in Rattle's kit.
 toolchain:
@@ -102,21 +115,26 @@ bench: toolchain ## measures the parts, each as a ratio to simple work of the sa
 	@$(BENCH) session
 	@$(BENCH) read
 
-compare: $(BUILT) ## compares the programs with flashrom and with a chip of QEMU, if these are installed
+compare: $(BUILT) ## compares both programs with flashrom and with a chip of QEMU, if these are installed
 	@scripts/compare.sh '$(PROGRAM)'
 	@scripts/compare/rows.sh '$(PROGRAM)'
 	@scripts/compare/qemu.py '$(PROGRAM)'
 	@[ ! -x '$(HARDWARE)' ] || tests/serprog/emulated.py '$(HARDWARE)'
 	@[ ! -x '$(HARDWARE)' ] || tests/serprog/compare.py '$(HARDWARE)'
 
-install: $(BUILT) ## installs program, manual pages and completion below PREFIX and DESTDIR
-	install -D -m 755 '$(PROGRAM)' '$(IN_BIN)'
-	install -D -m 644 man/flashnor.8 '$(IN_MAN)'
-	install -D -m 644 man/flashnor-journal.5 '$(IN_MAN5)'
-	install -D -m 644 $(COMPLETION) '$(IN_COMPLETIONS)'
+install: $(BUILT) $(BUILT_HARDWARE) ## installs programs, manual pages and completion below PREFIX and DESTDIR
+	install -D -m 755 '$(PROGRAM)' '$(IN_BIN)/flashnor'
+	install -D -m 755 '$(HARDWARE)' '$(IN_BIN)/flashnor-serprog'
+	install -D -m 644 man/flashnor.8 '$(IN_MAN)/man8/flashnor.8'
+	install -D -m 644 man/flashnor-serprog.8 '$(IN_MAN)/man8/flashnor-serprog.8'
+	install -D -m 644 man/flashnor-journal.5 '$(IN_MAN)/man5/flashnor-journal.5'
+	install -D -m 644 $(COMPLETION) '$(IN_COMPLETIONS)/flashnor'
+	ln -sf flashnor '$(IN_COMPLETIONS)/flashnor-serprog'
 
 uninstall: ## removes these files again
-	rm -f '$(IN_BIN)' '$(IN_MAN)' '$(IN_MAN5)' '$(IN_COMPLETIONS)'
+	rm -f '$(IN_BIN)/flashnor' '$(IN_BIN)/flashnor-serprog'
+	rm -f '$(IN_MAN)/man8/flashnor.8' '$(IN_MAN)/man8/flashnor-serprog.8' '$(IN_MAN)/man5/flashnor-journal.5'
+	rm -f '$(IN_COMPLETIONS)/flashnor' '$(IN_COMPLETIONS)/flashnor-serprog'
 
 # Before the first case this proves and builds storm.
 storm: toolchain ## compares random sessions with the reference implementation: make storm SEED=7 COUNT=5000
@@ -129,13 +147,19 @@ sweep: $(BUILT) ## runs the program with each of its allocations refused in turn
 kill: $(BUILT) ## kills the program at its calls on files, and makes them fail (with a C compiler)
 	@tests/kill/run.sh '$(PROGRAM)'
 
-# An archive for users without a prover: the proved program, PROVED-WITH, the pages in their directories, and the
-# checksum of each file. If PROVED-WITH is missing or belongs to another program, the program is proved and built first.
-dist: $(BUILT) ## packs an archive with the program, its pages and PROVED-WITH
+# An archive for users without a prover: both proved programs, PROVED-WITH, the pages in their directories, and the
+# checksum of each file. PROVED-WITH contains the lines of both programs. If a program's own PROVED-WITH is missing, or
+# belongs to another program, that program is proved and built first.
+dist: $(BUILT) $(BUILT_HARDWARE) ## packs an archive with both programs, their pages and PROVED-WITH
 	@cd '$(dir $(PROGRAM))' && tail -n 1 PROVED-WITH 2> /dev/null | sha256sum --check --status 2> /dev/null || \
 	  $(MAKE) --no-print-directory -C '$(CURDIR)' build
+	@cd '$(dir $(HARDWARE))' && tail -n 1 PROVED-WITH 2> /dev/null | sha256sum --check --status 2> /dev/null || \
+	  $(MAKE) --no-print-directory -C '$(CURDIR)' hardware
 	@rm -rf $(DIST) && mkdir -p $(DIST)
-	@cp '$(PROGRAM)' '$(dir $(PROGRAM))PROVED-WITH' $(DIST)
+	@cp '$(PROGRAM)' $(DIST)/flashnor
+	@cp '$(HARDWARE)' $(DIST)/flashnor-serprog
+	@cat '$(dir $(PROGRAM))PROVED-WITH' > $(DIST)/PROVED-WITH
+	@sed 's/  flashnor_serprog$$/  flashnor-serprog/' '$(dir $(HARDWARE))PROVED-WITH' >> $(DIST)/PROVED-WITH
 	@cp --parents $(MANUALS) $(COMPLETION) $(sort $(PAGES)) $(DIST)
 	@cd $(DIST) && find * -type f -exec sha256sum -- {} + > ../SHA256SUMS && mv ../SHA256SUMS .
 	@tar --sort=name --owner=0 --group=0 --numeric-owner -C out -czf $(DIST).tar.gz flashnor-$(VERSION)
@@ -144,9 +168,7 @@ dist: $(BUILT) ## packs an archive with the program, its pages and PROVED-WITH
 runs: $(BUILT) ## runs the program on each case of tests/cases and on the examples of the pages
 	@tests/run.py '$(PROGRAM)'
 
-# `rt run` for the help proves and builds the program first.
-serprog: toolchain ## runs the program for serial programmers on the cases of tests/serprog
-	@cd crates/flashnor_serprog && rt run -- -h > /dev/null
+serprog: $(BUILT_HARDWARE) ## runs flashnor-serprog on the cases of tests/serprog
 	@tests/serprog/run.py '$(HARDWARE)'
 
 agree: ## compares help, pages and completion with the sources

@@ -1,6 +1,6 @@
 # shellcheck shell=bash
-# Completion of the command lines of flashnor and flashnor-serprog for bash, from 3.2 on. Source this file, or install it
-# (make install).
+# Completion of the command lines of flashnor and flashnor-serprog for bash, from 3.2 on. Source this file, or install
+# it (make install).
 #
 # To test it without a keyboard, set COMP_LINE, COMP_POINT, COMP_WORDS and COMP_CWORD as bash does, with ':' and '=' as
 # words of their own, call _flashnor or _flashnor_serprog, and read COMPREPLY.
