@@ -2,7 +2,7 @@
 """tests/make.py: checks the Makefile.
 
 It must use no program that is older than its sources. An archive must have all pages to which its pages link, and name
-the toolchain and commit of its program. `make quick` must run each program with the files of its crate, and detect one
+the toolchain and commit of each program. `make quick` must run each program with the files of its crate, and detect one
 that does not compile, print or end as it must. `make case` must fail if its case gives no answer, `make prove` must
 prove a crate and those that depend on it, and `make demo` must run the first example of README. The test uses a copy of
 the repository in a directory with a space in its name, with an `rt` that proves nothing and builds a program that
@@ -19,7 +19,8 @@ from pathlib import Path
 TOP = Path(__file__).resolve().parent.parent
 PROGRAM = Path("crates/flashnor/out/flashnor")
 SOURCE = Path("crates/nor_chip/src/lib.rt")
-MANUALS = "man/flashnor.8", "man/flashnor-journal.5"
+HARDWARE = Path("crates/flashnor_serprog/out/flashnor_serprog")
+MANUALS = "man/flashnor.8", "man/flashnor-serprog.8", "man/flashnor-journal.5"
 # The `rt` of these tests. A try prints what the crate's program must print, and ends as it must, or does what the
 # script `as/CRATE` says; it writes its arguments and its input to `tried`. A check fails if there is `refused/CRATE`.
 RT = """#!/bin/sh
@@ -45,10 +46,10 @@ case $1 in
         [ ! -e "$WORK/refused/$crate" ] || { echo "a goal of $crate"; exit 1; } ;;
     run)
         sleep 0.02
-        echo built >> "$WORK/builds"
+        echo "$crate" >> "$WORK/builds"
         mkdir -p out
-        { echo '#!/bin/sh'; echo "echo $(grep -c . "$WORK/builds")"; } > out/flashnor
-        chmod 755 out/flashnor
+        { echo '#!/bin/sh'; echo "echo $(grep -cx "$crate" "$WORK/builds")"; } > "out/$crate"
+        chmod 755 "out/$crate"
         [ ! -e "$WORK/edits" ] || echo >> ../nor_chip/src/lib.rt
         [ ! -e "$WORK/fails" ] ;;
 esac
@@ -94,10 +95,10 @@ class Tree:
                  "commit", "-q", "--allow-empty", "-m", "All")
         return self.run("git", "rev-parse", "HEAD")[1].strip()
 
-    def builds(self):
-        """Returns how many programs were built."""
+    def builds(self, crate="flashnor"):
+        """Returns how often the program of this crate was built."""
         path = self.work / "builds"
-        return len(path.read_text(encoding="utf-8").splitlines()) if path.exists() else 0
+        return path.read_text(encoding="utf-8").splitlines().count(crate) if path.exists() else 0
 
     def edit(self, path=SOURCE, text="\n"):
         with open(self.top / path, "a", encoding="utf-8") as it:
@@ -120,24 +121,30 @@ class Tree:
         return next(self.work.glob("flashnor-*"))
 
     def packed(self):
-        """Makes an archive, and returns the lines of its PROVED-WITH, and the output of its program."""
+        """Makes an archive, and returns for each of its programs the toolchain and the commit in PROVED-WITH, and the
+        output of the program."""
         folder = self.archive()
-        sums = self.run("sh", "-c", f"cd '{folder}' && sha256sum --check --quiet SHA256SUMS && tail -n 1 PROVED-WITH | "
+        sums = self.run("sh", "-c", f"cd '{folder}' && sha256sum --check --quiet SHA256SUMS && grep '  ' PROVED-WITH | "
                                     "sha256sum --check --quiet")
         page = (folder / "PROVED-WITH").read_text(encoding="utf-8").splitlines()
-        printed = self.run(folder / "flashnor")[1].strip()
+        named = [page[at].partition("  ")[2] for at in (2, 5)]
+        printed = [self.run(folder / name)[1].strip() for name in named]
         shutil.rmtree(folder)
-        return [*page[:2], printed] if sums == (0, "") else sums[1]
+        if sums != (0, "") or named != ["flashnor", "flashnor-serprog"]:
+            return sums[1], named
+        return [[*page[:2], printed[0]], [*page[3:5], printed[1]]]
 
 
-TARGETS = ["install", "dist", "runs", "sweep", "kill", "compare"]
+TARGETS = ["install", "dist", "runs", "serprog", "sweep", "kill", "compare"]
 
 
 def stale(tree, expect):
     """No target uses a program that is older than its sources."""
     expect("no program", tree.would_build(*TARGETS), TARGETS)
     tree.make("build")
-    expect("a new program", tree.would_build(*TARGETS), [])
+    expect("only flashnor", tree.would_build(*TARGETS), ["install", "dist", "serprog"])
+    tree.make()
+    expect("new programs", tree.would_build(*TARGETS), [])
     tree.edit()
     expect("a source that was edited", tree.would_build(*TARGETS), TARGETS)
     (tree.top / "crates/transcripts/out").mkdir()
@@ -278,15 +285,17 @@ def cloned(tree, expect):
 
 
 def installed(tree, expect):
-    """`make install` installs the program of the present sources, or nothing."""
+    """`make install` installs both programs of the present sources, or nothing."""
     root = tree.work / "a root"
     program = root / "usr/local/bin/flashnor"
     install = ("install", f"DESTDIR={root}")
+    tree.make()
     tree.edit()
     expect("the status of an install", tree.make(*install)[0], 0)
-    expect("the program that is installed", tree.run(program)[1].strip(), str(tree.builds()))
+    for crate, name in (("flashnor", "flashnor"), ("flashnor_serprog", "flashnor-serprog")):
+        expect(f"the {name} that is installed", tree.run(program.with_name(name))[1].strip(), str(tree.builds(crate)))
     tree.make("uninstall", f"DESTDIR={root}")
-    expect("the files that an uninstall leaves", [str(it) for it in root.rglob("*") if it.is_file()], [])
+    expect("the files that an uninstall leaves", [str(it) for it in root.rglob("*") if not it.is_dir()], [])
     for way in ("fails", "edits"):
         (tree.work / way).touch()
         tree.edit()
@@ -295,28 +304,36 @@ def installed(tree, expect):
 
 
 def packed(tree, expect):
-    """An archive names the commit with which its program was proved, and not a later one."""
+    """An archive names the commit with which each of its programs was proved, and not a later one."""
+    def built(commit, *counts):
+        return [["a kit", f"commit {commit}", str(count)] for count in counts]
+
+    def counts():
+        return tree.builds(), tree.builds("flashnor_serprog")
+
     first = tree.commit()
     tree.edit()
-    expect("sources that aren't committed", tree.packed(), ["a kit", f"commit {first}-dirty", str(tree.builds())])
+    expect("sources that aren't committed", tree.packed(), built(f"{first}-dirty", *counts()))
     second = tree.commit()
     tree.edit()
     tree.run("git", "checkout", "-q", "--", SOURCE)
-    expect("sources that are committed", tree.packed(), ["a kit", f"commit {second}", str(tree.builds())])
+    expect("sources that are committed", tree.packed(), built(second, *counts()))
     tree.edit("README.md")
     tree.commit()
-    count = tree.builds()
-    expect("a later commit of a page", tree.packed(), ["a kit", f"commit {second}", str(count)])
+    count, other = counts()
+    expect("a later commit of a page", tree.packed(), built(second, count, other))
     tree.run("sh", "-c", "cd crates/flashnor && rt run")
     third = tree.run("git", "rev-parse", "HEAD")[1].strip()
-    expect("a program that was built by hand", tree.packed(), ["a kit", f"commit {third}", str(count + 2)])
+    expect("a program that was built by hand", tree.packed(), built(third, count + 2) + built(second, other))
     (tree.top / PROGRAM.parent / "PROVED-WITH").unlink()
-    expect("no page", tree.packed(), ["a kit", f"commit {third}", str(count + 3)])
+    expect("no page", tree.packed(), built(third, count + 3) + built(second, other))
+    (tree.top / HARDWARE.parent / "PROVED-WITH").unlink()
+    expect("no page of flashnor-serprog", tree.packed(), built(third, count + 3, other + 1))
 
 
 def lacking(folder):
     """Returns the files that an archive needs and lacks: pages to which its pages link, and checksums."""
-    needed = {"flashnor", "PROVED-WITH", "README.md", "completion/flashnor.bash", *MANUALS}
+    needed = {"flashnor", "flashnor-serprog", "PROVED-WITH", "README.md", "completion/flashnor.bash", *MANUALS}
     for page in ("README.md", *MANUALS):
         text = (folder / page).read_text(encoding="utf-8") if (folder / page).exists() else ""
         needed |= {*re.findall(r"\]\(([^):#]+)\)", text), *re.findall(r"\bdocs/\w+\.md", text)}
@@ -357,11 +374,11 @@ def shown(tree, expect):
 
 
 def wrong(tree, expect):
-    """These tests detect a Makefile whose program does not depend on the sources, and one that packs too few pages."""
+    """These tests detect a Makefile whose programs do not depend on the sources, and one that packs too few pages."""
     path = tree.top / "Makefile"
     text = path.read_text(encoding="utf-8")
-    path.write_text(text.replace("$(BUILT): $(SOURCES)", "$(BUILT):"), encoding="utf-8")
-    tree.make("build")
+    path.write_text(re.sub(r"(?m)^(\$\(BUILT\w*\)): \$\(SOURCES\)$", r"\1:", text), encoding="utf-8")
+    tree.make()
     tree.edit()
     expect("a Makefile that forgets the sources", tree.would_build(*TARGETS), [])
     path.write_text(re.sub(r"(?m)^PAGES = .*", "PAGES = README.md docs/FAQ.md", text), encoding="utf-8")
