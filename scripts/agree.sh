@@ -19,6 +19,7 @@ part() {
 part scripts/agree/words.py ${program:+"$program"} # options, keys, chips, versions
 part scripts/agree/faults.py                       # messages, and faults by their numbers
 part scripts/agree/limits.py                       # limits and other numbers
+part scripts/agree/hardware.py                     # all of these of flashnor-serprog
 part scripts/statement.py --check                  # the pages of the statement: what they have, and their size
 part scripts/promises.py                           # names of calls, clauses and tests in tables
 part scripts/paths.py                              # names of files

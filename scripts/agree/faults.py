@@ -1,12 +1,14 @@
 """scripts/agree/faults.py: checks that the pages have the lines that the program prints for results and faults, and the
-numbers of the faults. Results and errors are read from the sources, since no case prints errors 1, 2 and 13, which
-docs/HARDWARE.md describes. All other lines are read from the cases."""
+numbers of the faults. Results and errors are read from the sources, since no case prints the errors in `REAL`. All
+other lines are read from the cases."""
 import re
 
 import rust
 from texts import finish, help_text, manual, only, printed, quoted, read, rows, rows_of, same, tokens
 
 OPTION = r"(?<![^\s])(?:--?[a-zA-Z][-a-z]*|[a-z]+=)"
+# The numbers of the errors that occur only on real chips: flashnor-serprog(8) describes them.
+REAL = 1, 2, 13
 
 
 def blank(text):
@@ -19,19 +21,20 @@ def line_of(number, reason):
     return f"Error {number}: {blank(reason)}."
 
 
-def refusals():
-    """Returns the lines of the errors in nor_request."""
+def refusals(without=()):
+    """Returns the lines of the errors in nor_request, without those that have these numbers."""
     numbers, reasons = {}, {}
     for name, word in rust.arms(tokens("nor_request/src/refusal.rt"), "Refusal"):
         (reasons if word[0] == '"' else numbers)[name] = word.strip('"')
-    return {line_of(numbers.get(name), reasons.get(name, "")) for name in {*numbers, *reasons}}
+    left_out = {str(number) for number in without}
+    return {line_of(numbers.get(name), reasons.get(name, "")) for name in {*numbers, *reasons}
+            if numbers.get(name) not in left_out}
 
 
 def take_lines(page):
-    """Compares the lines of faults with the manual page and HARDWARE, and checks the errors that pages show
-    anywhere."""
-    both = [*rows(page, "Refusals").items(), *(row[:2] for row in rows_of("docs/HARDWARE.md", "Error"))]
-    errors = same("lines of errors", sources=refusals(), pages={line_of(*row) for row in both})
+    """Compares the lines of faults with the manual page, and checks the errors that pages show anywhere."""
+    same("lines of errors", sources=refusals(REAL), pages={line_of(*row) for row in rows(page, "Refusals").items()})
+    errors = refusals()
     fault = r"(?:Usage|Layout|File) fault (?:\d+|K)(?:: [^\"\n]*| at line \w+)?\."
     titles = " ".join(part.title for part in page if part.section == "ERRORS")
     same("lines of other faults", manual={blank(line) for line in re.findall(fault, titles)},

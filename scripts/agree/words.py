@@ -13,14 +13,16 @@ from texts import same, strings, tags, tokens
 OPTION = r"(?<![^\s(`|])--?[a-zA-Z][-a-z]*"
 COMPLETE = """COMP_WORDBREAKS=' ' COMP_LINE=$2 COMP_POINT=${#2} COMP_WORDS=($2) COMP_CWORD=$((${#COMP_WORDS[@]} - 1))
 [[ $2 != *' ' ]] || { COMP_WORDS+=(''); COMP_CWORD=$((COMP_CWORD + 1)); }
-. "$1"; cd "$0"; _flashnor; printf '%s\\n' "${COMPREPLY[@]}" """
+. "$1"; cd "$0"; "_${3//-/_}"; printf '%s\\n' "${COMPREPLY[@]}" """
 
 
-def completed(line):
-    """Returns what the completion offers after a line, in a directory that contains only the directory `there`."""
+def completed(line, program="flashnor"):
+    """Returns what the completion offers after a line of the program, in a directory that contains only the directory
+    `there`."""
     with tempfile.TemporaryDirectory() as folder:
         pathlib.Path(folder, "there").mkdir()
-        said = printed_by("bash", "-c", COMPLETE, folder, TOP / "completion/flashnor.bash", f"flashnor {line}")
+        file = TOP / "completion/flashnor.bash"
+        said = printed_by("bash", "-c", COMPLETE, folder, file, f"{program} {line}", program)
     return set(said.split())
 
 

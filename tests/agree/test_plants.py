@@ -119,7 +119,9 @@ PLANTS = {
     "an error that a page shows": (
         FAULTS, "README.md", r"Error 12: stopped", "Error 12: halted", "errors shown: README has 'Error 12: halted.'"),
     "an error less of hardware": (
-        FAULTS, "docs/HARDWARE.md", r"(?m)^\| 13 \| .*\n", "", "sources has 'Error 13: timeout at _.', pages hasn't"),
+        FAULTS, "man/flashnor.8", r"(?m)^14\t.*\n", "", "sources has 'Error 14: bytes differ at _.', pages hasn't"),
+    "a usage fault less": (
+        FAULTS, "man/flashnor.8", r"(?m)^10\t.*\n", "", "numbers of Usage faults: sources has '10', page hasn't"),
     "an option of a usage fault": (
         FAULTS, "man/flashnor.8", r"(?m)^8\t\\-n or", "8\t\\-c or", "options of usage faults: manual has '8 -c'"),
     "a file fault in two lines": (

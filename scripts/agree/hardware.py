@@ -1,0 +1,143 @@
+"""scripts/agree/hardware.py: checks that flashnor-serprog(8), HARDWARE and the completion have the options, keys,
+printed lines and faults of the program for serial programmers. All of these are read from the sources. tests/serprog
+runs the examples of the manual page."""
+import re
+
+import rust
+from faults import blank, line_of, refusals
+from sources import CRATES
+from texts import finish, manual, only, read, rows, same, tags, tokens
+from words import completed
+
+NAME = "flashnor-serprog"
+PAGE = "man/flashnor-serprog.8"
+# Faults of an exchange, and of a handshake, that this program can't cause: it sends no frame that is too long, reports
+# only the first failure, and reads through a bus that splits reads.
+IMPOSSIBLE = "TooLong", "OutOfStep", "CutFrame", "ReadLimit"
+
+
+def code(path):
+    """Returns the text of a source below crates/."""
+    return (CRATES / path).read_text(encoding="utf-8")
+
+
+def codes(crate):
+    """Returns the text of all sources of a crate."""
+    return "".join(path.read_text(encoding="utf-8") for path in sorted((CRATES / crate / "src").glob("**/*.rt")))
+
+
+def options():
+    """Returns the options of a program for hardware: for each one its spellings, and the name of its value."""
+    text = code("nor_words/src/options.rt")
+    left_out = re.findall(r'name != "([-a-z]+)"', text)
+    table = re.findall(r"Choice \{\s*letter: (?:None|Some\('(\w)'\)),\s*name: \"([-a-z]+)\",\s*"
+                       r"value: (?:None|Some\(\"([^\"]*)\"\))", text)
+    found = [([f"-{letter}" if letter else f"--{name}"], value) for letter, name, value in table
+             if name not in left_out]
+    made = re.search(r"(?s)fn make_hardware_options.*?\n}\n", text)[0]
+    for name in re.findall(r"\.arg\((\w+)\(alloc\)\)", made):
+        body = re.search(rf"(?s)fn {name}<.*?\n}}\n", text)[0]
+        spellings = [f"-{it}" for it in re.findall(r"\.short\('(\w)'\)", body)]
+        spellings += [f"--{it}" for it in re.findall(r"\.long\(\"([-a-z]+)\"\)", body)]
+        found.append((spellings, "".join(re.findall(r"\.value_name\(\"(.*?)\"\)", body))))
+    return found
+
+
+def take_options(page):
+    """Compares options, with the names of their values."""
+    known = options()
+    spelled = {f"{spelling} {value}".strip() for spellings, value in known for spelling in spellings}
+    found = {it for tag in tags(page, "OPTIONS") for it in tag.split(", ")}
+    same("options for hardware", sources=spelled, manual=found)
+    synopsis = " ".join(part.text for part in page if part.section == "SYNOPSIS").replace(NAME, "")
+    synopsis = re.sub(r"(?m)^\.\S+|serprog:\S*", lambda it: "TEXT" if it[0][0] == "s" else "", synopsis)
+    same("options of the synopsis", sources={f"{it[0]} {value}".strip() for it, value in known},
+         synopsis=re.findall(r"-[-a-zA-Z]+(?: [A-Z][A-Z,.]*)?", " ".join(synopsis.split())))
+    names = {spelling for spellings, _ in known for spelling in spellings}
+    offered = {name: completed(f"{name} ", NAME) for name in names}
+    same("options that are completed", sources=names, completion=completed("-", NAME))
+    same("options with values", sources={it for spellings, value in known if value for it in spellings},
+         completion={name for name in names if not any(word[0] == "-" for word in offered[name])})
+    same("options with files", sources={it for spellings, value in known if value == "FILE" for it in spellings},
+         completion={name for name in names if "there" in offered[name]})
+
+
+def take_keys(page):
+    """Compares the keys of `-p`, with the names of their values."""
+    keys = re.findall(r"(?m)^  ([a-z]+=[A-Z]+) ", code("flashnor_serprog/src/help.rt"))
+    same("keys for hardware", help=keys, manual=tags(page, "PROGRAMMER"))
+    words = [token.text for token in tokens("flashnor_serprog/src/setting.rt")]
+    same("names of keys for hardware", help={key.partition("=")[0] for key in keys},
+         parser={word.strip('"') for word, after in zip(words, words[1:]) if word[0] == '"' and after in "=>|"},
+         completion={word[len("serprog:") : -1] for word in completed("-p serprog:", NAME)})
+    names = [key.partition("=")[0] for key in keys]
+    same("keys with files for hardware", help={name for name, key in zip(names, keys) if key.endswith("=PATH")},
+         completion={name for name in names if f"serprog:{name}=there" in completed(f"-p serprog:{name}=", NAME)})
+
+
+def take_names(page):
+    """Compares the name of the program and its version, and the setting of the port."""
+    text = code("flashnor_serprog/src/help.rt")
+    same("name of the program", help=re.findall(r'program: "(.*?)"', text), definition=re.findall(
+        r'(?m)^program = codes "(.*)"', (CRATES / "flashnor_serprog/specs/Run.antt").read_text(encoding="utf-8")),
+         manual=[next(part.text for part in page if part.section == "NAME").split()[0]],
+         completion=re.findall(r"(?m)^complete -F \w+ (\S+-\S+)$", read("completion/flashnor.bash")),
+         Makefile=re.findall(r"(?m)^\tinstall .*'\$\(IN_BIN\)/(\S+-\S+)'$", read("Makefile")))
+    same("version for hardware", help=re.findall(rf'about: "{NAME} ([\d.]+):', text),
+         manual=re.findall(r'(?m)^\.TH .*"flashnor ([^"]*)"', read(PAGE)),
+         flashnor=re.findall(r'about: "flashnor ([\d.]+):', code("nor_words/src/options.rt")))
+    modes = r"(?m)stty -F \S+ (raw .*?[0-9])(?:$|[`.])"
+    same("setting of the port", sources=re.findall(r'MODES: &str = "(.*)"', code("flashnor_serprog/src/trouble.rt")),
+         help=re.findall(modes, text), manual=re.findall(modes, "".join(part.text for part in page)),
+         HARDWARE=re.findall(modes, read("docs/HARDWARE.md")))
+
+
+def take_lines(page):
+    """Compares the lines of errors, of programmer faults and of progress."""
+    same("lines of all errors", sources=refusals(), manual={line_of(*row) for row in rows(page, "Errors").items()})
+    same("steps of a job", sources=set(re.findall(r'Step::\w+ => "(.*?)"', code("flashnor_serprog/src/progress.rt"))),
+         manual={re.sub(r"(?: N(?: of N)?)$", "", text) for text in re.findall(
+             r'"([a-z][a-z ]+(?:: [a-z ]+)? N(?: of N)?)"', " ".join("".join(
+                 part.text for part in page if part.section == "OUTPUT").split()))})
+    trouble = code("flashnor_serprog/src/trouble.rt")
+    derived = [(name, text) for path in ("link", "programmer") for text, name in re.findall(
+        r'#\[error\("(.*?)"\)\]\s*(\w+)', code(f"nor_serprog/src/{path}.rt"))]
+    known = {blank(text) for name, text in derived if name not in IMPOSSIBLE and text != "{0}"}
+    reasons = re.findall(r'ProgrammerFault::(?!Handshake)\w+ => "(.*?)"', trouble)
+    known |= {f"_ {text}" for text in reasons} | set(re.findall(r'write_str\("(the programmer is silent)"\)', trouble))
+    shown = {blank(re.sub(r"\bXX(?=h\b)|text of the system", "{}", text)).removesuffix(".")
+             for cell in rows(page, "Programmer faults").values() for text in cell.split(" .br ")}
+    same("texts of programmer faults", sources=known, manual=shown)
+
+
+def take_numbers(page):
+    """Compares the numbers of each kind of fault."""
+    trouble, lines = code("flashnor_serprog/src/trouble.rt"), code("nor_lines/src/messages.rt")
+    named = dict(zip(re.findall(r"(?m)^    (\w+)(?: = 1)?,$", re.search(r"(?s)enum FileFault \{(.*?)\n\}", lines)[1]),
+                     rust.numbers_of_variants(tokens("nor_lines/src/messages.rt"))))
+    used = set(re.findall(r"FileFault::(\w+)", codes("nor_lines") + codes("flashnor_serprog")))
+    found = {
+        "Usage": re.findall(r"(?m)^Usage fault (\d+):", code("flashnor_serprog/src/help.rt")),
+        "Layout": map(str, rust.numbers_of_variants(tokens("nor_layout/src/fault.rt"))),
+        "File": {str(number) for name, number in named.items() if name in used},
+        "Chip": re.findall(r"Chip fault (\d+)", codes("flashnor_serprog")),
+        "Programmer": re.findall(r"Fault::\w+.* => (\d+),", trouble)}
+    for kind, numbers in found.items():
+        numbers = same(f"{kind} faults for hardware", sources=set(numbers), manual=rows(page, f"{kind} faults"))
+        if kind in ("Chip", "Programmer"):
+            only(f"{kind} faults for hardware", "the program", numbers, HARDWARE=re.findall(
+                rf"(?i){kind} fault (\d+)", read("docs/HARDWARE.md")))
+    most = int(re.search(r"ensures few \{ result ≤ (\d+) \}", code("flashnor_serprog/src/run.rt"))[1])
+    same("exit statuses for hardware", sources=map(str, range(most + 1)), manual=rows(page, "EXIT STATUS"))
+
+
+def main():
+    """Compares all."""
+    page = manual(PAGE)
+    for take in take_options, take_keys, take_names, take_lines, take_numbers:
+        take(page)
+    finish()
+
+
+if __name__ == "__main__":
+    main()
