@@ -1,4 +1,4 @@
-"""Cases of the manual page flashnor-serprog(8): bash runs its examples and its blocks of commands.
+"""Cases of the manual page flashnor-serprog(8) and of HARDWARE: bash runs their examples and blocks of commands.
 
 In a command, the port of the page becomes that of the modelled programmer. A file that the page shows by `cat` has the
 content that the page shows.
@@ -52,30 +52,40 @@ def run_in_shell(bench, commands, variables=None):
     return done.stdout.decode(errors="backslashreplace").splitlines()
 
 
-def steps():
-    """Returns the steps of the examples: each command, with the lines that it prints."""
+def steps_of(lines):
+    """Returns the steps in the lines of examples: each command, with the lines that it prints."""
     found = []
-    for line in re.sub(r" \\\n +", " ", "\n".join(it for it in blocks() if it.startswith("$ "))).splitlines():
+    for line in re.sub(r" \\\n +", " ", "\n".join(lines)).splitlines():
         if line.startswith("$ "):
             found.append((line[2:], []))
-        elif line:
+        elif line and found:
             found[-1][1].append(line)
     return found
 
 
-def plays_the_examples(start):
-    """Each command of the examples prints what the page shows, on the chip and the image that the page describes."""
-    bench = start("W25Q64FV", data=b"\0" + b"\xff" * (LARGE - 1))
-    bench.write("new.bin", b"\1" + b"\xff" * (LARGE - 1))
+def play(bench, steps):
+    """Runs the commands, and checks that each prints the lines of its step. The chip's first byte is 00h at first."""
     variables = {}
-    for command, lines in steps():
+    for command, lines in steps:
         if setting := re.fullmatch(r"(\w+)=(\S+)", command):
             variables[setting[1]] = setting[2]
         if command.startswith("cat "):
             bench.write(command[4:], "".join(f"{line}\n" for line in lines).encode())
         check(command, run_in_shell(bench, command, variables), lines)
-    check("commands", len(steps()) > 8, True)
-    bench.check_chip(b"\0" + b"\xff" * (LARGE - 1))
+    check("commands", len(steps) > 8, True)
+
+
+def plays_the_examples(start):
+    """Each command of the examples prints what the page shows, on the chip and the image that the page describes."""
+    old = b"\0" + b"\xff" * (LARGE - 1)
+    examples = [line for block in blocks() if block.startswith("$ ") for line in block.splitlines()]
+    session = pages.of_markdown((TESTS.parent / "docs/HARDWARE.md").read_text(encoding="utf-8"))
+    first = next(at for at, line in enumerate(session) if line.startswith("$ "))
+    for lines in examples, session[first:]:
+        bench = start("W25Q64FV", data=old)
+        bench.write("new.bin", b"\1" + old[1:])
+        play(bench, steps_of(lines))
+        bench.check_chip(old)
 
 
 def makes_the_first_write(start):
