@@ -1,4 +1,4 @@
-"""Makes the examples of README.md, of the FAQ and of the manual pages into cases.
+"""Makes the examples of README.md, of HOW, of the FAQ and of the manual pages into cases.
 
 A line that begins with `$` is a step, in the order of the page. If it ends with a backslash, the next line belongs to
 it. The lines after a step are what both streams print. chip.bin and new.bin are those of `make files`, as the pages say.
@@ -13,13 +13,14 @@ from pathlib import Path
 
 from grammar import Case, File, Step
 
-PAGES = ["README.md", "docs/FAQ.md", "man/flashnor.8", "man/flashnor-journal.5"]
+PAGES = ["README.md", "docs/HOW.md", "docs/FAQ.md", "man/flashnor.8", "man/flashnor-journal.5"]
 FAULT = re.compile(r"(Error|File fault|Layout fault|Usage fault) ")
 
 
 def of_markdown(text):
-    """Returns the lines within the examples of a page of Markdown."""
-    return [line for block in text.split("```")[1::2] for line in block.split("\n")[1:]]
+    """Returns the lines within the examples of a page of Markdown. A block without a step is none, but a picture."""
+    blocks = [block.split("\n")[1:] for block in text.split("```")[1::2]]
+    return [line for block in blocks if any(it.startswith("$ ") for it in block) for line in block]
 
 
 def examples_of(text):

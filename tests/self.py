@@ -118,6 +118,7 @@ PAGES = [
     ("a stop in README", "README.md", r"^(\$ .*)stop=25", r"\1stop=22",
      ["at: flashnor", "Error 12: stopped.", "Error 15: journal fault 1."]),
     ("restores in README", "README.md", r"^Restores: 1\.$", "Restores: 2.", ["Restores: 1.", "Restores: 2."]),
+    ("transactions in HOW", "docs/HOW.md", r"^(Done: touched 0, .*)8\.$", r"\g<1>9.", ["actions 8.", "actions 9."]),
     ("transactions in the manual page", "man/flashnor.8", r"^(Done: .*)15\.$", r"\g<1>16.",
      ["actions 15.", "actions 16."]),
     ("a range in the manual page", "man/flashnor.8", r"^Range: 0x7e", "Range: 0x7f", ["Range: 0x7e", "Range: 0x7f"]),
