@@ -4,6 +4,7 @@ pub mod Cuts
 pub mod ReadsInTurn
 pub mod Sends
 pub mod Readings
+pub mod ReadBack
 pub mod RestsInTurn
 pub mod Passed
 pub mod Waiting

@@ -3,6 +3,7 @@ pub mod Ready
 pub mod Waits
 pub mod Reads
 pub mod ReadsInTurn
+pub mod ReadBack
 pub mod Units
 pub mod Limits
 pub mod Operations

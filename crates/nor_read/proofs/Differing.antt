@@ -1,9 +1,11 @@
 -- Lemmas about the first difference between a chip and an image, which is found sector by sector.
-use Rattle.std.proofs.Common.{◌≡◌, ◌≤◌, ◌<◌, ◌+◌, ◌-◌, ◌*◌, ◌∙◌, ℕ, Bool, true, false, List, length, slice_index}
-use Rattle.std.proofs.Common.{Option, Some, None, [], ◌∷◌, refl, subst, sym, arith}
-use Rattle.std.specs.Prelude.{◌/◌, MatchBool, if◌then◌else◌}
+use Rattle.std.proofs.Common.{◌≡◌, ◌≤◌, ◌<◌, ◌+◌, ◌-◌, ◌*◌, ◌/◌, ◌%◌, ◌++◌, ◌∙◌, ◌≢◌, ℕ, Bool, true, false, List, length, slice_index}
+use Rattle.std.proofs.Common.{Option, Some, None, [], ◌∷◌, refl, ap, subst, sym, arith, inl, inr}
+use Rattle.std.proofs.lemmas.Bool.{cases_eq}
+use Rattle.std.proofs.lemmas.List.{append_assoc}
+use Rattle.std.specs.Prelude.{MatchBool, if◌then◌else◌}
 use Rattle.std.specs.Option.{option_or}
-use Rattle.std.proofs.lemmas.List.Elements.{All-nil, All-cons}
+use Rattle.std.proofs.lemmas.List.Elements.{All-nil, All-cons, All-append}
 use Rattle.nor_model.specs.Exchange.{Exchange}
 use Rattle.nor_model.specs.History.{Continues, replied}
 use Rattle.nor_model.specs.Bus.{BusState}
@@ -16,8 +18,10 @@ use Rattle.nor_geometry.proofs.Below.{count_below-zero, count_below-more}
 use Rattle.nor_plan.specs.Bytes.{AllAgree, IsFirstDifference}
 use Rattle.nor_driver.proofs.RestsInTurn.{has_only_read-none, has_only_read-one, has_only_read-then, open_later, same_bytes}
 use Rattle.nor_read.specs.declared.verifying.Compared.{Compared}
-use Rattle.nor_read.specs.Verifying.{AgreeIn, IsFirstOther, FindsFirst, IsSectorRead, AddsSectorReads}
-use Rattle.nor_read.specs.Verifying.{ReadsDifference, ComparesPart, ComparesBelow}
+use Rattle.nor_driver.specs.ReadBack.{sector_read, bytes_read, IsSectorRead, AddsSectorReads}
+use Rattle.nor_driver.proofs.ReadBack.{adds_none, read_other, read_here}
+use Rattle.nor_read.specs.Verifying.{AgreeIn, IsFirstOther, FindsFirst}
+use Rattle.nor_read.specs.Verifying.{ReadsDifference, ComparesReply, ComparesPart, ComparesBelow}
 use Rattle.nor_read.proofs.Onward.{read_after, read_then}
 
 -- ---- one sector
@@ -69,8 +73,12 @@ module _ (included : Option (List Span)) (image : List ℕ) (sector : ℕ) (byte
             agree_to first (λ i low before. difference.before i before) a above (omega arith) below;
       }
 
-adds_none : (history : List Exchange) → AddsSectorReads history history
-adds_none history = record { later = []; is = refl; each = All-nil IsSectorRead }
+-- In a sector without an included address nothing differs.
+none_differs : (included : Option (List Span)) (image : List ℕ) (content : ℕ → ℕ) (sector : ℕ)
+    → NoneInSector (includes included) sector → AgreeIn included image content (4096 * sector) (4096 * (sector + 1))
+none_differs included image content sector none =
+    in_sector (λ a. includes included a ≡ true → slice_index image a ≡ content a) sector
+    (λ i small inside. let outside = none i small in absurd (cc))
 
 -- For a sector without an included address, `ComparesPart` holds although nothing was sent.
 pub part_skipped : (included : Option (List Span)) (image : List ℕ) (sector : ℕ) (returned : Bool) (state : BusState)
@@ -80,12 +88,17 @@ pub part_skipped : (included : Option (List Span)) (image : List ℕ) (sector : 
 part_skipped included image sector true state out test cases = absurd (cc)
 part_skipped included image sector false state out test none = record {
   counted = rw (← test);
-  only_sectors = adds_none state.history;
+  only_sectors = record { later = []; is = refl; each = All-nil IsSectorRead };
+  compares = λ earlier. record {
+    others = λ a other. refl;
+    whole = λ a here inside.
+        let at : 4096 * sector + a % 4096 ≡ a = omega arith in
+        let outside : includes included a ≡ false = rw at at (none (a % 4096) (omega arith)) in absurd (cc);
+    finds = none_differs included image (bytes_read earlier) sector none;
+  };
   replied = tt;
   honest_reads = has_only_read-none state;
-  errors = λ honest idle inside.
-      in_sector (λ a. includes included a ≡ true → slice_index image a ≡ state.chip.bytes a) sector
-      (λ i small inside. let outside = none i small in absurd (cc));
+  errors = λ honest idle inside. none_differs included image state.chip.bytes sector none;
 }
 
 -- Lemmas on a sector that was read and compared. Its first difference, if there is one, has an address in it. If the
@@ -115,18 +128,34 @@ module _ (included : Option (List Span)) (image : List ℕ) {bytes : List ℕ} {
         later = adds_none new.history;
       }
 
-  pub part_read : (first : Option ℕ) → new.polled_ready ≡ old.polled_ready
+  -- If the reply has 4,096 bytes, the comparison is one with the last reply, whatever was read earlier.
+  part_replied : (first : Option ℕ) → length bytes ≡ 4096 → ((content : ℕ → ℕ) → AreOfSector content sector bytes
+      → FindsFirst included image content (4096 * sector) (4096 * (sector + 1)) first) → (earlier : List Exchange)
+      → ComparesReply included image sector (replied reads.answered.out bytes ∷ []) earlier first
+  part_replied first long finds earlier = record {
+    others = λ a other. read_other reads.answered.out bytes reads.answered.asks earlier a other;
+    whole = λ a here inside. rw (read_here reads.answered.out bytes reads.answered.asks earlier a here) long;
+    finds = finds (bytes_read (replied reads.answered.out bytes ∷ earlier)) (λ i small.
+        let here : (4096 * sector + i) / 4096 ≡ sector = omega (arith, small) in
+        let at : (4096 * sector + i) % 4096 ≡ i = omega (arith, small) in
+        sym (ap (λ (reply : List ℕ). slice_index reply ((4096 * sector + i) % 4096))
+        (read_here reads.answered.out bytes reads.answered.asks earlier (4096 * sector + i) here) ∙ ap (slice_index bytes) at));
+  }
+
+  pub part_read : (first : Option ℕ) → length bytes ≡ 4096 → new.polled_ready ≡ old.polled_ready
       → has_in_sector (includes included) sector ≡ true → ((content : ℕ → ℕ) → AreOfSector content sector bytes
       → FindsFirst included image content (4096 * sector) (4096 * (sector + 1)) first)
       → ComparesPart included image sector old new (record { first = first; reads = 1 })
-  part_read first same test finds = record {
+  part_read first long same test finds = record {
     counted = rw test;
-    only_sectors = let read = reads.answered in record {
-      later = replied read.out bytes ∷ [];
-      is = read.history;
-      each = All-cons IsSectorRead (replied read.out bytes) []
-          (record { sector = sector; bytes = bytes; reads = read.asks; replied = refl }) (All-nil IsSectorRead);
+    only_sectors = record {
+      later = replied reads.answered.out bytes ∷ [];
+      is = reads.answered.history;
+      each = All-cons IsSectorRead (replied reads.answered.out bytes) []
+          (record { sector = sector; bytes = bytes; reads = reads.answered.asks; replied = refl })
+          (All-nil IsSectorRead);
     };
+    compares = part_replied first long finds;
     replied = read_at first finds;
     honest_reads = has_only_read-one only_reads reads.read (λ ready. same ∙ ready);
     errors = λ honest idle inside. finds old.chip.bytes (reads.replied honest idle inside).byte;
@@ -148,6 +177,21 @@ module _ (included : Option (List Span)) (image : List ℕ) (content : ℕ → �
       let before = agree_more address agree other.before in search arith
   finds_first_more to (Some address) second low high other more = search arith
 
+-- The first difference in a range is the same for two contents that agree below its end.
+finds_first_same : (included : Option (List Span)) (image : List ℕ) (to : ℕ) (one two : ℕ → ℕ)
+    → ((a : ℕ) → a < to → one a ≡ two a) → (first : Option ℕ) → FindsFirst included image one 0 to first
+    → FindsFirst included image two 0 to first
+finds_first_same included image to one two same None agree = λ a above below inside.
+    agree a above below inside ∙ same a below
+finds_first_same included image to one two same (Some address) other = record {
+  above = other.above;
+  below = other.below;
+  is_included = other.is_included;
+  differs = λ equal. other.differs (equal ∙ sym (same address other.below));
+  before = λ a above below inside. let within = other.below in
+      other.before a above below inside ∙ same a (omega (arith, within, below));
+}
+
 -- The first difference of two successive steps lies in a sector that was read, and only reads of sectors follow that
 -- read.
 others_more : {old mid new : List Exchange} (first second : Option ℕ) → Continues old mid → AddsSectorReads mid new
@@ -158,7 +202,16 @@ others_more (Some address) second low high has more = read_then has high
 
 pub compared_none : (included : Option (List Span)) (image : List ℕ) (size : ℕ) (state : BusState)
     → ComparesBelow included image size 0 state state (record { first = None; reads = 0 })
-compared_none included image size state = grind (arith, count_below-zero, has_only_read-none state)
+compared_none included image size state = record {
+  counted = sym (count_below-zero (has_in_sector (includes included)));
+  most = omega arith;
+  honest_reads = has_only_read-none state;
+  replied = tt;
+  reads_all = record { later = []; is = refl; each = All-nil IsSectorRead };
+  whole = λ a below inside. absurd (omega (arith, below));
+  finds = λ a above below inside. absurd (omega (arith, below));
+  errors = λ is_open a above below inside. absurd (omega (arith, below));
+}
 
 module _ {included : Option (List Span)} {image : List ℕ} {size n : ℕ} {old mid new : BusState}
     {before part : Compared} where
@@ -172,6 +225,28 @@ module _ {included : Option (List Span)} {image : List ℕ} {size n : ℕ} {old 
     honest_reads = has_only_read-then has.honest_reads compares.honest_reads;
     replied = others_more before.first part.first has.honest_reads.nature.history compares.only_sectors has.replied
         compares.replied;
+    reads_all = record {
+      later = compares.only_sectors.later ++ has.reads_all.later;
+      is = compares.only_sectors.is ∙ ap (λ (h : List Exchange). compares.only_sectors.later ++ h) has.reads_all.is
+          ∙ sym (append_assoc compares.only_sectors.later has.reads_all.later old.history);
+      each = All-append IsSectorRead compares.only_sectors.later has.reads_all.later compares.only_sectors.each
+          has.reads_all.each;
+    };
+    whole = λ a low inside.
+        let here = compares.compares has.reads_all.later in
+        elim (cases_eq (a / 4096) n) [
+          | inl at ↦ here.whole a at inside
+          | inr other ↦ ap (λ (l : List ℕ). length l) (here.others a other) ∙ has.whole a (omega arith) inside
+        ];
+    finds =
+        let here = compares.compares has.reads_all.later in
+        let reads = compares.only_sectors.later ++ has.reads_all.later in
+        let same : (a : ℕ) → a < 4096 * n → bytes_read has.reads_all.later a ≡ bytes_read reads a = λ a low.
+        let other : a / 4096 ≢ n = λ same. omega arith in
+        sym (ap (λ (reply : List ℕ). slice_index reply (a % 4096)) (here.others a other)) in
+        finds_first_more included image (bytes_read reads) 0 (4096 * n) (4096 * (n + 1)) before.first part.first
+        (omega arith) (omega arith) (finds_first_same included image (4096 * n) (bytes_read has.reads_all.later)
+        (bytes_read reads) same before.first has.finds) here.finds;
     errors = λ is_open.
         let now = open_later has.honest_reads is_open in
         let same = now.same in

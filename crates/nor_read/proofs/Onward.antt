@@ -5,7 +5,8 @@ use Rattle.std.proofs.lemmas.List.Elements.{All-append}
 use Rattle.nor_model.specs.Exchange.{Exchange}
 use Rattle.nor_model.specs.History.{Continues}
 use Rattle.nor_model.proofs.Histories.{continues_then}
-use Rattle.nor_read.specs.Verifying.{IsSectorRead, AddsSectorReads, HasReadAt}
+use Rattle.nor_driver.specs.ReadBack.{IsSectorRead, AddsSectorReads}
+use Rattle.nor_read.specs.Verifying.{HasReadAt}
 
 adds_then : {old mid new : List Exchange} → AddsSectorReads old mid → AddsSectorReads mid new → AddsSectorReads old new
 adds_then {old} first second = record {

@@ -1,14 +1,14 @@
 -- The result of a comparison of a chip with an image.
-use Rattle.std.specs.Prelude.{◌≡◌, ◌≢◌, ◌≤◌, ◌<◌, ◌+◌, ◌*◌, ◌++◌, ℕ, true, if◌then◌else◌, ⊤}
-use Rattle.std.specs.List.{All}
-use Rattle.std.specs.Prelude.{Option, Some, Result, IfOk, IfErr, OnOk, List, length, slice_index, MatchOption}
+use Rattle.std.specs.Prelude.{◌≡◌, ◌≢◌, ◌≤◌, ◌<◌, ◌+◌, ◌*◌, ◌/◌, ◌++◌, ◌&&◌, ℕ, Bool, true, nat_lt, if◌then◌else◌, ⊤}
+use Rattle.std.specs.Prelude.{Option, Result, Ok, Err, IfOk, IfErr, OnOk, List, length, slice_index, MatchOption}
 use Rattle.nor_model.specs.declared.config.Config.{Config}
 use Rattle.nor_model.specs.Chip.{Chip}
 use Rattle.nor_model.specs.Exchange.{Exchange}
-use Rattle.nor_model.specs.History.{Continues, EndsReading, names}
+use Rattle.nor_model.specs.History.{Continues, EndsReading}
 use Rattle.nor_model.specs.Bus.{BusState}
 use Rattle.nor_driver.specs.OnlyReads.{OnlyReads, RanOut, IsOpen}
 use Rattle.nor_driver.specs.ReadsInTurn.{HasOnlyRead}
+use Rattle.nor_driver.specs.ReadBack.{sector_read, bytes_read, AddsSectorReads, EndsReadBack, EndsReadOther}
 use Rattle.nor_layout.specs.declared.ranges.Span.{Span}
 use Rattle.nor_geometry.specs.Below.{count_below}
 use Rattle.nor_layout.specs.Sectors.{includes, has_in_sector, sectors_included, FitsInto}
@@ -62,20 +62,6 @@ IsVerifyRefusal RegionOutside = ⊤
 IsVerifyRefusal (Mismatch address) = ⊤
 IsVerifyRefusal refusal = IsFindRefusal refusal
 
--- Holds if the transaction was a read (03h) from the start of a sector, and the bus did not stop at it. The number of
--- bytes read is not stated.
-pub record IsSectorRead (exchange : Exchange) : Type 0 where
-  pub sector : ℕ
-  pub bytes : List ℕ
-  pub reads : names 0x03 (4096 * sector) exchange.out ≡ true
-  pub replied : exchange.reply ≡ Some bytes
-
--- Holds if the history `new` continues `old` with reads of sectors and with nothing else.
-pub record AddsSectorReads (old new : List Exchange) : Type 0 where
-  pub later : List Exchange
-  pub is : new ≡ later ++ old
-  pub each : All IsSectorRead later
-
 -- Holds if a call read from the start of the sector that has this address, and sent only reads of sectors after that
 -- read.
 pub record HasReadAt (address : ℕ) (old new : List Exchange) : Type 0 where
@@ -91,6 +77,20 @@ pub record HasReadAt (address : ℕ) (old new : List Exchange) : Type 0 where
 abbrev pub VerifyEnds : (old new : List Exchange) → Refusal → Type 0
 VerifyEnds old new (Mismatch address) = HasReadAt address old new
 VerifyEnds old new refusal = EndsAtError refusal new
+
+-- true for an included address below `size`
+abbrev pub included_below : Option (List Span) → (size : ℕ) → (a : ℕ) → Bool
+included_below included size a = includes included a && nat_lt a size
+
+-- Holds for success if the call ended with reads of sectors, in whose replies each included byte is the image's. Holds
+-- for error 14 if the call ended with reads of sectors, and the error names the first included address at which their
+-- replies differ from the image. Holds for any other error.
+abbrev pub HasReadBack : Option (List Span) → List ℕ → (old new : List Exchange) → Result Report Refusal → Type 0
+HasReadBack included image old new (Ok report) =
+    EndsReadBack (included_below included (length image)) (slice_index image) old new
+HasReadBack included image old new (Err (Mismatch address)) =
+    EndsReadOther (included_below included (length image)) (slice_index image) address old new
+HasReadBack included image old new (Err refusal) = ⊤
 
 -- The promises of `verify` on every bus.
 pub record VerifyAlways (named : Option ChipName) (included : Option (List Span)) (image : List ℕ) (old new : BusState)
@@ -109,6 +109,9 @@ pub record VerifyAlways (named : Option ChipName) (included : Option (List Span)
   -- After error 12 the bus stopped at the last transaction. After error 13 the last transaction was a poll that showed
   -- BUSY. After error 14 the sector that has its address was read, and only reads of sectors were sent after that read.
   pub last_transaction : IfErr result (VerifyEnds old.history new.history)
+  -- After success the last reply to a read of each sector with an included address has the image's byte at each
+  -- included address. Error 14 names the first included address at which the last replies differ from the image.
+  pub read_back : HasReadBack included image old.history new.history result
   -- The call succeeds only if the last poll showed ready.
   pub polled_ready : OnOk result (new.polled_ready ≡ true)
 
@@ -156,18 +159,31 @@ FindsFirst included image content from to first =
 abbrev pub ReadsDifference : (old new : List Exchange) → Option ℕ → Type 0
 ReadsDifference old new first = MatchOption first ⊤ (λ address. HasReadAt address old new)
 
+-- Holds for the reads with which a sector was compared, wherever they follow `earlier` ones. In other sectors the last
+-- replies stay. In this sector the last reply has 4,096 bytes if the sector has an included address, and `first` is the
+-- first difference between them and the image.
+pub record ComparesReply (included : Option (List Span)) (image : List ℕ) (sector : ℕ) (reads earlier : List Exchange)
+    (first : Option ℕ) : Type 0 where
+  pub others : (a : ℕ) → a / 4096 ≢ sector → sector_read (reads ++ earlier) a ≡ sector_read earlier a
+  pub whole : (a : ℕ) → a / 4096 ≡ sector → includes included a ≡ true
+      → length (sector_read (reads ++ earlier) a) ≡ 4096
+  pub finds : FindsFirst included image (bytes_read (reads ++ earlier)) (4096 * sector) (4096 * (sector + 1)) first
+
 -- Holds after a sector was compared, with one transaction if it has an included address and with none otherwise. The
 -- result is known to be right on a well-behaved bus with an idle chip that has this sector.
 pub record ComparesPart (included : Option (List Span)) (image : List ℕ) (sector : ℕ) (old new : BusState)
     (compared : Compared) : Type 0 where
   pub counted : compared.reads ≡ (if has_in_sector (includes included) sector then 1 else 0)
   pub only_sectors : AddsSectorReads old.history new.history
+  pub compares : (earlier : List Exchange)
+      → ComparesReply included image sector only_sectors.later earlier compared.first
   pub replied : ReadsDifference old.history new.history compared.first
   pub honest_reads : HasOnlyRead compared.reads old new
   pub errors : old.honest ≡ true → old.chip.busy ≡ 0 → 4096 * (sector + 1) ≤ old.chip.config.size
       → FindsFirst included image old.chip.bytes (4096 * sector) (4096 * (sector + 1)) compared.first
 
--- Holds after the sectors below `n` were compared. The first difference is known to be right on a well-behaved bus with
+-- Holds after the sectors below `n` were compared. On every bus these are the last replies, and the first difference is
+-- that between them and the image. The first difference is known to be right on a well-behaved bus with
 -- an idle chip of this size.
 pub record ComparesBelow (included : Option (List Span)) (image : List ℕ) (size n : ℕ) (old new : BusState)
     (compared : Compared) : Type 0 where
@@ -175,4 +191,7 @@ pub record ComparesBelow (included : Option (List Span)) (image : List ℕ) (siz
   pub most : compared.reads ≤ n
   pub honest_reads : HasOnlyRead compared.reads old new
   pub replied : ReadsDifference old.history new.history compared.first
+  pub reads_all : AddsSectorReads old.history new.history
+  pub whole : (a : ℕ) → a < 4096 * n → includes included a ≡ true → length (sector_read reads_all.later a) ≡ 4096
+  pub finds : FindsFirst included image (bytes_read reads_all.later) 0 (4096 * n) compared.first
   pub errors : IsOpen size old → FindsFirst included image old.chip.bytes 0 (4096 * n) compared.first

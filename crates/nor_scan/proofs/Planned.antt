@@ -7,7 +7,7 @@ use Rattle.std.proofs.Math.Bool.{and-false}
 use Rattle.std.proofs.lemmas.Bool.{both_ways, cases_lt, ne_eqb, eq-eqb, le-ltb, lt-ltb, not_from_false, not_from_true}
 use Rattle.nor_model.specs.Bus.{BusState}
 use Rattle.nor_driver.specs.ReadsInTurn.{HasOnlyRead}
-use Rattle.nor_driver.specs.Reads.{ReadsSector}
+use Rattle.nor_driver.specs.Reads.{IsSectorOf, ReadsSector}
 use Rattle.nor_layout.specs.declared.ranges.Span.{Span}
 use Rattle.nor_layout.specs.Sectors.{includes}
 use Rattle.nor_plan.specs.Plan.{AreBytesOf, IsPlan}
@@ -116,20 +116,21 @@ pub scans_sector : (request : Request) (size sector : ℕ) (included : Option (L
     → ScansSector request size sector part part' bytes old new plan
 scans_sector request size sector included part filled part' bytes old new plan about_bytes fits is_included long long' targets fills reads honest_reads needed plans =
     let shown = λ (is_open : IsOpen size old). reads.replied is_open.honest is_open.idle (let s = is_open.same in omega arith) in
-    let merged : IsOpen size old → (image : List ℕ) → ((i : ℕ) → i < 4096 → slice_index part i ≡ slice_index image (4096 * sector + i))
-    → (i : ℕ) → i < 4096 → slice_index part' i ≡ wanted_at request image size old.chip.bytes (4096 * sector + i) =
-    λ is_open image same i below.
+    let merged : (content : ℕ → ℕ) → IsSectorOf content sector bytes → (image : List ℕ)
+    → ((i : ℕ) → i < 4096 → slice_index part i ≡ slice_index image (4096 * sector + i))
+    → (i : ℕ) → i < 4096 → slice_index part' i ≡ wanted_at request image size content (4096 * sector + i) =
+    λ content read image same i below.
     let may = may_change-included request size (4096 * sector + i) about_bytes (omega arith) in
     let target_bytes = targets image (4096 * sector + i) i below (same i below) in
-    fills i below ∙ rw (is_included, target_bytes, (shown is_open).byte i below, may) refl in
+    fills i below ∙ rw (is_included, target_bytes, read.byte i below, may) refl in
     record {
       needed = needed;
       answered = reads.answered;
       honest_reads = honest_reads;
       shown = shown;
       merged = merged;
-      planned = λ is_open image same.
-          planned old.chip.bytes (wanted_at request image size old.chip.bytes) sector plan (rw long at (plans
-          (λ i. old.chip.bytes (4096 * sector + i)) (λ i. wanted_at request image size old.chip.bytes (4096 * sector + i))
-          (λ i below. (shown is_open).byte i (omega arith)) (λ i below. merged is_open image same i (omega arith))));
+      planned = λ content read image same.
+          planned content (wanted_at request image size content) sector plan (rw long at (plans
+          (λ i. content (4096 * sector + i)) (λ i. wanted_at request image size content (4096 * sector + i))
+          (λ i below. read.byte i (omega arith)) (λ i below. merged content read image same i (omega arith))));
     }

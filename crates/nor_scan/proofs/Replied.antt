@@ -1,6 +1,5 @@
 -- Lemmas on the replies to the identification and to the scan.
-use Rattle.std.proofs.Common.{◌≡◌, ◌≢◌, ◌<◌, ◌+◌, ◌*◌, ◌/◌, ◌%◌, ◌∙◌, ◌∷◌, [], ℕ, true, false, List, length, slice_index, refl, sym, ap, arith}
-use Rattle.std.proofs.lemmas.Bool.Decides.{nat_tests}
+use Rattle.std.proofs.Common.{◌≡◌, ◌≢◌, ◌<◌, ◌+◌, ◌*◌, ◌/◌, ◌%◌, ◌∙◌, ℕ, List, length, slice_index, refl, sym, ap, arith}
 use Rattle.nor_model.specs.Exchange.{Exchange}
 use Rattle.nor_model.specs.History.{Continues, KeepsReplies, Answered, begins_with, names}
 use Rattle.nor_model.specs.PolledReady.{is_poll}
@@ -12,17 +11,11 @@ use Rattle.nor_probe.specs.Replied.{IsFoundBy}
 use Rattle.nor_probe.proofs.Replied.{names_begins, other_opcode, no_poll, found_later}
 use Rattle.nor_scan.specs.declared.identity.Identity.{Identity}
 use Rattle.nor_scan.specs.Identity.{ReadsRest}
-use Rattle.nor_scan.specs.Replied.{bytes_read, IsIdentifiedBy}
+use Rattle.nor_driver.specs.ReadBack.{bytes_read}
+use Rattle.nor_driver.proofs.ReadBack.{names_other}
+use Rattle.nor_scan.specs.Replied.{IsIdentifiedBy}
 
 -- ---- sectors
-
-names_other : (opcode at other : ℕ) → at ≢ other → (out : List ℕ) → names opcode at out ≡ true
-    → names opcode other out ≡ false
-names_other opcode at other differs [] is = refl
-names_other opcode at other differs (first ∷ []) is = refl
-names_other opcode at other differs (first ∷ x ∷ []) is = refl
-names_other opcode at other differs (first ∷ x ∷ y ∷ []) is = refl
-names_other opcode at other differs (first ∷ x ∷ y ∷ z ∷ rest) is = grind (arith, nat_tests)
 
 module _ (n : ℕ) {old new : List Exchange} {bytes : List ℕ}
     (answered : Answered (names 0x03 (4096 * n)) old new bytes) where

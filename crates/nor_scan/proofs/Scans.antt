@@ -7,6 +7,9 @@ use Rattle.std.proofs.lemmas.Bool.Decides.{nat_tests}
 use Rattle.std.proofs.Math.Bool.{and-false}
 use Rattle.nor_model.specs.Bus.{BusState}
 use Rattle.nor_driver.specs.OnlyReads.{IsOpen}
+use Rattle.nor_driver.specs.ReadBack.{bytes_read}
+use Rattle.nor_driver.specs.Reads.{IsSectorOf}
+use Rattle.nor_scan.proofs.Replied.{read_others, read_whole}
 use Rattle.nor_geometry.specs.Below.{count_below}
 use Rattle.nor_layout.specs.Sectors.{includes, has_in_sector, NoneInSector}
 use Rattle.nor_journal.specs.Saved.{IsWholeSector, HasOneMore}
@@ -29,14 +32,23 @@ use Rattle.nor_model.proofs.Sizes.{is_chip_size-in_blocks}
 use Rattle.nor_layout.specs.declared.ranges.Span.{Span}
 use borrow.Rule.Slice.PartMut.{put_mid}
 
+-- Holds if two contents agree in the sectors below `n`.
+abbrev pub AgreeBelow : (n : ℕ) → (one two : ℕ → ℕ) → Type 0
+AgreeBelow n one two = (s i : ℕ) → s < n → i < 4096 → one (4096 * s + i) ≡ two (4096 * s + i)
+
 -- Holds if the sectors below `n` with an included address were scanned, and no byte of the image from sector `n` on was
--- changed. On a well-behaved bus whose chip was idle at the start and has this size, the marks are right, and the
--- image's touched sectors have the target bytes.
+-- changed. The marks are right, and the image's touched sectors have the target bytes, for each content that agrees
+-- with what was read. On a well-behaved bus whose chip was idle at the start and has this size, they are so for the
+-- chip's bytes.
 pub record HasScanned (request : Request) (size n : ℕ) (image image' : List ℕ) (old new : BusState)
     (scanned : Scanned) : Type 0 where
   pub marks : AreMarks n scanned
   pub reads : scanned.reads ≡ count_below n (has_in_sector (includes request.included))
   pub honest_reads : HasOnlyRead scanned.reads old new
+  pub replied : (content : ℕ → ℕ) → AgreeBelow n content (bytes_read new.history)
+      → AreRight (wanted_at request image size content) content (sectors_below n) scanned
+  pub filled : (content : ℕ → ℕ) → AgreeBelow n content (bytes_read new.history) → (a : ℕ)
+      → has scanned.touched (a / 4096) ≡ true → slice_index image' a ≡ wanted_at request image size content a
   pub right : IsOpen size old → AreRight (wanted_at request image size old.chip.bytes) old.chip.bytes (sectors_below n) scanned
   pub merged : IsOpen size old → (a : ℕ) → has scanned.touched (a / 4096) ≡ true
       → slice_index image' a ≡ wanted_at request image size old.chip.bytes a
@@ -136,6 +148,11 @@ nothing_scanned request size image state scanned blank = record {
   };
   reads = blank.reads ∙ sym (count_below-zero (has_in_sector (includes request.included)));
   honest_reads = rw blank.reads (has_only_read-none state);
+  replied = λ content same. record {
+    touched = λ s. rw (blank.touched s) (grind (arith, nat_tests));
+    raised = λ s. rw (blank.raised s) (grind (arith, nat_tests));
+  };
+  filled = λ content same a is. absurd (both_ways _ (blank.touched (a / 4096)) is);
   right = λ is_open. record {
     touched = λ s. rw (blank.touched s) (grind (arith, nat_tests));
     raised = λ s. rw (blank.raised s) (grind (arith, nat_tests));
@@ -152,12 +169,20 @@ module _ {request : Request} {size n : ℕ} {image image' : List ℕ} {old mid :
   pub skipped : IsAt request size n false → NoneInSector (includes request.included) n
       → HasScanned request size (n + 1) image image' old mid scanned
   skipped at excluded =
-      let content = old.chip.bytes in
-      let target_bytes = wanted_at request image size content in
-      let kept : (i : ℕ) → i < 4096 → target_bytes (4096 * n + i) ≡ content (4096 * n + i) = λ i below.
+      let kept : (content : ℕ → ℕ) (i : ℕ) → i < 4096
+      → wanted_at request image size content (4096 * n + i) ≡ content (4096 * n + i) = λ content i below.
       let within = at.below in
       wanted-kept request image size content (4096 * n + i)
       (may_change-included request size (4096 * n + i) at.about_bytes (omega arith) ∙ excluded i below) in
+      let right_on : (content : ℕ → ℕ) → AreRight (wanted_at request image size content) content (sectors_below n) scanned
+      → AreRight (wanted_at request image size content) content (sectors_below (n + 1)) scanned = λ content right.
+      let target_bytes = wanted_at request image size content in
+      record {
+        touched = λ s. tested n s (is_touched content target_bytes) _ _
+            (sym (untouched content target_bytes n (kept content))) (below_more n s) (right.touched s) refl;
+        raised = λ s. tested n s (is_raised content target_bytes) _ _
+            (sym (unraised content target_bytes n (kept content))) (below_more n s) (right.raised s) refl;
+      } in
       record {
         marks = record {
           below = λ s is. let below = was.marks.below s is in omega arith;
@@ -166,12 +191,9 @@ module _ {request : Request} {size n : ℕ} {image image' : List ℕ} {old mid :
         };
         reads = was.reads ∙ sym (count_below-without n (has_in_sector (includes request.included)) at.included);
         honest_reads = was.honest_reads;
-        right = λ is_open. record {
-          touched = λ s. tested n s (is_touched content target_bytes) _ _ (sym (untouched content target_bytes n kept))
-              (below_more n s) ((was.right is_open).touched s) refl;
-          raised = λ s. tested n s (is_raised content target_bytes) _ _ (sym (unraised content target_bytes n kept))
-              (below_more n s) ((was.right is_open).raised s) refl;
-        };
+        replied = λ content same. right_on content (was.replied content (λ s i below. same s i (omega arith)));
+        filled = λ content same. was.filled content (λ s i below. same s i (omega arith));
+        right = λ is_open. right_on old.chip.bytes (was.right is_open);
         merged = was.merged;
         rest = λ a above. was.rest a (omega arith);
       }
@@ -194,7 +216,8 @@ module _ {request : Request} {size n : ℕ} {image image' : List ℕ} {old mid :
     pub planned_before : IsOpen size old
         → (plan.touched ≡ is_touched old.chip.bytes (wanted_at request image size old.chip.bytes) n)
         × (plan.raised ≡ is_raised old.chip.bytes (wanted_at request image size old.chip.bytes) n)
-    planned_before is_open = rw (same_before is_open) at (scans.planned (later is_open) image of_image)
+    planned_before is_open = rw (same_before is_open)
+        at (scans.planned mid.chip.bytes (scans.shown (later is_open)) image of_image)
 
     -- On a well-behaved bus with an idle chip of this size, the bytes read are those of the chip as it was before the
     -- scan.
@@ -204,34 +227,55 @@ module _ {request : Request} {size n : ℕ} {image image' : List ℕ} {old mid :
       same = rw (same_before is_open) at (scans.shown (later is_open)).byte;
     }
 
+    -- A content that agrees with what was read up to this sector agrees with what was read before it, and has the bytes
+    -- that were read in this sector.
+    agree_before : (content : ℕ → ℕ) → AgreeBelow (n + 1) content (bytes_read new.history)
+        → AgreeBelow n content (bytes_read mid.history)
+    agree_before content same s i below small = same s i (omega arith) small
+        ∙ read_others n scans.answered s i (λ is. absurd (omega (arith, is, below))) small
+
+    agree_here : (content : ℕ → ℕ) → length bytes ≡ 4096 → AgreeBelow (n + 1) content (bytes_read new.history)
+        → IsSectorOf content n bytes
+    agree_here content long same = record {
+      byte = λ i small. (read_whole n scans.answered long).same i small ∙ sym (same n i (omega arith) small);
+    }
+
     -- `HasScanned` still holds after one more sector was scanned.
     pub scanned_more : {next : Scanned} → HasMarked n plan scanned next → length part' ≡ 4096
-        → length image' ≡ size
+        → length bytes ≡ 4096 → length image' ≡ size
         → HasScanned request size (n + 1) image (put_mid (4096 * n) width image' part') old new next
-    scanned_more {next = next} marked whole long =
+    scanned_more {next = next} marked whole read long =
         let within = at.below in let small = at.small in
         let put = put_back n width image' part' exact whole (omega arith) in
-        let content = old.chip.bytes in
-        let target_bytes = wanted_at request image size content in
+        let filled_on : (content : ℕ → ℕ) → ((i : ℕ) → i < 4096
+        → slice_index part' i ≡ wanted_at request image size content (4096 * n + i)) → ((a : ℕ)
+        → has scanned.touched (a / 4096) ≡ true → slice_index image' a ≡ wanted_at request image size content a)
+        → (a : ℕ) → has next.touched (a / 4096) ≡ true
+        → slice_index (put_mid (4096 * n) width image' part') a ≡ wanted_at request image size content a =
+        λ content here before a is. elim (cases_eq (a / 4096) n) [
+          | inl in_sector ↦
+              let place : 4096 * n + a % 4096 ≡ a = omega arith in
+              let below : a % 4096 < 4096 = omega arith in
+              subst (λ (k : ℕ). slice_index (put_mid (4096 * n) width image' part') k
+              ≡ wanted_at request image size content k) place
+              (put.inside (a % 4096) below ∙ here (a % 4096) below)
+          | inr other ↦
+              put.outside a other
+              ∙ before a (sym (rw (ne_eqb (a / 4096) n other, and-false) at (marked.touched (a / 4096))) ∙ is)
+        ] in
         record {
           marks = marks_more n plan scanned next (omega arith) scans.needed was.marks marked;
           reads =
               let next = count_below-with n (has_in_sector (includes request.included)) at.included in
               omega (arith, was.reads, marked.reads);
           honest_reads = rw marked.reads (has_only_read-then was.honest_reads scans.honest_reads);
+          replied = λ content same. right_more (scans.planned content (agree_here content read same) image of_image)
+              (below_more n) marked (was.replied content (agree_before content same));
+          filled = λ content same. filled_on content (scans.merged content (agree_here content read same) image of_image)
+              (was.filled content (agree_before content same));
           right = λ is_open. right_more (planned_before is_open) (below_more n) marked (was.right is_open);
-          merged = λ is_open a is. elim (cases_eq (a / 4096) n) [
-            | inl here ↦
-                let place : 4096 * n + a % 4096 ≡ a = omega arith in
-                let below : a % 4096 < 4096 = omega arith in
-                subst (λ (k : ℕ). slice_index (put_mid (4096 * n) width image' part') k ≡ target_bytes k) place
-                (put.inside (a % 4096) below ∙ rw (same_before is_open) at
-                (scans.merged (later is_open) image of_image _ below))
-            | inr other ↦
-                put.outside a other
-                ∙ was.merged is_open a
-                (sym (rw (ne_eqb (a / 4096) n other, and-false) at (marked.touched (a / 4096))) ∙ is)
-          ];
+          merged = λ is_open. filled_on old.chip.bytes (rw (same_before is_open)
+              at (scans.merged mid.chip.bytes (scans.shown (later is_open)) image of_image)) (was.merged is_open);
           rest = λ a above. put.outside a (λ same. absurd (omega arith)) ∙ was.rest a (omega arith);
         }
 
@@ -252,34 +296,44 @@ module _ {request : Request} {size n : ℕ} {image image' : List ℕ} {old mid :
   -- `Scans` follows from `HasScanned` if, at the end of the loop, the counts and the marks (`AreMarks`, `AreRight`) are
   -- those of the whole chip.
   scans_of : scanned.count ≤ scanned.reads → AreMarks (size / 4096) scanned
-      → scanned.reads ≡ scanned_sectors request size → (IsOpen size old
+      → scanned.reads ≡ scanned_sectors request size
+      → AreRight (wanted_at request image size (bytes_read mid.history)) (bytes_read mid.history)
+      (sectors_below (size / 4096)) scanned → (IsOpen size old
       → AreRight (wanted_at request image size old.chip.bytes) old.chip.bytes (sectors_below (size / 4096)) scanned)
       → Scans request size image image' old mid scanned
-  scans_of few marks reads right = search (was.honest_reads.rested, was.honest_reads.sent, was.merged)
+  scans_of few marks reads replied right =
+      let filled = was.filled (bytes_read mid.history) (λ s i below small. refl) in
+      search (was.honest_reads.rested, was.honest_reads.sent, was.merged)
 
   -- For a write or an erase, `Scans` holds when the loop is at the end of the chip.
   pub all_scanned : is_data request.what ≡ true → n ≡ size / 4096 → scanned.count ≤ scanned.reads
       → Scans request size image image' old mid scanned
   all_scanned about_bytes end few =
       scans_of few (rw (← end) was.marks) (rw (about_bytes, ← end) was.reads)
+      (rw (← end) (was.replied (bytes_read mid.history) (λ s i below small. refl)))
       (λ is_open. rw (← end) (was.right is_open))
 
   -- For a protection range, `Scans` holds before the first sector: there is nothing to scan.
   pub none_to_scan : is_data request.what ≡ false → n ≡ 0 → scanned.count ≤ scanned.reads
       → Scans request size image image' old mid scanned
   none_to_scan other at_first few =
-      let content = old.chip.bytes in
-      let target_bytes = wanted_at request image size content in
-      let kept : (a : ℕ) → target_bytes a ≡ content a = λ a. wanted-kept request image size content a
+      let kept : (content : ℕ → ℕ) (a : ℕ) → wanted_at request image size content a ≡ content a = λ content a.
+      wanted-kept request image size content a
       (and_left (is_data request.what) (nat_lt a size && includes request.included a) other) in
       let free : (s : ℕ) → has scanned.touched s ≡ false = λ s. absent n scanned was.marks s (omega arith) in
       let flat : (s : ℕ) → has scanned.raised s ≡ false =
       λ s. false_from_ne_true _ (λ is. absurd (both_ways _ (free s) (was.marks.inside s is))) in
+      let right : (content : ℕ → ℕ)
+      → AreRight (wanted_at request image size content) content (sectors_below (size / 4096)) scanned = λ content.
+      let target_bytes = wanted_at request image size content in record {
+        touched = λ s. rw (free s, untouched content target_bytes s (λ i below. kept content (4096 * s + i)), and-false)
+            refl;
+        raised = λ s. rw (flat s, unraised content target_bytes s (λ i below. kept content (4096 * s + i)), and-false)
+            refl;
+      } in
       scans_of few (record {
         below = λ s is. absurd (both_ways _ (free s) is);
         inside = was.marks.inside;
         count = was.marks.count;
-      }) (rw other (rw at_first at was.reads ∙ count_below-zero _)) (λ is_open. record {
-        touched = λ s. rw (free s, untouched content target_bytes s (λ i below. kept (4096 * s + i)), and-false) refl;
-        raised = λ s. rw (flat s, unraised content target_bytes s (λ i below. kept (4096 * s + i)), and-false) refl;
-      })
+      }) (rw other (rw at_first at was.reads ∙ count_below-zero _)) (right (bytes_read mid.history))
+      (λ is_open. right old.chip.bytes)

@@ -11,6 +11,7 @@ use Rattle.nor_journal.specs.Writer.{HasPutSectors}
 use Rattle.nor_driver.specs.Ready.{StaysReady}
 use Rattle.nor_driver.specs.Reads.{IsSectorOf}
 use Rattle.nor_driver.specs.ReadsInTurn.{HasOnlyRead}
+use Rattle.nor_driver.specs.ReadBack.{bytes_read}
 use Rattle.nor_plan.specs.declared.plan.SectorPlan.{SectorPlan}
 use Rattle.nor_plan.specs.SectorSet.{has}
 use Rattle.nor_geometry.specs.Counts.{sector_count}
@@ -59,26 +60,27 @@ abbrev pub sectors_below : (n s : ℕ) → Bool
 sectors_below n s = nat_lt s n
 
 -- Holds after one sector was scanned. On every bus `bytes` is the reply to the only transaction, a read of this sector,
--- and a raised sector is touched. On a well-behaved bus with an idle chip of this size, `bytes` are the chip's, the
--- plan is right, and the sector's part of the image has the target bytes afterwards.
+-- and a raised sector is touched. For each content with these bytes in the sector, the plan is right, and the sector's
+-- part of the image has the target bytes afterwards. On a well-behaved bus with an idle chip of this size, `bytes` are
+-- the chip's.
 pub record ScansSector (request : Request) (size sector : ℕ) (part part' bytes : List ℕ)
     (old new : BusState) (plan : SectorPlan) : Type 0 where
   pub needed : plan.raised ≡ true → plan.touched ≡ true
   pub answered : Answered (names 0x03 (4096 * sector)) old.history new.history bytes
   pub honest_reads : HasOnlyRead 1 old new
   pub shown : IsOpen size old → IsSectorOf old.chip.bytes sector bytes
-  pub merged : IsOpen size old → (image : List ℕ)
+  pub merged : (content : ℕ → ℕ) → IsSectorOf content sector bytes → (image : List ℕ)
       → ((i : ℕ) → i < 4096 → slice_index part i ≡ slice_index image (4096 * sector + i))
       → (i : ℕ) → i < 4096
-      → slice_index part' i ≡ wanted_at request image size old.chip.bytes (4096 * sector + i)
-  pub planned : IsOpen size old → (image : List ℕ)
+      → slice_index part' i ≡ wanted_at request image size content (4096 * sector + i)
+  pub planned : (content : ℕ → ℕ) → IsSectorOf content sector bytes → (image : List ℕ)
       → ((i : ℕ) → i < 4096 → slice_index part i ≡ slice_index image (4096 * sector + i))
-      → (plan.touched ≡ is_touched old.chip.bytes (wanted_at request image size old.chip.bytes) sector)
-      × (plan.raised ≡ is_raised old.chip.bytes (wanted_at request image size old.chip.bytes) sector)
+      → (plan.touched ≡ is_touched content (wanted_at request image size content) sector)
+      × (plan.raised ≡ is_raised content (wanted_at request image size content) sector)
 
--- Holds after each sector with an included address was scanned (none for a protection range). On a well-behaved bus
--- with an idle chip of this size, the marks are right (`AreRight`), and the image's touched sectors have the target
--- bytes. Other clauses of `scan_all` describe the journal.
+-- Holds after each sector with an included address was scanned (none for a protection range). The marks are right
+-- (`AreRight`), and the image's touched sectors have the target bytes: on every bus for the bytes that were read, and
+-- on a well-behaved bus with an idle chip of this size for the chip's. Other clauses of `scan_all` describe the journal.
 pub record Scans (request : Request) (size : ℕ) (image image' : List ℕ) (old new : BusState)
     (scanned : Scanned) : Type 0 where
   pub marks : AreMarks (size / 4096) scanned
@@ -87,6 +89,10 @@ pub record Scans (request : Request) (size : ℕ) (image image' : List ℕ) (old
   pub polled_ready : StaysReady old new
   pub rested : old.honest ≡ true → Rested old new
   pub sent : old.honest ≡ true → old.left ≡ new.left + scanned.reads
+  pub replied : AreRight (wanted_at request image size (bytes_read new.history)) (bytes_read new.history)
+      (sectors_below (size / 4096)) scanned
+  pub filled : (a : ℕ) → has scanned.touched (a / 4096) ≡ true
+      → slice_index image' a ≡ wanted_at request image size (bytes_read new.history) a
   pub right : IsOpen size old
       → AreRight (wanted_at request image size old.chip.bytes) old.chip.bytes (sectors_below (size / 4096)) scanned
   pub merged : IsOpen size old → (a : ℕ) → has scanned.touched (a / 4096) ≡ true

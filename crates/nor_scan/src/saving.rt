@@ -2,7 +2,7 @@
 ghost use Rattle.std.specs.Prelude.{◌≡◌, ◌/◌, true, length, IfOk, IfErr, OnOk, OnErr};
 ghost use Rattle.nor_model.specs.History.{KeepsReplies, begins_with};
 ghost use Rattle.nor_journal.specs.Saved.{JournalSaves};
-ghost use Rattle.nor_scan.specs.Replied.{bytes_read};
+ghost use Rattle.nor_driver.specs.ReadBack.{bytes_read};
 ghost use Rattle.nor_driver.specs.OnlyReads.{OnlyReads};
 ghost use Rattle.nor_journal.specs.Vault.{IsFresh};
 ghost use Rattle.nor_plan.specs.SectorSet.{has};

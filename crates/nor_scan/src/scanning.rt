@@ -3,7 +3,7 @@
 ghost use Rattle.std.specs.Prelude.{◌≡◌, ◌≢◌, ◌<◌, ◌≤◌, ◌+◌, ◌*◌, ◌/◌, ℕ, Bool, true, false, length, IfOk, IfErr, OnOk, OnErr, IsTrue};
 ghost use Rattle.nor_model.specs.Size.{is_chip_size};
 ghost use Rattle.nor_model.specs.History.{KeepsReplies, begins_with};
-ghost use Rattle.nor_scan.specs.Replied.{bytes_read};
+ghost use Rattle.nor_driver.specs.ReadBack.{bytes_read};
 ghost use Rattle.nor_driver.specs.OnlyReads.{OnlyReads, HasStopped, IsOpen};
 ghost use Rattle.nor_journal.specs.Text.{Content};
 ghost use Rattle.nor_journal.specs.Writer.{vault_of, vault_seen, HasPutSectors};

@@ -9,7 +9,7 @@ ghost use Rattle.nor_journal.specs.Saved.{JournalSaves};
 ghost use Rattle.nor_journal.specs.Vault.{IsFresh, Accepted, Completed};
 ghost use Rattle.nor_journal.specs.Writer.{vault_of, vault_seen, HasPutSectors};
 ghost use Rattle.nor_plan.specs.SectorSet.{none};
-ghost use Rattle.nor_scan.specs.Replied.{bytes_read};
+ghost use Rattle.nor_driver.specs.ReadBack.{bytes_read};
 ghost use Rattle.nor_scan.specs.Saving.{header_found};
 ghost use Rattle.nor_scan.specs.Scanning.{HoldsCut, sectors_below};
 ghost use Rattle.nor_scan.specs.SavedWhole.{HasWholeChip, BeginsWholeChip, SaveWholeErrors};

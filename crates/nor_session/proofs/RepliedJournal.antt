@@ -8,7 +8,7 @@ use Rattle.nor_journal.specs.Saved.{JournalSaves}
 use Rattle.nor_probe.specs.declared.table.ChipName.{ChipName}
 use Rattle.nor_scan.specs.declared.identity.Identity.{Identity}
 use Rattle.nor_scan.specs.Identity.{ReadsIdentity}
-use Rattle.nor_scan.specs.Replied.{bytes_read}
+use Rattle.nor_driver.specs.ReadBack.{bytes_read}
 use Rattle.nor_scan.specs.Saving.{header_found}
 use Rattle.nor_scan.proofs.Replied.{identified_later}
 use Rattle.nor_session.specs.Session.{IsJournalOfReplies}

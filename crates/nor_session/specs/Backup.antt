@@ -19,7 +19,8 @@ use Rattle.nor_request.specs.declared.refusal.Refusal.{Refusal}
 use Rattle.nor_request.specs.declared.refusal.Refusal.TheVariants.{NoChip, UnknownChip, OtherName, Vault, Stopped, Timeout}
 use Rattle.nor_request.specs.Errors.{EndsAtError}
 use Rattle.nor_scan.specs.declared.identity.Identity.{Identity}
-use Rattle.nor_scan.specs.Replied.{IsIdentifiedBy, bytes_read}
+use Rattle.nor_driver.specs.ReadBack.{bytes_read}
+use Rattle.nor_scan.specs.Replied.{IsIdentifiedBy}
 use Rattle.nor_scan.specs.Saving.{header_of, header_found}
 use Rattle.nor_scan.specs.SavedScan.{IsJournal}
 use Rattle.nor_scan.specs.Scanning.{sectors_below}

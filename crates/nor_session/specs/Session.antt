@@ -28,7 +28,8 @@ use Rattle.nor_request.specs.Request.{wanted, scanned_sectors, IsWantedCode}
 use Rattle.nor_request.specs.Errors.{EndsAtError}
 use Rattle.nor_scan.specs.declared.identity.Identity.{Identity}
 use Rattle.nor_probe.specs.Found.{IsPart}
-use Rattle.nor_scan.specs.Replied.{IsIdentifiedBy, bytes_read}
+use Rattle.nor_driver.specs.ReadBack.{bytes_read}
+use Rattle.nor_scan.specs.Replied.{IsIdentifiedBy}
 use Rattle.nor_scan.specs.Saving.{header_of, header_found}
 use Rattle.nor_scan.specs.SavedScan.{IsJournal, HasWholeRecords, HoldsJournal}
 use Rattle.nor_session.specs.Bounds.{most_reads, most_of}

@@ -1,4 +1,4 @@
-use Rattle.std.proofs.Common.{◌/◌, arith, rules}
+use Rattle.std.proofs.Common.{◌≡◌, ◌/◌, arith, rules}
 use Rattle.nor_driver.proofs.RestsInTurn.{only_reads_after}
 use Rattle.nor_read.proofs.Differing.{compared_none, compared_more}
 use Rattle.nor_read.proofs.verifying.compare_all.Goals as goal
@@ -13,3 +13,7 @@ loop-sector-preserved g c = rw c.or-first.ensures (compared_more (omega arith) c
 pub returns-in_err-part-clause-leaves : goal.returns-in_err-part-clause-leaves
 returns-in_err-part-clause-leaves g c = only_reads_after c.loop-sector.reads 1 (c.args.size / 4096) _ _ _ (omega arith)
     c.loop-sector.invariant.honest_reads c.compare_part.ensures.leaves
+
+pub returns-clause-compares : goal.returns-clause-compares
+returns-clause-compares g c =
+    let end : c.loop-sector.sector ≡ c.args.size / 4096 = omega arith in rw end at c.loop-sector.invariant

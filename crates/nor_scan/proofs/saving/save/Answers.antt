@@ -4,7 +4,7 @@ use Rattle.nor_driver.proofs.Passed.{is_err}
 use Rattle.nor_journal.specs.Writer.{vault_seen}
 use Rattle.nor_journal.proofs.Saves.{HasKept-none, Saves-set}
 use Rattle.nor_plan.specs.SectorSet.{none}
-use Rattle.nor_scan.specs.Replied.{bytes_read}
+use Rattle.nor_driver.specs.ReadBack.{bytes_read}
 use Rattle.nor_scan.specs.Saving.{header_found, header_of, kept_read}
 use Rattle.nor_scan.proofs.Cuts.{same_bytes, is_open, touched_right, raised_right, head_put, judged_errors}
 use Rattle.nor_scan.proofs.Cuts.{cut_in_head, cut_in_scan, begins_scan, all_put, cut_at_end, begins_all}

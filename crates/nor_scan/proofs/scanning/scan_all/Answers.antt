@@ -1,7 +1,7 @@
 use Rattle.std.proofs.Common.{◌≡◌, ◌<◌, ◌+◌, ◌-◌, ◌*◌, ◌∙◌, ℕ, true, length, refl, sym, arith, rules}
 use Rattle.nor_driver.proofs.Passed.{is_err}
 use Rattle.nor_plan.specs.SectorSet.{has}
-use Rattle.nor_scan.specs.Replied.{bytes_read}
+use Rattle.nor_driver.specs.ReadBack.{bytes_read}
 use Rattle.nor_journal.specs.Writer.{vault_seen}
 use Rattle.nor_geometry.proofs.Counting.{at_most_one}
 use Rattle.nor_driver.proofs.RestsInTurn.{only_reads_after, runs_out}
@@ -55,7 +55,7 @@ loop-sector-preserved g c =
                 (omega (arith, at_most_one plan.touched, w.mark.ensures.count, w.mark.ensures.reads, here.few));
             below = rw w.scanned-is (omega (arith, w.mark.ensures.reads, here.below));
             scanned = rw (w.image-is, w.bus-is, w.scanned-is)
-                (scanned_more here.scanned at w.in_ok-plan.ensures.scans width w.mark.ensures part image);
+                (scanned_more here.scanned at w.in_ok-plan.ensures.scans width w.mark.ensures part (omega arith) image);
             replies = rw w.bus-is (keeps_replies_then here.replies (read_keeps sector answered));
             journal = rw (w.writer-is, w.scanned-is, w.bus-is) (elim w.if-plan.branch [
               | then-plan+in_ok-add v ↦ rw v.writer-is

@@ -1,6 +1,6 @@
 use Rattle.std.proofs.Common.{◌≡◌, ◌<◌, ◌≤◌, ◌/◌, true}
 use Rattle.nor_model.specs.History.{KeepsReplies, begins_with}
-use Rattle.nor_scan.specs.Replied.{bytes_read}
+use Rattle.nor_driver.specs.ReadBack.{bytes_read}
 use Rattle.nor_plan.specs.SectorSet.{has}
 use Rattle.nor_request.specs.Request.{is_data}
 use Rattle.nor_scan.proofs.Scans.{HasScanned}

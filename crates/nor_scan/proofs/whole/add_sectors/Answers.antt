@@ -5,7 +5,7 @@ use Rattle.nor_driver.proofs.ReadsInTurn.{only_reads_none}
 use Rattle.nor_journal.specs.Writer.{vault_seen}
 use Rattle.nor_model.proofs.Histories.{keeps_replies_none, keeps_replies_then}
 use Rattle.nor_request.specs.declared.refusal.Refusal.TheVariants.{Vault, Stopped}
-use Rattle.nor_scan.specs.Replied.{bytes_read}
+use Rattle.nor_driver.specs.ReadBack.{bytes_read}
 use Rattle.nor_scan.specs.Scanning.{sectors_below}
 use Rattle.nor_scan.proofs.Begun.{journalled_none, journalled_later, journalled_more, kept_on, replied_on}
 use Rattle.nor_scan.proofs.Cuts.{cut_between, cut_in_record}

@@ -1,6 +1,6 @@
 use Rattle.nor_model.specs.History.{KeepsReplies, begins_with}
 use Rattle.nor_driver.specs.ReadsInTurn.{HasOnlyRead}
-use Rattle.nor_scan.specs.Replied.{bytes_read}
+use Rattle.nor_driver.specs.ReadBack.{bytes_read}
 use Rattle.nor_scan.specs.Scanning.{sectors_below}
 use Rattle.nor_scan.proofs.Begun.{HasJournalled}
 use Rattle.nor_scan.proofs.whole.add_sectors.Given as goal

@@ -4,7 +4,7 @@ use Rattle.nor_driver.proofs.Passed.{is_err}
 use Rattle.nor_journal.specs.Writer.{vault_seen}
 use Rattle.nor_journal.proofs.Saves.{HasKept-none}
 use Rattle.nor_plan.specs.SectorSet.{none}
-use Rattle.nor_scan.specs.Replied.{bytes_read}
+use Rattle.nor_driver.specs.ReadBack.{bytes_read}
 use Rattle.nor_scan.specs.Saving.{header_found, header_of, kept_read}
 use Rattle.nor_scan.proofs.Cuts.{head_put}
 use Rattle.nor_scan.proofs.WholeChips.{whole_in_head, whole_in_sectors, all_sectors}

@@ -1,0 +1,61 @@
+-- What the bus replied to reads of sectors, on every bus.
+use Rattle.std.specs.Prelude.{◌≡◌, ◌≢◌, ◌<◌, ◌*◌, ◌/◌, ◌%◌, ◌++◌, ℕ, Bool, true, List, length, slice_index, Some}
+use Rattle.std.specs.List.{All}
+use Rattle.nor_model.specs.Exchange.{Exchange}
+use Rattle.nor_model.specs.History.{Continues, last_reply, names}
+
+-- the last reply to a read (03h) from the start of the sector that has this address; empty if there was no such read
+abbrev pub sector_read : List Exchange → (a : ℕ) → List ℕ
+sector_read history a = last_reply (names 0x03 (4096 * (a / 4096))) history
+
+-- the byte of an address in the last reply to a read (03h) from the start of its sector; 0 if there is no such byte
+abbrev pub bytes_read : List Exchange → (a : ℕ) → ℕ
+bytes_read history a = slice_index (sector_read history a) (a % 4096)
+
+-- Holds if the transaction was a read (03h) from the start of a sector, and the bus did not stop at it. The number of
+-- bytes read is not stated.
+pub record IsSectorRead (exchange : Exchange) : Type 0 where
+  pub sector : ℕ
+  pub bytes : List ℕ
+  pub reads : names 0x03 (4096 * sector) exchange.out ≡ true
+  pub replied : exchange.reply ≡ Some bytes
+
+-- Holds if the history `new` continues `old` with reads of sectors and with nothing else.
+pub record AddsSectorReads (old new : List Exchange) : Type 0 where
+  pub later : List Exchange
+  pub is : new ≡ later ++ old
+  pub each : All IsSectorRead later
+
+-- Holds if the sector that has this address was read, and the last reply to such a read has 4,096 bytes, with `byte` at
+-- this address.
+pub record IsReadAs (byte : ℕ) (history : List Exchange) (a : ℕ) : Type 0 where
+  pub whole : length (sector_read history a) ≡ 4096
+  pub same : bytes_read history a ≡ byte
+
+-- Holds if, since the history `old`, sectors were read and nothing else was sent, and the last reply to a read of the
+-- sector of each of these addresses has the target byte there.
+pub record ReadsBack (addresses : ℕ → Bool) (target : ℕ → ℕ) (old new : List Exchange) : Type 0 where
+  pub reads : AddsSectorReads old new
+  pub each : (a : ℕ) → addresses a ≡ true → IsReadAs (target a) reads.later a
+
+-- Holds if, since the history `old`, sectors were read and nothing else was sent, and `address` is the first of these
+-- addresses at which the last reply to a read of its sector doesn't have the target byte.
+pub record ReadsOther (addresses : ℕ → Bool) (target : ℕ → ℕ) (address : ℕ) (old new : List Exchange) : Type 0 where
+  pub reads : AddsSectorReads old new
+  pub is : addresses address ≡ true
+  pub whole : length (sector_read reads.later address) ≡ 4096
+  pub differs : bytes_read reads.later address ≢ target address
+  pub before : (a : ℕ) → a < address → addresses a ≡ true → IsReadAs (target a) reads.later a
+
+-- Holds if the transactions since `old` ended with such reads, in whose replies each of these addresses has the target
+-- byte.
+abbrev pub EndsReadBack : (addresses : ℕ → Bool) → (target : ℕ → ℕ) → (old new : List Exchange) → Type 0
+EndsReadBack addresses target old new =
+    (before : List Exchange) × Continues old before × ReadsBack addresses target before new
+
+-- Holds if the transactions since `old` ended with such reads, in whose replies `address` is the first of these
+-- addresses that doesn't have the target byte.
+abbrev pub EndsReadOther : (addresses : ℕ → Bool) → (target : ℕ → ℕ) → (address : ℕ) → (old new : List Exchange)
+    → Type 0
+EndsReadOther addresses target address old new =
+    (before : List Exchange) × Continues old before × ReadsOther addresses target address before new
