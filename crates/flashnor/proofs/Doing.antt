@@ -75,7 +75,7 @@ module _ (request : Request) (image : List ℕ) (old new : BusState) (vault vaul
   }
 
   kept_by : (result : Result Report Refusal) (outcome : Result Answer Refusal)
-      → SessionAlways request old new vault vault' result → SessionHonest request image old new result
+      → SessionAlways request image old new vault vault' result → SessionHonest request image old new result
       → SessionModelled request image old new vault vault' result → AnswersCall ReportsDone result outcome
       → HasKeptChange request image old new vault vault' outcome
   kept_by (Ok report) (Ok (answer.Done returned)) always honest model passed =

@@ -31,7 +31,7 @@ pub record HasRunSession (request : Request) (image : List ℕ) (old new : BusSt
     (outcome : Result Answer Refusal) : Type 0 where
   pub result : Result Report Refusal
   pub keeps : KeepsOriginal old new vault'
-  pub always : SessionAlways request old new vault vault' result
+  pub always : SessionAlways request image old new vault vault' result
   pub honest : old.honest ≡ true → SessionHonest request image old new result
   pub modelled : IsModelled old → SessionModelled request image old new vault vault' result
   pub returned : AnswersCall ReportsDone result outcome

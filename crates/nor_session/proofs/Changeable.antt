@@ -12,6 +12,7 @@ use Rattle.nor_model.specs.Bus.{BusState}
 use Rattle.nor_model.proofs.Sizes.{sized_bounds}
 use Rattle.nor_driver.specs.OnlyReads.{OnlyReads, Rested, IsOpen}
 use Rattle.nor_driver.specs.StatusWrites.{fixed_of}
+use Rattle.nor_driver.specs.ReadBack.{bytes_read}
 use Rattle.nor_journal.specs.Text.{Content}
 use Rattle.nor_journal.specs.Saved.{is_saved, saved_byte}
 use Rattle.nor_plan.specs.SectorSet.{has}
@@ -177,6 +178,9 @@ module _ {choice : Choice} (sound : IsSoundChoice choice) {journal : Content} {i
       } in
       ap (λ (set : ℕ → Bool). set s) (ap has are.touched) ∙ rw bytes at (read.scans.touched is_open s)
 
+  replied_if : (s : ℕ) → has changes.touched s ≡ choice.touched journal (bytes_read new.history) s
+  replied_if s = ap (λ (set : ℕ → Bool). set s) (ap has are.touched) ∙ read.scans.replied s
+
   pub prepared_all : (sent : ℕ) → sent ≡ identity.transactions + choice.reads (length journal.saved)
       → IsPreparedRestore choice journal old new
       record { found = identity.found; changes = changes; touched = scanned.count; transactions = sent }
@@ -192,4 +196,4 @@ module _ {choice : Choice} (sound : IsSoundChoice choice) {journal : Content} {i
       let fixed : fixed_of (kept_in (bytes_of changes.status)) ≡ fixed_of (kept_in journal.status)
       = rw (are.one, are.two) read.fixed in
       let consistent : AreConsistent changes = search (rules, arith, below, rises_touched) in
-      search (rules, arith, saved, rested_all read, idle_now, touched_if, prepared_for sent)
+      search (rules, arith, saved, rested_all read, idle_now, replied_if, touched_if, prepared_for sent)

@@ -1,17 +1,23 @@
 -- The result of the read and comparison of a sector, for that sector and for all sectors up to it.
-use Rattle.std.proofs.Common.{◌≡◌, ◌≤◌, ◌<◌, ◌+◌, ◌-◌, ◌*◌, ◌/◌, ◌∙◌, ℕ, Bool, true, false, refl, arith, List, length, slice_index}
+use Rattle.std.proofs.Common.{◌≡◌, ◌≢◌, ◌≤◌, ◌<◌, ◌+◌, ◌-◌, ◌*◌, ◌/◌, ◌%◌, ◌∙◌, ℕ, Bool, true, false, refl, ap, sym, arith, inl, inr, List, [], ◌∷◌, length, slice_index, Err}
+use Rattle.std.proofs.lemmas.Bool.{cases_eq, both_ways}
+use Rattle.std.proofs.lemmas.List.Elements.{All-nil, All-cons}
 use Rattle.std.proofs.lemmas.Bool.Decides.{nat_tests}
 use Rattle.nor_geometry.specs.Below.{count_below}
 use Rattle.nor_geometry.specs.Counts.{sector_count}
 use Rattle.nor_geometry.proofs.Counting.{count_below-zero, count_below-with, count_below-without}
-use Rattle.nor_model.specs.History.{Answered, EndsReading, names}
+use Rattle.nor_model.specs.Exchange.{Exchange}
+use Rattle.nor_model.specs.History.{Answered, EndsReading, names, replied as returned}
 use Rattle.nor_model.specs.Bus.{BusState}
 use Rattle.nor_driver.specs.OnlyReads.{OnlyReads, HasStopped}
 use Rattle.nor_driver.specs.Reads.{IsSectorOf, ReadsSector}
 use Rattle.nor_driver.proofs.RestsInTurn.{HasOnlyRead, has_only_read-none, has_only_read-then, only_reads_after, runs_out}
 use Rattle.nor_plan.specs.Bytes.{AllAgree, IsFirstDifference}
 use Rattle.nor_apply.specs.Change.{only, byte_of}
-use Rattle.nor_session.specs.Checking.{CanCheck, DoesChecks, CheckErrors, NamesDifference}
+use Rattle.nor_driver.specs.ReadBack.{sector_read, bytes_read, IsSectorRead, AddsSectorReads, IsReadAs, ReadsBack, ReadsOther}
+use Rattle.nor_driver.proofs.ReadBack.{read_other, read_here}
+use Rattle.nor_apply.specs.Within.{addresses_of}
+use Rattle.nor_session.specs.Checking.{CanCheck, DoesChecks, CheckErrors, NamesDifference, ReadsWhole, ChecksReply, ChecksReplies}
 use Rattle.nor_session.specs.declared.checks.CheckFault.{CheckFault}
 use Rattle.nor_session.specs.declared.checks.CheckFault.TheVariants.{Stopped, Mismatch}
 use Rattle.nor_apply.proofs.Alone.{count_below-next, only-here, only-is, sector_count-only, shown_byte, old_byte}
@@ -58,24 +64,52 @@ module _ {sector : ℕ} {bytes : List ℕ} {old new : BusState} (long : length b
         grind (arith, difference.differs, difference.before, read_at honest can, nat_tests),
   )
 
+pub read_whole : {sector : ℕ} {bytes : List ℕ} {old new : BusState} {Is : List ℕ → Type 0}
+    → ReadsSector sector old new bytes → length bytes ≡ 4096 → Is bytes
+    → ReadsWhole sector Is old.history new.history
+read_whole {bytes = bytes} reads long is = record { bytes = bytes; answered = reads.answered; whole = long; is = is }
+
 -- ---- sector by sector
 
--- Holds after each sector of the set that is below `n` was read once. On a well-behaved bus, if `CanCheck` held at the
+-- Holds after each sector of the set that is below `n` was read once, and its reply had the target bytes. On a
+-- well-behaved bus, if `CanCheck` held at the
 -- start, the bytes of these sectors are the target ones.
 pub record HasChecked (sectors : ℕ → Bool) (wanted : ℕ → ℕ) (n : ℕ) (old new : BusState) (sent : ℕ) : Type 0 where
   pub honest_reads : HasOnlyRead sent old new
   pub few : sent ≤ n
   pub counted : sent ≡ count_below n sectors
+  pub reads : AddsSectorReads old.history new.history
+  pub each : (a : ℕ) → a / 4096 < n → sectors (a / 4096) ≡ true → IsReadAs (wanted a) reads.later a
   pub same : old.honest ≡ true → CanCheck sectors old.chip
       → (a : ℕ) → a / 4096 < n → sectors (a / 4096) ≡ true → old.chip.bytes a ≡ wanted a
 
 pub checked_none : {t : ℕ → Bool} {w : ℕ → ℕ} (state : BusState) → HasChecked t w 0 state state 0
-checked_none {t} state = grind (arith, has_only_read-none state, count_below-zero t)
+checked_none {t} state = record {
+  honest_reads = has_only_read-none state;
+  few = omega arith;
+  counted = sym (count_below-zero t);
+  reads = record { later = []; is = refl; each = All-nil IsSectorRead };
+  each = λ a below hit. absurd (omega (arith, below));
+  same = λ honest can a below hit. absurd (omega (arith, below));
+}
 
 module _ {t : ℕ → Bool} {w : ℕ → ℕ} {n sent : ℕ} {old mid : BusState} (has : HasChecked t w n old mid sent) where
+  -- an address of the set isn't in sector `n`, if that isn't in the set
+  elsewhere : t n ≡ false → (a : ℕ) → t (a / 4096) ≡ true → a / 4096 ≢ n
+  elsewhere not a hit here = both_ways (t n) not (rw here at hit)
+
   -- `HasChecked` holds below `n + 1`, too, if sector `n` isn't in the set
   pub checked_without : t n ≡ false → HasChecked t w (n + 1) old mid sent
-  checked_without not = grind (arith, has.same, count_below-without n t not)
+  checked_without not = record {
+    honest_reads = has.honest_reads;
+    few = let few = has.few in omega arith;
+    counted = has.counted ∙ sym (count_below-without n t not);
+    reads = has.reads;
+    each = λ a below hit.
+        has.each a (let other = elsewhere not a hit in omega arith) hit;
+    same = λ honest can a below hit.
+        has.same honest can a (let other = elsewhere not a hit in omega arith) hit;
+  }
 
   module _ (is : t n ≡ true) (bytes : List ℕ)
       (are : (i : ℕ) → i < 4096 → slice_index bytes i ≡ w (4096 * n + i)) where
@@ -87,11 +121,80 @@ module _ {t : ℕ → Bool} {w : ℕ → ℕ} {n sent : ℕ} {old mid : BusState
     wanted_at : (a : ℕ) → a / 4096 ≡ n → byte_of n bytes a ≡ w a
     wanted_at a here = shown_byte n a bytes w here are
 
+    -- the reads up to this sector's, the last one first
+    module _ {new : List Exchange} {Is : List ℕ → Type 0} (back : ReadsWhole n Is mid.history new) where
+      abbrev reads_more : AddsSectorReads old.history new
+      reads_more = record {
+        later = returned back.answered.out back.bytes ∷ has.reads.later;
+        is = back.answered.history
+            ∙ ap (λ (h : List Exchange). returned back.answered.out back.bytes ∷ h) has.reads.is;
+        each = All-cons IsSectorRead (returned back.answered.out back.bytes) has.reads.later
+            (record { sector = n; bytes = back.bytes; reads = back.answered.asks; replied = refl }) has.reads.each;
+      }
+
+      -- each byte of an earlier sector was read as the target one
+      before_as : (a : ℕ) → a / 4096 < n → t (a / 4096) ≡ true → IsReadAs (w a) reads_more.later a
+      before_as a below hit =
+          let was = has.each a below hit in
+          let read = read_other {n = n} back.answered.out back.bytes back.answered.asks has.reads.later a (λ here. omega (arith, below, here)) in
+          record {
+            whole = ap (λ (l : List ℕ). length l) read ∙ was.whole;
+            same = ap (λ (reply : List ℕ). slice_index reply (a % 4096)) read ∙ was.same;
+          }
+
+      -- in this sector the last reply has 4,096 bytes, and the byte at each address is that of this reply
+      here_whole : (a : ℕ) → a / 4096 ≡ n → length (sector_read reads_more.later a) ≡ 4096
+      here_whole a here = ap (λ (l : List ℕ). length l) (read_here {n = n} back.answered.out back.bytes back.answered.asks has.reads.later a here) ∙ back.whole
+
+      here_byte : (a : ℕ) → a / 4096 ≡ n → bytes_read reads_more.later a ≡ slice_index back.bytes (a % 4096)
+      here_byte a here = ap (λ (reply : List ℕ). slice_index reply (a % 4096))
+          (read_here {n = n} back.answered.out back.bytes back.answered.asks has.reads.later a here)
+
+      target_at : (a : ℕ) → a / 4096 ≡ n → slice_index bytes (a % 4096) ≡ w a
+      target_at a here =
+          let place : 4096 * n + a % 4096 ≡ a = omega arith in are (a % 4096) (omega arith) ∙ ap w place
+
+      here_as : (a : ℕ) → a / 4096 ≡ n → slice_index back.bytes (a % 4096) ≡ slice_index bytes (a % 4096)
+          → IsReadAs (w a) reads_more.later a
+      here_as a here agree =
+          record { whole = here_whole a here; same = here_byte a here ∙ agree ∙ target_at a here }
+
     pub checked_with : {new : BusState} → DoesChecks (only n) (byte_of n bytes) mid new 1
+        → ReadsWhole n (λ reply. AllAgree reply bytes) mid.history new.history
         → HasChecked t w (n + 1) old new (sent + 1)
-    checked_with does =
+    checked_with does back =
         let honest_reads = has_only_read-then has.honest_reads does.honest_reads in
-        grind (arith, honest_reads, count_below-with n t is, does.same, can_one, wanted_at, has.same, nat_tests)
+        let long = back.whole in record {
+          honest_reads = honest_reads;
+          few = let few = has.few in omega arith;
+          counted = let next = count_below-with n t is in let counted = has.counted in omega arith;
+          reads = reads_more back;
+          each = λ a below hit. elim (cases_eq (a / 4096) n) [
+            | inl here ↦ here_as back a here (back.is (a % 4096) (omega arith))
+            | inr other ↦ before_as back a (omega (arith, below, other)) hit
+          ];
+          same = grind (arith, does.same, can_one, wanted_at, has.same, nat_tests);
+        }
+
+    -- the verification of sector `n` found a byte that differs
+    pub checked_other : {new : List Exchange} {first : ℕ}
+        → ReadsWhole n (λ reply. IsFirstDifference reply bytes first) mid.history new
+        → ReadsOther (addresses_of t) w (4096 * n + first) old.history new
+    checked_other {first = first} back =
+        let small : first < 4096 = let within = back.is.within in let long = back.whole in omega arith in
+        let here : (4096 * n + first) / 4096 ≡ n = omega (arith, small) in
+        let at : (4096 * n + first) % 4096 ≡ first = omega (arith, small) in record {
+          reads = reads_more back;
+          is = ap t here ∙ is;
+          whole = here_whole back (4096 * n + first) here;
+          differs = λ same. back.is.differs (ap (slice_index back.bytes) (sym at)
+              ∙ sym (here_byte back (4096 * n + first) here) ∙ same ∙ sym (target_at back (4096 * n + first) here)
+              ∙ ap (slice_index bytes) at);
+          before = λ a below hit. elim (cases_eq (a / 4096) n) [
+            | inl in_sector ↦ here_as back a in_sector (back.is.before (a % 4096) (omega arith))
+            | inr other ↦ before_as back a (omega (arith, below, other)) hit
+          ];
+        }
 
     -- the verification of sector `n` failed
     module _ (below : n < 4096) where
@@ -114,11 +217,28 @@ module _ {t : ℕ → Bool} {w : ℕ → ℕ} {n sent : ℕ} {old mid : BusState
       failed_names : (fault : CheckFault) → NamesDifference (only n) fault → NamesDifference t fault
       failed_names fault returned = grind (arith, only-is)
 
+      failed_replies : (new : BusState) (fault : CheckFault)
+          → ChecksReply n bytes mid.history new.history (Err fault)
+          → ChecksReplies t w old.history new.history (Err fault)
+      failed_replies new Stopped replies = tt
+      failed_replies new (Mismatch address) replies = rw replies.1 (checked_other replies.2)
+
       pub failed : {new : BusState} (fault : CheckFault) → OnlyReads 1 mid new
           → CheckErrors (only n) (byte_of n bytes) mid new fault → NamesDifference (only n) fault
+          → ChecksReply n bytes mid.history new.history (Err fault)
           → OnlyReads (sector_count t) old new × CheckErrors t w old new fault × NamesDifference t fault
-      failed {new} fault only_reads errors names = (
+          × ChecksReplies t w old.history new.history (Err fault)
+      failed {new} fault only_reads errors names replies = (
         only_reads_after sent 1 (sector_count t) old mid new fewer has.honest_reads only_reads,
         failed_errors new fault errors,
         failed_names fault names,
+        failed_replies new fault replies,
       )
+
+-- when all sectors were read, each byte of the set was read as the target one
+pub all_checked : {t : ℕ → Bool} {w : ℕ → ℕ} {sent : ℕ} {old new : BusState} → HasChecked t w 4096 old new sent
+    → ((s : ℕ) → t s ≡ true → s < 4096) → ReadsBack (addresses_of t) w old.history new.history
+all_checked has below = record {
+  reads = has.reads;
+  each = λ a hit. has.each a (below (a / 4096) hit) hit;
+}

@@ -1,4 +1,5 @@
 pub mod CheckingSteps
+pub mod ReadBack
 pub mod Changed
 pub mod JudgedAgain
 pub mod OneRestoreVerdict

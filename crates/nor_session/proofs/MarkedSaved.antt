@@ -72,6 +72,7 @@ all_marked {journal = journal} {n = n} {scanned = scanned} is end was =
         few = omega (arith, was.few);
         room = omega (arith, few, most);
         honest_reads = has_only_read-none state;
+        replied = touched;
         touched = λ is_open s. touched s;
         raised = λ is_open s. raised s;
       };

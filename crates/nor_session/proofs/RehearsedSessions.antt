@@ -59,7 +59,7 @@ module _ {n : ℕ} {old mid : BusState} (allows : Allows n old mid) where
 
   module _ (request : Request) (image : List ℕ) (new : BusState) {before after : VaultState} where
     pub session_leaves : {result : Result Report Refusal} → after.telling ≡ true → (mid.honest ≡ true → IsChip mid.chip)
-        → KeepsOriginal mid new after → SessionAlways request mid new before after result
+        → KeepsOriginal mid new after → SessionAlways request image mid new before after result
         → (IsModelled mid → SessionModelled request image mid new before after result)
         → LeavesSession request image old new after
     session_leaves telling reaches keeps always promise = record {
@@ -90,7 +90,7 @@ module _ {n : ℕ} {old mid : BusState} (allows : Allows n old mid) where
     }
 
     -- the session ended
-    pub session_ends : (report : Report) → SessionAlways request mid new before after (Ok report)
+    pub session_ends : (report : Report) → SessionAlways request image mid new before after (Ok report)
         → (mid.honest ≡ true → SessionHonest request image mid new (Ok report))
         → (IsModelled mid → SessionModelled request image mid new before after (Ok report))
         → RunsSession request image n old new after true
@@ -124,7 +124,7 @@ module _ {n : ℕ} {old mid : BusState} (allows : Allows n old mid) where
 
     -- The session returned an error. If that is a stop, the session was allowed `most_of 4096` transactions, a bound
     -- that no session exceeds on a well-behaved bus.
-    pub session_refuses : (refusal : Refusal) → SessionAlways request mid new before after (Err refusal)
+    pub session_refuses : (refusal : Refusal) → SessionAlways request image mid new before after (Err refusal)
         → (mid.honest ≡ true → SessionHonest request image mid new (Err refusal))
         → (IsModelled mid → SessionModelled request image mid new before after (Err refusal))
         → (refusal ≡ Stopped → n ≡ most_of 4096) → RefusesSession request image old new before after refusal

@@ -7,6 +7,8 @@ use Rattle.std.proofs.lemmas.Bool.Decides.{nat_tests}
 use Rattle.nor_model.proofs.Sizes.{is_chip_size-in_blocks}
 use Rattle.nor_model.specs.Bus.{BusState}
 use Rattle.nor_driver.specs.OnlyReads.{IsOpen}
+use Rattle.nor_driver.specs.ReadBack.{bytes_read}
+use Rattle.nor_scan.proofs.Replied.{read_others, read_whole}
 use Rattle.nor_journal.specs.Text.{SavedSector, Content, IsContent, least_after}
 use Rattle.nor_journal.specs.Saved.{saved_in, is_saved, saved_byte}
 use Rattle.nor_journal.proofs.Saved.{saved_in-nil, saved_in-take_more, saved_in-at, rising_at, take-next, take-all_sectors, least_within, saved_few}
@@ -27,7 +29,13 @@ use Rattle.nor_session.proofs.SavedBytes.{sector_at, byte_at, is_saved-some}
 abbrev pub saved_before : Content → ℕ → ℕ → Bool
 saved_before journal i s = is_some (saved_in (take i journal.saved) s)
 
--- Holds after the first `i` saved sectors were read once each. On a well-behaved bus with an idle chip of the journal's
+-- Holds if two contents agree in the sectors up to that of the first `i` records.
+abbrev pub AgreeBefore : Content → (i : ℕ) → (one two : ℕ → ℕ) → Type 0
+AgreeBefore journal i one two = (s k : ℕ) → s < least_after 0 (take i journal.saved) → k < 4096
+    → one (4096 * s + k) ≡ two (4096 * s + k)
+
+-- Holds after the first `i` saved sectors were read once each. The marks are right for each content that agrees with
+-- what was read. On a well-behaved bus with an idle chip of the journal's
 -- size, exactly the touched ones of these are marked as touched, and the raised ones as raised.
 pub record HasRescanned (journal : Content) (i : ℕ) (old new : BusState) (scanned : Scanned) : Type 0 where
   pub marks : AreMarks (least_after 0 (take i journal.saved)) scanned
@@ -36,6 +44,8 @@ pub record HasRescanned (journal : Content) (i : ℕ) (old new : BusState) (scan
   pub honest_reads : HasOnlyRead i old new
   pub saved : (s : ℕ) → has scanned.touched s ≡ true → saved_before journal i s ≡ true
   pub bytes : (s : ℕ) (bytes : List ℕ) → saved_in (take i journal.saved) s ≡ Some bytes → (k : ℕ) → slice_index bytes k < 256
+  pub replied : (content : ℕ → ℕ) → AgreeBefore journal i content (bytes_read new.history)
+      → AreRight (restored journal content) content (saved_before journal i) scanned
   pub right : IsOpen journal.size old
       → AreRight (restored journal old.chip.bytes) old.chip.bytes (saved_before journal i) scanned
 
@@ -68,6 +78,20 @@ restored_other journal content a is = rw is refl
 
 restored_at : (journal : Content) (content : ℕ → ℕ) (s : ℕ) (saved : List ℕ) (i : ℕ) → saved_in journal.saved s ≡ Some saved → i < 4096 → slice_index saved i ≡ restored journal content (4096 * s + i)
 restored_at journal content s saved i is below = search (arith, byte_at, is_saved-some, restored_saved, sector_at)
+
+-- for each content that has the bytes that were read, the plan of a sector says whether the sector is touched, and
+-- whether it is raised
+planned_for : (journal : Content) (s : ℕ) (saved bytes : List ℕ) (mid new : BusState) (plan : SectorPlan) → saved_in journal.saved s ≡ Some saved
+    → length saved ≡ 4096 → PlansSaved s saved bytes mid new plan → (content : ℕ → ℕ)
+    → ((k : ℕ) → k < 4096 → slice_index bytes k ≡ content (4096 * s + k))
+    → (plan.touched ≡ is_touched content (restored journal content) s) × (plan.raised ≡ is_raised content (restored journal content) s)
+planned_for journal s saved bytes mid new plan is whole plans content shown =
+    let long = plans.whole in
+    let target_bytes = restored journal content in
+    planned content target_bytes s plan
+    (plans.planned (λ k. content (4096 * s + k)) (λ k. target_bytes (4096 * s + k))
+    (λ k below. shown k (omega arith))
+    (λ k below. restored_at journal content s saved k is (omega arith)))
 
 -- on a well-behaved bus with an idle chip of the journal's size, the plan of a sector says whether the sector is
 -- touched, and whether it is raised
@@ -115,6 +139,16 @@ rescanned_more {journal = journal} {i = i} {s = s} {saved = saved} {bytes = byte
           let before = λ (had : saved_in (take i journal.saved) t ≡ Some these). was.bytes t these had k in
           let small = plans.small k in
           grind (arith, nat_tests);
+      replied = λ content same.
+          let here : (k : ℕ) → k < 4096 → slice_index bytes k ≡ content (4096 * s + k) = λ k small.
+          (read_whole s plans.read.answered plans.whole).same k small
+          ∙ sym (same s k (let next = next_least.1 in omega arith) small) in
+          let before : AgreeBefore journal i content (bytes_read mid.history) = λ t k below small.
+          let low = next_least.0 in let next = next_least.1 in
+          same t k (omega (arith, below)) small
+          ∙ read_others s plans.read.answered t k (λ is. omega (arith, is, below)) small in
+          right_more (planned_for journal s saved bytes mid new plan is_in whole plans content here) more marked
+          (was.replied content before);
       right = λ is_open. right_more (plans_are is_open) more marked (was.right is_open);
     }
 
@@ -133,6 +167,7 @@ small_byte o k small is = grind (arith, nat_tests)
 
 pub all_rescanned : {journal : Content} {n : ℕ} {old new : BusState} {scanned : Scanned} → IsContent journal
     → n ≡ length journal.saved → HasRescanned journal n old new scanned → MarksChosen differing journal old new scanned
-all_rescanned {journal = journal} {n = n} {old = old} {scanned = scanned} is end was =
+all_rescanned {journal = journal} {n = n} {old = old} {new = new} {scanned = scanned} is end was =
     let few = saved_few journal is in let most = (is_chip_size-in_blocks journal.size is.size).small in
+    let shown = (was.replied (bytes_read new.history) (λ s k below small. refl)).touched in
     search (arith, nat_tests, later_marks, least_within, small_byte, take-all_sectors, unraised_other, untouched_other)

@@ -1,9 +1,11 @@
 -- The effect of the changes of a session or restore, and of the check of their result.
-use Rattle.std.specs.Prelude.{◌≡◌, ◌≤◌, ◌+◌, ◌*◌, ◌/◌, ◌⊎◌, ℕ, Bool, true, if◌then◌else◌, ⊤}
+use Rattle.std.specs.Prelude.{◌≡◌, ◌≤◌, ◌+◌, ◌*◌, ◌/◌, ◌⊎◌, ℕ, Bool, true, List, Result, Ok, Err, if◌then◌else◌, ⊤}
 use Rattle.nor_model.specs.Chip.{Chip}
+use Rattle.nor_model.specs.Exchange.{Exchange}
 use Rattle.nor_model.specs.History.{EndsBusy, EndsReading}
 use Rattle.nor_model.specs.Bus.{BusState}
 use Rattle.nor_driver.specs.Ready.{StaysReady}
+use Rattle.nor_driver.specs.ReadBack.{EndsReadBack, EndsReadOther}
 use Rattle.nor_driver.specs.OnlyReads.{Rested, HasStopped}
 use Rattle.nor_driver.specs.Limits.{SendsExactly, Leaves}
 use Rattle.nor_driver.specs.Operations.{most_operation}
@@ -13,6 +15,7 @@ use Rattle.nor_apply.specs.declared.changes.Changes.{Changes}
 use Rattle.nor_apply.specs.declared.changes.Work.{Work}
 use Rattle.nor_geometry.specs.Counts.{sector_count}
 use Rattle.nor_plan.specs.Content.{once_erased, is_programmed}
+use Rattle.nor_apply.specs.Within.{addresses_of}
 use Rattle.nor_apply.specs.Change.{MayChange}
 use Rattle.nor_session.specs.Checking.{CanCheck, IsFirstMismatch}
 use Rattle.nor_apply.specs.Applying.{touched_in, raised_in, status_writes, most_sent, most_applied, CanApply, ErasesFirst, HasApplied}
@@ -113,6 +116,17 @@ ChangeErrors changes wanted old new (Timeout address) = EndsBusy new.history × 
 ChangeErrors changes wanted old new (Mismatch address) =
     EndsReading address new.history × (old.honest ≡ true → CanApply changes wanted old.chip → ⊥)
 ChangeErrors changes wanted old new _ = ⊥
+
+-- Holds if the result fits what was read back, on every bus. After success with `verify` set, and after a mismatch, the
+-- last transactions were reads of sectors. After success each byte of a touched sector was read as the target one. The
+-- address of a mismatch is the first one in a touched sector that wasn't.
+abbrev pub FitsReadBack : Changes → (wanted : ℕ → ℕ) → (verify : Bool) → (old new : List Exchange)
+    → Result Work Refusal → Type 0
+FitsReadBack changes wanted verify old new (Ok work) =
+    verify ≡ true → EndsReadBack (addresses_of (touched_in changes)) wanted old new
+FitsReadBack changes wanted verify old new (Err (Mismatch address)) =
+    EndsReadOther (addresses_of (touched_in changes)) wanted address old new
+FitsReadBack changes wanted verify old new (Err _) = ⊤
 
 -- Holds for a timeout that names an address in a touched sector, or 0 if a status write is needed. Holds for a mismatch
 -- that names an address in a touched sector, and for every error of another kind. The changes and their check promise

@@ -1,10 +1,14 @@
 -- The results of a verification of touched sectors.
-use Rattle.std.specs.Prelude.{◌≡◌, ◌≢◌, ◌≤◌, ◌<◌, ◌+◌, ◌*◌, ◌/◌, ℕ, Bool, true, ⊤}
+use Rattle.std.specs.Prelude.{◌≡◌, ◌≢◌, ◌≤◌, ◌<◌, ◌+◌, ◌*◌, ◌/◌, ℕ, Bool, true, List, length, Result, Ok, Err, ⊤}
 use Rattle.nor_model.specs.Chip.{Chip}
-use Rattle.nor_model.specs.History.{EndsReading}
+use Rattle.nor_model.specs.Exchange.{Exchange}
+use Rattle.nor_model.specs.History.{Answered, EndsReading, names}
 use Rattle.nor_model.specs.Bus.{BusState}
 use Rattle.nor_driver.specs.OnlyReads.{HasStopped}
 use Rattle.nor_driver.specs.ReadsInTurn.{HasOnlyRead}
+use Rattle.nor_driver.specs.ReadBack.{ReadsBack, ReadsOther}
+use Rattle.nor_plan.specs.Bytes.{AllAgree, IsFirstDifference}
+use Rattle.nor_apply.specs.Within.{addresses_of}
 use Rattle.nor_request.specs.declared.refusal.Refusal.{Refusal}
 use Rattle.nor_request.specs.declared.refusal.Refusal.TheVariants as Refusals
 use Rattle.nor_session.specs.declared.checks.CheckFault.{CheckFault}
@@ -45,6 +49,30 @@ CheckErrors sectors wanted old new (Mismatch address) = EndsReading address new.
 abbrev pub NamesDifference : (ℕ → Bool) → CheckFault → Type 0
 NamesDifference sectors Stopped = ⊤
 NamesDifference sectors (Mismatch address) = sectors (address / 4096) ≡ true
+
+-- Holds if the only transaction was a read of this sector, and its reply has 4,096 bytes for which `Is` holds.
+pub record ReadsWhole (sector : ℕ) (Is : List ℕ → Type 0) (old new : List Exchange) : Type 0 where
+  pub bytes : List ℕ
+  pub answered : Answered (names 0x03 (4096 * sector)) old new bytes
+  pub whole : length bytes ≡ 4096
+  pub is : Is bytes
+
+-- Holds if the result of the verification of a sector fits its reply: no byte differs from the target, or the address
+-- of the mismatch is that of the first difference. Nothing is known after a stop.
+abbrev pub ChecksReply : (sector : ℕ) → (target : List ℕ) → (old new : List Exchange) → Result Unit CheckFault → Type 0
+ChecksReply sector target old new (Ok done) = ReadsWhole sector (λ bytes. AllAgree bytes target) old new
+ChecksReply sector target old new (Err Stopped) = ⊤
+ChecksReply sector target old new (Err (Mismatch address)) = (first : ℕ) × (address ≡ 4096 * sector + first)
+    × ReadsWhole sector (λ bytes. IsFirstDifference bytes target first) old new
+
+-- Holds if the result of the verification fits the replies, on every bus: each byte of these sectors was read as the
+-- target one, or the address of the mismatch is the first one in these sectors at which they differ.
+abbrev pub ChecksReplies : (sectors : ℕ → Bool) → (wanted : ℕ → ℕ) → (old new : List Exchange) → Result ℕ CheckFault
+    → Type 0
+ChecksReplies sectors wanted old new (Ok sent) = ReadsBack (addresses_of sectors) wanted old new
+ChecksReplies sectors wanted old new (Err Stopped) = ⊤
+ChecksReplies sectors wanted old new (Err (Mismatch address)) =
+    ReadsOther (addresses_of sectors) wanted address old new
 
 -- the error of a session or restore for a failed verification
 abbrev pub of_check : CheckFault → Refusal

@@ -40,6 +40,6 @@ SinceIdentity named identity now promise =
 -- The promises of a session, from one state of the bus to another, except `KeepsOriginal`, which follows from these.
 pub record KeepsPromise (request : Request) (image : List ℕ) (old new : BusState) (vault vault' : VaultState)
     (result : Result Report Refusal) : Type 0 where
-  pub always : SessionAlways request old new vault vault' result
+  pub always : SessionAlways request image old new vault vault' result
   pub honest : old.honest ≡ true → SessionHonest request image old new result
   pub modelled : IsModelled old → SessionModelled request image old new vault vault' result

@@ -7,6 +7,7 @@ use Rattle.nor_model.specs.History.{EndsBusy}
 use Rattle.nor_model.specs.Bus.{BusState}
 use Rattle.nor_driver.specs.OnlyReads.{OnlyReads, Rested, HasStopped, IsOpen}
 use Rattle.nor_driver.specs.ReadsInTurn.{HasOnlyRead}
+use Rattle.nor_driver.specs.ReadBack.{bytes_read}
 use Rattle.nor_driver.specs.StatusWrites.{fixed_of}
 use Rattle.nor_driver.specs.Reads.{ReadsSector}
 use Rattle.nor_plan.specs.Content.{is_touched, is_raised}
@@ -125,7 +126,8 @@ pub record PlansSaved (sector : ℕ) (saved bytes : List ℕ) (old new : BusStat
       → IsPlan content wanted 4096 plan
 
 -- Holds after the sectors of a restore were chosen, and the ones that the choice reads were read. Only saved sectors
--- are marked. The marks are right on a well-behaved bus with an idle chip of the journal's size.
+-- are marked. The marks are right for the bytes that were read, and on a well-behaved bus with an idle chip of the
+-- journal's size for the chip's.
 pub record MarksChosen (choice : Choice) (journal : Content) (old new : BusState) (scanned : Scanned) : Type 0 where
   pub marks : AreMarks (journal.size / 4096) scanned
   pub saved : (s : ℕ) → has scanned.touched s ≡ true → is_saved journal s ≡ true
@@ -133,6 +135,7 @@ pub record MarksChosen (choice : Choice) (journal : Content) (old new : BusState
   pub few : scanned.count ≤ length journal.saved
   pub room : length journal.saved ≤ 4096
   pub honest_reads : HasOnlyRead (choice.reads (length journal.saved)) old new
+  pub replied : (s : ℕ) → has scanned.touched s ≡ choice.touched journal (bytes_read new.history) s
   pub touched : IsOpen journal.size old → (s : ℕ)
       → has scanned.touched s ≡ choice.touched journal old.chip.bytes s
   pub raised : IsOpen journal.size old → (s : ℕ)
@@ -211,9 +214,9 @@ pub record IsPreparedFor (choice : Choice) (journal : Content) (old new : Chip)
   pub needed : (prepared.changes.unlock || writes_code prepared.changes) ≡ true
       → NeedsStatusBy choice journal old
 
--- The result of a restore's preparation on every bus. The changes fit the journal, and the counts are within their
--- bounds. On a well-behaved bus the chip is as before and idle, and if it has the journal's size, the touched sectors
--- are those of the choice. On a modelled bus the chip can be restored (`IsPreparedFor`).
+-- The result of a restore's preparation on every bus. The changes fit the journal, the touched sectors are those of the
+-- choice for the bytes that were read, and the counts are within their bounds. On a well-behaved bus the chip is as
+-- before and idle, and if it has the journal's size, the touched sectors are those of the choice. On a modelled bus the chip can be restored (`IsPreparedFor`).
 pub record IsPreparedRestore (choice : Choice) (journal : Content) (old new : BusState)
     (prepared : PreparedRestore) : Type 0 where
   pub consistent : AreConsistent prepared.changes
@@ -230,6 +233,7 @@ pub record IsPreparedRestore (choice : Choice) (journal : Content) (old new : Bu
   pub rested : old.honest ≡ true → Rested old new
   pub idle : old.honest ≡ true → new.chip.busy ≡ 0
   pub sent : old.honest ≡ true → old.left ≡ new.left + prepared.transactions
+  pub replied : (s : ℕ) → has prepared.changes.touched s ≡ choice.touched journal (bytes_read new.history) s
   pub touched : old.honest ≡ true → old.chip.config.size ≡ journal.size → (s : ℕ)
       → has prepared.changes.touched s ≡ choice.touched journal old.chip.bytes s
   pub modelled : IsModelled old → IsPreparedFor choice journal old.chip new.chip prepared

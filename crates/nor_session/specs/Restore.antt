@@ -1,5 +1,5 @@
 -- The checks of a chip by a restore, and the promises of a restore.
-use Rattle.std.specs.Prelude.{◌≡◌, ◌≢◌, ◌<◌, ◌+◌, ◌/◌, ◌==◌, ◌⊎◌, ℕ, Bool, true, false, List, [], ◌∷◌, length, None, Some, Result, IfOk, IfErr, IsSomeAnd, OnOk, Err, if◌then◌else◌}
+use Rattle.std.specs.Prelude.{◌≡◌, ◌≢◌, ◌<◌, ◌+◌, ◌/◌, ◌==◌, ◌⊎◌, ℕ, Bool, true, false, List, [], ◌∷◌, length, None, Some, Result, IfOk, IfErr, IsSomeAnd, OnOk, Ok, Err, if◌then◌else◌, ⊤}
 use Rattle.std.specs.List.{list_any}
 use Rattle.nor_model.specs.declared.config.Config.{Config}
 use Rattle.nor_model.specs.Chip.{Chip, is_locked, kept_in}
@@ -10,6 +10,8 @@ use Rattle.nor_model.specs.Bus.{BusState}
 use Rattle.nor_driver.specs.OnlyReads.{IsSteadyOrIdle, OnlyReads, RanOut}
 use Rattle.nor_driver.specs.Reads.{unique_of}
 use Rattle.nor_driver.specs.StatusWrites.{fixed_of}
+use Rattle.nor_driver.specs.ReadBack.{bytes_read, EndsReadBack, EndsReadOther}
+use Rattle.nor_apply.specs.Within.{addresses_of}
 use Rattle.nor_journal.specs.Text.{Content}
 use Rattle.nor_journal.specs.Saved.{is_saved, saved_byte}
 use Rattle.nor_probe.specs.declared.probes.ProbeFault.TheVariants as Probes
@@ -18,7 +20,7 @@ use Rattle.nor_plan.specs.Content.{is_touched, is_raised}
 use Rattle.nor_driver.specs.Limits.{Spends}
 use Rattle.nor_request.specs.declared.report.Report.{Report}
 use Rattle.nor_request.specs.declared.refusal.Refusal.{Refusal}
-use Rattle.nor_request.specs.declared.refusal.Refusal.TheVariants.{NoChip, UnknownChip, StatusLocked, Stopped, OtherChip, OtherUnit, StatusDiffers}
+use Rattle.nor_request.specs.declared.refusal.Refusal.TheVariants.{NoChip, UnknownChip, StatusLocked, Stopped, Mismatch, OtherChip, OtherUnit, StatusDiffers}
 use Rattle.nor_request.specs.Refusal.{refusal_number}
 use Rattle.nor_request.specs.Errors.{EndsAtError}
 use Rattle.nor_probe.specs.declared.probes.Found.{Found}
@@ -150,6 +152,17 @@ pub record FitsReplies (journal : Content) (old new : BusState) : Type 0 where
   pub device : HasUniqueRead journal identity
   pub fixed : HasFixedRead journal identity
 
+-- Holds if the result fits what was read back, on every bus. `scanned` is the history when the touched sectors were
+-- chosen. After success the last transactions were reads of sectors, in which each byte of a touched sector was read as
+-- the saved one. The address of a mismatch is the first one in a touched sector that wasn't.
+abbrev pub RestoreReadsBack : Choice → Content → (old new : List Exchange) → Result Report Refusal → Type 0
+RestoreReadsBack choice journal old new (Ok report) = (scanned : List Exchange) × Continues old scanned
+    × EndsReadBack (addresses_of (choice.touched journal (bytes_read scanned))) (saved_byte journal) scanned new
+RestoreReadsBack choice journal old new (Err (Mismatch address)) = (scanned : List Exchange) × Continues old scanned
+    × EndsReadOther (addresses_of (choice.touched journal (bytes_read scanned))) (saved_byte journal) address
+    scanned new
+RestoreReadsBack choice journal old new (Err _) = ⊤
+
 -- Holds for the errors that a restore may return: those that it checks first, and 12 (stop), 13 (timeout) and 14
 -- (mismatch).
 abbrev pub IsRestoreRefusal : Refusal → Type 0
@@ -206,6 +219,9 @@ pub record AlwaysBy (choice : Choice) (journal : Content) (old new : BusState)
   -- after success the report is within its bounds, and counts the erases and page programs that were sent
   pub bounded : IfOk result (IsWithinCounts (choice.reads (length journal.saved)) (length journal.saved) 2 true)
   pub reported : IfOk result (λ report. SendsCounted report.erases report.programs old new)
+  -- After success each saved sector was read with its saved bytes, and the touched ones were after everything was
+  -- written. Error 14 names the first address of a touched sector that wasn't read as the saved byte.
+  pub read_back : RestoreReadsBack choice journal old.history new.history result
   -- a restore succeeds only if the last poll showed that the chip is ready
   pub polled_ready : OnOk result (new.polled_ready ≡ true)
   -- after error 12 the last transaction is the one at which the bus stopped, after 13 a poll that showed BUSY, and

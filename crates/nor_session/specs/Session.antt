@@ -1,5 +1,5 @@
 -- The promises of a session.
-use Rattle.std.specs.Prelude.{◌≡◌, ◌∷◌, ◌%◌, ◌≢◌, ◌≤◌, ◌<◌, ◌+◌, ◌*◌, ◌/◌, ◌⊎◌, ℕ, Bool, true, false, List, [], Result, IfOk, IfErr, OnOk, OnErr, if◌then◌else◌, ⊤}
+use Rattle.std.specs.Prelude.{◌≡◌, ◌∷◌, ◌%◌, ◌≢◌, ◌≤◌, ◌<◌, ◌+◌, ◌*◌, ◌/◌, ◌⊎◌, ℕ, Bool, true, false, List, [], Result, IfOk, IfErr, OnOk, OnErr, Ok, Err, ◌&&◌, if◌then◌else◌, ⊤}
 use Rattle.nor_model.specs.Chip.{Chip, IsSame, kept_in}
 use Rattle.nor_model.specs.Guard.{code_of}
 use Rattle.nor_model.specs.Offer.{IsLeastCode}
@@ -28,7 +28,9 @@ use Rattle.nor_request.specs.Request.{wanted, scanned_sectors, IsWantedCode}
 use Rattle.nor_request.specs.Errors.{EndsAtError}
 use Rattle.nor_scan.specs.declared.identity.Identity.{Identity}
 use Rattle.nor_probe.specs.Found.{IsPart}
-use Rattle.nor_driver.specs.ReadBack.{bytes_read}
+use Rattle.nor_driver.specs.ReadBack.{bytes_read, EndsReadBack, EndsReadOther}
+use Rattle.nor_apply.specs.Within.{addresses_of}
+use Rattle.nor_scan.specs.Scanning.{wanted_at, sectors_below}
 use Rattle.nor_scan.specs.Replied.{IsIdentifiedBy}
 use Rattle.nor_scan.specs.Saving.{header_of, header_found}
 use Rattle.nor_scan.specs.SavedScan.{IsJournal, HasWholeRecords, HoldsJournal}
@@ -220,10 +222,31 @@ pub record IsJournalOfReplies (old new : BusState) (bytes : List ℕ) : Type 0 w
   pub sectors : ℕ → Bool
   pub saves : JournalSaves (header_found identity) (bytes_read at_seal) sectors bytes
 
+-- true if the sector is touched, for a chip of this size from which these bytes were read: it has an address at which
+-- they aren't the target
+abbrev pub touched_for : Request → (image : List ℕ) → (size : ℕ) → (read : ℕ → ℕ) → (s : ℕ) → Bool
+touched_for request image size read s =
+    sectors_below (size / 4096) s && is_touched read (wanted_at request image size read) s
+
+-- Holds if the result fits what was read back, on every bus. `scanned` is the history at the end of the scan. The
+-- target is the requested byte at an address that the request may change, elsewhere the byte that the scan read. After
+-- success with `verify` set the last transactions were reads of sectors, in which each byte of a touched sector was read
+-- as the target. The address of a mismatch is the first one in a touched sector that wasn't.
+abbrev pub SessionReadsBack : Request → (image : List ℕ) → (old new : List Exchange) → Result Report Refusal → Type 0
+SessionReadsBack request image old new (Ok report) = request.verify ≡ true
+    → (scanned : List Exchange) × Continues old scanned
+    × EndsReadBack (addresses_of (touched_for request image report.found.size (bytes_read scanned)))
+    (wanted_at request image report.found.size (bytes_read scanned)) scanned new
+SessionReadsBack request image old new (Err (Mismatch address)) =
+    (size : ℕ) × (scanned : List Exchange) × Continues old scanned
+    × EndsReadOther (addresses_of (touched_for request image size (bytes_read scanned)))
+    (wanted_at request image size (bytes_read scanned)) address scanned new
+SessionReadsBack request image old new (Err _) = ⊤
+
 -- ---- the promises of a session
 
 -- The promises of a session on every bus and with every vault.
-pub record SessionAlways (request : Request) (old new : BusState) (vault vault' : VaultState)
+pub record SessionAlways (request : Request) (image : List ℕ) (old new : BusState) (vault vault' : VaultState)
     (result : Result Report Refusal) : Type 0 where
   -- if the vault isn't sealed, the session only read; on a well-behaved bus the session sent at most the transactions
   -- of identifying and scanning the largest chip
@@ -251,6 +274,9 @@ pub record SessionAlways (request : Request) (old new : BusState) (vault vault' 
   -- after success the vault is sealed and did not fail, and the report is within its bounds and counts the erases and
   -- page programs that were sent
   pub ends : IfOk result (EndsSealed request old new vault vault')
+  -- After success with `verify` set, each sector that the request may change was read with its target bytes, and the
+  -- touched ones were after everything was written. Error 14 names the first address of a touched sector that wasn't.
+  pub read_back : SessionReadsBack request image old.history new.history result
   -- a session succeeds only if the last poll showed that the chip is ready
   pub polled_ready : OnOk result (new.polled_ready ≡ true)
   -- after error 12 the last transaction is the one at which the bus stopped, after 13 a poll that showed BUSY, and

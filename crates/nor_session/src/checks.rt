@@ -1,10 +1,10 @@
 //! Verifies the changed sectors at the end of a session or restore.
 ghost use Rattle.std.specs.Prelude.{◌≡◌, ◌<◌, ℕ, true, IfOk, IfErr, OnOk};
 ghost use Rattle.nor_driver.specs.OnlyReads.{OnlyReads};
-ghost use Rattle.nor_plan.specs.SectorSet.{has};
+ghost use Rattle.nor_plan.specs.SectorSet.{has, LiesBelow};
 ghost use Rattle.nor_session.specs.declared.checks.CheckFault.TheVariants as Faults;
 ghost use Rattle.nor_geometry.specs.Counts.{sector_count};
-ghost use Rattle.nor_session.specs.Checking.{DoesChecks, CheckErrors, NamesDifference, of_check};
+ghost use Rattle.nor_session.specs.Checking.{DoesChecks, CheckErrors, NamesDifference, ChecksReply, ChecksReplies, of_check};
 ghost use Rattle.nor_apply.specs.Change.{only, byte_of};
 
 use nor_apply::Source;
@@ -60,6 +60,8 @@ pub(crate) fn check_all<B: Bus, S: Source>(
     ensures errors { IfErr result
         (CheckErrors (has touched.now) (S.wanted source.now) (B.state bus.old) (B.state bus.new)) }
     ensures names { IfErr result (NamesDifference (has touched.now)) }
+    ensures replies { LiesBelow touched.now 4096 → ChecksReplies (has touched.now) (S.wanted source.now)
+        (B.state bus.old).history (B.state bus.new).history result }
 {
     let mut sent = 0;
     let mut bytes = [0; SECTOR_LEN as usize];
@@ -86,6 +88,7 @@ fn check_sector<B: Bus>(
     ensures errors { IfErr result
         (CheckErrors (only sector) (byte_of sector wanted.now) (B.state bus.old) (B.state bus.new)) }
     ensures names { IfErr result (NamesDifference (only sector)) }
+    ensures replies { ChecksReply sector wanted.now (B.state bus.old).history (B.state bus.new).history result }
 {
     read_sector(bus, sector, &mut *bytes)?;
     match bounds(&*bytes, wanted) {

@@ -4,9 +4,9 @@
 //! read.
 ghost use Rattle.std.specs.Prelude.{◌≡◌, ◌≤◌, ℕ, Bool, true, IfOk, IfErr};
 ghost use Rattle.nor_driver.specs.OnlyReads.{OnlyReads};
-ghost use Rattle.nor_plan.specs.SectorSet.{has};
+ghost use Rattle.nor_plan.specs.SectorSet.{has, LiesBelow};
 ghost use Rattle.nor_apply.specs.Applying.{AreConsistent, most_applied};
-ghost use Rattle.nor_session.specs.Changing.{touched_count, LeavesChange, DoesChange, ChangeErrors, NamesTouchedSector, DoesCheck, CheckRefuses};
+ghost use Rattle.nor_session.specs.Changing.{touched_count, LeavesChange, DoesChange, ChangeErrors, FitsReadBack, NamesTouchedSector, DoesCheck, CheckRefuses};
 
 use crate::checks::check_all;
 use nor_apply::{Changes, Source, Work, apply};
@@ -53,6 +53,8 @@ impl<'a, B: Bus, S: Source> Kept<'a, B, S> {
         ensures errors { IfErr result (ChangeErrors self.entry.changes.now (S.wanted self.entry.source.now)
             (B.state self.entry.bus.now) (B.state self.exit.0.now)) }
         ensures names { IfErr result (NamesTouchedSector self.entry.changes.now) }
+        ensures read_back { FitsReadBack self.entry.changes.now (S.wanted self.entry.source.now) verify
+            (B.state self.entry.bus.now).history (B.state self.exit.0.now).history result }
     {
         let Kept {
             bus,
@@ -94,6 +96,9 @@ impl<'a, B: Bus, S: Source> Done<'a, B, S> {
         ensures errors { IfErr result (CheckRefuses self.entry.changes.now (S.wanted self.entry.source.now)
             (B.state self.entry.bus.now) (B.state self.exit.0.now)) }
         ensures names { IfErr result (NamesTouchedSector self.entry.changes.now) }
+        ensures read_back { LiesBelow self.entry.changes.now.touched 4096
+            → FitsReadBack self.entry.changes.now (S.wanted self.entry.source.now) verify
+            (B.state self.entry.bus.now).history (B.state self.exit.0.now).history result }
     {
         let Done {
             bus,

@@ -26,7 +26,8 @@ use nor_scan::{identify, judge_identity};
 ///
 /// On every bus no modifying command is sent before the vault is sealed, and the journal of a sealed `telling` vault
 /// has what the bus replied. On a modelled bus that journal can restore the original chip at every exit, even if the
-/// bus stopped inside a transaction. On a well-behaved bus that is steady, or whose chip was idle at the start, an exit
+/// bus stopped inside a transaction. If the request asks for verification, success on any bus means that each touched
+/// sector was read, after everything was written, with its target bytes (`read_back`). On a well-behaved bus that is steady, or whose chip was idle at the start, an exit
 /// before the seal leaves the contents and the non-volatile status bits as they were. On a modelled bus success leaves
 /// the target bytes and protection bits.
 ///
@@ -43,7 +44,7 @@ pub fn session<B: Bus, V: Vault>(
 ) -> Result<Report, Refusal>
     requires { IsFresh (V.state vault.old) }
     ensures keeps { KeepsOriginal (B.state bus.old) (B.state bus.new) (V.state vault.new) }
-    ensures always { SessionAlways request.now (B.state bus.old) (B.state bus.new) (V.state vault.old)
+    ensures always { SessionAlways request.now image.old (B.state bus.old) (B.state bus.new) (V.state vault.old)
         (V.state vault.new) result }
     ensures honest { (B.state bus.old).honest ≡ true
         → SessionHonest request.now image.old (B.state bus.old) (B.state bus.new) result }
@@ -70,7 +71,7 @@ pub fn session_announced<B: Bus, V: Vault, F: FnOnce(Announcement) + Drop>(
     requires fresh { IsFresh (V.state vault.old) }
     requires callable { F.IsAlwaysCallable announce }
     ensures keeps { KeepsOriginal (B.state bus.old) (B.state bus.new) (V.state vault.new) }
-    ensures always { SessionAlways request.now (B.state bus.old) (B.state bus.new) (V.state vault.old)
+    ensures always { SessionAlways request.now image.old (B.state bus.old) (B.state bus.new) (V.state vault.old)
         (V.state vault.new) result }
     ensures honest { (B.state bus.old).honest ≡ true
         → SessionHonest request.now image.old (B.state bus.old) (B.state bus.new) result }

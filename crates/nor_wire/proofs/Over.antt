@@ -105,7 +105,7 @@ fails request image old new history history' vault vault' _ is = is
 
 pub results : (request : Request) (image : List ℕ) (old new : PortState) (history history' : List Exchange)
     (vault vault' : VaultState) (result : Result Report Refusal)
-    → SessionAlways request (over_port old history) (over_port new history') vault vault' result
+    → SessionAlways request image (over_port old history) (over_port new history') vault vault' result
     → SessionModelled request image (over_port old history) (over_port new history') vault vault' result
     → SessionResults request image old new vault vault' result
 results request image old new history history' vault vault' (Ok report) always made = record {

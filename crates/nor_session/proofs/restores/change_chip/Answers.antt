@@ -6,6 +6,7 @@ use Rattle.nor_session.specs.Bounds.{most_reads}
 use Rattle.nor_session.proofs.Restoring.{AreChanged, change_last, changed_spends, changed_fits, changed_leaves, changed_can_restore, change_answers, change_not_judged, change_fails, change_errors, change_stops, work_fits, restored_bounded, restored_counted, restored_checked, restored_sparing, restored_done, restored_original}
 use Rattle.nor_session.proofs.Changed.{two_writes, no_write}
 use Rattle.nor_session.proofs.Naming.{change_names}
+use Rattle.nor_session.proofs.ReadBack.{restore_read_back, restore_read_other}
 use Rattle.nor_session.proofs.Targeting.{change_sends, change_writes}
 use Rattle.nor_session.proofs.OfJournal.{restore_of_journal, counted}
 use Rattle.nor_session.proofs.restores.change_chip.Goals as goal
@@ -35,6 +36,8 @@ returns-in_err-work g c =
                 let answers = change_answers prepared.changes _ mid new refusal errors in
                 let names = change_names prepared.changes refusal are.is.saved c.in_err-work.ensures.names in
                 let last = change_last prepared.changes _ mid new refusal errors in
+                let read_back = restore_read_other choice journal prepared.changes old.history mid.history new.history
+                are.only_reads.nature.history are.is.replied refusal c.in_err-work.ensures.read_back in
                 let spends = changed_spends choice journal prepared old mid new are in
                 let only_reads : IsCheckedFirst refusal → OnlyReads (most_reads 4096) old new =
                 λ first. absurd (change_not_judged prepared.changes _ mid new refusal errors first) in
@@ -85,6 +88,14 @@ returns g c =
                 let bounded = restored_bounded choice journal prepared old mid new work sent are does (omega arith) in
                 let polled_ready = does.polled_ready are.is.polled_ready in
                 let counts = counted old are.only_reads.sent does in
+                let read_back = restore_read_back choice journal prepared.changes old.history mid.history new.history
+                are.only_reads.nature.history are.is.replied work (record {
+                  found = prepared.found;
+                  touched = prepared.touched;
+                  erases = work.erases;
+                  programs = work.programs;
+                  transactions = sent;
+                }) c.in_ok-work.ensures.read_back in
                 let spends = changed_spends choice journal prepared old mid new are in
                 search rules;
             honest = λ honest.

@@ -6,6 +6,7 @@ use Rattle.nor_session.specs.Bounds.{most_reads, most_of}
 use Rattle.nor_session.proofs.Restoring.{announces_since, only_reads_most, only_reads_spend, prepare_answers, prepare_fails, prepare_errors, prepare_last, leaves_after_reads, can_restore_after_reads}
 use Rattle.nor_session.proofs.RestoredOriginal.{only_stopped}
 use Rattle.nor_session.proofs.Naming.{prepare_names}
+use Rattle.nor_session.proofs.ReadBack.{prepare_read_back}
 use Rattle.nor_session.proofs.Targeting.{none_written, none_sent}
 use Rattle.nor_session.proofs.restores.restore_announced.Goals as goal
 
@@ -29,6 +30,7 @@ returns-in_err-prepared g c =
           let last = prepare_last differing journal most old new refusal errors in
           let answers = prepare_answers differing journal most old new refusal errors in
           let names = prepare_names differing journal most old new refusal errors in
+          let read_back = prepare_read_back differing journal most old new refusal errors in
           search (rules, arith, none_sent, none_written);
       honest = λ honest.
           let honest_errors = prepare_fails differing journal most old new refusal (omega arith) honest errors in search rules;

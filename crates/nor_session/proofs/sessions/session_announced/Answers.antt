@@ -1,6 +1,7 @@
 use Rattle.std.proofs.Common.{refl, rules}
 use Rattle.std.proofs.lemmas.Result.{err_from_is_err_and}
 use Rattle.nor_session.proofs.Naming.{judged_names}
+use Rattle.nor_session.proofs.ReadBack.{judged_read_back, open_read_back}
 use Rattle.nor_session.proofs.Targeting.{none_written, few_none}
 use Rattle.nor_session.proofs.ReadyChip.{opening_of, named, open_errors, open_last, judge_errors}
 use Rattle.nor_session.proofs.RestoresOriginal.{original_kept}
@@ -15,6 +16,8 @@ returns-clause-keeps g c =
 pub returns-in_err-code-clause-always : goal.returns-in_err-code-clause-always
 returns-in_err-code-clause-always g c =
     let names = judged_names c.in_err-code.field-0.0 c.in_err-code.ensures.faults in
+    let read_back = judged_read_back c.args.request.now c.args.image.now (g.B.Bus.state c.args.bus.now).history
+    (g.B.Bus.state c.identify.new.bus).history c.in_err-code.field-0.0 c.in_err-code.ensures.faults in
     let p = err_from_is_err_and c.from_residual-in_err-code.result c.from_residual-in_err-code.ensures.1 in
     rw (p.1, p.2) (search (rules, none_written, few_none))
 
@@ -40,5 +43,7 @@ returns-in_err-code-clause-modelled g c = λ modelled.
 pub returns-in_err-identity-clause-always : goal.returns-in_err-identity-clause-always
 returns-in_err-identity-clause-always g c =
     let last = open_last _ _ (g.B.Bus.state c.args.bus.now) (g.B.Bus.state c.identify.new.bus) c.in_err-identity.field-0.0 c.in_err-identity.ensures.errors in
+    let read_back = open_read_back c.args.request.now c.args.image.now _ (g.B.Bus.state c.args.bus.now)
+    (g.B.Bus.state c.identify.new.bus) c.in_err-identity.field-0.0 c.in_err-identity.ensures.errors in
     let p = err_from_is_err_and c.from_residual.result c.from_residual.ensures.1 in
     rw (p.1, p.2) (search (rules, none_written, few_none))

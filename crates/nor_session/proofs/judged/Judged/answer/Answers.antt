@@ -14,6 +14,7 @@ use Rattle.nor_session.proofs.SessionChanges.{never_written, change_fails, chang
 use Rattle.nor_session.proofs.SessionEnds.{ready_chip, can_be_undone, done, session_checked, spared}
 use Rattle.nor_session.proofs.Restoring.{change_last}
 use Rattle.nor_session.proofs.RepliedJournal.{replied_saved}
+use Rattle.nor_session.proofs.ReadBack.{session_read_back, session_read_other, save_read_back}
 use Rattle.nor_session.proofs.Naming.{save_names, save_number, work_names}
 use Rattle.nor_request.specs.declared.refusal.Refusal.TheVariants.{Stopped}
 use Rattle.nor_scan.specs.Saving.{header_found}
@@ -68,6 +69,7 @@ returns-in_err-saved-clause-keeps g c = λ first only_reads opens.
             };
             names = record { early = λ off. names; late = λ on telling. absurd (never on) };
             ends = tt;
+            read_back = save_read_back request c.args.self.image.now _ _ _ _ _ first.history new.history refusal returned.errors;
             polled_ready = tt;
             last_transaction = save_last _ _ _ _ _ _ refusal returned.errors;
           };
@@ -109,6 +111,12 @@ returns-in_err-work-clause-keeps g c = λ first only_reads opens.
           replied_saved only_reads opens c.save.ensures.leaves c.in_ok-saved.ensures.replies
           (c.in_ok-saved.ensures.replied telling) leaves.spends.nature in
           let last = change_last _ _ _ _ refusal returned.errors in
+          let read_back = session_read_other request image c.in_ok-saved.saved.scanned
+          c.args.self.identity.found.size c.save.new.image
+          (changes_of c.args.self.identity c.in_ok-saved.saved c.status.result c.args.self.code) first
+          (g.B.Bus.state c.args.self.bus.now) (g.B.Bus.state c.save.new.bus) (g.B.Bus.state c.finish.new.self.0)
+          only_reads.nature.history
+          c.save.ensures.leaves.nature.history keeps.scans (λ s. refl) refusal c.in_err-work.ensures.read_back in
           let names = work_names (changes_of c.args.self.identity c.in_ok-saved.saved c.status.result c.args.self.code)
           (header_found c.args.self.identity) vault' refusal (search rules) c.in_ok-saved.ensures.saves returned.names in
           search rules;
@@ -148,6 +156,18 @@ returns-clause-keeps g c = λ first only_reads opens.
           let bounded = bounded_by _ _ _ _ _ _ _ _ _ _ _ c.from.result _ c.from.ensures is (writes_few is) does in
           let polled_ready = does.polled_ready (keeps.scans.polled_ready opens.polled_ready) in
           let counts = counted first is.honest_reads.same_sent does in
+          let read_back = session_read_back request image c.in_ok-saved.saved.scanned
+          c.args.self.identity.found.size c.save.new.image
+          (changes_of c.args.self.identity c.in_ok-saved.saved c.status.result c.args.self.code) first
+          (g.B.Bus.state c.args.self.bus.now) (g.B.Bus.state c.save.new.bus) (g.B.Bus.state c.finish.new.self.0)
+          only_reads.nature.history
+          c.save.ensures.leaves.nature.history keeps.scans (λ s. refl) c.in_ok-work.work (record {
+            found = c.args.self.identity.found;
+            touched = c.in_ok-saved.saved.scanned.count;
+            erases = c.in_ok-work.work.erases;
+            programs = c.in_ok-work.work.programs;
+            transactions = c.args.self.identity.transactions + c.from.result + c.in_ok-work.work.transactions;
+          }) refl c.in_ok-work.ensures.read_back in
           search rules;
       honest = λ honest.
           let checked = λ (verifies : request.verify ≡ true).
