@@ -74,7 +74,7 @@ given_in rows = record {
   rehearse = text_in rows (codes "rehearse");
   layout = text_in rows (codes "layout");
   names = text_in rows (codes "include");
-  no_verify = is_set_in rows (codes "no-verify");
+  no_verify = is_set_in rows (codes "noverify");
   no_verify_all = false;
   unlock = is_set_in rows (codes "unlock");
 }

@@ -1,5 +1,5 @@
 -- The options of the program, as rules of `clap`.
-use Rattle.std.specs.Prelude.{◌≡◌, ◌&&◌, Bool, true, false, List, [], ◌∷◌, ◌++◌, None, Some, codes, fold, is_some, not, slice_get, if◌then◌else◌}
+use Rattle.std.specs.Prelude.{◌≡◌, ◌&&◌, Bool, true, false, List, [], ◌∷◌, ◌++◌, None, Some, codes, fold, is_some, map, not, slice_get, if◌then◌else◌}
 use Rattle.std.specs.List.{filter}
 use Rattle.std.specs.Str.{bytes_eq}
 use Rattle.clap.specs.Words.{App, Rule, new_app, new_rule, rule_of, with_rule}
@@ -58,7 +58,7 @@ manner_rules =
     ∷ by_name (valued (codes "rehearse"))
     ∷ by_letter (codes "l") (valued (codes "layout"))
     ∷ by_letter (codes "i") (valued (codes "include"))
-    ∷ by_letter (codes "n") (flag (codes "no-verify"))
+    ∷ by_letter (codes "n") (flag (codes "noverify"))
     ∷ by_name (flag (codes "unlock"))
     ∷ []
 
@@ -113,17 +113,21 @@ no_verify_all_rule = by_letter (codes "N") (by_name (flag (codes "noverify-all")
 abbrev pub quick_rule : Rule
 quick_rule = by_name (flag (codes "quick"))
 
--- the options of flashnor that a program for hardware with this name has
+-- the options of flashnor that a program for hardware with this name has; those with a letter have a long name too
 abbrev pub shared_options : Text → App
 shared_options program =
-    with_rules (no_options_of program) (filter (λ rule. is_for_hardware rule.id) most_rules)
+    with_rules (no_options_of program) (map by_name (filter (λ rule. is_for_hardware rule.id) most_rules))
+
+-- `-h` or `--help`, which prints the help of a program for hardware
+abbrev pub hardware_help_rule : Rule
+hardware_help_rule = record help_rule { long = Some (codes "help") }
 
 -- the command of a program for hardware with this name: the options of flashnor except `-L` and `--rehearse`, and
--- `--backup`, `-N` and `--quick`
+-- `--backup`, `-N` and `--quick`, all with a long name
 abbrev pub hardware_options : Text → App
 hardware_options program =
     with_rule (with_rule (with_rule (with_rule (shared_options program) backup_rule) no_verify_all_rule) quick_rule)
-    help_rule
+    hardware_help_rule
 
 -- ---- the table in src/options.rt
 
@@ -145,6 +149,7 @@ chosen choice = record (named choice) {
 abbrev pub with_choice : App → Choice → App
 with_choice app choice = with_rule app (chosen choice)
 
--- the command with the option of one more row, if a program for hardware has it
+-- the command with the option of one more row and its long name, if a program for hardware has it
 abbrev pub with_hardware_choice : App → Choice → App
-with_hardware_choice app choice = if is_for_hardware choice.name.now then with_choice app choice else app
+with_hardware_choice app choice =
+    if is_for_hardware choice.name.now then with_rule app (by_name (chosen choice)) else app

@@ -77,7 +77,7 @@ impl<'a> Given<'a> {
             quick: false,
             layout: matches.get_str("layout"),
             names: matches.get_str("include"),
-            no_verify: is_set(matches, "no-verify"),
+            no_verify: is_set(matches, "noverify"),
             no_verify_all: false,
             unlock: is_set(matches, "unlock"),
             journal: matches.get_str("journal"),

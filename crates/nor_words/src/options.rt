@@ -2,7 +2,7 @@
 ghost use Rattle.std.specs.Prelude.{◌≡◌, IfOk, fold, map};
 ghost use Rattle.clap.specs.Words.{app_of};
 ghost use Rattle.nor_words.specs.Options.{options, no_options_of, help_rule, most_rules, IsOption};
-ghost use Rattle.nor_words.specs.Options.{backup_rule, no_verify_all_rule, quick_rule};
+ghost use Rattle.nor_words.specs.Options.{backup_rule, hardware_help_rule, no_verify_all_rule, quick_rule};
 ghost use Rattle.nor_words.specs.Options.{hardware_options, is_for_hardware, named, chosen, with_choice, with_hardware_choice};
 
 use clap::{Arg, ArgAction, Command};
@@ -80,8 +80,9 @@ The manual page, flashnor(8), says what each fault asks for.";
 
 // An option: how it is written, and its line in the help.
 struct Choice {
-    // The letter after `-`. Without one, the option is written as `--` and its name.
+    // The letter after `-`. Without one, the option is written as `--` and its name, also in flashnor.
     letter: Option<char>,
+    // The option's ID, and its long name: in flashnor only if it has no letter.
     name: &'static str,
     // The placeholder of its value in the help. Without one, the option is a flag and takes no value.
     value: Option<&'static str>,
@@ -188,7 +189,7 @@ static CHOICES: [Choice; 18] = [
     },
     Choice {
         letter: Some('n'),
-        name: "no-verify",
+        name: "noverify",
         value: None,
         help: "Do not verify what was written; with -w or -E",
     },
@@ -220,8 +221,9 @@ pub struct Help {
 }
 
 /// Returns the `clap` command of a program for hardware. It has all options except `-L`, which needs no chip, and
-/// `--rehearse`, which needs an emulated one; and three that flashnor lacks, `--backup`, `-N` and `--quick`. Fails only
-/// if memory runs out.
+/// `--rehearse`, which needs an emulated one; and three that flashnor lacks, `--backup`, `-N` and `--quick`. Each option
+/// with a letter has a long name too, as in flashrom: `-r` is also `--read`, and `-h` is also `--help`. Fails only if
+/// memory runs out.
 pub fn make_hardware_options<'a>(alloc: Global, help: Help) -> Result<Command<'a>, AllocError>
     ensures { IfOk result (λ command. app_of command ≡ hardware_options help.program.now) }
 {
@@ -229,10 +231,10 @@ pub fn make_hardware_options<'a>(alloc: Global, help: Help) -> Result<Command<'a
     let saved = chosen.arg(backup_option(alloc))?;
     let compared = saved.arg(no_verify_all_option(alloc))?;
     let restored = compared.arg(quick_option(alloc))?;
-    restored.arg(help_option(alloc))
+    restored.arg(hardware_help_option(alloc))
 }
 
-// Adds an option for each row that a program for hardware has, in the order of the table.
+// Adds an option for each row that a program for hardware has, in the order of the table. Each has a long name.
 fn add_hardware_choices<'a>(
     alloc: Global,
     command: Command<'a>,
@@ -243,7 +245,7 @@ fn add_hardware_choices<'a>(
     let mut longer = command;
     for choice in choices {
         if is_for_hardware(choice.name) {
-            longer = longer.arg(choice.option(alloc))?;
+            longer = longer.arg(choice.option(alloc).long(choice.name))?;
         }
     }
     Ok(longer)
@@ -340,6 +342,16 @@ fn quick_option<'a>(alloc: Global) -> Arg<'a>
         .long("quick")
         .help("Rewrite only sectors that differ; with --restore")
         .action(ArgAction::SetTrue)
+}
+
+fn hardware_help_option<'a>(alloc: Global) -> Arg<'a>
+    ensures { IsOption hardware_help_rule result }
+{
+    Arg::new(alloc, "usage")
+        .short('h')
+        .long("help")
+        .help("Print this help")
+        .action(ArgAction::HelpShort)
 }
 
 fn help_option<'a>(alloc: Global) -> Arg<'a>
