@@ -439,6 +439,35 @@ def shows_what_a_power_loss_means(start):
             "SEALED: the chip is changed from here on.", *lines, "protect: status writes sent 1"])
 
 
+def takes_long_names(start):
+    """Each option with a letter has flashrom's long name, too; both together are usage fault 1."""
+    old, new = images("takes_long_names")
+    bench = start(data=old)
+    bench.write("layout", LAYOUT)
+    bench.write("old", old)
+    bench.write("new", new)
+    found = reference.found("TINY64")
+    bench.expect("--chip", "SFDP", out=[found])
+    bench.expect("--read", "out", "--layout=layout", "--include", "byte,upper", out=[found, "Read 65536 bytes."])
+    bench.check_file("out", b"\xff" * 0x1001 + old[0x1001:0x1002] + b"\xff" * 0x6FFE + old[0x8000:])
+    bench.expect("--verify=old", out=[found, "Verified."])
+    plan = reference.session("TINY64", old, new, verifies=False)
+    bench.expect("--write", "new", "--noverify", "--journal", "j",
+                 out=[found, reference.done(plan, old, new), "Nothing was verified (-n)."])
+    bench.check_chip(new)
+    bench.check_frames(reference.whole_run("TINY64", plan))
+    plan = reference.session("TINY64", new, FREE)
+    bench.expect("--erase", "--journal", "k", out=[found, reference.done(plan, new, FREE)])
+    bench.check_chip(FREE)
+    helped = bench.run("--help")
+    check("the help", helped, bench.run("-h"))
+    check("the help", (helped.status, helped.err, len(helped.out) > 20), (0, [], True))
+    for words in ("-r", "out", "--read", "out"), ("-c", "SFDP", "--chip", "SFDP"), ("--programmer", "serprog:dev=p"):
+        got = bench.run(*words)
+        check(" ".join(words), (got.out, got.err[-1:], got.status), ([], ["Usage fault 1."], 1))
+        bench.check_nothing_sent()
+
+
 def needs_its_output(start):
     """If a line can't be printed, standard error says so, the exit status is 1, and the job is done nevertheless."""
     old, new = images("needs_its_output")
@@ -454,4 +483,5 @@ CASES = [identifies, sets_the_clock, selects_a_chip, keeps_to_the_protocol, name
          reads_inside, verifies, verifies_regions, writes, writes_without_verification, leaves_out_the_comparison,
          refuses_needless_options, restores_quickly, writes_regions, writes_at_random, writes_large_chips,
          changes_nothing, erases, erases_regions, prints_the_size, shows_protection, lists_ranges, protects,
-         shows_progress, shows_long_progress, shows_what_a_power_loss_means, needs_its_output]
+         shows_progress, shows_long_progress, shows_what_a_power_loss_means, takes_long_names,
+         needs_its_output]
