@@ -1,12 +1,12 @@
 #!/usr/bin/env python3
 """scripts/statement.py [--check]: writes docs/STATEMENT.md and out/STATEMENT-FULL.md from the sources.
 
-STATEMENT.md has the contracts of HEADLINE and each definition of specs/ and type of src/ that they need, in an order in
-which each is explained before it is used. It describes the definitions of NAMES, and leaves out fields of the records
-of FIELDS. STATEMENT-FULL.md, which isn't committed, has all these, and further contracts, in appendices. A definition
-by one equation has its signature in it. With --check the script writes nothing: it compares STATEMENT.md with what it
-would write, prints each difference, and ends with status 1 if there is one. It fails if a name isn't found, if SUBJECTS
-lacks the file of a definition, if docs/NOTATION.md doesn't explain a name of a library, and if STATEMENT.md is too long.
+STATEMENT.md has the contracts of HEADLINE and each definition of specs/ and type of src/ that they need, each in the
+place that its prose has for it. It describes the definitions of NAMES, and leaves out fields of the records of FIELDS.
+STATEMENT-FULL.md, which isn't committed, has all these, and further contracts, in appendices. A definition by one
+equation has its signature in it. With --check the script writes nothing: it compares STATEMENT.md with what it would
+write, prints each difference, and ends with status 1 if there is one. It fails if a name isn't found, if SUBJECTS lacks
+the file of a definition, if docs/NOTATION.md doesn't explain a name of a library, and if STATEMENT.md is too long.
 """
 import copy
 import difflib
@@ -20,6 +20,7 @@ import texts
 from sources import TOP, Word, fail, source
 from statement_lines import count, lines_of
 from statement_parts import APPENDICES, ELSEWHERE, FIELDS, HEADLINE, MOST_LINES, NAMES, NOTES, SUBJECTS
+from statement_places import placed, with_digests
 
 PAGE, FULL, NOTATION = "docs/STATEMENT.md", "out/STATEMENT-FULL.md", "docs/NOTATION.md"
 PROSE = "scripts/statement_page.md"
@@ -177,14 +178,13 @@ def show(part, words):
     return lines[:-1]
 
 
-def body(part, done, numbers):
-    """Returns a part as lines of the page: its definitions by subjects, with these numbers, and then its contracts."""
+def body(part, done):
+    """Returns a part as lines of the page: its definitions by subjects, and then its contracts."""
     groups = sections({word: part.uses[word] for word in part.uses if word not in part.contracts}, done)
     groups += [("The contracts", part.contracts)] if part.contracts else []
     lines, seen = [], set()
     for subject, words in groups:
-        further, number = ", further" * (subject in seen), next(numbers, None)
-        lines += [f"### {f'{number}. ' if number else ''}{subject}{further}", "", *show(part, words), ""]
+        lines += [f"### {subject}{', further' * (subject in seen)}", "", *show(part, words), ""]
         seen.add(subject)
     return lines[:-1]
 
@@ -201,22 +201,20 @@ def link(title):
 
 
 def names(page, appendices):
-    """Returns the lines that describe what STATEMENT.md only names, by the appendices that have the definitions."""
+    """Returns the description of each definition that STATEMENT.md only names, with the letter of its appendix."""
     found = sorted(word.name for word in page.named)
     if doubtful := sorted({name for name in found if found.count(name) > 1}):
         fail(f"NAMES of scripts/statement_parts.py has a name of several definitions: {' '.join(doubtful)}")
     if idle := sorted(set(NAMES) - set(found)):
         fail(f"NAMES of scripts/statement_parts.py has what STATEMENT.md doesn't use: {' '.join(idle)}")
-    lines, left = [], set(page.named)
+    described, left = {}, set(page.named)
     for title, part in appendices.items():
         mine = [word for word in part.uses if word in left]
-        mine.sort(key=lambda word: list(NAMES).index(word.name))
-        lines += [f"From appendix {letters()[title]}:", ""] if mine else []
-        lines += [*(f"- {NAMES[word.name]}" for word in mine), *([""] if mine else [])]
+        described |= {word.name: f"- {NAMES[word.name]} ({letters()[title][0]})" for word in mine}
         left -= set(mine)
     if left:
         fail(f"no appendix has {' '.join(sorted(word.name for word in left))}")
-    return lines[:-1]
+    return described
 
 
 def check_notation(used):
@@ -250,7 +248,7 @@ def pages():
     appendices, full, libraries = {}, [], set(page.libraries)
     for title, (breaks, roots) in APPENDICES.items():
         part = appendices[title] = Part(roots, done)
-        full += [f"## {letters()[title]}", "", f"**{breaks}**", "", *body(part, done, iter(())), ""]
+        full += [f"## {letters()[title]}", "", f"**{breaks}**", "", *body(part, done), ""]
         full += [NOTES[title], ""] if title in NOTES else []
         done |= set(part.uses)
         libraries |= part.libraries
@@ -258,14 +256,12 @@ def pages():
     told = f"{sum(len(part.uses) for part in appendices.values()):,} definitions, " \
         f"{sum(part.lines() for part in appendices.values()):,} lines"
     contents = [f"- {link(title)}: {part.told()}" for title, part in appendices.items()]
-    defined = body(page, set(), itertools.count(1))
-    check_prose(texts.read(PROSE), [*defined, *full])
+    check_prose(texts.read(PROSE), [*full, *(line for word in page.uses for line in [*word.comment, *word.code])])
     prose = texts.read(PROSE).replace("{told}", page.told())
     prose = re.sub(r"\{(\w)\}", lambda at: list(letters().values())[ord(at[1]) - ord("A")][0], prose)
-    prose = prose.replace("{names}", "\n".join(names(page, appendices)))
-    prose = prose.replace("{definitions}", "\n".join(defined))
+    lines = placed(with_digests(prose), page.shown, names(page, appendices))
     head = FULL_HEAD.format(told=f"{told} without comments and blanks")
-    return {PAGE: prose.splitlines(), FULL: [*head.splitlines(), *contents, "", *full[:-1]]}, \
+    return {PAGE: lines, FULL: [*head.splitlines(), *contents, "", *full[:-1]]}, \
         f"{page.told()} in STATEMENT.md; {told} in STATEMENT-FULL.md"
 
 

@@ -3,118 +3,116 @@
 This is the only file of the scripts that names definitions; scripts/statement_page.md has the prose of STATEMENT.md.
 """
 # The greatest number of lines of definitions and contracts on STATEMENT.md, without comments and blanks.
-MOST_LINES = 400
+MOST_LINES = 300
 
 # The contracts of STATEMENT.md: for each call its file, and those of its clauses that make the headline. What a caller
 # must ensure is always included.
 HEADLINE = {
     "session": "nor_session/src/sessions.rt keeps always modelled",
     "restore": "nor_session/src/restores.rt restores_original modelled",
-    "rehearse": "nor_session/src/rehearsals.rt restores_original always modelled",
-    "Journal::read": "nor_journal/src/journal.rt found only",
+    "Journal::read": "nor_journal/src/journal.rt only",
 }
 
 # Of these records STATEMENT.md has only these fields; STATEMENT-FULL.md has all.
 FIELDS = {
+    "VaultState": "telling bytes sealed",
+    "BusState": "chip left honest sent steady",
+    "SameNature": "honest steady config",
+    "AtStop": "count read reached step chip none unsent",
+    "Carries": "left step",
+    "Does": "config bytes kept busy latch running",
     "SessionAlways": "answers ends",
+    "SessionReturns": "vault unsealed",
     "SessionModelled": "errors done undo",
     "EndsSealed": "sealed",
     "CanBeUndone": "accepted",
     "IsDone": "made code is_wanted kept",
-    "ModelledBy": "errors leaves done",
-    "IsRestoredBy": "accepted",
-    "LeavesBy": "config bytes fixed",
-    "RehearsalAlways": "counts",
-    "IsRehearsal": "seal ended",
-    "RehearsalModelled": "errors ended",
+    "ModelledBy": "errors",
 }
 
-# The names that STATEMENT.md describes in one line each; STATEMENT-FULL.md has their definitions.
+# The names that STATEMENT.md describes in one line each; the appendices have their definitions.
 NAMES = {
-    "is_chip_size": "`is_chip_size n`: `n` bytes is a power of two from 64 KiB to 16 MiB.",
-    "Step":
-        "`Step old out answer new`: one transaction, carried out whole. It sends the bytes `out`, the chip replies "
-        "`answer`, and `old` becomes `new`: each opcode has the effect that the datasheet gives, and a transaction "
-        "that the chip must ignore changes nothing.",
-    "done_of": "`done_of chip out replies`: the command that the chip carries out, or `Ignored`.",
-    "wears": "`wears command s`: the command is an erase whose block has sector `s`.",
-    "is_known_running": "`is_known_running running`: the operation isn't `Unknown`.",
+    "Sent":
+        "`Sent`: a list of transactions, each with the bytes that it sends, the last one first. No program can read or "
+        "clear it.",
+    "Records":
+        "`Records out answer result old new`: the bus adds the transaction to its histories. `sent` gets all of `out` "
+        "in front, even if the bus stopped, unless `out` is empty or begins with 03h, 04h, 05h, 35h, 4Bh, 5Ah or 9Fh.",
+    "IsFresh": "`IsFresh vault`: the vault is unsealed, and accepted no byte.",
+    "Vault":
+        "`Vault`: the trait of a vault. `put` appends a piece to `bytes`, and `seal` sets `sealed`. A call that fails "
+        "counts as a refusal, doesn't set `sealed`, and may have appended a prefix of the piece.",
+    "Kinds":
+        "`Kinds`: the fields `k32` and `k64` say whether 52h erases 32 KiB and D8h 64 KiB. Each chip erases 4 KiB "
+        "(20h) and the whole chip (C7h).",
+    "is_chip_size": "`is_chip_size n`: `n` is a power of two from 64 KiB to 16 MiB.",
     "IsChip": "`IsChip chip`: bytes are below 256, status bits fit their registers, and `busy` is below 65,536.",
+    "Command": "`Command`: the type of what a transaction asks for. Its cases are in the equations above.",
+    "is_idle": "`is_idle chip`: `busy` is 0.",
     "is_protected":
         "`is_protected chip a`: the chip has block protection, and its protection bits protect the address `a`.",
     "is_block_protected":
-        "`is_block_protected chip start len`: the first or the last of the `len` addresses from `start` on is protected. "
-        "Protected addresses lie at one end of the chip, so this holds if any of the `len` addresses is protected.",
-    "code_of": "`code_of kept`: the protection bits CMP, SEC, TB, BP2, BP1 and BP0 as one number, CMP the highest.",
-    "is_undefined": "`is_undefined code`: SEC is set and BP is 110, for which the datasheets define no range.",
-    "IsLeastCode":
-        "`IsLeastCode size start len code`: `code` is the least number whose protection bits are defined and protect "
-        "exactly the `len` addresses from `start` on.",
-    "IsNotOffered": "`IsNotOffered size start len`: no defined protection bits protect exactly these addresses.",
-    "id_of": "`id_of config`: the three bytes that 9Fh reads.",
+        "`is_block_protected chip start len`: the first or the last of the `len` addresses from `start` on is "
+        "protected. Protected addresses lie at one end of the chip, so this holds if any of these is protected.",
+    "Stopped": "`Stopped`: what a transaction returns that failed.",
+    "SameNature":
+        "`SameNature old new`: `honest`, `steady` and `unlimited` are as before and, on a well-behaved bus, `config` "
+        "of the chip.",
+    "IsHonestFor":
+        "`IsHonestFor out n bus`: the bus is well-behaved; and it is `unlimited`, or `out` has at most 260 bytes and "
+        "`n` is at most 4,096. No call sends or reads more.",
+    "IsGenuine":
+        "`IsGenuine config`: if the table has the ID, size, erase types and block protection are those of its row: EF "
+        "40 17 (W25Q64FV, 8 MiB) or EF 40 18 (W25Q128FV, 16 MiB), with all erase types and block protection. Otherwise "
+        "the chip has no block protection and, if its SFDP is accepted, the size and erase types that the SFDP gives.",
+    "IsKnown":
+        "`IsKnown config`: the chip is genuine, its ID isn't FF FF FF or 00 00 00, and the table has it or its SFDP is "
+        "accepted.",
     "unique_of": "`unique_of config`: the eight bytes that 4Bh reads, the unique ID.",
-    "Part": "`Part`: a chip type, with its `name`, `id`, `size`, erase types (`kinds`), and block protection or none.",
-    "part_with_id": "`part_with_id id`: the row of the table of known chips (W25Q64FV, W25Q128FV) with this ID.",
-    "chip_says":
-        "`chip_says config`: the size and erase types that the chip's SFDP gives, or the first `SfdpFault`.",
-    "shown_as":
-        "`shown_as config`: the part that a chip shows. `Err NoChip` if its ID is `FF FF FF` or `00 00 00`; else the "
-        "row of the table with its ID; else what its SFDP gives, without block protection; else `Err (UnknownChip f)` "
-        "with the SFDP's fault `f`.",
-    "HasGeometry": "`HasGeometry g config`: the configuration has the size and the erase types of `g`.",
-    "HasOtherName":
-        "`HasOtherName named config`: a name is requested, and the part that the chip shows has another one.",
-    "Geometry": "`Geometry`: a size and erase types.",
-    "ProbeFault": "`ProbeFault`: `NoChip`, `UnknownChip f`, and three others that `shown_as` doesn't return.",
-    "SfdpFault": "`SfdpFault`: why an SFDP is refused, 1 to 8.",
-    "ChipName": "`ChipName`: the name of a part.",
-    "Ranges": "`Ranges`: at most 64 spans of addresses. In contracts its value is the list of them.",
-    "includes": "`includes ranges a`: `a` is in one of the spans; without ranges each address is included.",
-    "ReachesPast": "`ReachesPast ranges size`: some included address is `size` or greater; never without ranges.",
-    "is_touched":
-        "`is_touched old wanted s`: some byte of sector `s` differs between `old` and `wanted`. A sector is *raised* if "
-        "some bit of it must go from 0 to 1, which needs an erase.",
-    "text":
-        "`text c`: the bytes of the journal with the content `c`: magic, ID, unique ID if any, status, size, saved "
-        "sectors, end mark, and the SHA-256 of all these.",
+    "SavedSector": "`SavedSector`: the `number` of a saved sector, and its `bytes`.",
     "IsContent":
-        "`IsContent c`: `c` can be written as a journal: its fields have their lengths, its size is one of a chip, and "
-        "its sectors are on such a chip, in rising order, of 4,096 bytes each.",
-    "JournalFault": "`JournalFault`: why bytes are not a journal, 1 to 7.",
+        "`IsContent c`: the ID has 3 bytes, a unique ID 8, the status 2; the size is a power of two from 64 KiB to 16 "
+        "MiB. The numbers of the saved sectors rise and are below size / 4,096; each has 4,096 bytes.",
+    "text":
+        "`text c`: `NORUNDO2` in ASCII (without a unique ID `NORUNDO1`), ID, unique ID if any, status, size; each "
+        "saved sector's number and bytes; FF FF FF FF; the SHA-256 of all bytes before it. Size and numbers take four "
+        "bytes, little-endian.",
+    "IsOfType": "`IsOfType journal config`: the journal has the ID and the size of the chip.",
+    "is_saved": "`is_saved journal s`: the journal saves sector `s`, which is the 4,096 addresses from 4096 * s on.",
+    "Saves":
+        "`Saves old saved journal`: the journal is valid (`IsContent`), and saves exactly the sectors of `saved`, each "
+        "with its bytes in `old`.",
+    "is_known_running": "`is_known_running running`: the operation isn't `Unknown`.",
     "Journal": "`Journal`: a journal that was read. In contracts its value is a `Content`.",
-    "held_by": "`held_by vault`: the state of a `MemVault`, a faithful (`telling`) vault in memory.",
-    "PutRefused":
-        "`PutRefused old piece kept new`: the vault refused. Its refusals are one more, it is as sealed as before, and "
-        "a faithful vault has accepted the first `kept` bytes of the piece.",
-    "Sent":
-        "`Sent`: the bytes of each transaction that a bus sent, or was asked to send, and that may modify a chip; the "
-        "last one first. No program can read or clear it.",
-    "Exchange":
-        "`Exchange`: the bytes that a transaction sends, and its reply (none if the bus stopped). `replied out reply` "
-        "and `stopped out` are such transactions.",
-    "Records":
-        "`Records out answer result old new`: the bus adds the transaction to `history` and, if it may modify a chip, "
-        "to `sent`. `polled_ready` follows the replies to polls.",
-    "Report": "`Report`: the chip that was found, and the numbers of sectors, erases, programs and transactions.",
-    "refusal_number": "`refusal_number refusal`: the number of the error. In the definition of `Refusal`, the comment "
-        "above each case begins with this number.",
-    "Choice":
-        "`Choice`: how a restore chooses its touched and its raised sectors, by the journal and the bytes of the chip.",
+    "JournalFault": "`JournalFault`: why bytes are no journal.",
+    "ChipName": "`ChipName`: the name of a chip type.",
+    "Ranges": "`Ranges`: at most 64 spans of addresses.",
+    "is_requested":
+        "`is_requested request size a`: the request is a write or an erase, and `a` is below `size` and included: in "
+        "one of the spans, or there are none.",
+    "target": "`target what image a`: the byte of the image at `a` for a write, FFh for an erase.",
+    "code_of": "`code_of kept`: CMP, SEC, TB, BP2, BP1 and BP0 as a number, CMP being the highest bit.",
+    "IsLeastCode":
+        "`IsLeastCode size start len code`: `code` is the least number whose protection bits are defined (not SEC with "
+        "BP 110) and protect exactly the `len` addresses from `start` on.",
+    "Report": "`Report`: the chip that was found, and numbers of sectors, erases, programs and transactions.",
+    "Refusal": "`Refusal`: the errors of calls.",
+    "refusal_number": "`refusal_number refusal`: the number of the error, as in the tables.",
+    "RefusalHolds":
+        "`RefusalHolds request image chip refusal`: the error is one of 1 to 10, and applies as the first table says.",
+    "CountsRefusal": "`CountsRefusal old new`: the vault refused a call between these states.",
+    "EndsSealed":
+        "`EndsSealed request old new vault vault' report`: `vault'` is sealed and refused nothing, and the report "
+        "counts what was sent.",
+    "most_of":
+        "`most_of s`: 65,542 + 3 * s + 65,538 * (17 * s + 2), a bound on the transactions of a call that may touch `s` "
+        "sectors.",
+    "Choice": "`Choice`: which sectors a restore touches and raises.",
     "differing":
-        "`differing`: the choice of `restore`. The touched sectors are the saved ones in which a byte differs from the "
-        "saved byte, and the raised ones those in which a bit must go from 0 to 1.",
+        "`differing`: the touched sectors are the saved ones in which a byte differs from the saved byte, the raised "
+        "ones those of them in which a bit must go from 0 to 1.",
     "IsRestoreVerdict":
-        "`IsRestoreVerdict choice journal chip refusal`: the refusal is the first of these, in this order, that holds: "
-        "`NoChip`, `UnknownChip`, `OtherChip` (the ID or size differs from the journal's), `OtherUnit` (the journal "
-        "has a unique ID, and the chip another), `StatusDiffers` (bits that are never changed differ; without block "
-        "protection, any non-volatile bit), `StatusLocked` (the status is locked, and either the protection bits "
-        "differ from the journal's, or a touched sector, as `choice` says, has a protected address).",
-    "IsRestorable": "`IsRestorable choice journal chip`: no refusal is the verdict.",
-    "first_allowance":
-        "`first_allowance stops`: the first stop, or without stops the bound of a session on a chip of 16 MiB.",
-    "Meter":
-        "`Meter`: a `Bus` with a call `allow`, which adds the allowance to `allowances` and, on an honest bus, sets "
-        "`left` (on any other bus, `left` may have any value then). Nothing else changes.",
+        "`IsRestoreVerdict choice journal chip refusal`: the error is the first of the second table's that applies.",
 }
 
 # The appendices of STATEMENT-FULL.md: the title of each, what breaks if it is wrong, and the definitions and contracts
@@ -135,8 +133,8 @@ APPENDICES = {
         "If this is wrong, a real chip does something else than the model, and no promise about its bytes holds. "
         "Read it with the datasheet of the W25Q64FV.",
         {
-            "Step": "nor_model/specs/Step.antt",
-            "done_of": "nor_model/specs/Step.antt",
+            "is_idle": "nor_model/specs/Step.antt",
+            "Does": "nor_model/specs/Step.antt",
             "wears": "nor_model/specs/Step.antt",
             "IsChip": "nor_model/specs/Chip.antt",
             "is_known_running": "nor_model/specs/Power.antt",
@@ -146,6 +144,8 @@ APPENDICES = {
         "If this is wrong, a real chip may have another size, other erase types or other protection than the promises "
         "assume of a genuine one. Read it with JESD216.",
         {
+            "IsGenuine": "nor_probe/specs/Known.antt",
+            "IsKnown": "nor_probe/specs/Known.antt",
             "id_of": "nor_driver/specs/Reads.antt",
             "unique_of": "nor_driver/specs/Reads.antt",
             "shown_as": "nor_probe/specs/Known.antt",
@@ -161,6 +161,8 @@ APPENDICES = {
         {
             "text": "nor_journal/specs/Text.antt",
             "IsContent": "nor_journal/specs/Text.antt",
+            "IsFresh": "nor_journal/specs/Vault.antt",
+            "Vault": "nor_journal/src/vault.rt",
             "held_by": "nor_journal/specs/MemVault.antt",
             "PutRefused": "nor_journal/specs/Vault.antt",
             "Journal::read": "nor_journal/src/journal.rt",
@@ -173,12 +175,18 @@ APPENDICES = {
             "includes": "nor_layout/specs/Sectors.antt",
             "ReachesPast": "nor_layout/specs/Sectors.antt",
             "is_touched": "nor_plan/specs/Content.antt",
+            "is_requested": "nor_request/specs/Request.antt",
+            "target": "nor_request/specs/Request.antt",
         },
     ),
     "The history of a bus": (
         "If this is wrong, a modifying command may be sent before the journal is sealed, or by a refused session: "
         "`unsent` says only that `sent` is as it was. On a faulty bus little else is promised.",
         {
+            "SameNature": "nor_model/specs/Bus.antt",
+            "IsHonestFor": "nor_model/specs/Bus.antt",
+            "AtStop": "nor_model/specs/Bus.antt",
+            "Carries": "nor_model/specs/Bus.antt",
             "Records": "nor_model/specs/Bus.antt",
             "Continues": "nor_model/specs/History.antt",
             "last_reply": "nor_model/specs/History.antt",
@@ -210,6 +218,7 @@ APPENDICES = {
             "Choice": "nor_session/specs/Restore.antt",
             "differing": "nor_session/specs/Restore.antt",
             "IsRestoreVerdict": "nor_session/specs/Restore.antt",
+            "RefusalHolds": "nor_scan/specs/Verdict.antt",
             "accepted_alone": "nor_session/src/sessions.rt",
         },
     ),

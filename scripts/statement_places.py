@@ -1,0 +1,58 @@
+"""Puts definitions into the prose of docs/STATEMENT.md, for scripts/statement.py: quoted from the sources, or described."""
+import hashlib
+import itertools
+import re
+
+from sources import fail
+from statement_lines import lines_of
+
+PLACE = re.compile(r"\{(quote|describe) ([^}]*)\}")
+
+
+def quoted(names, words, shown):
+    """Returns definitions as the prose of STATEMENT.md has them, by their files. A `-` before a name leaves out the
+    comments, except the one that names the fields that are left out; a `.` only the comment above the definition."""
+    lines, language = [], None
+    for path, group in itertools.groupby(names, key=lambda name: words[name.lstrip("-.")].source.path):
+        kind, sign = ("", "--") if path.endswith(".antt") else ("rust", "//")
+        lines += [""] if kind == language else [*["```", ""] * (language is not None), f"```{kind}"]
+        lines += [f"{sign} crates/{path}"]
+        language = kind
+        for name in group:
+            word = words[name.lstrip("-.")]
+            found = lines_of(shown[word])
+            plain = [line for line in found if line.strip()[:2] not in ("--", "//") or line.startswith("  -- also, ")]
+            lines += [*(word.comment if name[0] not in "-." else []), *(plain if name[0] == "-" else found), ""]
+        lines.pop()
+    return [*lines, "```"]
+
+
+def placed(prose, shown, described):
+    """Returns the lines of the prose with definitions and descriptions in the places that it has for them: a line
+    `{quote A -B .C}` for definitions, B without comments and C without the one above it, and a line `{describe D}` for a
+    description. Each must have one place."""
+    words = {word.name: word for word in shown}
+    lines, left = [], {"quote": [word.name for word in shown], "describe": [*described]}
+    for line in prose.splitlines():
+        if not (place := PLACE.fullmatch(line)):
+            lines.append(line)
+            continue
+        names = place[2].split()
+        for name in names:
+            if name.lstrip("-.") not in left[place[1]]:
+                fail(f"scripts/statement_page.md has '{place[1]} {name}' once too often, or there is no such name")
+            left[place[1]].remove(name.lstrip("-."))
+        lines += quoted(names, words, shown) if place[1] == "quote" else [described[name] for name in names]
+    if missing := [*left["quote"], *left["describe"]]:
+        fail(f"scripts/statement_page.md has no place for {' '.join(sorted(missing))}")
+    return lines
+
+
+def with_digests(prose):
+    """Returns the prose with the SHA-256, in two lines of sixteen bytes, where it has `{digest 4E 4F}`."""
+    def digest(match):
+        """Returns the digest of the bytes that a match names."""
+        code = hashlib.sha256(bytes.fromhex(match[1])).hexdigest().upper()
+        pairs = [code[at : at + 2] for at in range(0, 64, 2)]
+        return " ".join(pairs[:16]) + "\n" + " ".join(pairs[16:])
+    return re.sub(r"\{digest ([0-9A-F ]+)\}", digest, prose)
