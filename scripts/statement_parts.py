@@ -291,6 +291,7 @@ SUBJECTS = {
     "The bus, and its stops":
         "nor_model: specs/Bus src/bus specs/Exchange specs/History src/history specs/Sent specs/PolledReady",
     "Reading, and counting transactions": "nor_driver: specs/OnlyReads specs/Limits",
+    "What was read back": "nor_driver: specs/ReadBack",
     "IDs and status bits": "nor_model: src/status nor_driver: specs/Reads specs/StatusWrites",
     "SFDP": "nor_probe: src/sfdp specs/Sfdp",
     "Genuine chips": "nor_probe: src/table specs/Table src/probes specs/Known specs/Found specs/Replied",
