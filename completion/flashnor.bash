@@ -120,6 +120,24 @@ _flashnor_regions() {
     _flashnor_answer "$word" "${regions[@]}"
 }
 
+# Stores the option that a long name of flashnor-serprog means in `letter`; any other word as it is.
+_flashnor_letter() {
+    case ${1%%=*} in
+        --programmer) letter=-p ;;
+        --chip) letter=-c ;;
+        --read) letter=-r ;;
+        --write) letter=-w ;;
+        --verify) letter=-v ;;
+        --erase) letter=-E ;;
+        --layout) letter=-l ;;
+        --include) letter=-i ;;
+        --noverify) letter=-n ;;
+        --noverify-all) letter=-N ;;
+        --help) letter=-h ;;
+        *) letter=$1 ;;
+    esac
+}
+
 # Succeeds if this word is an operation. A line has only one operation.
 _flashnor_is_operation() {
     case ${1%%=*} in
@@ -128,15 +146,17 @@ _flashnor_is_operation() {
     esac
 }
 
-# Offers those of the given options that the line doesn't have yet, without a second operation.
+# Offers those of the given options that the line doesn't have yet, by either of their names, without a second
+# operation.
 _flashnor_options() {
-    local word=$1 option given operation='' rest=()
+    local word=$1 option given operation='' letter rest=()
     for given in "${words[@]:0:${#words[@]}-1}"; do
         _flashnor_is_operation "$given" && operation=$given
     done
     for option in "${@:2}"; do
-        [[ -n $operation ]] && _flashnor_is_operation "$option" && continue
-        [[ " ${words[*]:0:${#words[@]}-1} " == *" $option "* ]] || rest+=("$option")
+        _flashnor_letter "$option"
+        [[ -n $operation ]] && _flashnor_is_operation "$letter" && continue
+        [[ " ${words[*]:0:${#words[@]}-1} " == *" $letter "* ]] || rest+=("$option")
     done
     _flashnor_answer "$word" "${rest[@]}"
 }
@@ -173,10 +193,16 @@ _flashnor() {
     esac
 }
 
+# The options on the line count as their letters.
 _flashnor_serprog() {
-    local words=() word before
+    local words=() word before letter place
     _flashnor_begin
-    case $before in
+    for ((place = 0; place + 1 < ${#words[@]}; place++)); do
+        _flashnor_letter "${words[place]}"
+        words[place]=$letter
+    done
+    _flashnor_letter "$before"
+    case $letter in
         -p) _flashnor_serprog_programmer "$word" ;;
         -c) _flashnor_answer "$word" "${_flashnor_chips[@]}" SFDP ;;
         -w | -v | -l | --restore) _flashnor_files "$word" "" -f ;;
@@ -185,11 +211,12 @@ _flashnor_serprog() {
         --wp-range) ;;
         *)
             case $word in
-                --restore=*) _flashnor_files "$word" "${word%%=*}=" -f ;;
-                --journal=* | --backup=*) _flashnor_files "$word" "${word%%=*}=" -d ;;
+                --write=* | --verify=* | --layout=* | --restore=*) _flashnor_files "$word" "${word%%=*}=" -f ;;
+                --read=* | --journal=* | --backup=*) _flashnor_files "$word" "${word%%=*}=" -d ;;
                 *)
-                    _flashnor_options "$word" -p -r -w -v -E --backup --restore --flash-size --wp-status --wp-list \
-                        --wp-range -c -l -i --journal --unlock -n -N --noverify-all --quick -h
+                    _flashnor_options "$word" -p --programmer -r --read -w --write -v --verify -E --erase --backup \
+                        --restore --flash-size --wp-status --wp-list --wp-range -c --chip -l --layout -i --include \
+                        --journal --unlock -n --noverify -N --noverify-all --quick -h --help
                     ;;
             esac
             ;;

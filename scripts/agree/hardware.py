@@ -32,7 +32,7 @@ def options():
     left_out = re.findall(r'name != "([-a-z]+)"', text)
     table = re.findall(r"Choice \{\s*letter: (?:None|Some\('(\w)'\)),\s*name: \"([-a-z]+)\",\s*"
                        r"value: (?:None|Some\(\"([^\"]*)\"\))", text)
-    found = [([f"-{letter}" if letter else f"--{name}"], value) for letter, name, value in table
+    found = [([f"-{letter}"] * bool(letter) + [f"--{name}"], value) for letter, name, value in table
              if name not in left_out]
     made = re.search(r"(?s)fn make_hardware_options.*?\n}\n", text)[0]
     for name in re.findall(r"\.arg\((\w+)\(alloc\)\)", made):
