@@ -75,7 +75,8 @@ pub record TearsOff (torn fill : Option ℕ) (out : List ℕ) (old new : Chip) :
 
 -- The effect of a transaction of a simulated bus, in addition to the contract of a bus. The settings stay. After a
 -- transaction that succeeded and began an operation, the chip is busy for `pace_of` polls. After a stop the chip is as
--- the settings of `tear` and `lose` state (`TearsOff`).
+-- the settings of `tear` and `lose` state (`TearsOff`), and the sectors that the first bytes erased are recorded, even
+-- if the chip then lost its power (`WornTo`).
 pub record Simulates (out answer : List ℕ) (outcome : Result Unit Stopped) (old new : SimBus) : Type 0 where
   pub fill : fill_of new ≡ fill_of old
   pub torn : torn_of new ≡ torn_of old
@@ -84,3 +85,5 @@ pub record Simulates (out answer : List ℕ) (outcome : Result Unit Stopped) (ol
       (is_operation (done_of (chip_of old.flash) out (length answer)) ≡ true → new.flash.busy ≡ pace_of old)
   pub cut : OnErr outcome
       (TearsOff (torn_of old) (fill_of old) out (chip_of old.flash) (chip_of new.flash))
+  pub worn : OnErr outcome
+      (WornTo (torn_of old) out (chip_of old.flash) (sim_state old).worn (sim_state new).worn)

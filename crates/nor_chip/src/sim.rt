@@ -156,6 +156,8 @@ impl SimBus {
         ensures at_stop { AtStop out.now (sim_state self.old) (sim_state self.new) }
         ensures torn_off { TearsOff (torn_of self.old) (fill_of self.old) out.now
             (chip_of self.old.flash) (chip_of self.new.flash) }
+        ensures worn { WornTo (torn_of self.old) out.now (chip_of self.old.flash)
+            (sim_state self.old).worn (sim_state self.new).worn }
         ensures bus { KeepsBus self.old self.new }
     {
         self.tear_off(out);
