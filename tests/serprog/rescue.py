@@ -1,0 +1,113 @@
+"""Cases that follow RECOVERY of flashnor-serprog(8) as its reader would: the printed lines alone decide what is done.
+
+A session is disturbed, once for each fault and each place in it. Then `decide` looks its lines up in the page's table
+"When to restore". If the table says no, the chip must be as before. If it says yes, `rescue` goes through the steps of
+the page, and afterwards the chip must be as before the session.
+"""
+import re
+
+import reference
+from bench import check
+from losses import session_wire
+from manual import TESTS
+from options import ALL, images
+
+# How often a restore is repeated before the test gives up.
+MOST_RESTORES = 4
+
+
+def table():
+    """Returns the rows of the table "When to restore": what a session printed, and whether to restore."""
+    page = (TESTS.parent / "man/flashnor-serprog.8").read_text(encoding="utf-8")
+    part = re.search(r"(?ms)^\.SS When to restore$.*?^_$\n(.*?)^\.TE$", page)[1]
+    part = re.sub(r"T\{\n(.*?)\nT\}", lambda it: it[1].replace("\n", " "), part, flags=re.S)
+    return [line.replace(r"\(dq", '"').replace(r"\-", "-").split("\t") for line in part.splitlines()]
+
+
+def fits(row, lines):
+    """Returns whether a row of the table fits the lines that a session printed."""
+    if row.startswith("nothing"):
+        return not lines
+    if row == "anything else":
+        return True
+    quoted = [text.removesuffix(" ..").removesuffix("..") for text in re.findall(r'"(.*?)"', row)]
+    named = [f"Error {number}" for number in re.findall(r"\b(\d\d)\b", re.sub(r'".*?"', "", row))]
+    named += re.findall(r"^(?:Chip fault \d|Done)$", row)
+    begins = not named or any(line.startswith(text) for line in lines for text in named)
+    return begins and all(any(text in line for line in lines[-1:]) for text in quoted)
+
+
+def decide(got):
+    """Returns what the table says after this run: the first words of its second column, `yes` or `no`."""
+    answer = next(answer for row, answer in table() if fits(row, got.err + got.out))
+    return "no" if answer.startswith(("no", "only if")) else "yes"
+
+
+def rescue(bench, old, status=b"\0\0"):
+    """Follows the steps of the page after a session with the journal j1, the image before.bin and the backup
+    whole.journal."""
+    for _ in range(MOST_RESTORES):
+        bench.plug()
+        got = bench.run("--restore", "j1")
+        if got.out[-1:] and got.out[-1].startswith("Done"):
+            break
+        if got.err[-1:] in (["Error 15: journal fault 1."], ["File fault 1: j1."]):
+            bench.check_chip(old, status)
+            return
+        check("a restore that is to be repeated", got.err[:1] in ([], ["Error 12: stopped."]), True)
+    if bench.run("-v", "before.bin").out[-1:] != ["Verified."]:
+        check("the backup", bench.run("--restore", "whole.journal", "--quick").status, 0)
+        check("the last comparison", bench.run("-v", "before.bin").out[-1:], ["Verified."])
+    bench.check_chip(old, status)
+
+
+def board(start, old, new):
+    """Returns a board with its image, its backup, and the image of the session."""
+    bench = start(data=old)
+    bench.write("before.bin", old)
+    bench.write("new.bin", new)
+    bench.write("whole.journal", reference.journal("TINY64", old, ALL))
+    return bench
+
+
+def follow(bench, got, old):
+    """Does what the page says after a session that printed these lines."""
+    if decide(got) == "yes":
+        rescue(bench, old)
+    elif got.out[-1:] and got.out[-1].startswith("Done"):
+        bench.check_chip(bench.path("new.bin").read_bytes())
+    elif not any(line.startswith("The change was made") for line in got.err):
+        bench.check_chip(old)
+
+
+def rescues_after_each_loss(start):
+    """After a kill, a lost reply, a refusal or a lost connection in a session, the page's steps restore the chip."""
+    old, new = images("rescues_after_each_loss")
+    wire = session_wire(old, new)
+    answers = set()
+    for number in range(3, len(wire) + 1, 19):
+        for event in "kill", "lose", "nak", "unplug":
+            bench = board(start, old, new)
+            got = bench.run("-w", "new.bin", "--journal", "j1", events={number: event})
+            answers.add(decide(got))
+            bench.plug()
+            follow(bench, got, old)
+    check("answers of the table", answers, {"yes", "no"})
+
+
+def rescues_after_each_wrong_address(start):
+    """After a wrong address bit, of one command or of all, the page's steps restore the chip."""
+    old, new = images("rescues_after_each_wrong_address")
+    wire = session_wire(old, new)
+    sealed = next(at for at, (out, _) in enumerate(wire, 1) if out[0] in reference.CHANGING)
+    compared = next(at for at, (out, _) in enumerate(wire, 1) if at > sealed and out[0] == 0x9F)
+    changing = [at for at, (out, _) in enumerate(wire, 1) if out[0] in (0x02, 0x20)]
+    for first, last in [*((at, at) for at in changing[::5]), (sealed, compared - 2)]:
+        bench = board(start, old, new)
+        bench.server.traits.wrong_address = (first, last, 14)
+        got = bench.run("-w", "new.bin", "--journal", "j1")
+        bench.server.traits.wrong_address = ()
+        follow(bench, got, old)
+
+
+CASES = [rescues_after_each_loss, rescues_after_each_wrong_address]
