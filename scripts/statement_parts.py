@@ -85,11 +85,11 @@ NAMES = {
     "is_known_running": "`is_known_running running`: the operation isn't `Unknown`.",
     "Journal": "`Journal`: a journal that was read. In contracts its value is a `Content`.",
     "JournalFault": "`JournalFault`: why bytes are no journal.",
-    "ChipName": "`ChipName`: the name of a chip type.",
+    "ChipName": "`ChipName`: W25Q64FV, W25Q128FV, SFDP for a chip without a row, or a name that no chip has.",
     "Ranges": "`Ranges`: at most 64 spans of addresses.",
     "is_requested":
         "`is_requested request size a`: the request is a write or an erase, and `a` is below `size` and included: in "
-        "one of the spans, or there are none.",
+        "one of the spans, or the request has no `Ranges`.",
     "target": "`target what image a`: the byte of the image at `a` for a write, FFh for an erase.",
     "code_of": "`code_of kept`: CMP, SEC, TB, BP2, BP1 and BP0 as a number, CMP being the highest bit.",
     "IsLeastCode":
@@ -97,9 +97,9 @@ NAMES = {
         "BP 110) and protect exactly the `len` addresses from `start` on.",
     "Report": "`Report`: the chip that was found, and numbers of sectors, erases, programs and transactions.",
     "Refusal": "`Refusal`: the errors of calls.",
-    "refusal_number": "`refusal_number refusal`: the number of the error, as in the tables.",
+    "refusal_number": "`refusal_number refusal`: the number of the error, as in these lists.",
     "RefusalHolds":
-        "`RefusalHolds request image chip refusal`: the error is one of 1 to 10, and applies as the first table says.",
+        "`RefusalHolds request image chip refusal`: the error is one of 1 to 10, and applies as the first list says.",
     "CountsRefusal": "`CountsRefusal old new`: the vault refused a call between these states.",
     "EndsSealed":
         "`EndsSealed request old new vault vault' report`: `vault'` is sealed and refused nothing, and the report "
@@ -112,7 +112,7 @@ NAMES = {
         "`differing`: the touched sectors are the saved ones in which a byte differs from the saved byte, the raised "
         "ones those of them in which a bit must go from 0 to 1.",
     "IsRestoreVerdict":
-        "`IsRestoreVerdict choice journal chip refusal`: the error is the first of the second table's that applies.",
+        "`IsRestoreVerdict choice journal chip refusal`: the error is the first of the second list's that applies.",
 }
 
 # The appendices of STATEMENT-FULL.md: the title of each, what breaks if it is wrong, and the definitions and contracts
