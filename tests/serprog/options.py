@@ -461,7 +461,7 @@ def takes_long_names(start):
     bench.check_chip(FREE)
     helped = bench.run("--help")
     check("the help", helped, bench.run("-h"))
-    check("the help", (helped.status, helped.err, len(helped.out) > 20), (0, [], True))
+    check("the help", (helped.status, helped.err, bool(helped.out)), (0, [], True))
     for words in ("-r", "out", "--read", "out"), ("-c", "SFDP", "--chip", "SFDP"), ("--programmer", "serprog:dev=p"):
         got = bench.run(*words)
         check(" ".join(words), (got.out, got.err[-1:], got.status), ([], ["Usage fault 1."], 1))

@@ -59,6 +59,8 @@ MISTAKES = {
     "overwrites backups": "makes_a_new_file",
     "creates a backup first": "makes_a_new_file",
     "seals a backup first": "is_cut",
+    "takes an option twice": "takes_long_names",
+    "knows no long names": "takes_long_names",
 }
 RIGHT = sorted(set(MISTAKES.values()))
 

@@ -18,8 +18,11 @@ TAKE_VALUES = ("-p", "-c", "-r", "-w", "-v", "--wp-range", "--restore", "--backu
 # Mistakes that don't forget what was read at these opcodes.
 KEPT = {"keeps blocks at programs": (0x05, 0x06, 0x02), "keeps blocks at erases": (0x05, 0x06, *ERASES, 0xC7),
         "keeps blocks at status writes": (0x05, 0x06, 0x01)}
-FLAGS = ("-E", "-n", "-N", "--noverify-all", "--quick", "--unlock", "--flash-size", "--wp-status", "--wp-list",
-         "-h")
+FLAGS = ("-E", "-n", "-N", "--quick", "--unlock", "--flash-size", "--wp-status", "--wp-list", "-h")
+# The letters that the long names mean, as in flashrom.
+LONG_NAMES = {
+    "--programmer": "-p", "--chip": "-c", "--read": "-r", "--write": "-w", "--verify": "-v", "--erase": "-E",
+    "--layout": "-l", "--include": "-i", "--noverify": "-n", "--noverify-all": "-N", "--help": "-h"}
 HELP = "options: -h -n -N --noverify-all --quick --unlock -E --flash-size --wp-status --wp-list " + " ".join(TAKE_VALUES)
 
 
@@ -43,10 +46,11 @@ def arguments(words):
     """Returns the options with their values."""
     found, words = {}, list(words)
     while words:
-        word = words.pop(0)
-        if word not in (*TAKE_VALUES, *FLAGS):
-            raise usage(1, f"unexpected argument {word}")
-        found["-N" if word == "--noverify-all" else word] = words.pop(0) if word in TAKE_VALUES else ""
+        typed, sign, value = words.pop(0).partition("=")
+        word = typed if MISTAKE == "knows no long names" else LONG_NAMES.get(typed, typed)
+        if word not in (*TAKE_VALUES, *FLAGS) or (word in found and MISTAKE != "takes an option twice"):
+            raise usage(1, f"unexpected argument {typed}")
+        found[word] = (value if sign else words.pop(0)) if word in TAKE_VALUES else ""
     return found
 
 
