@@ -51,6 +51,15 @@ push_forward (first ∷ regions) region all forward = (all.0, push_forward regio
 pub no_regions : AreRegions []
 no_regions = record { few = omega arith; forward = tt; named_apart = tt }
 
+-- regions that a layout may have, and one more with a new name
+pub push_region : (regions : List Region) (region : Region) → AreRegions regions → region.start ≤ region.end
+    → is_region_named regions region.name.items ≡ false → length regions < 64 → AreRegions (regions ++ region ∷ [])
+push_region regions region kept forward once room = record {
+  few = omega (arith, length-append regions (region ∷ []));
+  forward = push_forward regions region kept.forward forward;
+  named_apart = push_apart regions region kept.named_apart once;
+}
+
 -- ---- what is read is in the grammar
 
 -- if neither a nonempty line nor the rest of the reading (`follows`) has a fault, the line adds a region with a new
@@ -80,11 +89,8 @@ lines_say-found (line ∷ lines) regions all n kept e = elim (cases_Bool (eqb (l
   | inr full ↦
       let is = joined regions all n (line_says line) (λ more. lines_say more (n + 1) lines) (rw full at e) in
       let line_is = line_says-found line is.0 is.1 in
-      let later = lines_say-found lines (regions ++ is.0 ∷ []) all (n + 1) (record {
-        few = omega (arith, is.3, length-append regions (is.0 ∷ []));
-        forward = push_forward regions is.0 kept.forward line_is.forward;
-        named_apart = push_apart regions is.0 kept.named_apart is.2;
-      }) is.4 in
+      let more = push_region regions is.0 kept line_is.forward is.2 is.3 in
+      let later = lines_say-found lines (regions ++ is.0 ∷ []) all (n + 1) more is.4 in
       let all_is = later.1.1 ∙ append_assoc regions (is.0 ∷ []) later.1.0 in
       rw full (later.0, (is.0 ∷ later.1.0, all_is, (line_is, later.1.2)))
 ]

@@ -3,6 +3,7 @@ pub mod Address
 pub mod Line
 pub mod Text
 pub mod Grammar
+pub mod Adding
 -- The addresses that names of regions include, and sets of addresses.
 pub mod Included
 pub mod Ranges

@@ -7,14 +7,17 @@ ghost use Rattle.nor_layout.specs.Included.{are_known, is_included};
 ghost use Rattle.nor_layout.specs.Ranges.{AreRanges, contains};
 ghost use Rattle.nor_layout.specs.Steps.{AddsRegion, is_listed, is_listed_address};
 
+mod adding;
+
 use crate::fault::{LayoutFault, LineFault};
 use crate::line;
 use crate::ranges::{Ranges, Span};
 use crate::region::{REGIONS, Region};
+pub use adding::RegionFault;
 use std::alloc::Global;
 use std::marker::Model;
 
-/// The regions of a layout text, in the order of its lines: at most 64, and no two with the same name.
+/// Regions in order, those of a layout text or those that were added: at most 64, and no two with the same name.
 #[derive(Debug, Drop)]
 pub struct Layout {
     regions: Vec<Region>,
@@ -115,7 +118,7 @@ impl Layout {
         Ok(Layout { regions })
     }
 
-    /// Returns the regions in the order of their lines: at most 64, and no two with the same name.
+    /// Returns the regions in order: at most 64, and no two with the same name.
     pub fn regions(&self) -> &[Region]
         ensures same { result.now ≡ self.now }
         ensures regions { AreRegions self.now }

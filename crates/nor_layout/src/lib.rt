@@ -19,6 +19,7 @@
 //! The source files:
 //!
 //! - `layout.rt`: `Layout`, which reads a layout text and returns the addresses of named regions
+//! - `layout/adding.rt`: layouts made of regions that no layout text has
 //! - `line.rt`: one line of a layout text
 //! - `address.rt`: hexadecimal addresses
 //! - `region.rt`: `Region`, the name and addresses of a region
@@ -44,6 +45,6 @@ mod region;
 
 pub use fault::{LayoutFault, LineFault};
 pub use included::{blank_excluded, fill_excluded, includes, includes_in_sector, reaches_past};
-pub use layout::Layout;
+pub use layout::{Layout, RegionFault};
 pub use ranges::{Ranges, Span};
 pub use region::Region;

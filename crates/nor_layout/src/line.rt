@@ -69,7 +69,7 @@ fn is_name_byte(byte: u8) -> bool
 }
 
 /// Returns true if the bytes are a name: 1 to 32 bytes, each of them allowed in a name.
-fn is_name(bytes: &[u8]) -> bool
+pub(crate) fn is_name(bytes: &[u8]) -> bool
     ensures { result ≡ is_name bytes.now }
 {
     if bytes.is_empty() || bytes.len() > NAME_LEN {
