@@ -1,0 +1,101 @@
+-- The flash descriptor of Intel's chipsets, the first 4 KiB of an image (the SPI programming guides of the chipsets;
+-- flashrom's ich_descriptors.c). Numbers are little-endian, of 4 bytes. FLVALSIG, the signature, is followed by FLMAP0
+-- and FLMAP1, whose fields say where tables are, in units of 16 bytes from the first byte of the image:
+--
+--   FLMAP0: bits 23:16 region table (FRBA), bits 26:24 number of regions less one (NR)
+--   FLMAP1: bits 7:0 masters' section (FMBA)
+--   entry of the region table (FLREG): bits 14:0 base, bits 30:16 limit, both in units of 4 KiB
+use Rattle.std.specs.Prelude.{◌≡◌, ℕ, ◌+◌, ◌-◌, ◌*◌, ◌/◌, ◌%◌, ◌^◌, ◌==◌, nat_le, nat_lt, max, Bool, not, ◌&&◌, ◌||◌, if◌then◌else◌, List, [], ◌∷◌, length, drop, codes, slice_index_or, Option, Some, None, Result, Ok, Err, ⊤}
+use Rattle.byteorder.specs.Endian.{little_from}
+use Rattle.nor_layout.specs.declared.region.Region.{Region}
+use Rattle.nor_maps.specs.declared.fault.MapFault.{MapFault}
+use Rattle.nor_maps.specs.declared.fault.MapFault.TheVariants.{Missing, Short, Region as InRecord}
+use Rattle.nor_layout.specs.declared.layout.adding.RegionFault.TheVariants.{Name, Twice, TooMany}
+use Rattle.nor_maps.specs.Records.{with_found, records_say, AsksAt}
+
+-- where the signature is: at 10h, or at 0 in descriptors up to the ICH10
+abbrev pub signature_at : List ℕ → Option ℕ
+signature_at bytes =
+    if little_from 16 4 bytes == 0x0FF0A55A then Some 16
+    else if little_from 0 4 bytes == 0x0FF0A55A then Some 0
+    else None
+
+-- FRBA, in bytes
+unfoldable pub region_table : (signature : ℕ) → List ℕ → ℕ
+region_table signature bytes = 16 * (little_from (signature + 4) 4 bytes / 2 ^ 16 % 2 ^ 8)
+
+-- FMBA, in bytes
+abbrev pub masters_at : (signature : ℕ) → List ℕ → ℕ
+masters_at signature bytes = 16 * (little_from (signature + 8) 4 bytes % 2 ^ 8)
+
+-- The number of entries: 16 if they fit between the region table and the masters' section. If not, the number that the
+-- descriptor states, but at least 5.
+unfoldable pub entry_count : (signature : ℕ) → List ℕ → ℕ
+entry_count signature bytes =
+    if nat_le (region_table signature bytes + 64) (masters_at signature bytes) then 16
+    else max (little_from (signature + 4) 4 bytes / 2 ^ 24 % 2 ^ 3 + 1) 5
+
+-- flashrom's names of the regions, by the index of their entries
+abbrev pub region_names : List (List ℕ)
+region_names =
+    codes "fd" ∷ codes "bios" ∷ codes "me" ∷ codes "gbe" ∷ codes "pd" ∷ codes "reg5" ∷ codes "bios2" ∷ codes "reg7"
+    ∷ codes "ec" ∷ codes "reg9" ∷ codes "ie" ∷ codes "10gbe" ∷ codes "reg12" ∷ codes "reg13" ∷ codes "reg14"
+    ∷ codes "reg15" ∷ []
+
+abbrev pub region_name : (index : ℕ) → List ℕ
+region_name index = slice_index_or region_names index []
+
+-- base and limit of an entry, in units of 4 KiB
+abbrev pub base_of : (entry : ℕ) → ℕ
+base_of entry = entry % 2 ^ 15
+
+abbrev pub limit_of : (entry : ℕ) → ℕ
+limit_of entry = entry / 2 ^ 16 % 2 ^ 15
+
+-- True if an entry has no region: its base is above its limit, it is erased, or it is 0 and not the first. The first 4
+-- KiB are the descriptor's, so no other region is there.
+abbrev pub is_unused : (index entry : ℕ) → Bool
+is_unused index entry =
+    nat_lt (limit_of entry) (base_of entry) || entry == 2 ^ 32 - 1 || (entry == 0 && not (index == 0))
+
+-- the region of an entry; its limit is its last 4 KiB
+abbrev pub entry_region : (index entry : ℕ) → Region
+entry_region index entry = record {
+  start = base_of entry * 4096;
+  end = limit_of entry * 4096 + 4095;
+  name = record { items = region_name index };
+}
+
+-- the regions with that of entry `index`, or its fault
+abbrev pub with_number : (size : ℕ) → List Region → (index entry : ℕ) → Result (List Region) MapFault
+with_number size regions index entry =
+    if is_unused index entry then Ok regions else with_found size regions index (entry_region index entry)
+
+-- the same, for the entry that the bytes begin with
+abbrev pub with_entry : (size : ℕ) → List Region → (index : ℕ) → List ℕ → Result (List Region) MapFault
+with_entry size regions index bytes = with_number size regions index (little_from 0 4 bytes)
+
+-- the regions of a descriptor whose signature is at this address, or the first fault
+abbrev pub entries_say : (size : ℕ) → List ℕ → Option ℕ → Result (List Region) MapFault
+entries_say size image None = Err Missing
+entries_say size image (Some signature) =
+    if nat_lt 4096 (region_table signature image + 4 * entry_count signature image) then Err Short
+    else records_say (with_entry size) 4 [] 0 (entry_count signature image) (drop (region_table signature image) image)
+
+-- the regions of the descriptor of an image, for a chip of `size` bytes, or the first fault
+abbrev pub descriptor_says : (size : ℕ) → (image : List ℕ) → Result (List Region) MapFault
+descriptor_says size image =
+    if nat_lt (length image) 4096 then Err Short else entries_say size image (signature_at image)
+
+-- Holds for the faults of a descriptor. A layout can have all of its regions, because their names are valid and differ.
+abbrev pub IsDescriptorFault : MapFault → Type 0
+IsDescriptorFault (InRecord index Name) = ⊥
+IsDescriptorFault (InRecord index Twice) = ⊥
+IsDescriptorFault (InRecord index TooMany) = ⊥
+IsDescriptorFault fault = ⊤
+
+-- Holds if entry `index` has a region and no fault, and no entry before it has a fault.
+abbrev pub AsksInDescriptor : (size : ℕ) → (image : List ℕ) → (index : ℕ) → Type 0
+AsksInDescriptor size image index =
+    (signature : ℕ) × (signature_at image ≡ Some signature)
+    × AsksAt (with_entry size) 4 0 (drop (region_table signature image) image) index

@@ -1,0 +1,55 @@
+//! The faults of flash descriptors and FMAPs.
+
+ghost use Rattle.std.specs.Prelude.{◌≡◌};
+ghost use Rattle.nor_maps.specs.Faults.{map_fault_number};
+
+use nor_layout::RegionFault;
+use std::error::Error;
+use std::fmt;
+
+/// The reason why no layout can be read from an image. The variants are in the order of their numbers.
+///
+/// `record` is the number of the entry of a flash descriptor, counted from 0 as its regions are, or of the area of an
+/// FMAP, counted from 1.
+#[derive(Clone, Copy, Debug, PartialEq, Eq)]
+pub enum MapFault {
+    /// The image has no flash descriptor, or no FMAP.
+    Missing,
+    /// The bytes end before the descriptor or the FMAP does, or the descriptor's table runs past its end.
+    Short,
+    /// A region doesn't lie in the chip.
+    Outside { record: u16 },
+    /// A layout can't have a region, because of its name, because it is the 65th, or because memory was refused.
+    Region { record: u16, fault: RegionFault },
+}
+
+impl MapFault {
+    /// Returns the number of the fault, 1 to 7, which messages print: 1 `Missing`, 2 `Short`, 3 `Outside`, 4 a name
+    /// that no region may have, 5 a name that an earlier record has, 6 more than 64 regions, 7 out of memory.
+    pub fn number(self) -> u8
+        ensures { result ≡ map_fault_number self }
+    {
+        match self {
+            MapFault::Missing => 1,
+            MapFault::Short => 2,
+            MapFault::Outside { .. } => 3,
+            MapFault::Region { fault, .. } => 3 + fault.number(),
+        }
+    }
+}
+
+impl fmt::Display for MapFault {
+    fn fmt<W: fmt::Write>(&self, f: &mut fmt::Formatter<W>) -> fmt::Result {
+        match self {
+            MapFault::Missing => f.write_str("the image has no such map of its regions"),
+            MapFault::Short => f.write_str("the map of the regions is cut short"),
+            MapFault::Outside { record } => write!(
+                f,
+                "region {record} of the map lies outside the chip"
+            ),
+            MapFault::Region { record, fault } => write!(f, "region {record} of the map: {fault}"),
+        }
+    }
+}
+
+impl Error for MapFault {}
