@@ -4,9 +4,7 @@ use Rattle.std.specs.Prelude.{◌≡◌, ◌&&◌, ◌⊎◌, ℕ, Bool, true, f
 use Rattle.std.specs.Prelude.{bit_and, nat_eq, not, replicate}
 use Rattle.nor_model.specs.Bus.{BusState}
 use Rattle.nor_files.specs.Files.{FilesState, View}
-use Rattle.nor_apply.specs.Applying.{ErasesFirst}
 use Rattle.nor_journal.specs.Fault.{HasFault}
-use Rattle.nor_journal.specs.Saved.{is_saved}
 use Rattle.nor_journal.specs.Text.{Content as Journal, IsContent, text}
 use Rattle.nor_journal.specs.declared.fault.JournalFault.{JournalFault}
 use Rattle.nor_layout.specs.declared.ranges.Span.{Span}
@@ -19,8 +17,6 @@ use Rattle.nor_request.specs.Refusal.{of_probe}
 use Rattle.nor_request.specs.declared.refusal.Refusal.{Refusal}
 use Rattle.nor_request.specs.declared.refusal.Refusal.TheVariants.{BadJournal, Memory}
 use Rattle.nor_request.specs.declared.report.Report.{Report}
-use Rattle.nor_session.specs.Headline.{RestoresOriginal, RewritesOriginal}
-use Rattle.nor_session.specs.Restore.{AlwaysBy, Choice, HonestBy, ModelledBy, differing, every_saved}
 use Rattle.nor_words.specs.Text.{Text}
 use Rattle.nor_words.specs.declared.job.Change.{Change}
 use Rattle.nor_words.specs.declared.job.JournalUse.{JournalUse}
@@ -35,12 +31,13 @@ use Rattle.nor_words.specs.declared.words.UsageFault.TheVariants as usage
 use Rattle.nor_lines.specs.Files.{IsMaking}
 use Rattle.nor_lines.specs.Readings.{AnswersCall, HasReadOut, HasReported, HasVerified, ListsRanges, ReportsProtection}
 use Rattle.nor_lines.specs.Requests.{request_for}
-use Rattle.nor_lines.specs.Sessions.{HasBackedUpInFile, HasRunInFile, ReportsDone}
+use Rattle.nor_lines.specs.Sessions.{HasBackedUpInFile, HasRunInFile}
 use Rattle.nor_lines.specs.declared.answers.Answer.{Answer}
 use Rattle.nor_lines.specs.declared.answers.Answer.TheVariants as answer
 use Rattle.nor_lines.specs.declared.messages.Fault.{Fault}
 use Rattle.nor_lines.specs.declared.messages.Fault.TheVariants as end
 use Rattle.flashnor_serprog.specs.Following.{FailsToFollow, FailsToMerge, IsFollowed, IsWholeTarget, ranges_if}
+use Rattle.flashnor_serprog.specs.Restoring.{HasRunRestore}
 use Rattle.flashnor_serprog.specs.declared.chip_faults.JobFault.{JobFault}
 use Rattle.flashnor_serprog.specs.declared.chip_faults.JobFault.TheVariants as ended
 
@@ -288,28 +285,6 @@ FailsChange operation change ranges bytes kept before after old new (ended.NotCo
     FailsComparison operation change ranges bytes kept before after old new refusal
 
 -- ---- restores
-
--- the sectors that a restore rewrites: with `--quick` those that differ, otherwise every saved one
-abbrev pub choice_of : (quick : Bool) → Choice
-choice_of true = differing
-choice_of false = every_saved
-
--- the headline of `restore` (with `--quick`), or that of `rewrite`
-abbrev pub RestoresBy : (quick : Bool) → Journal → (old new : BusState) → Result Report Refusal → Type 0
-RestoresBy true journal old new result = RestoresOriginal journal old new result
-RestoresBy false journal old new result = RewritesOriginal journal old new result
-
--- A restore ended or returned an error. It kept all promises of `restore` (with `--quick`), or those of `rewrite`: then
--- after success an erase was sent for each saved sector, and none after the first page program (`thorough`).
-pub record HasRunRestore (quick : Bool) (journal : Journal) (old new : BusState)
-    (outcome : Result Answer Refusal) : Type 0 where
-  pub result : Result Report Refusal
-  pub restores_original : IsModelled old → RestoresBy quick journal old new result
-  pub always : AlwaysBy (choice_of quick) journal old new result
-  pub honest : old.honest ≡ true → HonestBy (choice_of quick) journal old new result
-  pub modelled : IsModelled old → ModelledBy (choice_of quick) journal old new result
-  pub thorough : quick ≡ false → OnOk result (ErasesFirst (is_saved journal) old new)
-  pub returned : AnswersCall ReportsDone result outcome
 
 -- if a name is given, the chip was identified and has this name; otherwise nothing was sent
 abbrev pub IsNamedFirst : Option ChipName → (old new : BusState) → Type 0

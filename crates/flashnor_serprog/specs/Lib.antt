@@ -1,6 +1,7 @@
 pub mod Setting
 pub mod Backups
 pub mod Following
+pub mod Restoring
 pub mod Jobs
 pub mod Sends
 pub mod Sources

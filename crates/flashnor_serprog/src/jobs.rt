@@ -1,5 +1,5 @@
 //! Performs a job on a chip, over any bus.
-ghost use Rattle.std.specs.Prelude.{◌≡◌, ◌⊎◌, IfErr, IfOk, Ok, OnOk, false, option_copied, true};
+ghost use Rattle.std.specs.Prelude.{◌≡◌, IfErr, IfOk, Ok, option_copied, true};
 ghost use Rattle.nor_files.specs.Files.{Name, OthersStay, KeepsFile, is_lawful};
 ghost use Rattle.nor_lines.specs.Tasks.{journal_of, made_by};
 ghost use Rattle.nor_lines.specs.Readings.{HasVerified};
@@ -7,25 +7,24 @@ ghost use Rattle.nor_lines.specs.Stored.{IsNot};
 ghost use Rattle.flashnor_serprog.specs.Jobs.{DoesTask, FailsChange, FailsPerform, FailsToAdmit, FailsToFill};
 ghost use Rattle.flashnor_serprog.specs.Jobs.{FailsToFind};
 ghost use Rattle.flashnor_serprog.specs.Jobs.{FailsToRead, HasChangedBy, HasIdentified, HasLookedUp};
-ghost use Rattle.flashnor_serprog.specs.Jobs.{HasReadChip, HasRestored, HasRunRestore, IsBufferOf, IsChangeable};
-ghost use Rattle.flashnor_serprog.specs.Jobs.{IsNamedFirst, IsNoJournal, ReportsFound, ReportsSize};
+ghost use Rattle.flashnor_serprog.specs.Jobs.{HasReadChip, IsBufferOf, IsChangeable, ReportsFound, ReportsSize};
 ghost use Rattle.flashnor_serprog.specs.Jobs.{changes_bytes, is_compared, may_be_protected};
 
 use crate::backups::backup_chip;
 use crate::chip_faults::JobFault;
 use crate::following::{complete, follow, ranges_if, sectors_before_change, sectors_to_read};
 use crate::progress::{Progress, Terminal};
+use crate::restoring::restore_chip;
 use crate::sources::Sources;
 use nor_chip::Bus;
 use nor_files::Store;
-use nor_journal::Journal;
 use nor_layout::Ranges;
 use nor_lines::{
     Answer, Fault, Outcome, erased, list_ranges, or_fault, read_to_file, report_protection,
     request_for, session_in_file, verify_image,
 };
 use nor_probe::{ChipName, Found, probe};
-use nor_session::{Refusal, restore_announced, rewrite_announced};
+use nor_session::Refusal;
 use nor_words::{Change, JournalUse, Operation, Reason, Task, UsageFault, Wanted};
 use std::alloc::{AllocError, Global};
 
@@ -252,73 +251,4 @@ fn fill_buffer<'a, B: Progress>(
         }
         Wanted::Range { .. } => Ok(bytes),
     }
-}
-
-// Restores the chip from the bytes of a journal: erases and programs every saved sector, whatever it reads, or with
-// `--quick` each one that differs. If `-c` is given, the chip must have that name. Returns error 15 if the bytes are no
-// journal.
-fn restore_chip<'a, B: Progress>(
-    bus: &mut B,
-    terminal: Terminal<'_>,
-    operation: &Operation<'a>,
-    bytes: &[u8],
-) -> Result<Outcome, Fault<'a>>
-    ensures ok { IfOk result (HasRestored operation.now bytes.now (B.state bus.old) (B.state bus.new)) }
-    ensures err { IfErr result (λ fault. FailsToFind operation.now.named (B.state bus.old) (B.state bus.new) fault
-        ⊎ IsNoJournal bytes.now (B.state bus.old) (B.state bus.new) fault) }
-{
-    let journal = match Journal::read(bytes) {
-        Ok(journal) => journal,
-        Err(fault) => return Err(Fault::Refused(Refusal::BadJournal(fault))),
-    };
-    check_name(bus, operation.named)?;
-    Ok(run_restore(bus, terminal, &journal, operation.is_quick))
-}
-
-// If `named` is given, identifies the chip and checks that it has that name. If not, sends nothing.
-fn check_name<'a, B: Bus>(bus: &mut B, named: Option<ChipName>) -> Result<(), Fault<'a>>
-    ensures ok { OnOk result (IsNamedFirst named (B.state bus.old) (B.state bus.new)) }
-    ensures err { IfErr result (FailsToFind named (B.state bus.old) (B.state bus.new)) }
-{
-    if named.is_some() {
-        find_first(bus, named)?;
-    }
-    Ok(())
-}
-
-// Erases and programs every saved sector; or, if the restore is `quick`, those that differ.
-fn run_restore<B: Progress>(
-    bus: &mut B,
-    terminal: Terminal<'_>,
-    journal: &Journal<'_>,
-    quick: bool,
-) -> Outcome
-    ensures { HasRunRestore quick journal.now (B.state bus.old) (B.state bus.new) result }
-{
-    if quick {
-        bus.expect_reads(journal.count());
-        restore_differing(bus, terminal, journal)
-    } else {
-        restore_all(bus, terminal, journal)
-    }
-}
-
-// Reads the saved sectors, and erases and programs those that differ.
-fn restore_differing<B: Bus>(bus: &mut B, terminal: Terminal<'_>, journal: &Journal<'_>) -> Outcome
-    ensures { HasRunRestore true journal.now (B.state bus.old) (B.state bus.new) result }
-{
-    let report = restore_announced(bus, journal, |announcement| {
-        terminal.print_restore(announcement)
-    })?;
-    Ok(Answer::Done(report))
-}
-
-// Erases and programs every saved sector.
-fn restore_all<B: Bus>(bus: &mut B, terminal: Terminal<'_>, journal: &Journal<'_>) -> Outcome
-    ensures { HasRunRestore false journal.now (B.state bus.old) (B.state bus.new) result }
-{
-    let report = rewrite_announced(bus, journal, |announcement| {
-        terminal.print_restore(announcement)
-    })?;
-    Ok(Answer::Done(report))
 }

@@ -14,6 +14,7 @@
 //! - `connect.rt`: opens the device and identifies the programmer
 //! - `jobs.rt`: performs a job on the chip
 //! - `backups.rt`: saves a whole chip in a new journal
+//! - `restoring.rt`: restores the chip from a journal
 //! - `following.rt`: the target of a change, and the comparison of the whole chip with it
 //! - `status_line.rt`: the lines for a status write that was refused, or that the chip did not store
 //! - `chip_faults.rt`: the faults with which a job ends, and the lines of those that `flashnor` lacks
@@ -28,6 +29,7 @@ mod help;
 mod jobs;
 mod port;
 mod progress;
+mod restoring;
 mod roles;
 mod run;
 mod setting;

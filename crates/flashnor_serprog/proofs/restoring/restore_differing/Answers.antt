@@ -1,6 +1,6 @@
 use Rattle.std.proofs.Common.{Err, refl}
 use Rattle.std.proofs.lemmas.Result.{err_from_is_err_and}
-use Rattle.flashnor_serprog.proofs.jobs.restore_differing.Goals as goal
+use Rattle.flashnor_serprog.proofs.restoring.restore_differing.Goals as goal
 
 pub returns-in_err-report : goal.returns-in_err-report
 returns-in_err-report g c =

@@ -1,4 +1,4 @@
-use Rattle.flashnor_serprog.proofs.jobs.restore_chip.Goals as goal
+use Rattle.flashnor_serprog.proofs.restoring.restore_chip.Goals as goal
 
 pub returns-clause-ok : goal.returns-clause-ok
 returns-clause-ok g c = record {
