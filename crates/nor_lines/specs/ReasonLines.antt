@@ -41,6 +41,7 @@ reason_line because.NoNames = codes "error: -l needs -i\n"
 reason_line because.NoLayout = codes "error: -i needs -l\n"
 reason_line because.NoRegions = codes "error: -l and -i need -r, -v, -w or -E\n"
 reason_line (because.NoContent option) = concat (codes "error: " ∷ option_text option ∷ codes " needs -w or -E\n" ∷ [])
+reason_line because.NoComparison = codes "error: -N needs -w, -E or --restore\n"
 reason_line because.NoRestore = codes "error: --quick needs --restore\n"
 reason_line (because.Stop part) =
     concat (codes "error: invalid number in --rehearse: '" ∷ escaped part.now ∷ codes "'\n" ∷ [])

@@ -51,6 +51,7 @@ impl fmt::Display for ReasonLine<'_> {
             Reason::NoLayout => f.write_str("error: -i needs -l\n"),
             Reason::NoRegions => f.write_str("error: -l and -i need -r, -v, -w or -E\n"),
             Reason::NoContent(option) => writeln!(f, "error: {} needs -w or -E", option.as_str()),
+            Reason::NoComparison => f.write_str("error: -N needs -w, -E or --restore\n"),
             Reason::NoRestore => f.write_str("error: --quick needs --restore\n"),
             Reason::Stop(part) => {
                 let part = Escaped(part);

@@ -33,10 +33,10 @@ abbrev pub has_wrong_regions : Texts → Bool
 has_wrong_regions given = (is_some given.layout || is_some given.names)
     && not (is_some given.layout && (is_some given.names && takes_regions given))
 
--- true for `-N` without `-w` or `-E`, and for `--quick` without `--restore`; flashnor has neither option
+-- true for `-N` without `-w`, `-E` or `--restore`, and for `--quick` without `--restore`; flashnor has neither option
 abbrev pub has_unneeded_for_hardware : Texts → Bool
-has_unneeded_for_hardware given =
-    (given.no_verify_all && not (is_new_content given)) || (given.quick && not (is_some given.restore))
+has_unneeded_for_hardware given = (given.no_verify_all && not (is_new_content given || is_some given.restore))
+    || (given.quick && not (is_some given.restore))
 
 -- fault 8: true for `-n` or `--unlock` without `-w` or `-E`, or if `has_unneeded_for_hardware` is true
 abbrev pub has_unneeded : Texts → Bool

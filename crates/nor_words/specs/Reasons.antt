@@ -32,7 +32,6 @@ option_text option.Backup = codes "--backup"
 option_text option.Journal = codes "--journal"
 option_text option.Rehearse = codes "--rehearse"
 option_text option.NoVerify = codes "-n"
-option_text option.NoVerifyAll = codes "-N"
 option_text option.Unlock = codes "--unlock"
 
 -- ---- fault 3
@@ -118,12 +117,13 @@ regions_reason given =
     if is_some given.layout then (if is_some given.names then because.NoRegions else because.NoNames)
     else because.NoLayout
 
--- the reason of fault 8: an option that needs `-w` or `-E`, or `--quick`, which needs `--restore`
+-- the reason of fault 8: an option that needs `-w` or `-E`; or `-N`, which needs one of these or `--restore`; or
+-- `--quick`, which needs `--restore`
 abbrev pub unneeded_reason : Texts → Reason
 unneeded_reason given =
     if is_new_content given then because.NoRestore
     else if given.no_verify then because.NoContent option.NoVerify
-    else if given.no_verify_all then because.NoContent option.NoVerifyAll
+    else if given.no_verify_all && not (is_some given.restore) then because.NoComparison
     else if given.unlock then because.NoContent option.Unlock
     else because.NoRestore
 

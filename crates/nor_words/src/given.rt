@@ -306,8 +306,8 @@ impl<'a> Given<'a> {
         ensures { result ≡ has_unneeded (texts_of self.now) }
     {
         let (changes, restores) = (self.is_new_content(), self.restore.is_some());
-        ((self.no_verify || self.unlock) && !changes)
-            || ((self.no_verify_all && !changes) || (self.quick && !restores))
+        let unneeded = (self.no_verify_all && !(changes || restores)) || (self.quick && !restores);
+        ((self.no_verify || self.unlock) && !changes) || unneeded
     }
 
     // Fault 7: true if there is only one of `-l` and `-i`, or both without any of `-r`, `-v`, `-w` and `-E`.

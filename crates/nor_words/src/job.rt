@@ -40,7 +40,7 @@ pub struct HardwareJob<'a> {
 pub struct Operation<'a> {
     /// `-c NAME`: the name that the chip must have.
     pub named: Option<ChipName>,
-    /// Without `-N`: after a write or an erase compare the sectors that it did not change, too.
+    /// Without `-N`: after a write, an erase or a restore compare the sectors that it did not change, too.
     pub verifies_all: bool,
     /// `--quick`: a restore rewrites only the saved sectors that differ.
     pub is_quick: bool,

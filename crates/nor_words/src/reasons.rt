@@ -22,7 +22,6 @@ pub enum OptionName {
     Journal,
     Rehearse,
     NoVerify,
-    NoVerifyAll,
     Unlock,
 }
 
@@ -48,7 +47,6 @@ impl OptionName {
             OptionName::Journal => "--journal",
             OptionName::Rehearse => "--rehearse",
             OptionName::NoVerify => "-n",
-            OptionName::NoVerifyAll => "-N",
             OptionName::Unlock => "--unlock",
         }
     }
@@ -112,6 +110,8 @@ pub enum Reason<'a> {
     NoRegions,
     /// 8: this option is given with neither `-w` nor `-E`.
     NoContent(OptionName),
+    /// 8: `-N` is given with none of `-w`, `-E` and `--restore`.
+    NoComparison,
     /// 8: `--quick` is given without `--restore`.
     NoRestore,
     /// 9: this is the first part of the value of `--rehearse` that isn't a number.

@@ -150,8 +150,8 @@ impl<'a> Given<'a> {
             Reason::NoRestore
         } else if self.no_verify {
             Reason::NoContent(OptionName::NoVerify)
-        } else if self.no_verify_all {
-            Reason::NoContent(OptionName::NoVerifyAll)
+        } else if self.no_verify_all && self.restore.is_none() {
+            Reason::NoComparison
         } else if self.unlock {
             Reason::NoContent(OptionName::Unlock)
         } else {
