@@ -32,6 +32,13 @@ pub record IsReadAs (byte : ℕ) (history : List Exchange) (a : ℕ) : Type 0 wh
   pub whole : length (sector_read history a) ≡ 4096
   pub same : bytes_read history a ≡ byte
 
+-- Holds if the sector of each of these addresses was read since the history `old`, and the last reply to such a read
+-- has 4,096 bytes.
+pub record HaveBeenRead (Addresses : (a : ℕ) → Type 0) (old new : List Exchange) : Type 0 where
+  pub later : List Exchange
+  pub is : new ≡ later ++ old
+  pub whole : (a : ℕ) → Addresses a → length (sector_read later a) ≡ 4096
+
 -- Holds if, since the history `old`, sectors were read and nothing else was sent, and the last reply to a read of the
 -- sector of each of these addresses has the target byte there.
 pub record ReadsBack (addresses : ℕ → Bool) (target : ℕ → ℕ) (old new : List Exchange) : Type 0 where

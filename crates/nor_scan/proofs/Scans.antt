@@ -1,5 +1,5 @@
 -- The state of a scan between two sectors: the marks, the reads and the image.
-use Rattle.std.proofs.Common.{◌≡◌, ◌<◌, ◌≤◌, ◌+◌, ◌-◌, ◌*◌, ◌/◌, ◌%◌, ◌&&◌, ◌||◌, ◌∙◌, ℕ, Bool, true, false, List}
+use Rattle.std.proofs.Common.{◌≡◌, ◌≢◌, ◌<◌, ◌≤◌, ◌+◌, ◌-◌, ◌*◌, ◌/◌, ◌%◌, ◌&&◌, ◌||◌, ◌∙◌, ℕ, Bool, true, false, List}
 use Rattle.std.proofs.Common.{Option, take, drop, length, slice_index, refl, ap, sym, subst, arith, inl, inr}
 use Rattle.std.specs.Prelude.{if◌then◌else◌, ◌==◌, nat_lt}
 use Rattle.std.proofs.lemmas.Bool.{cases_eq, eq-eqb, ne_eqb, or_left, and_left, both_ways, false_from_ne_true}
@@ -7,7 +7,8 @@ use Rattle.std.proofs.lemmas.Bool.Decides.{nat_tests}
 use Rattle.std.proofs.Math.Bool.{and-false}
 use Rattle.nor_model.specs.Bus.{BusState}
 use Rattle.nor_driver.specs.OnlyReads.{IsOpen}
-use Rattle.nor_driver.specs.ReadBack.{bytes_read}
+use Rattle.nor_driver.specs.ReadBack.{bytes_read, HaveBeenRead}
+use Rattle.nor_driver.proofs.ReadBack.{none_read, fewer_read, more_read}
 use Rattle.nor_driver.specs.Reads.{IsSectorOf}
 use Rattle.nor_scan.proofs.Replied.{read_others, read_whole}
 use Rattle.nor_geometry.specs.Below.{count_below}
@@ -20,7 +21,7 @@ use Rattle.nor_geometry.specs.Counts.{sector_count}
 use Rattle.nor_request.specs.declared.request.Request.{Request}
 use Rattle.nor_scan.specs.declared.scanning.Scanned.{Scanned}
 use Rattle.nor_request.specs.Request.{is_data, scanned_sectors}
-use Rattle.nor_scan.specs.Scanning.{wanted_at, AreMarks, AreRight, sectors_below, IsBlank, HasMarked, ScansSector, Scans}
+use Rattle.nor_scan.specs.Scanning.{wanted_at, AreMarks, AreRight, sectors_below, IsBlank, HasMarked, ScansSector, IsScanned, Scans}
 use Rattle.nor_geometry.proofs.Counting.{count_below-zero, count_below-with, count_below-without, count_below-add}
 use Rattle.nor_geometry.proofs.Counting.{count_below-none, count_below-same}
 use Rattle.nor_geometry.proofs.Verdicts.{count_below-insert}
@@ -36,6 +37,10 @@ use borrow.Rule.Slice.PartMut.{put_mid}
 abbrev pub AgreeBelow : (n : ℕ) → (one two : ℕ → ℕ) → Type 0
 AgreeBelow n one two = (s i : ℕ) → s < n → i < 4096 → one (4096 * s + i) ≡ two (4096 * s + i)
 
+-- Holds for an address of a sector below `n` that has an included address.
+abbrev pub IsIncludedBelow : Request → (n a : ℕ) → Type 0
+IsIncludedBelow request n a = (a / 4096 < n) × (has_in_sector (includes request.included) (a / 4096) ≡ true)
+
 -- Holds if the sectors below `n` with an included address were scanned, and no byte of the image from sector `n` on was
 -- changed. The marks are right, and the image's touched sectors have the target bytes, for each content that agrees
 -- with what was read. On a well-behaved bus whose chip was idle at the start and has this size, they are so for the
@@ -45,6 +50,7 @@ pub record HasScanned (request : Request) (size n : ℕ) (image image' : List �
   pub marks : AreMarks n scanned
   pub reads : scanned.reads ≡ count_below n (has_in_sector (includes request.included))
   pub honest_reads : HasOnlyRead scanned.reads old new
+  pub read : HaveBeenRead (IsIncludedBelow request n) old.history new.history
   pub replied : (content : ℕ → ℕ) → AgreeBelow n content (bytes_read new.history)
       → AreRight (wanted_at request image size content) content (sectors_below n) scanned
   pub filled : (content : ℕ → ℕ) → AgreeBelow n content (bytes_read new.history) → (a : ℕ)
@@ -148,6 +154,7 @@ nothing_scanned request size image state scanned blank = record {
   };
   reads = blank.reads ∙ sym (count_below-zero (has_in_sector (includes request.included)));
   honest_reads = rw blank.reads (has_only_read-none state);
+  read = none_read (IsIncludedBelow request 0) state.history (λ a is. let below = is.0 in omega arith);
   replied = λ content same. record {
     touched = λ s. rw (blank.touched s) (grind (arith, nat_tests));
     raised = λ s. rw (blank.raised s) (grind (arith, nat_tests));
@@ -191,6 +198,9 @@ module _ {request : Request} {size n : ℕ} {image image' : List ℕ} {old mid :
         };
         reads = was.reads ∙ sym (count_below-without n (has_in_sector (includes request.included)) at.included);
         honest_reads = was.honest_reads;
+        read = fewer_read (λ a is.
+            let other : a / 4096 ≢ n = λ here. both_ways _ at.included (rw here at is.1) in
+            let below = is.0 in (omega arith, is.1)) was.read;
         replied = λ content same. right_on content (was.replied content (λ s i below. same s i (omega arith)));
         filled = λ content same. was.filled content (λ s i below. same s i (omega arith));
         right = λ is_open. right_on old.chip.bytes (was.right is_open);
@@ -269,6 +279,8 @@ module _ {request : Request} {size n : ℕ} {image image' : List ℕ} {old mid :
               let next = count_below-with n (has_in_sector (includes request.included)) at.included in
               omega (arith, was.reads, marked.reads);
           honest_reads = rw marked.reads (has_only_read-then was.honest_reads scans.honest_reads);
+          read = more_read was.read scans.answered read
+              (λ a is other. let below = is.0 in (omega arith, is.1));
           replied = λ content same. right_more (scans.planned content (agree_here content read same) image of_image)
               (below_more n) marked (was.replied content (agree_before content same));
           filled = λ content same. filled_on content (scans.merged content (agree_here content read same) image of_image)
@@ -295,13 +307,13 @@ module _ {request : Request} {size n : ℕ} {image image' : List ℕ} {old mid :
 
   -- `Scans` follows from `HasScanned` if, at the end of the loop, the counts and the marks (`AreMarks`, `AreRight`) are
   -- those of the whole chip.
-  scans_of : scanned.count ≤ scanned.reads → AreMarks (size / 4096) scanned
+  scans_of : HaveBeenRead (IsScanned request size) old.history mid.history → scanned.count ≤ scanned.reads → AreMarks (size / 4096) scanned
       → scanned.reads ≡ scanned_sectors request size
       → AreRight (wanted_at request image size (bytes_read mid.history)) (bytes_read mid.history)
       (sectors_below (size / 4096)) scanned → (IsOpen size old
       → AreRight (wanted_at request image size old.chip.bytes) old.chip.bytes (sectors_below (size / 4096)) scanned)
       → Scans request size image image' old mid scanned
-  scans_of few marks reads replied right =
+  scans_of read few marks reads replied right =
       let filled = was.filled (bytes_read mid.history) (λ s i below small. refl) in
       search (was.honest_reads.rested, was.honest_reads.sent, was.merged)
 
@@ -309,7 +321,7 @@ module _ {request : Request} {size n : ℕ} {image image' : List ℕ} {old mid :
   pub all_scanned : is_data request.what ≡ true → n ≡ size / 4096 → scanned.count ≤ scanned.reads
       → Scans request size image image' old mid scanned
   all_scanned about_bytes end few =
-      scans_of few (rw (← end) was.marks) (rw (about_bytes, ← end) was.reads)
+      scans_of (fewer_read (λ a is. (rw end is.1, is.2)) was.read) few (rw (← end) was.marks) (rw (about_bytes, ← end) was.reads)
       (rw (← end) (was.replied (bytes_read mid.history) (λ s i below small. refl)))
       (λ is_open. rw (← end) (was.right is_open))
 
@@ -331,7 +343,7 @@ module _ {request : Request} {size n : ℕ} {image image' : List ℕ} {old mid :
         raised = λ s. rw (flat s, unraised content target_bytes s (λ i below. kept content (4096 * s + i)), and-false)
             refl;
       } in
-      scans_of few (record {
+      scans_of (fewer_read (λ a is. absurd (both_ways (is_data request.what) other is.0)) was.read) few (record {
         below = λ s is. absurd (both_ways _ (free s) is);
         inside = was.marks.inside;
         count = was.marks.count;

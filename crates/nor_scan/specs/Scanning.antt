@@ -11,7 +11,7 @@ use Rattle.nor_journal.specs.Writer.{HasPutSectors}
 use Rattle.nor_driver.specs.Ready.{StaysReady}
 use Rattle.nor_driver.specs.Reads.{IsSectorOf}
 use Rattle.nor_driver.specs.ReadsInTurn.{HasOnlyRead}
-use Rattle.nor_driver.specs.ReadBack.{bytes_read}
+use Rattle.nor_driver.specs.ReadBack.{bytes_read, HaveBeenRead}
 use Rattle.nor_plan.specs.declared.plan.SectorPlan.{SectorPlan}
 use Rattle.nor_plan.specs.SectorSet.{has}
 use Rattle.nor_geometry.specs.Counts.{sector_count}
@@ -20,7 +20,8 @@ use Rattle.nor_request.specs.declared.refusal.Refusal.{Refusal}
 use Rattle.nor_request.specs.declared.refusal.Refusal.TheVariants.{Vault, Stopped}
 use Rattle.nor_request.specs.declared.request.Request.{Request}
 use Rattle.nor_scan.specs.declared.scanning.Scanned.{Scanned}
-use Rattle.nor_request.specs.Request.{target, is_requested, scanned_sectors}
+use Rattle.nor_request.specs.Request.{is_data, target, is_requested, scanned_sectors}
+use Rattle.nor_layout.specs.Sectors.{includes, has_in_sector}
 
 -- The target byte at an address of a chip with this size and content. At an address that the request may change it is
 -- the image's byte (for a write) or FFh (for an erase), at any other the byte of `content`.
@@ -78,9 +79,15 @@ pub record ScansSector (request : Request) (size sector : ℕ) (part part' bytes
       → (plan.touched ≡ is_touched content (wanted_at request image size content) sector)
       × (plan.raised ≡ is_raised content (wanted_at request image size content) sector)
 
+-- Holds for an address of a sector that is scanned: for a write or an erase, one with an included address.
+abbrev pub IsScanned : Request → (size : ℕ) → (a : ℕ) → Type 0
+IsScanned request size a = (is_data request.what ≡ true) × (a / 4096 < size / 4096)
+    × (has_in_sector (includes request.included) (a / 4096) ≡ true)
+
 -- Holds after each sector with an included address was scanned (none for a protection range). The marks are right
 -- (`AreRight`), and the image's touched sectors have the target bytes: on every bus for the bytes that were read, and
--- on a well-behaved bus with an idle chip of this size for the chip's. Other clauses of `scan_all` describe the journal.
+-- on a well-behaved bus with an idle chip of this size for the chip's. Other clauses of `scan_all` describe the
+-- journal.
 pub record Scans (request : Request) (size : ℕ) (image image' : List ℕ) (old new : BusState)
     (scanned : Scanned) : Type 0 where
   pub marks : AreMarks (size / 4096) scanned
@@ -89,6 +96,7 @@ pub record Scans (request : Request) (size : ℕ) (image image' : List ℕ) (old
   pub polled_ready : StaysReady old new
   pub rested : old.honest ≡ true → Rested old new
   pub sent : old.honest ≡ true → old.left ≡ new.left + scanned.reads
+  pub read : HaveBeenRead (IsScanned request size) old.history new.history
   pub replied : AreRight (wanted_at request image size (bytes_read new.history)) (bytes_read new.history)
       (sectors_below (size / 4096)) scanned
   pub filled : (a : ℕ) → has scanned.touched (a / 4096) ≡ true

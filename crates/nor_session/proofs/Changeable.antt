@@ -12,7 +12,8 @@ use Rattle.nor_model.specs.Bus.{BusState}
 use Rattle.nor_model.proofs.Sizes.{sized_bounds}
 use Rattle.nor_driver.specs.OnlyReads.{OnlyReads, Rested, IsOpen}
 use Rattle.nor_driver.specs.StatusWrites.{fixed_of}
-use Rattle.nor_driver.specs.ReadBack.{bytes_read}
+use Rattle.nor_driver.specs.ReadBack.{bytes_read, HaveBeenRead}
+use Rattle.nor_driver.proofs.ReadBack.{read_since}
 use Rattle.nor_journal.specs.Text.{Content}
 use Rattle.nor_journal.specs.Saved.{is_saved, saved_byte}
 use Rattle.nor_plan.specs.SectorSet.{has}
@@ -29,7 +30,7 @@ use Rattle.nor_driver.proofs.RestsInTurn.{rested_then}
 use Rattle.nor_plan.specs.Content.{is_raised}
 use Rattle.nor_probe.specs.Known.{IsModelled}
 use Rattle.nor_session.specs.Changing.{touched_count}
-use Rattle.nor_session.specs.Restore.{Choice, restored, NeedsStatusBy}
+use Rattle.nor_session.specs.Restore.{Choice, restored, IsLeft, NeedsStatusBy}
 use Rattle.nor_session.specs.PrepareRestore.{NeedsStatusWith, FitsJournal, FitsIdentity, PrepareErrors, MarksChosen, AreChanges, MayChangeStatus, IsShut, IsPreparedFor, IsPreparedRestore, IsSoundChoice}
 use Rattle.nor_session.specs.Restore.{IsOfTypeFound, HasFixedRead}
 use Rattle.nor_scan.proofs.Held.{code_same}
@@ -178,6 +179,9 @@ module _ {choice : Choice} (sound : IsSoundChoice choice) {journal : Content} {i
       } in
       ap (λ (set : ℕ → Bool). set s) (ap has are.touched) ∙ rw bytes at (read.scans.touched is_open s)
 
+  read_if : HaveBeenRead (IsLeft choice journal (bytes_read new.history)) old.history new.history
+  read_if = read_since read.only_reads.nature.history read.scans.read
+
   replied_if : (s : ℕ) → has changes.touched s ≡ choice.touched journal (bytes_read new.history) s
   replied_if s = ap (λ (set : ℕ → Bool). set s) (ap has are.touched) ∙ read.scans.replied s
 
@@ -196,4 +200,4 @@ module _ {choice : Choice} (sound : IsSoundChoice choice) {journal : Content} {i
       let fixed : fixed_of (kept_in (bytes_of changes.status)) ≡ fixed_of (kept_in journal.status)
       = rw (are.one, are.two) read.fixed in
       let consistent : AreConsistent changes = search (rules, arith, below, rises_touched) in
-      search (rules, arith, saved, rested_all read, idle_now, replied_if, touched_if, prepared_for sent)
+      search (rules, arith, saved, rested_all read, idle_now, replied_if, read_if, touched_if, prepared_for sent)

@@ -10,6 +10,7 @@ use Rattle.nor_journal.specs.Saved.{saved_in, is_saved}
 use Rattle.nor_journal.proofs.Saved.{saved_in-nil, saved_in-take_more, saved_few, rising_at, take-next, take-all_sectors, least_within}
 use Rattle.nor_plan.specs.SectorSet.{has}
 use Rattle.nor_driver.proofs.RestsInTurn.{has_only_read-none}
+use Rattle.nor_driver.proofs.ReadBack.{none_read}
 use Rattle.nor_scan.specs.declared.scanning.Scanned.{Scanned}
 use Rattle.nor_scan.specs.Scanning.{AreMarks, IsBlank, HasMarked}
 use Rattle.nor_scan.proofs.Scans.{marks_more}
@@ -73,6 +74,7 @@ all_marked {journal = journal} {n = n} {scanned = scanned} is end was =
         room = omega (arith, few, most);
         honest_reads = has_only_read-none state;
         replied = touched;
+        read = none_read _ _ (λ a left. both_ways (is_saved journal (a / 4096)) left.1 left.0);
         touched = λ is_open s. touched s;
         raised = λ is_open s. raised s;
       };

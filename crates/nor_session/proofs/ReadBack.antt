@@ -6,7 +6,8 @@ use Rattle.nor_model.specs.History.{Continues}
 use Rattle.nor_model.proofs.Histories.{continues_refl, continues_then}
 use Rattle.nor_driver.specs.declared.waits.OperationError.{OperationError}
 use Rattle.nor_driver.specs.declared.waits.OperationError.TheVariants as Operations
-use Rattle.nor_driver.specs.ReadBack.{bytes_read, ReadsBack, ReadsOther, EndsReadBack, EndsReadOther}
+use Rattle.nor_driver.specs.ReadBack.{bytes_read, HaveBeenRead, ReadsBack, ReadsOther, EndsReadBack, EndsReadOther}
+use Rattle.nor_driver.proofs.ReadBack.{read_since}
 use Rattle.nor_journal.specs.Text.{Content}
 use Rattle.nor_journal.specs.Saved.{saved_byte}
 use Rattle.nor_plan.specs.SectorSet.{has}
@@ -24,13 +25,13 @@ use Rattle.nor_session.specs.Checking.{ChecksReplies, of_check}
 use Rattle.nor_session.specs.Changing.{FitsReadBack}
 use Rattle.nor_request.specs.declared.request.Request.{Request}
 use Rattle.nor_scan.specs.declared.scanning.Scanned.{Scanned}
-use Rattle.nor_scan.specs.Scanning.{wanted_at, Scans}
+use Rattle.nor_scan.specs.Scanning.{wanted_at, IsScanned, Scans}
 use Rattle.nor_scan.specs.declared.identity.Identity.{Identity}
 use Rattle.nor_scan.specs.SavedScan.{SaveErrors}
 use Rattle.nor_scan.specs.Judging.{IsIdentityRefusal}
 use Rattle.nor_request.specs.Errors.{IdentificationErrors}
 use Rattle.nor_session.specs.Session.{touched_for, SessionReadsBack}
-use Rattle.nor_session.specs.Restore.{Choice, RestoreReadsBack}
+use Rattle.nor_session.specs.Restore.{Choice, IsLeft, RestoreReadsBack}
 use Rattle.nor_session.specs.PrepareRestore.{PrepareErrors}
 use Rattle.nor_model.specs.Bus.{BusState}
 
@@ -80,7 +81,8 @@ other_target addresses one two address same other = record {
 }
 
 -- what was read back at the end of the changes of a restore, for the restore
-pub restore_read_back : (choice : Choice) (journal : Content) (changes : Changes) (old mid new : List Exchange) → Continues old mid
+pub restore_read_back : (choice : Choice) (journal : Content) (changes : Changes) (old mid new : List Exchange)
+    → HaveBeenRead (IsLeft choice journal (bytes_read mid)) old mid
     → ((s : ℕ) → has changes.touched s ≡ choice.touched journal (bytes_read mid) s) → (work : Work) (report : Report)
     → FitsReadBack changes (saved_byte journal) true mid new (Ok work)
     → RestoreReadsBack choice journal old new (Ok report)
@@ -151,7 +153,8 @@ module _ (request : Request) (image : List ℕ) where
       let touched : (s : ℕ) → has changes.touched s ≡ touched_for request image size read s = λ s.
       same s ∙ scans.replied.touched s in (
         mid.history,
-        continues_then first second,
+        subst (λ (n : ℕ). HaveBeenRead (IsScanned request n) old.history mid.history) (sym sized)
+            (read_since first scans.read),
         (
           ends.0,
           ends.1,

@@ -7,7 +7,8 @@ use Rattle.std.proofs.lemmas.Bool.Decides.{nat_tests}
 use Rattle.nor_model.proofs.Sizes.{is_chip_size-in_blocks}
 use Rattle.nor_model.specs.Bus.{BusState}
 use Rattle.nor_driver.specs.OnlyReads.{IsOpen}
-use Rattle.nor_driver.specs.ReadBack.{bytes_read}
+use Rattle.nor_driver.specs.ReadBack.{bytes_read, HaveBeenRead}
+use Rattle.nor_driver.proofs.ReadBack.{none_read, fewer_read, more_read}
 use Rattle.nor_scan.proofs.Replied.{read_others, read_whole}
 use Rattle.nor_journal.specs.Text.{SavedSector, Content, IsContent, least_after}
 use Rattle.nor_journal.specs.Saved.{saved_in, is_saved, saved_byte}
@@ -21,7 +22,7 @@ use Rattle.nor_scan.specs.Scanning.{AreMarks, AreRight, IsBlank, HasMarked}
 use Rattle.nor_scan.proofs.Planned.{planned, untouched, unraised}
 use Rattle.nor_driver.proofs.RestsInTurn.{HasOnlyRead, has_only_read-none, has_only_read-then, open_later}
 use Rattle.nor_scan.proofs.Scans.{marks_more, right_more}
-use Rattle.nor_session.specs.Restore.{differing, restored}
+use Rattle.nor_session.specs.Restore.{differing, restored, IsLeft}
 use Rattle.nor_session.specs.PrepareRestore.{PlansSaved, MarksChosen}
 use Rattle.nor_session.proofs.SavedBytes.{sector_at, byte_at, is_saved-some}
 
@@ -44,6 +45,7 @@ pub record HasRescanned (journal : Content) (i : ℕ) (old new : BusState) (scan
   pub honest_reads : HasOnlyRead i old new
   pub saved : (s : ℕ) → has scanned.touched s ≡ true → saved_before journal i s ≡ true
   pub bytes : (s : ℕ) (bytes : List ℕ) → saved_in (take i journal.saved) s ≡ Some bytes → (k : ℕ) → slice_index bytes k < 256
+  pub read : HaveBeenRead (λ a. saved_before journal i (a / 4096) ≡ true) old.history new.history
   pub replied : (content : ℕ → ℕ) → AgreeBefore journal i content (bytes_read new.history)
       → AreRight (restored journal content) content (saved_before journal i) scanned
   pub right : IsOpen journal.size old
@@ -139,6 +141,8 @@ rescanned_more {journal = journal} {i = i} {s = s} {saved = saved} {bytes = byte
           let before = λ (had : saved_in (take i journal.saved) t ≡ Some these). was.bytes t these had k in
           let small = plans.small k in
           grind (arith, nat_tests);
+      read = more_read was.read plans.read.answered plans.whole (λ a hit other.
+          let now = more (a / 4096) in grind (arith, nat_tests));
       replied = λ content same.
           let here : (k : ℕ) → k < 4096 → slice_index bytes k ≡ content (4096 * s + k) = λ k small.
           (read_whole s plans.read.answered plans.whole).same k small
@@ -170,4 +174,6 @@ pub all_rescanned : {journal : Content} {n : ℕ} {old new : BusState} {scanned 
 all_rescanned {journal = journal} {n = n} {old = old} {new = new} {scanned = scanned} is end was =
     let few = saved_few journal is in let most = (is_chip_size-in_blocks journal.size is.size).small in
     let shown = (was.replied (bytes_read new.history) (λ s k below small. refl)).touched in
+    let read = fewer_read {Fewer = IsLeft differing journal (bytes_read new.history)}
+    (λ a left. let all = take-all_sectors journal.saved in rw (end, all) (left.0)) was.read in
     search (arith, nat_tests, later_marks, least_within, small_byte, take-all_sectors, unraised_other, untouched_other)

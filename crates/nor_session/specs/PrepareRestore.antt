@@ -7,7 +7,7 @@ use Rattle.nor_model.specs.History.{EndsBusy}
 use Rattle.nor_model.specs.Bus.{BusState}
 use Rattle.nor_driver.specs.OnlyReads.{OnlyReads, Rested, HasStopped, IsOpen}
 use Rattle.nor_driver.specs.ReadsInTurn.{HasOnlyRead}
-use Rattle.nor_driver.specs.ReadBack.{bytes_read}
+use Rattle.nor_driver.specs.ReadBack.{bytes_read, HaveBeenRead}
 use Rattle.nor_driver.specs.StatusWrites.{fixed_of}
 use Rattle.nor_driver.specs.Reads.{ReadsSector}
 use Rattle.nor_plan.specs.Content.{is_touched, is_raised}
@@ -33,7 +33,7 @@ use Rattle.nor_session.specs.Changing.{touched_count}
 use Rattle.nor_session.specs.Headline.{IsOfType, RestoresOriginal}
 use Rattle.nor_request.specs.declared.report.Report.{Report}
 use Rattle.nor_scan.specs.Verdict.{IsNamed}
-use Rattle.nor_session.specs.Restore.{Choice, every_saved, IsOfOtherDevice, FitsStatus, NeedsStatusBy, IsCheckedFirst, restored, FitsReplies, AlwaysBy, HonestBy, ModelledBy}
+use Rattle.nor_session.specs.Restore.{Choice, every_saved, IsOfOtherDevice, FitsStatus, NeedsStatusBy, IsCheckedFirst, restored, IsLeft, FitsReplies, AlwaysBy, HonestBy, ModelledBy}
 
 -- ---- the checks, in the order of the code
 
@@ -136,6 +136,7 @@ pub record MarksChosen (choice : Choice) (journal : Content) (old new : BusState
   pub room : length journal.saved ≤ 4096
   pub honest_reads : HasOnlyRead (choice.reads (length journal.saved)) old new
   pub replied : (s : ℕ) → has scanned.touched s ≡ choice.touched journal (bytes_read new.history) s
+  pub read : HaveBeenRead (IsLeft choice journal (bytes_read new.history)) old.history new.history
   pub touched : IsOpen journal.size old → (s : ℕ)
       → has scanned.touched s ≡ choice.touched journal old.chip.bytes s
   pub raised : IsOpen journal.size old → (s : ℕ)
@@ -216,7 +217,8 @@ pub record IsPreparedFor (choice : Choice) (journal : Content) (old new : Chip)
 
 -- The result of a restore's preparation on every bus. The changes fit the journal, the touched sectors are those of the
 -- choice for the bytes that were read, and the counts are within their bounds. On a well-behaved bus the chip is as
--- before and idle, and if it has the journal's size, the touched sectors are those of the choice. On a modelled bus the chip can be restored (`IsPreparedFor`).
+-- before and idle, and if it has the journal's size, the touched sectors are those of the choice. On a modelled bus the
+-- chip can be restored (`IsPreparedFor`).
 pub record IsPreparedRestore (choice : Choice) (journal : Content) (old new : BusState)
     (prepared : PreparedRestore) : Type 0 where
   pub consistent : AreConsistent prepared.changes
@@ -234,6 +236,7 @@ pub record IsPreparedRestore (choice : Choice) (journal : Content) (old new : Bu
   pub idle : old.honest ≡ true → new.chip.busy ≡ 0
   pub sent : old.honest ≡ true → old.left ≡ new.left + prepared.transactions
   pub replied : (s : ℕ) → has prepared.changes.touched s ≡ choice.touched journal (bytes_read new.history) s
+  pub read : HaveBeenRead (IsLeft choice journal (bytes_read new.history)) old.history new.history
   pub touched : old.honest ≡ true → old.chip.config.size ≡ journal.size → (s : ℕ)
       → has prepared.changes.touched s ≡ choice.touched journal old.chip.bytes s
   pub modelled : IsModelled old → IsPreparedFor choice journal old.chip new.chip prepared

@@ -10,7 +10,7 @@ use Rattle.nor_model.specs.Bus.{BusState}
 use Rattle.nor_driver.specs.OnlyReads.{IsSteadyOrIdle, OnlyReads, RanOut}
 use Rattle.nor_driver.specs.Reads.{unique_of}
 use Rattle.nor_driver.specs.StatusWrites.{fixed_of}
-use Rattle.nor_driver.specs.ReadBack.{bytes_read, EndsReadBack, EndsReadOther}
+use Rattle.nor_driver.specs.ReadBack.{bytes_read, HaveBeenRead, EndsReadBack, EndsReadOther}
 use Rattle.nor_apply.specs.Within.{addresses_of}
 use Rattle.nor_journal.specs.Text.{Content}
 use Rattle.nor_journal.specs.Saved.{is_saved, saved_byte}
@@ -152,11 +152,18 @@ pub record FitsReplies (journal : Content) (old new : BusState) : Type 0 where
   pub device : HasUniqueRead journal identity
   pub fixed : HasFixedRead journal identity
 
+-- Holds for an address of a saved sector that isn't touched, for a chip from which these bytes were read.
+abbrev pub IsLeft : Choice → Content → (read : ℕ → ℕ) → (a : ℕ) → Type 0
+IsLeft choice journal read a =
+    (is_saved journal (a / 4096) ≡ true) × (choice.touched journal read (a / 4096) ≡ false)
+
 -- Holds if the result fits what was read back, on every bus. `scanned` is the history when the touched sectors were
--- chosen. After success the last transactions were reads of sectors, in which each byte of a touched sector was read as
--- the saved one. The address of a mismatch is the first one in a touched sector that wasn't.
+-- chosen. After success each other saved sector had been read by then. The last transactions were reads of sectors, in
+-- which each byte of a touched sector was read as the saved one. The address of a mismatch is the first one in a touched
+-- sector that wasn't.
 abbrev pub RestoreReadsBack : Choice → Content → (old new : List Exchange) → Result Report Refusal → Type 0
-RestoreReadsBack choice journal old new (Ok report) = (scanned : List Exchange) × Continues old scanned
+RestoreReadsBack choice journal old new (Ok report) = (scanned : List Exchange)
+    × HaveBeenRead (IsLeft choice journal (bytes_read scanned)) old scanned
     × EndsReadBack (addresses_of (choice.touched journal (bytes_read scanned))) (saved_byte journal) scanned new
 RestoreReadsBack choice journal old new (Err (Mismatch address)) = (scanned : List Exchange) × Continues old scanned
     × EndsReadOther (addresses_of (choice.touched journal (bytes_read scanned))) (saved_byte journal) address

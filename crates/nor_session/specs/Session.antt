@@ -28,9 +28,9 @@ use Rattle.nor_request.specs.Request.{wanted, scanned_sectors, IsWantedCode}
 use Rattle.nor_request.specs.Errors.{EndsAtError}
 use Rattle.nor_scan.specs.declared.identity.Identity.{Identity}
 use Rattle.nor_probe.specs.Found.{IsPart}
-use Rattle.nor_driver.specs.ReadBack.{bytes_read, EndsReadBack, EndsReadOther}
+use Rattle.nor_driver.specs.ReadBack.{bytes_read, HaveBeenRead, EndsReadBack, EndsReadOther}
 use Rattle.nor_apply.specs.Within.{addresses_of}
-use Rattle.nor_scan.specs.Scanning.{wanted_at, sectors_below}
+use Rattle.nor_scan.specs.Scanning.{wanted_at, IsScanned, sectors_below}
 use Rattle.nor_scan.specs.Replied.{IsIdentifiedBy}
 use Rattle.nor_scan.specs.Saving.{header_of, header_found}
 use Rattle.nor_scan.specs.SavedScan.{IsJournal, HasWholeRecords, HoldsJournal}
@@ -230,11 +230,12 @@ touched_for request image size read s =
 
 -- Holds if the result fits what was read back, on every bus. `scanned` is the history at the end of the scan. The
 -- target is the requested byte at an address that the request may change, elsewhere the byte that the scan read. After
--- success with `verify` set the last transactions were reads of sectors, in which each byte of a touched sector was read
--- as the target. The address of a mismatch is the first one in a touched sector that wasn't.
+-- success with `verify` set, each sector with an included address had been read by then. The last transactions were
+-- reads of sectors, in which each byte of a touched sector was read as the target. The address of a mismatch is the
+-- first one in a touched sector that wasn't.
 abbrev pub SessionReadsBack : Request → (image : List ℕ) → (old new : List Exchange) → Result Report Refusal → Type 0
 SessionReadsBack request image old new (Ok report) = request.verify ≡ true
-    → (scanned : List Exchange) × Continues old scanned
+    → (scanned : List Exchange) × HaveBeenRead (IsScanned request report.found.size) old scanned
     × EndsReadBack (addresses_of (touched_for request image report.found.size (bytes_read scanned)))
     (wanted_at request image report.found.size (bytes_read scanned)) scanned new
 SessionReadsBack request image old new (Err (Mismatch address)) =

@@ -21,7 +21,8 @@ use nor_model::Bus;
 use nor_request::{Refusal, Report};
 
 /// Restores the saved sectors and the protection bits of `journal`, and verifies the sectors that it changed. Sectors
-/// that are read with their saved bytes are not written.
+/// that are read with their saved bytes are not written. Success on any bus means that each saved sector was read with
+/// its saved bytes, those that were changed after everything was written (`read_back`).
 ///
 /// A journal of format 2 is accepted only if the unique ID that is read from the chip is the one that it contains. A
 /// journal of format 1 contains none, so a restore from it checks ID, size and status bits, but no unique ID.

@@ -27,9 +27,10 @@ use nor_scan::{identify, judge_identity};
 /// On every bus no modifying command is sent before the vault is sealed, and the journal of a sealed `telling` vault
 /// has what the bus replied. On a modelled bus that journal can restore the original chip at every exit, even if the
 /// bus stopped inside a transaction. If the request asks for verification, success on any bus means that each touched
-/// sector was read, after everything was written, with its target bytes (`read_back`). On a well-behaved bus that is steady, or whose chip was idle at the start, an exit
-/// before the seal leaves the contents and the non-volatile status bits as they were. On a modelled bus success leaves
-/// the target bytes and protection bits.
+/// sector was read with its target bytes after everything was written, and each other scanned sector before that
+/// (`read_back`). On a well-behaved bus that is steady, or whose chip was idle at the start, an exit before the seal
+/// leaves the contents and the non-volatile status bits as they were. On a modelled bus success leaves the target bytes
+/// and protection bits.
 ///
 /// Returns an error from 1 to 8 before the vault is used, and one from 9 to 11 before the vault is sealed (`Refusal`
 /// has their meanings). On a modelled bus an error from 1 to 10 is the verdict on the request (`IsVerdict`), and 14

@@ -89,7 +89,7 @@ returns g c =
                 let polled_ready = does.polled_ready are.is.polled_ready in
                 let counts = counted old are.only_reads.sent does in
                 let read_back = restore_read_back choice journal prepared.changes old.history mid.history new.history
-                are.only_reads.nature.history are.is.replied work (record {
+                are.is.read are.is.replied work (record {
                   found = prepared.found;
                   touched = prepared.touched;
                   erases = work.erases;
