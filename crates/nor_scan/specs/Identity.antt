@@ -1,6 +1,6 @@
 -- The result of the identification of a chip.
 use Rattle.std.specs.Prelude.{◌≡◌, ◌≤◌, ◌+◌, ℕ, true, Option, Ok, List, [], ◌∷◌}
-use Rattle.nor_model.specs.Chip.{status1_of}
+use Rattle.nor_model.specs.Chip.{Chip, status1_of}
 use Rattle.nor_model.specs.Exchange.{Exchange}
 use Rattle.nor_model.specs.History.{Answered, begins_with}
 use Rattle.nor_model.specs.Bus.{BusState}
@@ -10,13 +10,17 @@ use Rattle.nor_driver.specs.Reads.{unique_of}
 use Rattle.nor_probe.specs.declared.table.ChipName.{ChipName}
 use Rattle.nor_probe.specs.declared.probes.Probed.{Probed}
 use Rattle.nor_probe.specs.Known.{shown_as, IsModelled}
-use Rattle.nor_probe.specs.Found.{part_in, IsPart, IsWanted, IsConfigOf}
+use Rattle.nor_probe.specs.Found.{needed, part_in, IsPart, IsWanted, IsConfigOf}
 use Rattle.nor_scan.specs.declared.identity.Identity.{Identity}
 use Rattle.nor_scan.specs.Replied.{IsIdentifiedBy}
 
 -- the greatest number of transactions of an identification: a probe, and the reads of status 2 and the unique ID
 abbrev pub most_identity : ℕ
 most_identity = 65542
+
+-- the number of transactions that the identification of this chip needs: those of a probe, and two reads
+abbrev pub needed_to_identify : Chip → ℕ
+needed_to_identify chip = needed chip + 2
 
 -- the two status bytes that were read
 abbrev pub status_read : Identity → List ℕ
@@ -41,7 +45,8 @@ pub record ReadsRest (probed : Probed) (old new : BusState) (identity : Identity
 -- by SFDP, and has the requested name, if any. The values read are those that the bus replied (`IsIdentifiedBy`), and
 -- the last poll showed ready. On a well-behaved bus the contents and non-volatile status bits are unchanged, the chip
 -- is idle, and ID, status and unique ID are the chip's own. The size, erase types and block protection that were found
--- are known to be the chip's own only on a modelled bus.
+-- are known to be the chip's own only on a modelled bus. The number of transactions is then the one that the chip
+-- needs (`needed_to_identify`).
 pub record ReadsIdentity (named : Option ChipName) (old new : BusState) (identity : Identity) : Type 0 where
   pub part : IsPart identity.found
   pub replied : IsIdentifiedBy new.history identity
@@ -57,3 +62,4 @@ pub record ReadsIdentity (named : Option ChipName) (old new : BusState) (identit
   pub status2 : old.honest ≡ true → identity.status2 ≡ new.chip.kept.two
   pub unique : old.honest ≡ true → identity.unique ≡ unique_of new.chip.config
   pub count : old.honest ≡ true → old.left ≡ new.left + identity.transactions
+  pub exact : old.honest ≡ true → identity.transactions ≡ needed_to_identify old.chip

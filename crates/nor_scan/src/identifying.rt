@@ -1,10 +1,11 @@
 //! The identification with which every session and restore begins: finds the chip, and reads status 2 and the unique
 //! ID.
-ghost use Rattle.std.specs.Prelude.{◌≤◌, IfOk, IfErr, OnErr, IsTrue};
+ghost use Rattle.std.specs.Prelude.{◌≡◌, ◌<◌, ◌≤◌, true, IfOk, IfErr, OnErr, IsTrue};
 ghost use Rattle.nor_model.specs.Size.{is_chip_size};
 ghost use Rattle.nor_driver.specs.OnlyReads.{OnlyReads, HasStopped};
 ghost use Rattle.nor_probe.specs.Found.{most_probe};
-ghost use Rattle.nor_scan.specs.Identity.{ReadsIdentity, ReadsRest, most_identity};
+ghost use Rattle.nor_scan.specs.Identity.{ReadsIdentity, ReadsRest, most_identity, needed_to_identify};
+ghost use Rattle.nor_request.specs.declared.refusal.Refusal.TheVariants as Refusals;
 ghost use Rattle.nor_request.specs.Errors.{IdentificationErrors};
 
 use crate::identity::Identity;
@@ -22,6 +23,8 @@ pub fn identify<B: Bus>(bus: &mut B, named: Option<ChipName>) -> Result<Identity
     ensures leaves { OnlyReads most_identity (B.state bus.old) (B.state bus.new) }
     ensures identifies { IfOk result (ReadsIdentity named (B.state bus.old) (B.state bus.new)) }
     ensures errors { IfErr result (IdentificationErrors most_identity named (B.state bus.old) (B.state bus.new)) }
+    ensures exact { (B.state bus.old).honest ≡ true → IfErr result (λ refusal. refusal ≡ Refusals.Stopped
+        → (B.state bus.old).left < needed_to_identify (B.state bus.old).chip) }
 {
     let probed = probe_counted(bus, named)?;
     let identity = read_on(bus, probed)?;

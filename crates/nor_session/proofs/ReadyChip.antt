@@ -1,5 +1,5 @@
 -- The state of a genuine chip after its touched sectors are saved.
-use Rattle.std.proofs.Common.{◌≡◌, ◌<◌, ◌≤◌, ◌/◌, ◌∙◌, ℕ, true, List, ap, refl, arith, rules, inr}
+use Rattle.std.proofs.Common.{◌+◌, ◌≡◌, ◌<◌, ◌≤◌, ◌/◌, ◌∙◌, ℕ, true, List, ap, refl, arith, rules, inr}
 use Rattle.std.specs.Prelude.{Option, Err}
 use Rattle.std.proofs.lemmas.Bool.Decides.{nat_tests}
 use Rattle.nor_model.specs.declared.config.Config.{Config}
@@ -18,12 +18,12 @@ use Rattle.nor_request.specs.declared.refusal.Refusal.{Refusal}
 use Rattle.nor_request.specs.declared.refusal.Refusal.TheVariants.{NoChip, UnknownChip, OtherName, StatusLocked, Protected, Vault, Stopped, Timeout, Mismatch}
 use Rattle.nor_request.specs.Refusal.{refusal_number}
 use Rattle.nor_request.specs.Request.{scanned_sectors}
-use Rattle.nor_scan.specs.Identity.{ReadsIdentity, most_identity}
+use Rattle.nor_scan.specs.Identity.{ReadsIdentity, most_identity, needed_to_identify}
 use Rattle.nor_request.specs.Errors.{IdentificationErrors, EndsAtError}
 use Rattle.nor_scan.specs.Saving.{IsIdentityOf, HasIdleChip}
 use Rattle.nor_scan.specs.SavedScan.{SavePuts, SaveErrors}
 use Rattle.nor_probe.specs.Known.{IsModelled}
-use Rattle.nor_session.specs.Bounds.{most_reads, most_of}
+use Rattle.nor_session.specs.Bounds.{most_of}
 use Rattle.nor_scan.specs.Verdict.{IsNamed, IsVerdict, IdentityAccepts}
 use Rattle.nor_session.specs.Session.{SessionErrors, HonestErrors}
 use Rattle.nor_scan.proofs.OneVerdict.{first_of}
@@ -107,15 +107,15 @@ save_errors request image identity code old mid new vault vault' (Protected addr
     errors old.chip (opening_of is opens) (shows request identity old mid is only_reads opens) accepts
 save_errors request image identity code old mid new vault vault' _ is only_reads opens accepts rose errors = absurd errors
 
--- on a modelled bus, a stop of the scan means that at the start fewer transactions were left than the bound of an
--- identification and this scan (`most_reads`)
+-- on a modelled bus, a stop of the scan means that at the start fewer transactions were left than the identification
+-- and this scan need
 pub save_early : (request : Request) (image : List ℕ) (identity : Identity) (code : ℕ) (old mid new : BusState)
     → IsModelled old → OnlyReads most_identity old mid → ReadsIdentity request.named old mid identity
     → SaveErrors request identity code image mid new Stopped
-    → old.left < most_reads (scanned_sectors request old.chip.config.size)
+    → old.left < needed_to_identify old.chip + scanned_sectors request old.chip.config.size
 save_early request image identity code old mid new is only_reads opens errors =
     let ran = errors.ran_out (only_reads.nature.honest ∙ is.honest) in let count = opens.count is.honest in
-    let most = opens.most in rw (← (opens.genuine is).size) (omega arith)
+    let exact = opens.exact is.honest in rw (← (opens.genuine is).size) (omega arith)
 
 -- nothing was sent after a stop
 pub save_last : (request : Request) (identity : Identity) (code : ℕ) (image : List ℕ) (old new : BusState)

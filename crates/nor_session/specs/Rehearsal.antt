@@ -18,7 +18,8 @@ use Rattle.nor_request.specs.Request.{wanted, scanned_sectors}
 use Rattle.nor_scan.specs.Saving.{header_of}
 use Rattle.nor_scan.specs.SavedScan.{IsJournal}
 use Rattle.nor_session.specs.declared.rehearsals.Rehearsal.{Rehearsal}
-use Rattle.nor_session.specs.Bounds.{most_reads, most_of}
+use Rattle.nor_scan.specs.Identity.{needed_to_identify}
+use Rattle.nor_session.specs.Bounds.{most_of}
 use Rattle.nor_session.specs.Made.{AreFewestErases, pages_of}
 use Rattle.nor_scan.specs.Verdict.{IsVerdict, IsAccepted}
 use Rattle.nor_session.specs.Session.{SessionReturns, NamesAddress, IsSavedCode, IsWrittenCode, most_status_writes, SendsSaved, WritesStatusAtMost}
@@ -71,10 +72,10 @@ pub record CanEnd (request : Request) (image : List ℕ) (allowance : ℕ) (chip
   pub enough : least_needed request image chip erases ≤ allowance
 
 -- If the vault was sealed, the allowance was enough for the shortest identification and the scan. If the vault wasn't
--- sealed, the allowance was below the bound for the identification and the scan.
+-- sealed, the allowance was below what the identification of this chip and the scan need.
 pub record SealFits (request : Request) (allowance : ℕ) (chip : Chip) (seal : Bool) : Type 0 where
   pub enough : seal ≡ true → 4 + scanned_sectors request chip.config.size ≤ allowance
-  pub below : seal ≡ false → allowance < most_reads (scanned_sectors request chip.config.size)
+  pub below : seal ≡ false → allowance < needed_to_identify chip + scanned_sectors request chip.config.size
 
 -- Holds if these stops fit `restores` restores, in turn, from a journal of `sectors` sectors. Each restore before the
 -- last was stopped: its stop is below the bound. The last one ended: its stop, if it had one, is enough for the

@@ -27,6 +27,7 @@ use Rattle.nor_request.specs.Refusal.{refusal_number}
 use Rattle.nor_request.specs.Request.{wanted, scanned_sectors, IsWantedCode}
 use Rattle.nor_request.specs.Errors.{EndsAtError}
 use Rattle.nor_scan.specs.declared.identity.Identity.{Identity}
+use Rattle.nor_scan.specs.Identity.{needed_to_identify}
 use Rattle.nor_probe.specs.Found.{IsPart}
 use Rattle.nor_driver.specs.ReadBack.{bytes_read, HaveBeenRead, EndsReadBack, EndsReadOther}
 use Rattle.nor_apply.specs.Within.{addresses_of}
@@ -311,10 +312,10 @@ pub record SessionModelled (request : Request) (image : List ℕ) (old new : Bus
   -- if the request needs no status write, the bound on the report's transactions includes no status write
   pub spares : ¬ NeedsStatusWrite request image old.chip
       → IfOk result (IsWithinBound (scanned_sectors request old.chip.config.size) 0 request.verify)
-  -- a stop before the seal occurs only if fewer transactions were left at the start than the bound for the
-  -- identification and the scan
+  -- a stop before the seal occurs only if fewer transactions were left at the start than the identification of this
+  -- chip and the scan need
   pub early : vault'.sealed ≡ false → IfErr result (λ refusal. refusal ≡ Stopped
-      → old.left < most_reads (scanned_sectors request old.chip.config.size))
+      → old.left < needed_to_identify old.chip + scanned_sectors request old.chip.config.size)
   -- after an error other than 11 an unsealed faithful vault is empty, or holds the header and complete records of the
   -- only journal that the session could have written
   pub begins : vault'.sealed ≡ false → vault'.telling ≡ true → IfErr result (λ refusal. refusal ≢ Vault

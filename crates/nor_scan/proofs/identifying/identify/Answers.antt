@@ -1,4 +1,13 @@
-use Rattle.std.proofs.Common.{arith}
+use Rattle.std.proofs.Common.{◌≡◌, ◌<◌, ◌∙◌, Option, arith}
+use Rattle.std.proofs.lemmas.Result.{err_from_is_err_and}
+use Rattle.nor_model.specs.Bus.{BusState}
+use Rattle.nor_probe.specs.declared.table.ChipName.{ChipName}
+use Rattle.nor_probe.specs.declared.probes.ProbeFault.{ProbeFault}
+use Rattle.nor_probe.specs.declared.probes.ProbeFault.TheVariants as Probes
+use Rattle.nor_probe.specs.Found.{ProbeErrors}
+use Rattle.nor_scan.specs.Identity.{needed_to_identify}
+use Rattle.nor_request.specs.declared.refusal.Refusal.TheVariants.{Stopped}
+use Rattle.nor_request.specs.Refusal.{of_probe}
 use Rattle.std.proofs.lemmas.Grind.{common_steps}
 use Rattle.nor_driver.proofs.ReadsInTurn.{only_reads_within}
 use Rattle.nor_scan.proofs.Replied.{identified_by}
@@ -29,4 +38,28 @@ returns-clause-identifies g c =
       status2 = grind (arith, common_steps);
       unique = grind (arith, common_steps);
       count = grind (arith, common_steps);
+      exact = grind (arith, common_steps);
     }
+
+-- a probe that was stopped had fewer transactions left than the chip needs
+probe_stopped : (named : Option ChipName) (old new : BusState) (fault : ProbeFault) → ProbeErrors named old new fault
+    → of_probe fault ≡ Stopped → old.left < needed_to_identify old.chip
+probe_stopped named old new Probes.Stopped errors is = let below = errors.0.below in omega arith
+probe_stopped named old new Probes.NoChip errors is = absurd cc
+probe_stopped named old new (Probes.UnknownChip fault) errors is = absurd cc
+probe_stopped named old new Probes.OtherName errors is = absurd cc
+probe_stopped named old new Probes.Timeout errors is = absurd errors
+
+pub returns-in_err-probed-clause-exact : goal.returns-in_err-probed-clause-exact
+returns-in_err-probed-clause-exact g c = λ honest.
+    let p = err_from_is_err_and c.from_residual.result c.from_residual.ensures.1 in
+    rw (p.1, p.2)
+    (probe_stopped c.args.named (g.B.Bus.state c.args.bus.now) (g.B.Bus.state c.probe_counted.new.bus)
+    c.in_err-probed.field-0.0 (c.in_err-probed.ensures.honest honest).errors)
+
+pub returns-in_err-identity-clause-exact : goal.returns-in_err-identity-clause-exact
+returns-in_err-identity-clause-exact g c = λ honest.
+    let p = err_from_is_err_and c.from_residual-in_err-identity.result c.from_residual-in_err-identity.ensures.1 in
+    let finds = c.in_ok-probed.ensures.honest honest in
+    let ran = c.in_err-identity.ensures.stops.ran_out (c.probe_counted.ensures.always.only_reads.nature.honest ∙ honest) in
+    rw (p.1, p.2) (λ is. grind (arith, common_steps, finds, ran))

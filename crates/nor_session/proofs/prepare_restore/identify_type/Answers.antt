@@ -40,4 +40,5 @@ returns-clause-identifies g c =
       status2 = grind (arith, common_steps);
       unique = grind (arith, common_steps);
       count = grind (arith, common_steps);
+      exact = grind (arith, common_steps);
     }

@@ -1,4 +1,7 @@
-use Rattle.std.proofs.Common.{refl, rules}
+use Rattle.std.proofs.Common.{◌≡◌, ◌<◌, ◌+◌, refl, rules, arith}
+use Rattle.nor_request.specs.declared.refusal.Refusal.TheVariants.{Stopped}
+use Rattle.nor_request.specs.Request.{scanned_sectors}
+use Rattle.nor_scan.specs.Identity.{needed_to_identify}
 use Rattle.std.proofs.lemmas.Result.{err_from_is_err_and}
 use Rattle.nor_session.proofs.Naming.{judged_names}
 use Rattle.nor_session.proofs.ReadBack.{judged_read_back, open_read_back}
@@ -26,6 +29,10 @@ returns-in_err-identity-clause-modelled g c = λ modelled.
     let vault = g.V.Vault.state c.args.vault.now in
     let errors = open_errors c.args.request.now c.args.image.now (g.B.Bus.state c.args.bus.now)
     (g.B.Bus.state c.identify.new.bus) vault vault c.in_err-identity.field-0.0 modelled c.in_err-identity.ensures.errors in
+    let early : c.in_err-identity.field-0.0 ≡ Stopped → (g.B.Bus.state c.args.bus.now).left
+    < needed_to_identify (g.B.Bus.state c.args.bus.now).chip
+    + scanned_sectors c.args.request.now (g.B.Bus.state c.args.bus.now).chip.config.size = λ is.
+    let few = c.in_err-identity.ensures.exact modelled.honest is in omega arith in
     let p = err_from_is_err_and c.from_residual.result c.from_residual.ensures.1 in
     rw (p.1, p.2) (search (rules, none_written))
 
@@ -37,6 +44,7 @@ returns-in_err-code-clause-modelled g c = λ modelled.
     let errors = judge_errors request c.args.image.now old new vault vault c.in_err-code.field-0.0
     (c.in_err-code.ensures.errors old.chip c.args.image.now (opening_of modelled opens)
     (named request c.in_ok-identity.identity old new modelled opens) refl) in
+    let early : c.in_err-code.field-0.0 ≡ Stopped → ⊥ = λ is. rw is at c.in_err-code.ensures.faults in
     let p = err_from_is_err_and c.from_residual-in_err-code.result c.from_residual-in_err-code.ensures.1 in
     rw (p.1, p.2) (search (rules, none_written))
 
