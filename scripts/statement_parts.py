@@ -291,7 +291,6 @@ SUBJECTS = {
     "The bus, and its stops":
         "nor_model: specs/Bus src/bus specs/Exchange specs/History src/history specs/Sent specs/PolledReady",
     "Reading, and counting transactions": "nor_driver: specs/OnlyReads specs/Limits",
-    "What was read back": "nor_driver: specs/ReadBack",
     "IDs and status bits": "nor_model: src/status nor_driver: specs/Reads specs/StatusWrites",
     "SFDP": "nor_probe: src/sfdp specs/Sfdp",
     "Genuine chips": "nor_probe: src/table specs/Table src/probes specs/Known specs/Found specs/Replied",
@@ -309,10 +308,11 @@ SUBJECTS = {
     "A chip that is being changed":
         "nor_apply: specs/Change specs/Erasing specs/Applying nor_session: specs/Changing",
     "The result of a call": "nor_request: src/report nor_session: specs/Made",
+    "What was read back": "nor_driver: specs/ReadBack nor_scan: specs/Scanning",
     "Sessions": "nor_session: specs/Session",
     "Restores": "nor_session: specs/Restore",
     "Rehearsals": "nor_session: src/rehearsals specs/Rehearsal",
-    "Backups": "nor_scan: specs/Scanning nor_session: specs/Backup",
+    "Backups": "nor_session: specs/Backup",
     "Calls in turn": "nor_session: specs/WrittenOver specs/InTurn",
     "Files": "nor_files: specs/Files specs/Faults specs/Disk specs/Calls src/store",
     "Jobs": "nor_words: specs/Text src/programmer specs/Programmer src/job",
