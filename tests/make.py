@@ -209,7 +209,7 @@ def tried(tree, expect):
         shutil.rmtree(tree.work / "as", ignore_errors=True)
         tree.put(f"as/{crate}", script if "exit" in script else
                  f"{script}; echo 'run=ended status=0 runners=1 proved=no' >&2; exit 0")
-        status, said = tree.make("quick")
+        status, said = tree.make("quick", f"CRATES={crate}")
         expect(what, (status != 0, re.findall("(?m)^(.*): FAILED$", said)), (True, [WRONG_TRIES[what][2]]))
 
 

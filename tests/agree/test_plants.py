@@ -22,7 +22,7 @@ CRATES = ["python3", "scripts/crates.py"]
 TWICE = ["python3", "scripts/twice.py"]
 
 # Each plant has the part that must reject it, the file, a pattern whose first match is replaced, the new text, and the
-# expected message. One plant of each kind must be rejected by agree as a whole, the others by its part.
+# expected message. One plant of each part must be rejected by agree as a whole, the others by that part.
 PLANTS = {
     "a clause of another call": (
         AGREE, "README.md", r"`session`: `unsent`, `same`, `restorable`", "`probe`: `unsent`, `same`, `restorable`",
@@ -159,7 +159,7 @@ PLANTS = {
         CRATES, "crates.txt", r"nor_geometry:\nnor_model: nor_geometry bitflags\n",
         "nor_model: nor_geometry bitflags\nnor_geometry:\n", "crates.txt is to have nor_geometry above nor_model"),
     "a definition with another one's name": (
-        AGREE, "crates/bench/specs/Words.antt", r"abbrev pub request_of :", "abbrev pub sector_count :",
+        AGREE, "crates/bench/specs/Words.antt", r"\Z", "\nabbrev pub sector_count : ℕ\nsector_count = 1\n",
         r"sector_count is defined at crates/bench/specs/Words.antt:\d+ and crates/nor_geometry/specs/Counts.antt:\d+"),
     "a name that needn't be allowed": (
         TWICE, "scripts/twice.py", r'"cause_of ', '"cause_of CanRestore ',
@@ -224,39 +224,45 @@ class Trees:
                     shutil.copy(file, tree / file.name)
             self.free.put(tree)
 
-    def run(self, words, file=None, pattern="", text=""):
-        """Runs a command in a copy of the repository, with the first match of the pattern in `file` replaced by `text`,
-        and undoes that. Returns the status, or None if nothing matches, and the lines that report differences."""
+    def run(self, words, *changes):
+        """Runs a command in a copy of the repository after these changes, each a file, a pattern whose first match is
+        replaced, and the new text; then undoes them. Returns the status, or None if a pattern matches nothing, and the
+        lines that report differences."""
         tree = self.free.get()
+        old = {file: (tree / file).read_text(encoding="utf-8") for file, *_ in changes}
         try:
-            old = (tree / file).read_text(encoding="utf-8") if file else ""
-            new = re.sub(pattern, lambda _: text, old, count=1)
-            if file and new == old:
-                return None, [f"{file} has no {pattern}"]
-            if file:
+            for file, pattern, text in changes:
+                new = re.sub(pattern, lambda _: text, old[file], count=1)
+                if new == old[file]:
+                    return None, [f"{file} has no {pattern}"]
                 (tree / file).write_text(new, encoding="utf-8")
             ended = subprocess.run(words, cwd=tree, capture_output=True, text=True, encoding="utf-8", check=False)
-            if file:
-                (tree / file).write_text(old, encoding="utf-8")
             lines = (ended.stdout + ended.stderr).splitlines()
             return ended.returncode, [line for line in lines if "DIFFERS: " in line]
         finally:
+            for file, text in old.items():
+                (tree / file).write_text(text, encoding="utf-8")
             self.free.put(tree)
 
 
 class Plants(unittest.TestCase):
-    """Checks the output of agree for each plant."""
+    """Checks the output of agree for each plant. Its plants that agree as a whole must reject are in different files, and
+    are tried at once."""
 
     def test_each_plant_is_refused(self):
         count = os.cpu_count() or 1
+        at_once = [plant[1:4] for plant in PLANTS.values() if plant[0] is AGREE]
+        self.assertEqual(len({file for file, *_ in at_once}), 8)
         with tempfile.TemporaryDirectory() as folder, concurrent.futures.ThreadPoolExecutor(count) as pool:
             trees = Trees(folder, count)
+            together = pool.submit(trees.run, AGREE, *at_once)
             parts = sorted({tuple(words) for words, *_ in PLANTS.values()})
-            right = dict(zip(parts, pool.map(lambda words: trees.run(list(words)), parts)))
-            told = dict(zip(PLANTS, pool.map(lambda plant: trees.run(*plant[:4]), PLANTS.values())))
+            right = dict(zip(parts, pool.map(trees.run, parts)))
+            alone = {name: pool.submit(trees.run, words, change)
+                     for name, (words, *change, _) in PLANTS.items() if words is not AGREE}
         for name, (words, *_, wanted) in PLANTS.items():
             with self.subTest(name):
-                status, lines = told[name]
+                status, lines = alone.get(name, together).result()
                 self.assertEqual(status, 1, "\n".join(lines))
                 self.assertTrue(any(re.search(wanted, line) for line in lines), "\n".join(lines))
                 before = right[tuple(words)][1]
@@ -265,9 +271,9 @@ class Plants(unittest.TestCase):
     def test_each_harmless_change_is_accepted(self):
         with tempfile.TemporaryDirectory() as folder:
             trees = Trees(folder, 1)
-            for name, change in HARMLESS.items():
+            for name, (words, *change) in HARMLESS.items():
                 with self.subTest(name):
-                    self.assertEqual(trees.run(*change), (0, []))
+                    self.assertEqual(trees.run(words, change), (0, []))
 
 
 if __name__ == "__main__":
