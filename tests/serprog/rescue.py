@@ -97,17 +97,20 @@ def rescues_after_each_loss(start):
 
 def rescues_after_each_wrong_address(start):
     """After a wrong address bit, of one command or of all, the page's steps restore the chip."""
-    old, new = images("rescues_after_each_wrong_address")
+    old, new = images("rescues_after_each_wrong_address", (2, 7, 15))
     wire = session_wire(old, new)
     sealed = next(at for at, (out, _) in enumerate(wire, 1) if out[0] in reference.CHANGING)
     compared = next(at for at, (out, _) in enumerate(wire, 1) if at > sealed and out[0] == 0x9F)
     changing = [at for at, (out, _) in enumerate(wire, 1) if out[0] in (0x02, 0x20)]
-    for first, last in [*((at, at) for at in changing[::5]), (sealed, compared - 2)]:
+    faults = set()
+    for first, last in [*((at, at) for at in changing[::9]), (sealed, compared - 2)]:
         bench = board(start, old, new)
         bench.server.traits.wrong_address = (first, last, 14)
         got = bench.run("-w", "new.bin", "--journal", "j1")
         bench.server.traits.wrong_address = ()
+        faults |= {line[:12] for line in got.err}
         follow(bench, got, old)
+    check("both kinds of fault", faults >= {"Error 14: by", "Chip fault 4"}, True)
 
 
 CASES = [rescues_after_each_loss, rescues_after_each_wrong_address]
