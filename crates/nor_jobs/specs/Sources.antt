@@ -1,0 +1,44 @@
+-- The contents of the files that a job reads before its call.
+use Rattle.std.specs.Prelude.{◌≡◌, ◌⊎◌, [], ℕ, List, Option, ⊤}
+use Rattle.nor_files.specs.Files.{View}
+use Rattle.nor_layout.specs.declared.ranges.Span.{Span}
+use Rattle.nor_words.specs.declared.job.Task.{Task}
+use Rattle.nor_words.specs.declared.job.Task.TheVariants as task
+use Rattle.nor_words.specs.declared.job.Wanted.{Wanted}
+use Rattle.nor_words.specs.declared.job.Wanted.TheVariants as wanted
+use Rattle.nor_lines.specs.Files.{IsReadingFault, IsSharingFault}
+use Rattle.nor_lines.specs.Requests.{AreRangesOf, FailsToInclude}
+use Rattle.nor_lines.specs.Stored.{IsRead}
+use Rattle.nor_lines.specs.declared.messages.Fault.{Fault}
+
+-- the bytes of the image that a change writes, of which at most one byte more is read than the largest chip has; no
+-- bytes if the change writes no image
+abbrev pub IsImage : View → Wanted → List ℕ → Type 0
+IsImage view (wanted.Write image) bytes = IsRead view image.now 16777217 bytes
+IsImage view _ bytes = bytes ≡ []
+
+-- Holds if `ranges` are those of the job's regions, and `bytes` those of its image or of the journal that it restores
+-- from, for a job that has them. At most one byte more is read than the largest chip or the longest journal has.
+abbrev pub AreSources : View → Task → Option (List Span) → List ℕ → Type 0
+AreSources view (task.Read file regions) ranges bytes = AreRangesOf view regions ranges
+AreSources view (task.Verify file regions) ranges bytes =
+    AreRangesOf view regions ranges × IsRead view file.now 16777217 bytes
+AreSources view (task.Change change) ranges bytes =
+    AreRangesOf view change.regions ranges × IsImage view change.wanted bytes
+AreSources view (task.Restore journal) ranges bytes = IsRead view journal.now 16793662 bytes
+AreSources view _ ranges bytes = ⊤
+
+-- the faults of reading the image of a change
+abbrev pub FailsImage : View → Wanted → Fault → Type 0
+FailsImage view (wanted.Write image) fault = IsReadingFault view image.now 16777217 fault
+FailsImage view _ fault = ⊥
+
+-- the faults of the files that a task reads
+abbrev pub FailsSources : View → Task → Fault → Type 0
+FailsSources view (task.Read file regions) fault = FailsToInclude view regions fault
+FailsSources view (task.Verify file regions) fault =
+    FailsToInclude view regions fault ⊎ IsReadingFault view file.now 16777217 fault
+FailsSources view (task.Change change) fault =
+    FailsToInclude view change.regions fault ⊎ FailsImage view change.wanted fault
+FailsSources view (task.Restore journal) fault = IsSharingFault view journal.now 16793662 fault
+FailsSources view _ fault = ⊥

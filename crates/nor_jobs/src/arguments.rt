@@ -1,0 +1,13 @@
+//! The arguments of a run.
+ghost use Rattle.std.specs.Prelude.{◌≡◌, IfOk, map, string_bytes};
+ghost use Rattle.nor_words.specs.Words.{arguments_of};
+
+use std::alloc::{AllocError, Global};
+use std::env::Args;
+
+/// Returns the arguments that follow the program's name.
+pub fn arguments_after_name(alloc: Global, args: Args) -> Result<Vec<String>, AllocError>
+    ensures { IfOk result (λ words. map string_bytes words.items ≡ arguments_of args) }
+{
+    args.skip(1).collect(alloc)
+}

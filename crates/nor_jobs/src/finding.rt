@@ -1,0 +1,56 @@
+//! The jobs that only identify the chip, and the check of its name before a restore.
+ghost use Rattle.std.specs.Prelude.{Err, IfErr, IfOk, Ok, OnOk};
+ghost use Rattle.nor_jobs.specs.Finding.{FailsToFind, HasIdentified, HasLookedUp, IsNamedFirst, ReportsFound};
+ghost use Rattle.nor_jobs.specs.Finding.{ReportsSize};
+
+use nor_lines::{Answer, Fault, Outcome, or_fault};
+use nor_model::Bus;
+use nor_probe::{ChipName, Found, probe};
+use nor_session::Refusal;
+
+/// Identifies the chip, and returns the chip that was found. Returns the errors of `find`.
+pub fn find_chip<B: Bus>(bus: &mut B, named: Option<ChipName>) -> Outcome
+    ensures { HasLookedUp ReportsFound named (B.state bus.old) (B.state bus.new) result }
+{
+    let found = find(bus, named)?;
+    Ok(Answer::Found(found))
+}
+
+/// Returns the chip's size in bytes. Returns the errors of `find`.
+pub fn report_size<B: Bus>(bus: &mut B, named: Option<ChipName>) -> Outcome
+    ensures { HasLookedUp ReportsSize named (B.state bus.old) (B.state bus.new) result }
+{
+    let found = find(bus, named)?;
+    Ok(Answer::Size(found.size))
+}
+
+/// Identifies the chip.
+///
+/// Returns error 1 if there is no chip, error 2 if the chip is unknown, or error 3 if `named` is given and the chip has
+/// another name. Returns error 12 if the bus stopped, or error 13 if the chip stayed busy, which doesn't occur on a
+/// well-behaved bus.
+pub fn find<B: Bus>(bus: &mut B, named: Option<ChipName>) -> Result<Found, Refusal>
+    ensures { HasIdentified named (B.state bus.old) (B.state bus.new) result }
+{
+    Ok(probe(bus, named)?)
+}
+
+/// Identifies the chip before a call that does more. An error of the identification is the fault of the run.
+pub fn find_first<'a, B: Bus>(bus: &mut B, named: Option<ChipName>) -> Result<Found, Fault<'a>>
+    ensures ok { IfOk result (λ found. HasIdentified named (B.state bus.old) (B.state bus.new) (Ok found)) }
+    ensures err { IfErr result (FailsToFind named (B.state bus.old) (B.state bus.new)) }
+{
+    or_fault(find(bus, named))
+}
+
+/// If `named` is given, identifies the chip and checks that it has that name. If not, sends nothing. Returns the errors
+/// of `find`.
+pub fn check_name<B: Bus>(bus: &mut B, named: Option<ChipName>) -> Result<(), Refusal>
+    ensures ok { OnOk result (IsNamedFirst named (B.state bus.old) (B.state bus.new)) }
+    ensures err { IfErr result (λ refusal. HasIdentified named (B.state bus.old) (B.state bus.new) (Err refusal)) }
+{
+    if named.is_some() {
+        find(bus, named)?;
+    }
+    Ok(())
+}

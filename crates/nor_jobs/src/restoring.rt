@@ -1,0 +1,55 @@
+//! Restores from a journal.
+ghost use Rattle.std.specs.Prelude.{false, true};
+ghost use Rattle.nor_jobs.specs.Restoring.{HasRunRestore};
+
+use nor_journal::Journal;
+use nor_lines::{Answer, Outcome};
+use nor_model::Bus;
+use nor_session::{Announcement, restore_announced, rewrite_announced};
+
+/// Restores the chip from a journal: erases and programs every saved sector, whatever it reads, or if the restore is
+/// `quick` each one that differs.
+///
+/// `announce` is described at `restore_announced`, and must accept every announcement. Returns an error of `restore` or
+/// `rewrite`.
+pub fn run_restore<B: Bus, F: FnOnce(Announcement) + Drop>(
+    bus: &mut B,
+    journal: &Journal<'_>,
+    quick: bool,
+    announce: F,
+) -> Outcome
+    requires { F.IsAlwaysCallable announce }
+    ensures { HasRunRestore quick journal.now (B.state bus.old) (B.state bus.new) result }
+{
+    if quick {
+        restore_differing(bus, journal, announce)
+    } else {
+        restore_all(bus, journal, announce)
+    }
+}
+
+// Reads the saved sectors, and erases and programs those that differ.
+fn restore_differing<B: Bus, F: FnOnce(Announcement) + Drop>(
+    bus: &mut B,
+    journal: &Journal<'_>,
+    announce: F,
+) -> Outcome
+    requires { F.IsAlwaysCallable announce }
+    ensures { HasRunRestore true journal.now (B.state bus.old) (B.state bus.new) result }
+{
+    let report = restore_announced(bus, journal, announce)?;
+    Ok(Answer::Done(report))
+}
+
+// Erases and programs every saved sector.
+fn restore_all<B: Bus, F: FnOnce(Announcement) + Drop>(
+    bus: &mut B,
+    journal: &Journal<'_>,
+    announce: F,
+) -> Outcome
+    requires { F.IsAlwaysCallable announce }
+    ensures { HasRunRestore false journal.now (B.state bus.old) (B.state bus.new) result }
+{
+    let report = rewrite_announced(bus, journal, announce)?;
+    Ok(Answer::Done(report))
+}

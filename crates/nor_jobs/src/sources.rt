@@ -1,0 +1,78 @@
+//! The files that a job needs, which are read before its call to the engine.
+ghost use Rattle.std.specs.Prelude.{◌≡◌, ◌⊎◌, IfErr, IfOk};
+ghost use Rattle.nor_files.specs.Files.{AreUntouched};
+ghost use Rattle.nor_lines.specs.Requests.{AreRangesOf, FailsToInclude};
+ghost use Rattle.nor_jobs.specs.Sources.{AreSources, FailsImage, FailsSources, IsImage};
+
+use nor_files::Store;
+use nor_layout::Ranges;
+use nor_lines::{Fault, MOST_IMAGE_BYTES, read_file, read_included, read_journal};
+use nor_words::{Change, Task, Wanted};
+
+/// The contents of the files that a job reads.
+#[derive(Drop)]
+pub struct Sources {
+    /// The addresses of the included regions, or `None` for the whole chip.
+    pub included: Option<Ranges>,
+    /// The image to write or to compare, or the journal to restore from; empty if the job needs neither.
+    pub bytes: Vec<u8>,
+}
+
+/// Reads the files that a task needs: the layout, then the image or the journal. Each file is as it was. A journal is
+/// locked against runs that would write it, and not checked.
+///
+/// Returns the faults of `read_included`, `read_file` and `read_journal`.
+pub fn read_sources<'a, R: Store>(rt: &mut R, task: &Task<'a>) -> Result<Sources, Fault<'a>>
+    ensures same { AreUntouched (R.state rt.old) (R.state rt.new) }
+    ensures ok { IfOk result (λ sources.
+        AreSources (R.state rt.old).view task.now sources.included sources.bytes.items) }
+    ensures err { IfErr result (FailsSources (R.state rt.old).view task.now) }
+{
+    match task {
+        Task::Read { regions, .. } => {
+            let included = read_included(rt, *regions)?;
+            Ok(without_bytes(rt, included))
+        }
+        Task::Verify { file, regions } => {
+            let included = read_included(rt, *regions)?;
+            let bytes = read_file(rt, *file, MOST_IMAGE_BYTES)?;
+            Ok(Sources { included, bytes })
+        }
+        Task::Change(change) => read_for_change(rt, change),
+        Task::Restore { journal } => {
+            let (included, bytes) = (None, read_journal(rt, *journal)?);
+            Ok(Sources { included, bytes })
+        }
+        _ => Ok(without_bytes(rt, None)),
+    }
+}
+
+fn without_bytes<R: Store>(rt: &R, included: Option<Ranges>) -> Sources
+    ensures { result.included ≡ included }
+{
+    let bytes = Vec::new(rt.alloc());
+    Sources { included, bytes }
+}
+
+// Reads the layout and the image of a change.
+fn read_for_change<'a, R: Store>(rt: &R, change: &Change<'a>) -> Result<Sources, Fault<'a>>
+    ensures ok { IfOk result (λ sources. AreRangesOf (R.state rt.now).view change.now.regions sources.included
+        × IsImage (R.state rt.now).view change.now.wanted sources.bytes.items) }
+    ensures err { IfErr result (λ fault. FailsToInclude (R.state rt.now).view change.now.regions fault
+        ⊎ FailsImage (R.state rt.now).view change.now.wanted fault) }
+{
+    let included = read_included(rt, change.regions)?;
+    let bytes = read_image(rt, change.wanted)?;
+    Ok(Sources { included, bytes })
+}
+
+// Reads the image that a change writes. Returns no bytes if it writes none.
+fn read_image<'a, R: Store>(rt: &R, wanted: Wanted<'a>) -> Result<Vec<u8>, Fault<'a>>
+    ensures ok { IfOk result (λ bytes. IsImage (R.state rt.now).view wanted.entry bytes.items) }
+    ensures err { IfErr result (FailsImage (R.state rt.now).view wanted.entry) }
+{
+    match wanted {
+        Wanted::Write { image } => read_file(rt, image, MOST_IMAGE_BYTES),
+        _ => Ok(Vec::new(rt.alloc())),
+    }
+}
