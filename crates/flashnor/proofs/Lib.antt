@@ -1,5 +1,8 @@
 pub mod Shown
 pub mod Ready
+pub mod Restored
+pub mod Looked
+pub mod Sources
 pub mod Doing
 pub mod Stays
 pub mod Traced

@@ -1,19 +1,18 @@
 -- The call of a job after its trace was created, in terms of the files before the trace was created.
-use Rattle.std.proofs.Common.{◌≡◌, ℕ, Option, Some, IsSomeAnd, arith, inl, inr, true}
+use Rattle.std.proofs.Common.{◌≡◌, ◌∙◌, ℕ, Option, None, Some, IsSomeAnd, ap, arith, inl, inr, subst, sym, true}
 use Rattle.std.specs.Borrow.{Bor}
-use Rattle.nor_files.specs.Calls.{ReadsFile}
-use Rattle.nor_files.specs.Files.{FilesState, Found, KnownStay, Name, OthersStay, KeepsFile, View, is_lawful}
+use Rattle.nor_files.specs.Calls.{LeavesOrEmpty, ReadsFile}
+use Rattle.nor_files.specs.Files.{AreUntouched, FilesState, Found, IsKnownFile, KnownStay, Name, Nature, KeepsFile}
+use Rattle.nor_files.specs.Files.{View, is_lawful}
 use Rattle.nor_words.specs.Text.{Text}
 use Rattle.nor_words.specs.declared.job.ChipJob.{ChipJob}
 use Rattle.nor_lines.specs.Files.{IsMaking}
 use Rattle.flashnor.specs.Run.{FailsTraced, IsViewBut}
 use Rattle.nor_lines.specs.declared.messages.Fault.{Fault}
-use Rattle.nor_lines.specs.Stored.{IsMissing, IsNot, MakesNothing}
-
-pub view_but : (trace : Option (Bor Text)) (name : Bor Text) (old mid : FilesState) → trace ≡ Some name
-    → mid.view.nature ≡ old.view.nature → (is_lawful old.view ≡ true → OthersStay name.now old mid)
-    → IsViewBut trace old.view mid.view
-view_but trace name old mid is nature others = grind arith
+use Rattle.nor_lines.specs.Stored.{AreTwo, IsMissing, IsNot, MakesNothing}
+use Rattle.nor_lines.proofs.Lent.{lawful_after, stays_on}
+use Rattle.flashnor.proofs.Sources.{untouched_keeps}
+use Rattle.flashnor.proofs.Stays.{not_that}
 
 pub view_apart : (trace : Option (Bor Text)) (old mid : FilesState) → mid.view.nature ≡ old.view.nature
     → (is_lawful old.view ≡ true → (name : Name) → IsNot old.view.nature trace name → KeepsFile name old mid)
@@ -38,13 +37,51 @@ pub missing_before : (trace : Option (Bor Text)) (file : Bor Text) (old amid : V
     → IsViewBut trace old amid → IsMissing (Some file) amid → IsMissing (Some file) old
 missing_before trace file old amid not but gone = grind arith
 
--- If the journal's name is apart from the trace's, creating the trace leaves the journal's file as it was. Then
--- `MakesNothing`, claimed for the files after the trace was created, also holds for the files before.
-pub makes_nothing_before : (name : Bor Text) (journal : Option (Bor Text)) (old mid new : FilesState)
-    → mid.view.nature ≡ old.view.nature → IsNot old.view.nature journal name.now
-    → (is_lawful old.view ≡ true → OthersStay name.now old mid) → MakesNothing journal mid new
-    → MakesNothing journal old new
-makes_nothing_before name journal old mid new nature not others made = grind arith
+-- A file that was kept before a call may be left by that call as `MakesNothing` says of the call alone.
+makes_nothing_later : (file : Text) (old mid new : FilesState) → mid.view.nature ≡ old.view.nature
+    → KeepsFile file old mid → (IsKnownFile file mid.view → LeavesOrEmpty file mid new) → IsKnownFile file old.view
+    → LeavesOrEmpty file old new
+makes_nothing_later file old mid new nature keeps made known = grind arith
+
+-- If each file is as it was whose name is apart from the trace's, so is a journal whose name is apart from the trace's.
+pub unmade_traced : (trace journal : Option (Bor Text)) (old new : FilesState)
+    → (is_lawful old.view ≡ true → (name : Name) → IsNot old.view.nature trace name → KeepsFile name old new)
+    → AreTwo old.view.nature trace journal → MakesNothing journal old new
+unmade_traced trace None old new others two = tt
+unmade_traced trace (Some file) old new others two = λ known left can.
+    inl ((others known.lawful file.now (not_that old.view.nature trace file two)).leaves left can)
+
+-- The trace was created, and then the files of the task were read.
+module _ (trace : Option (Bor Text)) (old traced read : FilesState) (nature : traced.view.nature ≡ old.view.nature)
+    (others : is_lawful old.view ≡ true → (name : Name) → IsNot old.view.nature trace name → KeepsFile name old traced)
+    (same : AreUntouched traced read) where
+  pub nature_read : read.view.nature ≡ old.view.nature
+  nature_read = ap (λ (v : View). v.nature) same.view ∙ nature
+
+  pub keeps_read : is_lawful old.view ≡ true → (name : Name) → IsNot old.view.nature trace name → KeepsFile name old read
+  keeps_read is name not = stays_on (others is name not) (untouched_keeps name same)
+
+  pub view_read : IsViewBut trace old.view read.view
+  view_read = view_apart trace old read nature_read keeps_read
+
+  pub makes_nothing_read : (journal : Option (Bor Text)) → AreTwo old.view.nature trace journal
+      → MakesNothing journal old read
+  makes_nothing_read journal two = unmade_traced trace journal old read keeps_read two
+
+  module _ (new : FilesState) where
+    pub makes_nothing_called : (journal : Option (Bor Text)) → AreTwo old.view.nature trace journal
+        → MakesNothing journal read new → MakesNothing journal old new
+    makes_nothing_called None two made = tt
+    makes_nothing_called (Some file) two made = λ known. makes_nothing_later file.now old read new nature_read
+        (keeps_read known.lawful file.now (not_that old.view.nature trace file two)) made known
+
+    pub keeps_called : (made : Option (Bor Text))
+        → (is_lawful read.view ≡ true → (name : Name) → IsNot read.view.nature made name → KeepsFile name read new)
+        → is_lawful old.view ≡ true → (name : Name) → IsNot old.view.nature trace name
+        → IsNot old.view.nature made name → KeepsFile name old new
+    keeps_called made later is name traced other =
+        stays_on (keeps_read is name traced)
+        (later (lawful_after nature_read is) name (subst (λ (n : Nature). IsNot n made name) (sym nature_read) other))
 
 -- ---- faults
 

@@ -134,6 +134,12 @@ abbrev pub DoesTraced : (files after : FilesState) → ChipJob → (old new : Bu
 DoesTraced files after job old new outcome = (amid : View) × IsViewBut job.programmer.trace files.view amid
     × DoesJob amid after job.programmer job.named job.task old new outcome
 
+-- Holds if the chip with these contents was made, and the call on it had this outcome.
+abbrev pub DoesStarted : (files after : FilesState) → ChipJob → Content → (new : BusState) → Result Answer Refusal
+    → Type 0
+DoesStarted files after job content new outcome = (bus : SimBus) × StartsBus job.programmer content bus
+    × DoesTraced files after job (sim_state bus) new outcome
+
 -- Holds if the call was made, and the roles that need different files have them. The bus was started as the programmer
 -- says, to the chip that the programmer's files hold. `left`: if the files were at rest and the task writes the chip
 -- back, each named file of the chip was written or is named in `unwritten`. `traced`: the only trace that may have lost

@@ -1,34 +1,34 @@
 //! The jobs that change a chip: sessions and restores; and rehearsals of sessions.
-ghost use Rattle.std.specs.Prelude.{◌≡◌, ◌≤◌, ◌⊎◌, true, IfOk, IfErr, OnErr, OnOk, length};
-ghost use Rattle.nor_files.specs.Files.{AreUntouched, Name, KeepsFile, is_lawful};
-ghost use Rattle.nor_model.specs.Chip.{IsSame};
-ghost use Rattle.nor_driver.specs.OnlyReads.{IsSteadyOrIdle, OnlyReads};
+ghost use Rattle.std.specs.Prelude.{◌≡◌, ◌≤◌, ◌⊎◌, true, IfOk, IfErr, OnErr, length};
+ghost use Rattle.nor_files.specs.Files.{Name, KeepsFile, View, is_lawful};
+ghost use Rattle.nor_driver.specs.OnlyReads.{IsSteadyOrIdle};
 ghost use Rattle.nor_journal.specs.Vault.{IsFresh};
-ghost use Rattle.nor_probe.specs.Found.{most_probe};
 ghost use Rattle.nor_probe.specs.Known.{IsModelled};
-ghost use Rattle.flashnor.specs.Changes.{HasMadeChange, HasRehearsed, HasRestoredNamed, Passes, ProbeRefuses};
-ghost use Rattle.nor_lines.specs.Requests.{FailsToInclude};
+ghost use Rattle.nor_words.specs.declared.job.Wanted.TheVariants.{Erase};
+ghost use Rattle.flashnor.specs.Changes.{HasMadeChange, HasRehearsed, HasRestoredNamed};
+ghost use Rattle.nor_jobs.specs.Sources.{IsImage};
+ghost use Rattle.nor_lines.specs.Requests.{AreRangesOf};
 ghost use Rattle.flashnor.specs.Requests.{IsBufferOf};
 ghost use Rattle.flashnor.specs.Run.{ChangesChip, DoesRestore, FailsToKeep, FailsToReadImage, FailsToRestore};
 ghost use Rattle.nor_lines.specs.Tasks.{journal_of};
-ghost use Rattle.nor_lines.specs.Stored.{IsNot, MakesNothing};
+ghost use Rattle.nor_lines.specs.Stored.{IsNot, IsRead, MakesNothing};
+ghost use Rattle.nor_words.specs.Text.{Text};
 
-use crate::readings::find;
 use nor_chip::{Bus, Meter};
 use nor_files::Store;
+use nor_jobs::{Sources, check_name, run_restore};
 use nor_journal::{Journal, MemVault, Vault};
-use nor_lines::{
-    Answer, Fault, MOST_IMAGE_BYTES, Outcome, erased, read_file, read_included, read_journal,
-    request_for, session_in_file,
-};
+use nor_lines::{Answer, Fault, Outcome, erased, request_for, session_in_file};
 use nor_probe::ChipName;
-use nor_session::{Refusal, Request, rehearse, restore};
+use nor_session::{Refusal, Request, rehearse};
 use nor_words::{Change, Emulated, JournalUse, Wanted};
+use std::alloc::{AllocError, Global};
 
 /// Changes the chip, with the journal in a new file, or rehearses the change on `bus`, with the journal in memory.
+/// `sources` has what the change reads from its files.
 ///
-/// Returns the result of the call to the engine, or the fault that occurred before it: of the layout, of the image to
-/// write, of the journal's file, or error 18 if memory runs out.
+/// Returns the result of the call to the engine, or the fault that occurred before it: of the journal's file, or error
+/// 18 if memory runs out.
 #[tactic(auto, using(crate::proofs::Doing::does_change))]
 pub fn change_chip<'a, R: Store, B: Meter>(
     rt: &mut R,
@@ -36,7 +36,10 @@ pub fn change_chip<'a, R: Store, B: Meter>(
     chip: Emulated,
     named: Option<ChipName>,
     change: &Change<'a>,
+    sources: Sources,
 ) -> Result<Outcome, Fault<'a>>
+    requires ranges { AreRangesOf (R.state rt.old).view change.now.regions sources.included }
+    requires image { IsImage (R.state rt.old).view change.now.wanted sources.bytes.items }
     ensures nature { (R.state rt.new).view.nature ≡ (R.state rt.old).view.nature }
     ensures others { is_lawful (R.state rt.old).view ≡ true → (name : Name)
         → IsNot (R.state rt.old).view.nature (journal_of change.now.journal_use) name
@@ -46,32 +49,30 @@ pub fn change_chip<'a, R: Store, B: Meter>(
     ensures ok { IsModelled (B.state bus.old) → IsSteadyOrIdle (B.state bus.old)
         → IfOk result (ChangesChip (R.state rt.old).view (R.state rt.new) chip named change.now
         (B.state bus.old) (B.state bus.new)) }
-    ensures err { IfErr result (λ fault. FailsToInclude (R.state rt.old).view change.now.regions fault
-        ⊎ (FailsToReadImage (R.state rt.old).view change.now.wanted fault
-        ⊎ FailsToKeep (R.state rt.old).view change.now.journal_use fault)) }
+    ensures err { IfErr result (λ fault. FailsToReadImage (R.state rt.old).view change.now.wanted fault
+        ⊎ FailsToKeep (R.state rt.old).view change.now.journal_use fault) }
 {
-    let included = read_included(rt, change.regions)?;
+    let Sources { included, bytes } = sources;
     let request = request_for(change, named, included);
-    let mut image = read_wanted(rt, chip, change.wanted)?;
+    let mut image = buffer_of(rt.alloc(), chip, change.wanted, bytes)?;
     change_with(rt, bus, &mut image, &request, &change.journal_use)
 }
 
-/// Returns the buffer of a session: the image for a write, FFh for each byte of the chip for an erase, nothing for a
-/// protection range. At most one byte more of the image is read than the largest chip has.
-///
-/// Returns file fault 1 if the image is missing or can't be read, or error 18 if memory runs out.
-pub fn read_wanted<'a, R: Store>(
-    rt: &R,
+// Returns the buffer of a session: for an erase FFh for each byte of the chip, otherwise the given bytes, which are the
+// image of a write, or nothing for a protection range. The error is that memory ran out for an erase.
+fn buffer_of(
+    alloc: Global,
     chip: Emulated,
-    wanted: Wanted<'a>,
-) -> Result<Vec<u8>, Fault<'a>>
-    ensures ok { IfOk result (λ image. IsBufferOf (R.state rt.now).view chip wanted.entry image.items) }
-    ensures err { IfErr result (FailsToReadImage (R.state rt.now).view wanted.entry) }
+    wanted: Wanted<'_>,
+    bytes: Vec<u8>,
+) -> Result<Vec<u8>, AllocError>
+    ensures ok { (view : View) → IsImage view wanted.entry bytes.items
+        → IfOk result (λ image. IsBufferOf view chip wanted.entry image.items) }
+    ensures err { OnErr result (wanted.entry ≡ Erase) }
 {
     match wanted {
-        Wanted::Write { image } => read_file(rt, image, MOST_IMAGE_BYTES),
-        Wanted::Erase => Ok(erased(rt.alloc(), chip.size())?),
-        Wanted::Range { .. } => Ok(Vec::new(rt.alloc())),
+        Wanted::Erase => erased(alloc, chip.size()),
+        _ => Ok(bytes),
     }
 }
 
@@ -121,24 +122,21 @@ fn rehearse_change<B: Meter>(
     Ok(Answer::Rehearsed(rehearsal))
 }
 
-/// Restores the chip from the journal in the file of this name, which is locked against runs that would write it. If
-/// `named` is given, the chip must have that name.
+/// Restores the chip from the bytes of a journal. If `named` is given, the chip must have that name.
 ///
-/// Returns the result of the restore, or the fault that occurred before it: a fault of locking or reading the file,
-/// error 18 if memory runs out, or error 15 for an invalid journal.
-pub fn restore_chip<'a, R: Store, B: Bus>(
-    rt: &mut R,
+/// Returns the result of the restore, or error 15 if the bytes are no journal, before the chip is used.
+pub fn restore_chip<'a, B: Bus>(
     bus: &mut B,
     named: Option<ChipName>,
-    journal: &'a str,
+    bytes: &[u8],
 ) -> Result<Outcome, Fault<'a>>
-    ensures same { AreUntouched (R.state rt.old) (R.state rt.new) }
-    ensures ok { IsModelled (B.state bus.old) → IsSteadyOrIdle (B.state bus.old)
-        → IfOk result (DoesRestore (R.state rt.old).view named journal.now (B.state bus.old) (B.state bus.new)) }
-    ensures err { IfErr result (FailsToRestore (R.state rt.old).view journal.now) }
+    ensures ok { (view : View) (file : Text) → IsRead view file 16793662 bytes.now
+        → IsModelled (B.state bus.old) → IsSteadyOrIdle (B.state bus.old)
+        → IfOk result (DoesRestore view named file (B.state bus.old) (B.state bus.new)) }
+    ensures err { (view : View) (file : Text) → IsRead view file 16793662 bytes.now
+        → IfErr result (FailsToRestore view file) }
 {
-    let text = read_journal(rt, journal)?;
-    match Journal::read(&text) {
+    match Journal::read(bytes) {
         Ok(journal) => Ok(restore_named(bus, named, &journal)),
         Err(fault) => Err(Fault::Refused(Refusal::BadJournal(fault))),
     }
@@ -149,24 +147,6 @@ fn restore_named<B: Bus>(bus: &mut B, named: Option<ChipName>, journal: &Journal
     ensures { IsModelled (B.state bus.old) → IsSteadyOrIdle (B.state bus.old)
         → HasRestoredNamed journal.now named (B.state bus.old) (B.state bus.new) result }
 {
-    find_named(bus, named)?;
-    let report = restore(bus, journal)?;
-    Ok(Answer::Done(report))
-}
-
-// If `named` is given, identifies the chip and checks that it has that name. If not, sends nothing.
-#[tactic(auto, using(crate::proofs::Ready::passes_probe, crate::proofs::Ready::passes_none, crate::proofs::Ready::same_after_reads, crate::proofs::Ready::only_reads_none))]
-fn find_named<B: Bus>(bus: &mut B, named: Option<ChipName>) -> Result<(), Refusal>
-    ensures only_reads { OnlyReads most_probe (B.state bus.old) (B.state bus.new) }
-    ensures passes { IsModelled (B.state bus.old) → IsSteadyOrIdle (B.state bus.old)
-        → OnOk result (Passes named (B.state bus.old) (B.state bus.new)) }
-    ensures same { IsModelled (B.state bus.old) → IsSteadyOrIdle (B.state bus.old)
-        → IsSame (B.state bus.old).chip (B.state bus.new).chip }
-    ensures refuses { IsModelled (B.state bus.old)
-        → IfErr result (ProbeRefuses named (B.state bus.old) (B.state bus.new)) }
-{
-    if named.is_some() {
-        find(bus, named)?;
-    }
-    Ok(())
+    check_name(bus, named)?;
+    run_restore(bus, journal, true, |_| ())
 }

@@ -5,16 +5,17 @@ ghost use Rattle.nor_files.specs.Files.{AreAtRest, Name, KeepsFile, is_lawful};
 ghost use Rattle.nor_files.specs.Files.Failure.{There};
 ghost use Rattle.flashnor.specs.Roles.{HasOwnTrace};
 ghost use Rattle.nor_lines.specs.Files.{IsMaking};
-ghost use Rattle.flashnor.specs.Run.{FailsTask, FailsJob, KeepsFiles};
+ghost use Rattle.flashnor.specs.Run.{FailsJob, KeepsFiles};
 ghost use Rattle.nor_lines.specs.Stored.{Happens, IsNot};
 ghost use Rattle.flashnor.specs.Tasks.{journal_by};
 
-use crate::changes::read_wanted;
 use crate::chips::read_content;
 use crate::roles::has_own_trace;
 use nor_files::Store;
-use nor_lines::{Fault, FileFault, create_log, journal_of, read_included};
+use nor_jobs::read_sources;
+use nor_lines::{Fault, FileFault, create_log, journal_of};
 use nor_words::{ChipJob, Task};
+use std::io::BufWriter;
 
 /// Returns the name of the journal that the task creates, if it creates one.
 pub fn journal_by<'a>(task: &Task<'a>) -> Option<&'a str>
@@ -74,13 +75,16 @@ fn read_all<'a, R: Store>(rt: &mut R, job: &ChipJob<'a>) -> Result<(), Fault<'a>
         → KeepsFile name (R.state rt.old) (R.state rt.new) }
 {
     let _content = read_content(rt, &job.programmer)?;
-    make_trace(rt, job.programmer.trace)?;
-    read_sources(rt, job)?;
+    let _log = create_trace(rt, job.programmer.trace)?;
+    let _sources = read_sources(rt, &job.task)?;
     Ok(())
 }
 
-// Creates or opens the trace's file, if a trace is requested.
-fn make_trace<'a, R: Store>(rt: &mut R, trace: Option<&'a str>) -> Result<(), Fault<'a>>
+/// Creates or opens the trace's file, if a trace is requested, and returns a buffered writer to it.
+pub fn create_trace<'a, R: Store>(
+    rt: &mut R,
+    trace: Option<&'a str>,
+) -> Result<Option<BufWriter<R::Log>>, Fault<'a>>
     ensures nature { (R.state rt.new).view.nature ≡ (R.state rt.old).view.nature }
     ensures others { is_lawful (R.state rt.old).view ≡ true → (name : Name)
         → IsNot (R.state rt.old).view.nature trace.entry name → KeepsFile name (R.state rt.old) (R.state rt.new) }
@@ -88,22 +92,10 @@ fn make_trace<'a, R: Store>(rt: &mut R, trace: Option<&'a str>) -> Result<(), Fa
         IsSomeAnd trace.entry (λ name. IsMaking (R.state rt.old).view name.now fault)) }
 {
     let Some(name) = trace else {
-        return Ok(());
+        return Ok(None);
     };
     match create_log(rt, name) {
-        Ok(_) => Ok(()),
+        Ok(log) => Ok(Some(log)),
         Err(fault) => Err(fault),
     }
-}
-
-// Reads the layout and the image of a change.
-fn read_sources<'a, R: Store>(rt: &R, job: &ChipJob<'a>) -> Result<(), Fault<'a>>
-    ensures { IfErr result (FailsTask (R.state rt.now).view job.now.task) }
-{
-    let Task::Change(change) = &job.task else {
-        return Ok(());
-    };
-    let _included = read_included(rt, change.regions)?;
-    let _image = read_wanted(rt, job.programmer.chip, change.wanted)?;
-    Ok(())
 }

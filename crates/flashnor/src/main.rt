@@ -11,12 +11,12 @@
 //! - `streams.rt`: checks that the program prints to no file of a job
 //! - `holding.rt`: opens, locks, reads and syncs the chip's files if the job writes them, and writes them back
 //! - `chips.rt`: reads the chip's files, and makes the simulated bus
-//! - `readings.rt`: the jobs that identify, read or verify a chip; `nor_lines` has those that list its protection
-//! - `changes.rt`: the jobs that change a chip, and rehearsals
+//! - `changes.rt`: the jobs that change a chip, and rehearsals; `nor_jobs` and `nor_lines` have the other jobs
 //! - `laws.rt`: the law about a change and the restores that follow it
 //! - `printing.rt`: prints the end of a run, and chooses the exit status
 //!
-//! The crate `nor_lines` has the code that this program shares with `flashnor_serprog`: what both print and read.
+//! The crates `nor_jobs` and `nor_lines` have the code that this program shares with `flashnor_serprog`: what both do,
+//! print and read.
 #![tactic(auto)]
 
 mod changes;
@@ -25,7 +25,6 @@ mod existing;
 mod holding;
 mod laws;
 mod printing;
-mod readings;
 mod roles;
 mod run;
 mod streams;

@@ -1,39 +1,43 @@
 //! A run of the program: from its arguments to its exit status.
-ghost use Rattle.std.specs.Prelude.{◌≡◌, false, true, Err, IfOk, IfErr, OnErr, OnSome, Some, map, string_bytes};
+ghost use Rattle.std.specs.Prelude.{◌≡◌, ◌⊎◌, false, true, Err, IfOk, IfErr, IsSomeAnd, OnErr, OnSome};
+ghost use Rattle.std.specs.Prelude.{map, string_bytes, vec_len};
 ghost use Rattle.nor_chip.specs.Trace.{has_lost};
 ghost use Rattle.nor_words.specs.Words.{arguments_of};
 ghost use Rattle.flashnor.specs.Chips.{IsReady};
+ghost use Rattle.flashnor.specs.Found.{emulated_part};
 ghost use Rattle.nor_files.specs.Disk.{unknown};
 ghost use Rattle.nor_files.specs.Files.{AreAtRest, Name, KeepsFile, is_lawful};
+ghost use Rattle.nor_jobs.specs.Sources.{AreSources};
+ghost use Rattle.nor_lines.specs.Files.{IsMaking};
 ghost use Rattle.nor_lines.specs.Stored.{AreTwo, IsNot, MakesNothing};
 ghost use Rattle.nor_lines.specs.Tasks.{made_by};
 ghost use Rattle.flashnor.specs.Endings.{EndsWith, HasPrinted, IsUnread, IsWithoutStreams, all_written};
-ghost use Rattle.flashnor.specs.Run.{AnswersArguments, DoesJob, DoesTraced, EndsChipJob, FailsTask, FailsJob};
-ghost use Rattle.flashnor.specs.Roles.{FilesHaveOneRole};
+ghost use Rattle.flashnor.specs.Run.{AnswersArguments, DoesJob, DoesStarted, EndsChipJob, FailsTask, FailsJob};
+ghost use Rattle.flashnor.specs.Roles.{FailsFileRoles, FilesHaveOneRole};
 ghost use Rattle.flashnor.specs.Run.{FailsTraced, HoldsResult, IsPrintedAt, IsStatus, KeepsFiles, StayBut};
 ghost use Rattle.flashnor.specs.Streams.{IsReportedTo};
 ghost use Rattle.flashnor.specs.Tasks.{journal_by, writes_back};
 ghost use Rattle.flashnor.specs.declared.streams.Reports.TheVariants as to;
 
 use crate::changes::{change_chip, restore_chip};
-use crate::chips::{read_content, start};
-use crate::existing::{existing_journal, fault_before};
+use crate::chips::{Content, read_content, start};
+use crate::existing::{create_trace, existing_journal, fault_before};
 use crate::holding::{Held, Unwritten, hold_content, lost_journal, write_back};
 use crate::laws::runs_restore_original;
 use crate::printing::{Ending, print_end};
-use crate::readings::{find_chip, read_chip, report_size, verify_chip};
 use crate::roles::{have_one_role, look_at_sources};
 use crate::streams::{Reports, StreamFault, are_unprinted};
 use nor_chip::{Bus, Meter, SimBus, TraceBus};
 use nor_files::{Disk, LockFile, Store};
+use nor_jobs::{Sources, arguments_after_name, find_chip, read_sources, report_size};
 use nor_lines::{
-    Answer, DIRECTORY, Fault, Outcome, create_log, list_ranges, or_fault, report_protection, unread,
+    Answer, DIRECTORY, Fault, Outcome, list_ranges, or_fault, read_to_file, report_protection,
+    unread, verify_image,
 };
 use nor_words::{Change, ChipJob, Job, JournalUse, Task, WrongArguments, explained_request_of};
-use std::alloc::{AllocError, Global};
 use std::env::Args;
 use std::io;
-use std::io::Write;
+use std::io::{BufWriter, Write};
 use std::rt::Files;
 
 /// Performs the job given by the program's arguments, prints results to `output` and faults to `errors`, and returns
@@ -86,13 +90,6 @@ fn run_given<R: Store, O: Write, E: Write>(
         Ok(words) => run_over(rt, words.as_slice(), output, errors),
         Err(_) => end_before(Fault::out_of_memory(), output, errors),
     }
-}
-
-// Returns the arguments that follow the program's name.
-fn arguments_after_name(alloc: Global, args: Args) -> Result<Vec<String>, AllocError>
-    ensures { IfOk result (λ words. map string_bytes words.items ≡ arguments_of args) }
-{
-    args.skip(1).collect(alloc)
 }
 
 // Ends a run that made no call to the engine: prints `fault`.
@@ -218,8 +215,7 @@ fn look_at_files<'a, R: Store>(rt: &mut R, job: &ChipJob<'a>) -> Result<Work<'a>
         → StayBut job.now.programmer (made_by job.now.task) (R.state rt.old) (R.state rt.new) }
 {
     let content = read_content(rt, &job.programmer)?;
-    let bus = start(&job.programmer, content);
-    let called = call_on(rt, bus, job)?;
+    let called = call_on(rt, content, job)?;
     let Called { outcome, lost, .. } = called;
     let unwritten = Unwritten {
         image: None,
@@ -249,8 +245,7 @@ fn change_files<'a, R: Store>(rt: &mut R, job: &ChipJob<'a>) -> Result<Work<'a>,
         image_there,
         status_there,
     } = held;
-    let bus = start(&job.programmer, content);
-    let called = call_on(rt, bus, job)?;
+    let called = call_on(rt, content, job)?;
     let Called { bus, outcome, lost } = called;
     let (image, status) = write_back(rt, &job.programmer, image_there, status_there, &bus);
     let unwritten = Unwritten {
@@ -273,31 +268,32 @@ struct Called<'a> {
 
 impl<'a> Called<'a> {
     // Ends a trace: writes the rest of its buffer, and returns the call with the bus. If a line could not be written to
-    // the trace, during the call or now, `lost` is the trace's name.
+    // the trace, during the call or now, `lost` is the trace's name, which is `name`.
     fn of_traced<L: Write + Drop>(
         mut traced: TraceBus<SimBus, L>,
-        name: &'a str,
+        name: Option<&'a str>,
         outcome: Outcome,
     ) -> Called<'a>
         ensures bus { ⟦<SimBus as Bus>⟧.state result.bus ≡ ⟦<TraceBus<SimBus, L> as Bus>⟧.state traced }
         ensures came { result.outcome ≡ outcome }
-        ensures lost { has_lost traced ≡ true → result.lost ≡ Some name.entry }
-        ensures returned { OnSome result.lost (result.lost ≡ Some name.entry) }
+        ensures lost { has_lost traced ≡ true → result.lost ≡ name.entry }
+        ensures returned { OnSome result.lost (result.lost ≡ name.entry) }
     {
         traced.flush();
-        let lost = if traced.lost() { Some(name) } else { None };
+        let lost = if traced.lost() { name } else { None };
         let bus = traced.into_inner();
         Called { bus, outcome, lost }
     }
 }
 
-// Performs the job's task, with a trace if one is requested. Returns a fault if one occurred before the call to the
-// engine.
+// Performs the job's task on the chip with these contents, with a trace if one is requested. Creates the trace and reads
+// the files that the task needs before the chip is made. Returns a fault if one occurred before the call to the engine.
 fn call_on<'a, R: Store>(
     rt: &mut R,
-    mut bus: SimBus,
+    content: Content,
     job: &ChipJob<'a>,
 ) -> Result<Called<'a>, Fault<'a>>
+    requires { vec_len content.bytes ≡ (emulated_part job.now.programmer.chip).size }
     ensures nature { (R.state rt.new).view.nature ≡ (R.state rt.old).view.nature }
     ensures others { is_lawful (R.state rt.old).view ≡ true → (name : Name)
         → IsNot (R.state rt.old).view.nature job.now.programmer.trace name
@@ -306,34 +302,81 @@ fn call_on<'a, R: Store>(
     ensures unmade { is_lawful (R.state rt.old).view ≡ true
         → AreTwo (R.state rt.old).view.nature job.now.programmer.trace (journal_by job.now.task)
         → OnErr result (MakesNothing (journal_by job.now.task) (R.state rt.old) (R.state rt.new)) }
-    ensures ok { let old = ⟦<SimBus as Bus>⟧.state bus in IsReady job.now.programmer old
-        → IfOk result (λ called. DoesTraced (R.state rt.old) (R.state rt.new) job.now old
+    ensures ok { IfOk result (λ called. DoesStarted (R.state rt.old) (R.state rt.new) job.now content
         (⟦<SimBus as Bus>⟧.state called.bus) called.outcome) }
     ensures lost { IfOk result (λ called. OnSome called.lost (called.lost ≡ job.now.programmer.trace)) }
     ensures err { IfErr result (FailsTraced (R.state rt.old).view job.now) }
 {
-    let Some(name) = job.programmer.trace else {
-        let outcome = do_task(rt, &mut bus, job)?;
+    let log = open_trace(rt, job)?;
+    let sources = read_sources(rt, &job.task)?;
+    let bus = start(&job.programmer, content);
+    call(rt, bus, log, job, sources)
+}
+
+// Creates the trace's file, if a trace is requested. Then compares the job's files again, since before the trace existed
+// a link to it may have had no target.
+fn open_trace<'a, R: Store>(
+    rt: &mut R,
+    job: &ChipJob<'a>,
+) -> Result<Option<BufWriter<R::Log>>, Fault<'a>>
+    ensures nature { (R.state rt.new).view.nature ≡ (R.state rt.old).view.nature }
+    ensures others { is_lawful (R.state rt.old).view ≡ true → (name : Name)
+        → IsNot (R.state rt.old).view.nature job.now.programmer.trace name
+        → KeepsFile name (R.state rt.old) (R.state rt.new) }
+    ensures err { IfErr result (λ fault.
+        IsSomeAnd job.now.programmer.trace (λ name. IsMaking (R.state rt.old).view name.now fault)
+        ⊎ FailsFileRoles (R.state rt.old).view.nature job.now fault) }
+{
+    let log = create_trace(rt, job.programmer.trace)?;
+    if log.is_some() {
+        have_one_role(rt, job)?;
+    }
+    Ok(log)
+}
+
+// Performs the job's task on its chip, with a trace if `log` is given.
+fn call<'a, R: Store, L: Write + Drop>(
+    rt: &mut R,
+    mut bus: SimBus,
+    log: Option<L>,
+    job: &ChipJob<'a>,
+    sources: Sources,
+) -> Result<Called<'a>, Fault<'a>>
+    requires { AreSources (R.state rt.old).view job.now.task sources.included sources.bytes.items }
+    ensures nature { (R.state rt.new).view.nature ≡ (R.state rt.old).view.nature }
+    ensures others { is_lawful (R.state rt.old).view ≡ true → (name : Name)
+        → IsNot (R.state rt.old).view.nature (made_by job.now.task) name
+        → KeepsFile name (R.state rt.old) (R.state rt.new) }
+    ensures unmade { is_lawful (R.state rt.old).view ≡ true
+        → OnErr result (MakesNothing (journal_by job.now.task) (R.state rt.old) (R.state rt.new)) }
+    ensures ok { let old = ⟦<SimBus as Bus>⟧.state bus in IsReady job.now.programmer old
+        → IfOk result (λ called. DoesJob (R.state rt.old).view (R.state rt.new) job.now.programmer job.now.named
+        job.now.task old (⟦<SimBus as Bus>⟧.state called.bus) called.outcome) }
+    ensures lost { IfOk result (λ called. OnSome called.lost (called.lost ≡ job.now.programmer.trace)) }
+    ensures err { IfErr result (FailsTask (R.state rt.old).view job.now.task) }
+{
+    let Some(log) = log else {
+        let outcome = do_task(rt, &mut bus, job, sources)?;
         return Ok(Called {
             bus,
             outcome,
             lost: None,
         });
     };
-    let log = create_log(rt, name)?;
-    // Compares the files again now that the trace exists: before, a link to it may have had no target.
-    have_one_role(rt, job)?;
     let mut traced = TraceBus::new(bus, log);
-    let outcome = do_task(rt, &mut traced, job)?;
-    Ok(Called::of_traced(traced, name, outcome))
+    let outcome = do_task(rt, &mut traced, job, sources)?;
+    Ok(Called::of_traced(traced, job.programmer.trace, outcome))
 }
 
-// Performs the job's task on its chip. Returns a fault if one occurred before the call to the engine.
+// Performs the job's task on its chip, with what was read for it. Returns a fault if one occurred before the call to the
+// engine.
 fn do_task<'a, R: Store, B: Meter>(
     rt: &mut R,
     bus: &mut B,
     job: &ChipJob<'a>,
+    sources: Sources,
 ) -> Result<Outcome, Fault<'a>>
+    requires { AreSources (R.state rt.old).view job.now.task sources.included sources.bytes.items }
     ensures nature { (R.state rt.new).view.nature ≡ (R.state rt.old).view.nature }
     ensures others { is_lawful (R.state rt.old).view ≡ true → (name : Name)
         → IsNot (R.state rt.old).view.nature (made_by job.now.task) name
@@ -351,10 +394,15 @@ fn do_task<'a, R: Store, B: Meter>(
         Task::FlashSize => Ok(report_size(bus, named)),
         Task::WpStatus => Ok(report_protection(bus, named)),
         Task::WpList => Ok(list_ranges(bus, named)),
-        Task::Read { file, regions } => read_chip(rt, bus, named, *file, *regions),
-        Task::Verify { file, regions } => verify_chip(rt, bus, named, *file, *regions),
-        Task::Change(change) => change_chip(rt, bus, job.programmer.chip, named, change),
-        Task::Restore { journal } => restore_chip(rt, bus, named, *journal),
+        Task::Read { file, .. } => read_to_file(rt, bus, named, *file, sources.included.as_ref()),
+        Task::Verify { .. } => {
+            let Sources { included, bytes } = sources;
+            Ok(verify_image(bus, named, &bytes, included.as_ref()))
+        }
+        Task::Change(change) => {
+            change_chip(rt, bus, job.programmer.chip, named, change, sources)
+        }
+        Task::Restore { .. } => restore_chip(bus, named, &sources.bytes),
     }
 }
 

@@ -1,0 +1,38 @@
+-- What is read for a task before its call.
+use Rattle.std.proofs.Common.{ap, arith, inl, inr}
+use Rattle.nor_files.specs.Files.{AreUntouched, FilesState, KeepsFile, Name, View}
+use Rattle.nor_words.specs.declared.job.Task.{Task}
+use Rattle.nor_words.specs.declared.job.Task.TheVariants as task
+use Rattle.nor_words.specs.declared.job.Wanted.{Wanted}
+use Rattle.nor_words.specs.declared.job.Wanted.TheVariants as wanted
+use Rattle.nor_words.specs.Text.{Text}
+use Rattle.nor_jobs.specs.Sources.{FailsImage, FailsSources}
+use Rattle.nor_lines.specs.Files.{IsSharingFault}
+use Rattle.nor_lines.specs.declared.messages.Fault.{Fault}
+use Rattle.flashnor.specs.Run.{FailsTask, FailsToReadImage, FailsToRestore}
+
+image_fails : (view : View) (what : Wanted) (fault : Fault) → FailsImage view what fault
+    → FailsToReadImage view what fault
+image_fails view (wanted.Write image) fault fails = fails
+image_fails view wanted.Erase fault fails = absurd fails
+image_fails view (wanted.Range start len) fault fails = absurd fails
+
+journal_fails : (view : View) (name : Text) (fault : Fault) → IsSharingFault view name 16793662 fault
+    → FailsToRestore view name fault
+journal_fails view name fault fails = grind arith
+
+-- a fault of reading the files of a task is a fault of the task
+pub task_fails : (view : View) (done : Task) (fault : Fault) → FailsSources view done fault → FailsTask view done fault
+task_fails view (task.Read file regions) fault fails = inl fails
+task_fails view (task.Verify file regions) fault fails = fails
+task_fails view (task.Change change) fault (inl fails) = inl fails
+task_fails view (task.Change change) fault (inr fails) = inr (inl (image_fails view change.wanted fault fails))
+task_fails view (task.Restore journal) fault fails = journal_fails view journal.now fault fails
+task_fails view _ fault fails = absurd fails
+
+pub untouched_keeps : {old new : FilesState} (name : Name) → AreUntouched old new → KeepsFile name old new
+untouched_keeps name same = record {
+  out = ap (λ (v : View). v.out name) same.view;
+  seen = ap (λ (v : View). v.seen name) same.view;
+  leaves = same.leaves name;
+}
