@@ -18,7 +18,9 @@ UNIQUE = bytes(range(8))
 NUMBER = 48
 LAYOUT = b"030000:030fff one\n"
 REGION = ("-N", "-l", "layout", "-i", "one", "--journal", "j")
-RESTORE = ("--restore", "j")
+# A restore of a large chip leaves out the comparison, which would read 8 MiB twice.
+RESTORE = ("--restore", "j", "-N")
+RESTORE_TINY = ("--restore", "j")
 
 
 class Work(NamedTuple):
@@ -100,9 +102,10 @@ def restore():
 
 
 def restore_tiny():
-    """--restore of one sector of a chip that only its SFDP describes."""
+    """--restore of one sector of a chip that only its SFDP describes. The other sectors are compared."""
     old, new = chip_with("TINY64", OLD), chip_with("TINY64", NEW)
-    return Work("TINY64", RESTORE, new, old, b"\0\0", b"\0\0", reference.restore("TINY64", old, [1]),
+    plan = reference.whole_restore("TINY64", reference.restore("TINY64", old, [1]), [1])
+    return Work("TINY64", RESTORE_TINY, new, old, b"\0\0", b"\0\0", plan,
                 reference.journal("TINY64", old, [1], b"\0\0", UNIQUE))
 
 
@@ -197,7 +200,7 @@ def begin(bench, work, traits):
     bench.chip.wait()
     bench.chip.data[:], bench.chip.status[:], bench.chip.wel = work.before, work.status, False
     bench.path("j").unlink(missing_ok=True)
-    if work.words == RESTORE:
+    if work.words[:2] == RESTORE[:2]:
         bench.write("j", work.journal)
     return run(bench, work.words, traits)
 
@@ -225,7 +228,7 @@ def try_fault(bench, work, traits):
     if chip.data == work.before and chip.status == work.status:
         return
     back = work.after, work.new_status
-    if work.words != RESTORE:
+    if work.words[:2] != RESTORE[:2]:
         back = work.before, work.status
         bench.check_file("j", work.journal)
     again = run(bench, RESTORE, {})

@@ -6,7 +6,7 @@ import fcntl
 import os
 
 import reference
-from bench import check
+from bench import check, split_handshake
 from losses import UNSEALED, session_wire
 from options import images
 
@@ -73,6 +73,33 @@ def locks_the_device(start):
         refuse(bench, "DEV is in use by another program. Wait until that program has ended.", number=3)
         bench.check_nothing_sent()
     bench.expect(out=[reference.found("TINY64")])
+
+
+def opens_only_its_device(start):
+    """A run opens the device that dev= names, and no other: a second programmer receives no byte, even if one fails."""
+    old, new = images("opens_only_its_device")
+    for events in {}, {40: "nak"}:
+        bench, other = start(data=old), start(data=old)
+        bench.write("new", new)
+        bench.path("other").symlink_to(other.path("dev"))
+        for words in ("-r", "out"), ("-w", "new", "--journal", "j"), ("--restore", "j"):
+            bench.run(*words, events=dict(events))
+            check("bytes that the named programmer received", len(bench.server.received) > 0, True)
+            check("bytes that the other one received", bytes(other.server.received), b"")
+        other.check_chip(old)
+
+
+def sends_nothing_before_its_job(start):
+    """Between the handshake and the job's first frame, a run sends only the frame of ABh."""
+    old, new = images("sends_nothing_before_its_job")
+    bench = start(data=old)
+    bench.write("new", new)
+    first = reference.frames(reference.carried([reference.POLL]))
+    for words in (), ("-r", "out"), ("-v", "new"), ("-w", "new", "--journal", "j"), ("--restore", "j"):
+        bench.run(*words)
+        commands, rest = split_handshake(bench.server.received)
+        check("opcodes of the handshake", {it[0] for it in commands} <= {0, 1, 2, 3, 4, 5, 8, 0x10, 0x11, 0x12, 0x15}, True)
+        check(f"the first frames of {words}", rest[: len(first)], first)
 
 
 def holds_its_lock(start):
@@ -233,6 +260,7 @@ def reads_twice(start):
     check("a wrong bit", bench.run("-v", "same").err[-1], DIFFER)
 
 
-CASES = [needs_a_device, needs_a_character_device, locks_the_device, holds_its_lock, needs_an_answer,
+CASES = [needs_a_device, needs_a_character_device, locks_the_device, opens_only_its_device,
+         sends_nothing_before_its_job, holds_its_lock, needs_an_answer,
          says_why_it_waits, needs_its_step, needs_right_replies, needs_a_port, needs_version_1, needs_commands,
          has_the_chip_select, needs_spi, needs_wide_limits, reports_causes, reports_the_port, reads_twice]

@@ -56,7 +56,7 @@ def losses():
     """
     old, new = chip_images(FEW)
     wire = session_wire(old, new)
-    back = reference.carried(reference.restore("TINY64", old, FEW))
+    back = reference.carried(reference.whole_restore("TINY64", reference.restore("TINY64", old, FEW), FEW))
     found = [Loss(event, at) for event in ("kill", "lose") for at in range(2, len(wire) + 1)]
     found += [Loss(event, 0, at) for event in ("kill", "lose") for at in range(2, len(back) + 1)]
     # A session that is stopped in the middle, and its restore too.

@@ -38,7 +38,7 @@ def splits_transactions(start):
         bench.check_file("j", reference.journal("TINY64", old, FEW))
         plan = reference.restore("TINY64", old, FEW)
         bench.expect("--restore", "j", out=[reference.found("TINY64"), reference.report(plan, len(FEW))])
-        check_parts(bench, plan)
+        check_parts(bench, reference.whole_restore("TINY64", plan, FEW))
         bench.check_chip(old)
 
 

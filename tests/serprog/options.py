@@ -182,15 +182,16 @@ def leaves_out_the_comparison(start):
 
 
 def refuses_needless_options(start):
-    """-N needs -w or -E, and --quick needs --restore: usage fault 8, and nothing is sent."""
+    """-N needs -w, -E or --restore, and --quick needs --restore: usage fault 8, and nothing is sent."""
     bench = start()
     bench.write("new", FREE)
     change = "--wp-range", "0,0", "--journal", "j"
     for words in (("-N",), ("-r", "out", "-N"), ("-v", "new", "--noverify-all"), ("-N", *change), ("--quick",),
-                  ("--restore", "j", "-N"), ("-w", "new", "--journal", "j", "--quick"), ("--quick", *change)):
+                  ("--restore", "j", "-n"), ("-w", "new", "--journal", "j", "--quick"), ("--quick", *change)):
         got = bench.run(*words)
         check(" ".join(words), (got.out, got.err[-1:], got.status), ([], ["Usage fault 8."], 1))
         bench.check_nothing_sent()
+    bench.expect("-v", "new", "-N", err=["error: -N needs -w, -E or --restore", "Usage fault 8."])
 
 
 def restores_quickly(start):
@@ -205,7 +206,12 @@ def restores_quickly(start):
             now[number * SECTOR : (number + 1) * SECTOR] = reference.sector_of(old, number)
         bench.chip.data[:] = now
         plan = reference.session("TINY64", bytes(now), old, (1, 2, 7, 15))
-        bench.expect("--restore", "j", "--quick", out=[reference.found("TINY64"), reference.done(plan, now, old)])
+        lines = [reference.found("TINY64"), reference.done(plan, now, old)]
+        bench.expect("--restore", "j", "--quick", out=lines)
+        bench.check_frames(reference.whole_restore("TINY64", plan, (1, 2, 7, 15)))
+        bench.check_chip(old)
+        bench.chip.data[:] = now
+        bench.expect("--restore", "j", "--quick", "-N", out=lines)
         bench.check_frames(plan)
         bench.check_chip(old)
 
@@ -254,9 +260,10 @@ def writes_at_random(start):
         bench.check_frames(reference.whole_run("TINY64", plan, True))
         bench.check_chip(new)
         bench.check_file("j", reference.journal("TINY64", old, reference.touched(old, new)))
-        plan = reference.restore("TINY64", old, reference.touched(old, new))
+        saved = reference.touched(old, new)
+        plan = reference.restore("TINY64", old, saved)
         bench.expect("--restore", "j", out=[reference.found("TINY64"), reference.done(plan, old, new)])
-        bench.check_frames(plan)
+        bench.check_frames(reference.whole_restore("TINY64", plan, saved))
         bench.check_chip(old)
 
 
@@ -379,11 +386,15 @@ def shows_progress(start):
         "SEALED: the chip is changed from here on.", "erase: erases sent 1", "read back: sectors read 1",
         "program: pages sent 1", "compare: sector 1 of 16"])
     bench.expect_at_terminal("-v", "new", lines=["identify 1", "scan: sector 1 of 16"])
+    steps = ["Sectors to change: 4. Erases: 4.", "The chip is changed from here on.", "erase: erases sent 1",
+             "program: pages sent 1", "read back: sectors read 1"]
     bench.expect_at_terminal("--restore", "j", lines=[
-        "identify 1", "Sectors to change: 4. Erases: 4.", "The chip is changed from here on.", "erase: erases sent 1",
-        "program: pages sent 1", "read back: sectors read 1"])
+        "identify 1", "scan: sector 1 of 12", *steps, "compare: sector 1 of 12"])
     bench.check_chip(old)
+    bench.expect_at_terminal("--restore", "j", "-N", lines=["identify 1", *steps])
     bench.expect_at_terminal("--restore", "j", "--quick", lines=[
+        "identify 1", "scan: sector 1 of 16", "Sectors to change: 0. Erases: 0.", "compare: sector 1 of 12"])
+    bench.expect_at_terminal("--restore", "j", "--quick", "-N", lines=[
         "identify 1", "scan: sector 1 of 4", "Sectors to change: 0. Erases: 0."])
     bench.write("old", old)
     bench.expect_at_terminal("-w", "old", "--journal", "k", lines=[

@@ -206,6 +206,20 @@ def restore(part, old, saved):
     return identify(part) + rewriting(old, saved)
 
 
+def read_rest(part, saved):
+    """Returns the plan that reads each sector that a journal doesn't save, from the last one down."""
+    return [read_sector(it) for it in reversed(range(PARTS[part].size // SECTOR)) if it not in saved]
+
+
+def whole_restore(part, plan, saved):
+    """Returns the plan of --restore without -N, with this restore of a journal that saves these sectors.
+
+    The chip is identified first. The sectors that the journal doesn't save are read before the restore, and after it.
+    """
+    rest = read_rest(part, saved)
+    return probe(part) + rest + plan + rest
+
+
 def read_out(part, numbers):
     """Returns the plan of -r. The program probes before it creates the file, and again before it reads."""
     return probe(part) * 2 + [read_sector(it) for it in numbers]

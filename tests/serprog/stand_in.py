@@ -227,12 +227,50 @@ class Job:
         return self.restore_from(whole)
 
     def restore_from(self, whole):
-        if "-c" in self.given:
-            self.found(self.given["-c"])
-        self.link.count = 0
-        line = self.found()
+        """Restores the chip. Except with -N, the sectors that the journal doesn't save are compared."""
+        compares = "-N" not in self.given or MISTAKE == "compares a restore with -N"
+        if compares or "-c" in self.given:
+            self.found(self.given.get("-c"))
+        if not compares:
+            return self.restore_saved(whole)
+        self.check_kind(whole)
+        saved = [] if MISTAKE == "reads saved sectors" else [
+            int.from_bytes(whole[at : at + 4], "little") for at in range(25, len(whole) - 36, SECTOR + 4)]
+        rest = [out for out, _ in reference.read_rest(self.part, saved)]
+        before = [self.link.transfer(out, SECTOR) for out in rest]
+        failed = ()
+        try:
+            lines = self.restore_saved(whole)
+        except Fault as why:
+            failed = why.args
+            if not failed[0].startswith("Error 14:") or MISTAKE == "compares only successful restores":
+                raise
+        try:
+            self.compare_rest(rest, before)
+        except Fault as why:
+            raise Fault(*failed * (MISTAKE != "hides the error of a restore"), *why.args) from None
+        if failed:
+            raise Fault(*failed)
+        return lines
+
+    def compare_rest(self, rest, before):
+        """Reads sectors again after a restore, and compares them with those before it."""
+        if MISTAKE == "compares no rest":
+            return
+        after = [self.link.transfer(out, SECTOR) for out in rest]
+        differ = [int.from_bytes(out[1:], "big") + next(at for at in range(SECTOR) if was[at] != now[at])
+                  for out, was, now in zip(rest, before, after) if was != now]
+        if differ:
+            raise Fault(f"Chip fault 4: the chip differs at 0x{min(differ):06x} from what was read before this restore.")
+
+    def check_kind(self, whole):
         if whole[8:11] != PARTS[self.part].id:
             raise Fault("Error 16: another chip than the journal's.")
+
+    def restore_saved(self, whole):
+        self.link.count = 0
+        line = self.found()
+        self.check_kind(whole)
         status = self.open_status()
         if whole[11:19] != self.unique and MISTAKE != "restores any device":
             raise Fault("Error 20: another unit than the journal's.")

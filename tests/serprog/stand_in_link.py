@@ -112,9 +112,12 @@ def check_usage(given):
             raise usage(7, f"error: {option} needs {other}")
     if "-l" in given and not has_regions:
         raise usage(7, "error: -l and -i need -r, -v, -w or -E")
-    for option in "-n", "-N", "--unlock":
-        if option in given and not ("-w" in given or "-E" in given):
-            raise usage(8, f"error: {option} needs -w or -E")
+    if "-n" in given and not ("-w" in given or "-E" in given):
+        raise usage(8, "error: -n needs -w or -E")
+    if "-N" in given and not ("-w" in given or "-E" in given or "--restore" in given):
+        raise usage(8, "error: -N needs -w, -E or --restore")
+    if "--unlock" in given and not ("-w" in given or "-E" in given):
+        raise usage(8, "error: --unlock needs -w or -E")
     if "--quick" in given and "--restore" not in given:
         raise usage(8, "error: --quick needs --restore")
     return keys

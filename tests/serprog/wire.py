@@ -153,6 +153,10 @@ def restores_marginal_bytes(start):
             bench.plug()
             plan = reference.restore("TINY64", old, (1, 2, 7, 15))
             bench.expect("--restore", "j", out=[reference.found("TINY64"), reference.report(plan, 4)])
+            # The marginal bytes are in saved sectors, which aren't read before they are rewritten.
+            first = numbers_of(bench, 0x06)[0]
+            reads = [int.from_bytes(out[1:], "big") // SECTOR for out, _ in bench.server.log[:first] if out[0] == 0x03]
+            check("saved sectors that are read first", [it for it in reads if it in (1, 2, 7, 15)], [])
             check("marginal bytes", bench.chip.marginal, {})
             bench.check_chip(old)
 

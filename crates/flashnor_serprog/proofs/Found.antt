@@ -23,9 +23,11 @@ use Rattle.nor_lines.specs.declared.messages.Fault.{Fault}
 use Rattle.nor_lines.specs.declared.messages.Fault.TheVariants as end
 use Rattle.flashnor_serprog.specs.Jobs.{DoesTask, FailsChange, FailsComparison, FailsPerform, FailsToChange}
 use Rattle.flashnor_serprog.specs.Following.{FailsToFollow}
-use Rattle.flashnor_serprog.specs.Jobs.{FailsToFill, FailsToFind, FailsToTarget, HasChangedAndCompared, HasChangedBy}
-use Rattle.flashnor_serprog.specs.Jobs.{HasIdentified, HasNotCompared, HasRunChange, IsBufferOf, IsProtected}
+use Rattle.flashnor_serprog.specs.Jobs.{FailsToFill, FailsToTarget, HasChangedAndCompared, HasChangedBy}
+use Rattle.flashnor_serprog.specs.Jobs.{HasNotCompared, HasRunChange, IsBufferOf, IsProtected}
 use Rattle.flashnor_serprog.specs.Jobs.{IsRefusedAsProtected, is_compared, ranges_of}
+use Rattle.flashnor_serprog.specs.Identified.{FailsToFind, HasIdentified}
+use Rattle.flashnor_serprog.specs.Restoring.{FailsRestore}
 use Rattle.flashnor_serprog.specs.declared.chip_faults.JobFault.{JobFault}
 use Rattle.flashnor_serprog.specs.declared.chip_faults.JobFault.TheVariants as ended
 
@@ -88,6 +90,19 @@ module _ (named : Option ChipName) (old new : BusState) where
   compares_none wanted.Erase ranges bytes refusal fails = targets_none wanted.Erase ranges bytes refusal fails
   compares_none (wanted.Range start len) ranges bytes refusal fails = fails
 
+  targets_no_rest : (target : Wanted) (ranges : Option (List Span)) (bytes : List ℕ) (outcome : Result Answer Refusal)
+      (refusal : Refusal) → FailsToTarget named target ranges bytes old new (ended.RestNotCompared outcome refusal) → ⊥
+  targets_no_rest target ranges bytes outcome refusal (inl fails) = fails
+  targets_no_rest target ranges bytes outcome refusal (inr made) = absurd (cc made.2)
+
+  fills_no_rest : (target : Wanted) (ranges : Option (List Span)) (bytes : List ℕ) (outcome : Result Answer Refusal)
+      (refusal : Refusal) → FailsToFill named target ranges bytes old new (ended.RestNotCompared outcome refusal) → ⊥
+  fills_no_rest (wanted.Write image) ranges bytes outcome refusal fails =
+      targets_no_rest (wanted.Write image) ranges bytes outcome refusal fails
+  fills_no_rest wanted.Erase ranges bytes outcome refusal fails =
+      targets_no_rest wanted.Erase ranges bytes outcome refusal fails
+  fills_no_rest (wanted.Range start len) ranges bytes outcome refusal fails = fails
+
 module _ (operation : Operation) (old new : BusState) (change : Change) (ranges : Option (List Span))
     (bytes : List ℕ) (file : Bor Text) (view : View) (after : FilesState) where
   -- A fault of making the buffer of a session is a fault of a change with a journal in a file, if the files are as they
@@ -100,6 +115,8 @@ module _ (operation : Operation) (old new : BusState) (change : Change) (ranges 
       rw is (refuses operation.named old new change.wanted _ bytes file view after byte same fails)
   fill_fails kept (ended.NotCompared refusal) is same fails =
       absurd (compares_none operation.named old new change.wanted _ bytes refusal fails)
+  fill_fails kept (ended.RestNotCompared outcome refusal) is same fails =
+      absurd (fills_no_rest operation.named old new change.wanted _ bytes outcome refusal fails)
 
 module _ (operation : Operation) (old new : BusState) (change : Change) (ranges : Option (List Span))
     (bytes : List ℕ) (file : Bor Text) (view : View) where
@@ -124,6 +141,11 @@ module _ (named : Option ChipName) (target : List ℕ) (old new : BusState) wher
   follows_unprotected found true byte fails = fails
   follows_unprotected found false byte fails = fails
 
+  follows_no_rest : (found : Answer) (compared : Bool) (outcome : Result Answer Refusal) (refusal : Refusal)
+      → FailsToFollow (Ok found) compared named target old new (ended.RestNotCompared outcome refusal) → ⊥
+  follows_no_rest found true outcome refusal fails = fails
+  follows_no_rest found false outcome refusal fails = fails
+
 -- a change with its journal in a file: what was done, and the fault of the comparison after the session
 module _ (operation : Operation) (change : Change) (ranges : Option (List Span)) (bytes : List ℕ)
     (kept : JournalUse) (file : Bor Text) (is : kept ≡ uses.Journal file) (view : View) (after : FilesState)
@@ -147,6 +169,8 @@ module _ (operation : Operation) (change : Change) (ranges : Option (List Span))
       absurd (follows_unprotected operation.named ran.image changed new found (is_compared operation change) byte fails)
   follow_fails (Ok found) (ended.NotCompared refusal) ran fails =
       not_compared refusal (record { changed = changed; reported = found; session = ran; fails = fails })
+  follow_fails (Ok found) (ended.RestNotCompared outcome refusal) ran fails = absurd
+      (follows_no_rest operation.named ran.image changed new found (is_compared operation change) outcome refusal fails)
   follow_fails (Err refusal) fault ran fails = absurd fails
 
 -- a change, as the job that the arguments ask for
@@ -162,3 +186,11 @@ module _ (operation : Operation) (change : Change) (ranges : Option (List Span))
       IfErr result (FailsChange operation change ranges bytes change.journal_use view after old new)
       → IfErr result (FailsPerform operation job ranges bytes view after old new)
   change_failed fails = rw is fails
+
+-- a restore, as the job that the arguments ask for
+module _ (operation : Operation) (ranges : Option (List Span)) (bytes : List ℕ) (view : View) (after : FilesState)
+    (old new : BusState) (job : Task) (journal : Bor Text) (is : job ≡ task.Restore journal)
+    (result : Result (Result Answer Refusal) JobFault) where
+  pub restore_failed : IfErr result (FailsRestore operation bytes old new)
+      → IfErr result (FailsPerform operation job ranges bytes view after old new)
+  restore_failed fails = rw is fails

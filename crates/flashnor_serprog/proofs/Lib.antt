@@ -2,4 +2,6 @@ pub mod Found
 pub mod Merged
 pub mod Sent
 pub mod Helped
+pub mod RestRead
+pub mod Restored
 pub mod Rates

@@ -7,10 +7,10 @@ use Rattle.nor_layout.specs.declared.ranges.Span.{Span}
 use Rattle.nor_probe.specs.declared.probes.Found.{Found}
 use Rattle.nor_probe.specs.declared.table.ChipName.{ChipName}
 use Rattle.nor_request.specs.declared.refusal.Refusal.{Refusal}
-use Rattle.nor_request.specs.declared.refusal.Refusal.TheVariants.{Memory}
+use Rattle.nor_request.specs.declared.refusal.Refusal.TheVariants.{Memory, Mismatch, OtherChip, Stopped}
 use Rattle.nor_request.specs.declared.request.Request.{Request}
 use Rattle.nor_request.specs.declared.request.What.{What}
-use Rattle.nor_session.specs.Session.{SendsSaved}
+use Rattle.nor_session.specs.Session.{IsSavedCode, SendsSaved}
 use Rattle.nor_words.specs.Text.{Text}
 use Rattle.nor_words.specs.declared.job.Change.{Change}
 use Rattle.nor_words.specs.declared.job.JournalUse.{JournalUse}
@@ -28,11 +28,14 @@ use Rattle.nor_lines.specs.declared.messages.Fault.TheVariants as end
 use Rattle.flashnor_serprog.specs.Following.{FailsToFollow, FailsToMerge, IsFollowed, IsWholeTarget}
 use Rattle.flashnor_serprog.specs.Jobs.{DoesTask, FailsBefore, FailsComparison, FailsPerform, FailsToChange}
 use Rattle.flashnor_serprog.specs.Jobs.{FailsToFill, FailsToTarget, HasChangedBy, HasReadBy, HasRunChange, HasTarget}
-use Rattle.flashnor_serprog.specs.Jobs.{IsBufferOf, IsNamedFirst, asked_bytes, is_compared}
+use Rattle.flashnor_serprog.specs.Jobs.{IsBufferOf, asked_bytes, is_compared}
+use Rattle.flashnor_serprog.specs.Identified.{IsNamedFirst}
 use Rattle.flashnor_serprog.specs.Run.{EndsJob, IsEndedAs}
 use Rattle.flashnor_serprog.specs.declared.chip_faults.JobFault.{JobFault}
 use Rattle.flashnor_serprog.specs.declared.chip_faults.JobFault.TheVariants as ended
-use Rattle.flashnor_serprog.specs.Sends.{KeepsSent, SendsChange, SendsJournalled, SendsOnly}
+use Rattle.flashnor_serprog.specs.Rest.{FailsRest, FollowsRestore, is_followed}
+use Rattle.flashnor_serprog.specs.Restoring.{FailsBy, FailsRestOf, FailsRestore, HasReadBefore, HasRestoredBy}
+use Rattle.flashnor_serprog.specs.Sends.{KeepsSent, SendsChange, SendsJournalled, SendsOnly, SendsRestore}
 
 reads_on : (old mid new : BusState) → KeepsSent old mid → KeepsSent mid new → KeepsSent old new
 reads_on old mid new one other = other ∙ one
@@ -161,6 +164,71 @@ read_sends true named file ranges before after old new outcome does =
 read_sends false named file ranges before after old new outcome does =
     reads_on old does.found new does.identified.always.only_reads.sent does.read.read.always.only_reads.sent
 
+-- ---- restores
+
+before_reads : (named : Option ChipName) (journal : Journal) (rest : List ℕ) (old new : BusState)
+    → HasReadBefore named journal rest old new → KeepsSent old new
+before_reads named journal rest old new has =
+    reads_on old has.found new has.identified.always.only_reads.sent has.read.only_reads.sent
+
+rest_follows : (followed : Bool) (journal : Journal) (rest : List ℕ) (old new : BusState)
+    → FollowsRestore followed journal rest old new → KeepsSent old new
+rest_follows true journal rest old new kept = kept.read.only_reads.sent
+rest_follows false journal rest old new same = same_keeps_sent old new same
+
+restored_sends : (operation : Operation) (journal : Journal) (old new : BusState) (outcome : Result Answer Refusal)
+    (compared : Bool) → HasRestoredBy compared operation journal old new outcome
+    → SendsSaved (IsSavedCode journal) 1 journal old new
+restored_sends operation journal old new outcome false does =
+    sends_after _ _ old does.found new (named_reads operation.named old does.found does.first) does.ran.always.sends
+restored_sends operation journal old new outcome true does =
+    sends_before _ _ old does.restored new
+    (sends_after _ _ old does.found does.restored (before_reads operation.named journal does.rest old does.found does.first)
+    does.ran.always.sends) (rest_follows (is_followed outcome) journal does.rest does.restored new does.followed)
+
+rest_fails : (journal : Journal) (rest : List ℕ) (old new : BusState) (refusal : Refusal)
+    → FailsRest journal rest old new refusal → KeepsSent old new
+rest_fails journal rest old new Stopped stopped = stopped.only_reads.sent
+rest_fails journal rest old new (Mismatch address) lost = lost.read.only_reads.sent
+rest_fails journal rest old new _ fails = absurd fails
+
+unread_rest : (journal : Journal) (chip : Found) (old new : BusState) (refusal : Refusal)
+    → FailsRestOf journal chip old new refusal → KeepsSent old new
+unread_rest journal chip old new OtherChip other = same_keeps_sent old new other.0
+unread_rest journal chip old new Stopped stopped = stopped.only_reads.sent
+unread_rest journal chip old new _ fails = absurd fails
+
+-- A restore that fails before its call to the engine sends no modifying command. If the comparison after it fails, what
+-- was sent fits the journal.
+restore_fails : (operation : Operation) (journal : Journal) (old new : BusState) (compared : Bool) (fault : JobFault)
+    → FailsBy compared operation journal old new fault
+    → KeepsSent old new ⊎ SendsSaved (IsSavedCode journal) 1 journal old new
+restore_fails operation journal old new true (ended.Fault fault) (inl short) = inl (same_keeps_sent old new short.0)
+restore_fails operation journal old new true (ended.Fault fault) (inr (inl found)) =
+    inl found.1.always.only_reads.sent
+restore_fails operation journal old new true (ended.Fault fault) (inr (inr has)) =
+    inl (reads_on old has.1.found new has.1.identified.always.only_reads.sent
+    (unread_rest journal has.1.chip has.1.found new has.0 has.1.fails))
+restore_fails operation journal old new true (ended.RestNotCompared outcome refusal) has = inr (sends_before _ _ old
+    has.restored new (sends_after _ _ old has.found has.restored
+    (before_reads operation.named journal has.rest old has.found has.first) has.ran.always.sends)
+    (rest_fails journal has.rest has.restored new refusal has.fails))
+restore_fails operation journal old new true _ fails = absurd fails
+restore_fails operation journal old new false (ended.Fault fault) found = inl found.1.always.only_reads.sent
+restore_fails operation journal old new false _ fails = absurd fails
+
+job_restore_fails : (operation : Operation) (bytes : List ℕ) (old new : BusState) (fault : JobFault)
+    → FailsRestore operation bytes old new fault → KeepsSent old new ⊎ SendsRestore bytes old new
+job_restore_fails operation bytes old new fault (inr none) = inl (same_keeps_sent old new none.1.0)
+job_restore_fails operation bytes old new fault (inl has) =
+    elim (restore_fails operation has.journal old new operation.verifies_all fault has.fails) [
+      | inl kept ↦ inl kept
+      | inr sends ↦ inr (record {
+        journal = record { content = has.journal; is = has.sound; same = has.read };
+        sends = sends;
+      })
+    ]
+
 task_sends : (operation : Operation) (job : Task) (ranges : Option (List Span)) (bytes : List ℕ) (before : View)
     (after : FilesState) (old new : BusState) (outcome : Result Answer Refusal)
     → DoesTask operation job ranges bytes before after old new outcome → SendsOnly job bytes old new after
@@ -175,7 +243,7 @@ task_sends operation (task.Change change) ranges bytes before after old new outc
     change_sends operation change ranges bytes change.journal_use before after old new outcome does
 task_sends operation (task.Restore journal) ranges bytes before after old new outcome does = inr (record {
   journal = record { content = does.journal; is = does.sound; same = does.read };
-  sends = sends_after _ _ old does.found new (named_reads operation.named old does.found does.first) does.ran.always.sends;
+  sends = restored_sends operation does.journal old new outcome operation.verifies_all does.restored;
 })
 
 merge_fails_reads : (named : Option ChipName) (size : ℕ) (ranges : Option (List Span)) (image : List ℕ)
@@ -231,8 +299,6 @@ fails_sends : (named : Option ChipName) (job : Task) (bytes : List ℕ) (view : 
     → SendsOnly job bytes old new after
 fails_sends named (task.Read file regions) bytes view after old new fault (inl found) = found.1.always.only_reads.sent
 fails_sends named (task.Read file regions) bytes view after old new fault (inr made) = made.1.always.only_reads.sent
-fails_sends named (task.Restore journal) bytes view after old new fault (inl found) = inl found.1.always.only_reads.sent
-fails_sends named (task.Restore journal) bytes view after old new fault (inr none) = inl (same_keeps_sent old new none.0)
 fails_sends named _ bytes view after old new fault fails = absurd fails
 
 comparison_sends : (operation : Operation) (change : Change) (ranges : Option (List Span)) (bytes : List ℕ)
@@ -256,6 +322,8 @@ task_fails_sends operation (task.Change change) ranges bytes view after old new 
     sends_none _ change.journal_use old new after fails.protected.identified.always.only_reads.sent
 task_fails_sends operation (task.Change change) ranges bytes view after old new (ended.NotCompared refusal) fails =
     comparison_sends operation change ranges bytes change.journal_use view after old new refusal fails
+task_fails_sends operation (task.Restore journal) ranges bytes view after old new fault fails =
+    job_restore_fails operation bytes old new fault fails
 task_fails_sends operation job ranges bytes view after old new (ended.Fault fault) fails =
     fails_sends operation.named job bytes view after old new fault fails
 task_fails_sends operation job ranges bytes view after old new _ fails = absurd fails

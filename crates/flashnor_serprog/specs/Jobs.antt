@@ -1,22 +1,14 @@
 -- The effect of a job on a chip, on every bus: its call to the engine, the result of that call, and the faults before
 -- the call.
-use Rattle.std.specs.Prelude.{◌≡◌, ◌&&◌, ◌⊎◌, ℕ, Bool, true, false, List, Option, None, Some, Result, Ok, Err, IfOk, OnOk}
+use Rattle.std.specs.Prelude.{◌≡◌, ◌&&◌, ◌⊎◌, ℕ, Bool, true, false, List, Option, Result, Ok}
 use Rattle.std.specs.Prelude.{bit_and, nat_eq, not, replicate}
 use Rattle.nor_model.specs.Bus.{BusState}
 use Rattle.nor_files.specs.Files.{FilesState, View}
-use Rattle.nor_journal.specs.Fault.{HasFault}
-use Rattle.nor_journal.specs.Text.{Content as Journal, IsContent, text}
-use Rattle.nor_journal.specs.declared.fault.JournalFault.{JournalFault}
 use Rattle.nor_layout.specs.declared.ranges.Span.{Span}
-use Rattle.nor_probe.specs.Found.{IsConfigOf, ProbeAlways, ProbeHonest}
-use Rattle.nor_probe.specs.Known.{IsModelled}
 use Rattle.nor_probe.specs.declared.probes.Found.{Found}
-use Rattle.nor_probe.specs.declared.probes.ProbeFault.{ProbeFault}
 use Rattle.nor_probe.specs.declared.table.ChipName.{ChipName}
-use Rattle.nor_request.specs.Refusal.{of_probe}
 use Rattle.nor_request.specs.declared.refusal.Refusal.{Refusal}
-use Rattle.nor_request.specs.declared.refusal.Refusal.TheVariants.{BadJournal, Memory}
-use Rattle.nor_request.specs.declared.report.Report.{Report}
+use Rattle.nor_request.specs.declared.refusal.Refusal.TheVariants.{Memory}
 use Rattle.nor_words.specs.Text.{Text}
 use Rattle.nor_words.specs.declared.job.Change.{Change}
 use Rattle.nor_words.specs.declared.job.JournalUse.{JournalUse}
@@ -29,62 +21,25 @@ use Rattle.nor_words.specs.declared.job.Wanted.TheVariants as wanted
 use Rattle.nor_words.specs.declared.reasons.Reason.TheVariants as because
 use Rattle.nor_words.specs.declared.words.UsageFault.TheVariants as usage
 use Rattle.nor_lines.specs.Files.{IsMaking}
-use Rattle.nor_lines.specs.Readings.{AnswersCall, HasReadOut, HasReported, HasVerified, ListsRanges, ReportsProtection}
+use Rattle.nor_lines.specs.Readings.{HasReadOut, HasReported, HasVerified, ListsRanges, ReportsProtection}
 use Rattle.nor_lines.specs.Requests.{request_for}
 use Rattle.nor_lines.specs.Sessions.{HasBackedUpInFile, HasRunInFile}
 use Rattle.nor_lines.specs.declared.answers.Answer.{Answer}
-use Rattle.nor_lines.specs.declared.answers.Answer.TheVariants as answer
 use Rattle.nor_lines.specs.declared.messages.Fault.{Fault}
 use Rattle.nor_lines.specs.declared.messages.Fault.TheVariants as end
 use Rattle.flashnor_serprog.specs.Following.{FailsToFollow, FailsToMerge, IsFollowed, IsWholeTarget, ranges_if}
-use Rattle.flashnor_serprog.specs.Restoring.{HasRunRestore}
+use Rattle.flashnor_serprog.specs.Identified.{FailsToFind, HasIdentified, HasLookedUp, ReportsFound, ReportsSize}
+use Rattle.flashnor_serprog.specs.Restoring.{FailsRestore, HasRestored}
 use Rattle.flashnor_serprog.specs.declared.chip_faults.JobFault.{JobFault}
 use Rattle.flashnor_serprog.specs.declared.chip_faults.JobFault.TheVariants as ended
 
--- ---- identification
-
--- the result is the chip that was found, or the error for the probe's fault
-abbrev pub IsProbed : Result Found ProbeFault → Result Found Refusal → Type 0
-IsProbed (Ok found) result = result ≡ Ok found
-IsProbed (Err fault) result = result ≡ Err (of_probe fault)
-
--- The chip was identified, or the identification returned an error. The identification kept all promises of `probe`.
-pub record HasIdentified (named : Option ChipName) (old new : BusState) (result : Result Found Refusal) : Type 0 where
-  pub probed : Result Found ProbeFault
-  pub always : ProbeAlways named old new probed
-  pub honest : old.honest ≡ true → ProbeHonest named old new probed
-  pub modelled : IsModelled old → IfOk probed (IsConfigOf old.chip.config)
-  pub returned : IsProbed probed result
-
--- the answer is the chip that was found
-abbrev pub ReportsFound : Found → Answer → Type 0
-ReportsFound found (answer.Found returned) = returned ≡ found
-ReportsFound found _ = ⊥
-
--- the answer is the size of the chip that was found
-abbrev pub ReportsSize : Found → Answer → Type 0
-ReportsSize found (answer.Size size) = size ≡ found.size
-ReportsSize found _ = ⊥
-
--- The chip was identified, and the answer is about it; or the error of the identification was passed on.
-pub record HasLookedUp (reports : Found → Answer → Type 0) (named : Option ChipName) (old new : BusState)
-    (outcome : Result Answer Refusal) : Type 0 where
-  pub result : Result Found Refusal
-  pub identified : HasIdentified named old new result
-  pub returned : AnswersCall reports result outcome
-
--- the identification before a call returned an error, which is the fault of the run; nothing else was sent
-abbrev pub FailsToFind : Option ChipName → (old new : BusState) → Fault → Type 0
-FailsToFind named old new fault =
-    (refusal : Refusal) × HasIdentified named old new (Err refusal) × (fault ≡ end.Refused refusal)
+-- ---- reading
 
 -- The identification found a chip, and nothing else was sent. Then creating or truncating the file of this name failed.
 -- The fault is one that `IsMaking` allows.
 abbrev pub FailsToMake : Option ChipName → Text → View → (old new : BusState) → Fault → Type 0
 FailsToMake named file view old new fault =
     (chip : Found) × HasIdentified named old new (Ok chip) × IsMaking view file fault
-
--- ---- reading
 
 -- The chip was identified, and then read into the file, in the given ranges, or the reading failed.
 pub record HasReadChip (named : Option ChipName) (file : Text) (ranges : Option (List Span)) (after : View)
@@ -138,7 +93,7 @@ pub record IsProtected (named : Option ChipName) (old new : BusState) (byte : �
 abbrev pub FailsToAdmit : Option ChipName → (old new : BusState) → JobFault → Type 0
 FailsToAdmit named old new (ended.Fault fault) = FailsToFind named old new fault
 FailsToAdmit named old new (ended.Protected status1) = IsProtected named old new status1
-FailsToAdmit named old new (ended.NotCompared refusal) = ⊥
+FailsToAdmit named old new _ = ⊥
 
 -- ---- changes
 
@@ -283,28 +238,7 @@ FailsChange operation change ranges bytes kept before after old new (ended.Prote
     IsRefusedAsProtected operation.named change.wanted kept before after old new status1
 FailsChange operation change ranges bytes kept before after old new (ended.NotCompared refusal) =
     FailsComparison operation change ranges bytes kept before after old new refusal
-
--- ---- restores
-
--- if a name is given, the chip was identified and has this name; otherwise nothing was sent
-abbrev pub IsNamedFirst : Option ChipName → (old new : BusState) → Type 0
-IsNamedFirst None old new = new ≡ old
-IsNamedFirst (Some name) old new = (chip : Found) × HasIdentified (Some name) old new (Ok chip)
-
--- The bytes are a journal. A restore from that journal was run, after the chip's name was checked if a name is given.
-pub record HasRestored (operation : Operation) (bytes : List ℕ) (old new : BusState)
-    (outcome : Result Answer Refusal) : Type 0 where
-  pub journal : Journal
-  pub sound : IsContent journal
-  pub read : bytes ≡ text journal
-  pub found : BusState
-  pub first : IsNamedFirst operation.named old found
-  pub ran : HasRunRestore operation.is_quick journal found new outcome
-
--- the bytes are no journal, which is error 15, and nothing was sent
-abbrev pub IsNoJournal : (bytes : List ℕ) → (old new : BusState) → Fault → Type 0
-IsNoJournal bytes old new fault = (new ≡ old)
-    × ((why : JournalFault) × HasFault bytes why × (fault ≡ end.Refused (BadJournal why)))
+FailsChange operation change ranges bytes kept before after old new (ended.RestNotCompared outcome refusal) = ⊥
 
 -- ---- tasks
 
@@ -328,19 +262,19 @@ DoesTask operation (task.Change change) ranges bytes before after old new outcom
 DoesTask operation (task.Restore journal) ranges bytes before after old new outcome =
     HasRestored operation bytes old new outcome
 
--- the faults with which a read or a restore may end before the call that `DoesTask` describes; none for another task
+-- the faults with which a read may end before the call that `DoesTask` describes; none for another task
 abbrev pub FailsBefore : Option ChipName → Task → (bytes : List ℕ) → View → (old new : BusState) → Fault → Type 0
 FailsBefore named (task.Read file regions) bytes view old new fault = FailsToRead named file.now view old new fault
-FailsBefore named (task.Restore journal) bytes view old new fault =
-    FailsToFind named old new fault ⊎ IsNoJournal bytes old new fault
 FailsBefore named _ bytes view old new fault = ⊥
 
--- The faults of `perform`: those before the call of a task and, only for a change, chip fault 1 and that of the
--- comparison.
+-- The faults of `perform`: those before the call of a task; for a change also chip fault 1 and that of the comparison;
+-- and for a restore that of the comparison.
 abbrev pub FailsPerform : Operation → Task → (ranges : Option (List Span)) → (bytes : List ℕ) → (before : View)
     → (after : FilesState) → (old new : BusState) → JobFault → Type 0
 FailsPerform operation (task.Change change) ranges bytes before after old new fault =
     FailsChange operation change ranges bytes change.journal_use before after old new fault
+FailsPerform operation (task.Restore journal) ranges bytes before after old new fault =
+    FailsRestore operation bytes old new fault
 FailsPerform operation job ranges bytes before after old new (ended.Fault fault) =
     FailsBefore operation.named job bytes before old new fault
 FailsPerform operation job ranges bytes before after old new _ = ⊥

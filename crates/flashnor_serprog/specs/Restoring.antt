@@ -1,17 +1,29 @@
--- A restore's call to the engine.
-use Rattle.std.specs.Prelude.{◌≡◌, Bool, true, false, Result, OnOk}
+-- A restore: its call to the engine, what is read before and after it, and its faults.
+use Rattle.std.specs.Prelude.{◌≡◌, ◌⊎◌, ℕ, Bool, true, false, List, Option, Result, Ok, OnOk}
 use Rattle.nor_model.specs.Bus.{BusState}
 use Rattle.nor_apply.specs.Applying.{ErasesFirst}
+use Rattle.nor_journal.specs.Fault.{HasFault}
 use Rattle.nor_journal.specs.Saved.{is_saved}
-use Rattle.nor_journal.specs.Text.{Content as Journal}
+use Rattle.nor_journal.specs.Text.{Content as Journal, IsContent, text}
+use Rattle.nor_journal.specs.declared.fault.JournalFault.{JournalFault}
 use Rattle.nor_probe.specs.Known.{IsModelled}
+use Rattle.nor_probe.specs.declared.probes.Found.{Found}
+use Rattle.nor_probe.specs.declared.table.ChipName.{ChipName}
 use Rattle.nor_request.specs.declared.refusal.Refusal.{Refusal}
+use Rattle.nor_request.specs.declared.refusal.Refusal.TheVariants.{BadJournal, Memory, OtherChip, Stopped}
 use Rattle.nor_request.specs.declared.report.Report.{Report}
 use Rattle.nor_session.specs.Headline.{RestoresOriginal, RewritesOriginal}
-use Rattle.nor_session.specs.Restore.{AlwaysBy, Choice, HonestBy, ModelledBy, differing, every_saved}
+use Rattle.nor_session.specs.Restore.{AlwaysBy, Choice, HonestBy, IsOfTypeFound, ModelledBy, differing, every_saved}
+use Rattle.nor_words.specs.declared.job.Operation.{Operation}
 use Rattle.nor_lines.specs.Readings.{AnswersCall}
 use Rattle.nor_lines.specs.Sessions.{ReportsDone}
 use Rattle.nor_lines.specs.declared.answers.Answer.{Answer}
+use Rattle.nor_lines.specs.declared.messages.Fault.{Fault}
+use Rattle.nor_lines.specs.declared.messages.Fault.TheVariants as end
+use Rattle.flashnor_serprog.specs.Identified.{FailsToFind, HasIdentified, IsNamedFirst}
+use Rattle.flashnor_serprog.specs.Rest.{FailsRest, FollowsRestore, HasReadRest, HasStoppedInRest, is_followed}
+use Rattle.flashnor_serprog.specs.declared.chip_faults.JobFault.{JobFault}
+use Rattle.flashnor_serprog.specs.declared.chip_faults.JobFault.TheVariants as ended
 
 -- the sectors that a restore rewrites: with `--quick` those that differ, otherwise every saved one
 abbrev pub choice_of : (quick : Bool) → Choice
@@ -34,3 +46,111 @@ pub record HasRunRestore (quick : Bool) (journal : Journal) (old new : BusState)
   pub modelled : IsModelled old → ModelledBy (choice_of quick) journal old new result
   pub thorough : quick ≡ false → OnOk result (ErasesFirst (is_saved journal) old new)
   pub returned : AnswersCall ReportsDone result outcome
+
+-- With `-N`: a restore from this journal was run, after the chip's name was checked if a name is given.
+pub record HasOnlyRestored (operation : Operation) (journal : Journal) (old new : BusState)
+    (outcome : Result Answer Refusal) : Type 0 where
+  pub found : BusState
+  pub first : IsNamedFirst operation.named old found
+  pub ran : HasRunRestore operation.is_quick journal found new outcome
+
+-- The chip was identified, and has the journal's ID and size. Then the sectors that the journal doesn't save were read:
+-- `rest` has their bytes (`HasReadRest`).
+pub record HasReadBefore (named : Option ChipName) (journal : Journal) (rest : List ℕ) (old new : BusState) : Type 0 where
+  pub chip : Found
+  pub found : BusState
+  pub identified : HasIdentified named old found (Ok chip)
+  pub kind : IsOfTypeFound journal chip
+  pub read : HasReadRest journal rest found new
+
+-- Without `-N`: the sectors that the journal doesn't save were read, and a restore from the journal was run. If it
+-- succeeded or returned error 14, the sectors were read again, and had the same bytes (`FollowsRestore`).
+pub record HasRestoredAndCompared (operation : Operation) (journal : Journal) (old new : BusState)
+    (outcome : Result Answer Refusal) : Type 0 where
+  pub rest : List ℕ
+  pub found : BusState
+  pub restored : BusState
+  pub first : HasReadBefore operation.named journal rest old found
+  pub ran : HasRunRestore operation.is_quick journal found restored outcome
+  pub followed : FollowsRestore (is_followed outcome) journal rest restored new
+
+-- a restore from this journal, with or without the comparison
+abbrev pub HasRestoredBy : (compared : Bool) → Operation → Journal → (old new : BusState) → Result Answer Refusal
+    → Type 0
+HasRestoredBy true operation journal old new outcome = HasRestoredAndCompared operation journal old new outcome
+HasRestoredBy false operation journal old new outcome = HasOnlyRestored operation journal old new outcome
+
+-- The bytes are a journal, and a restore from that journal was run.
+pub record HasRestored (operation : Operation) (bytes : List ℕ) (old new : BusState)
+    (outcome : Result Answer Refusal) : Type 0 where
+  pub journal : Journal
+  pub sound : IsContent journal
+  pub read : bytes ≡ text journal
+  pub restored : HasRestoredBy operation.verifies_all operation journal old new outcome
+
+-- The errors of reading the sectors that the journal doesn't save, after the chip was identified: 16 if it hasn't the
+-- journal's ID and size, and 12 if the bus stopped.
+abbrev pub FailsRestOf : Journal → Found → (old new : BusState) → Refusal → Type 0
+FailsRestOf journal chip old new OtherChip = (new ≡ old) × (¬ IsOfTypeFound journal chip)
+FailsRestOf journal chip old new Stopped = HasStoppedInRest journal old new
+FailsRestOf journal chip old new _ = ⊥
+
+-- The chip was identified, and then the reading of the sectors that the journal doesn't save returned this error.
+pub record HasNotReadRest (named : Option ChipName) (journal : Journal) (old new : BusState)
+    (refusal : Refusal) : Type 0 where
+  pub chip : Found
+  pub found : BusState
+  pub identified : HasIdentified named old found (Ok chip)
+  pub fails : FailsRestOf journal chip found new refusal
+
+-- the faults before a restore that is compared
+abbrev pub FailsToReadRest : Option ChipName → Journal → (old new : BusState) → Fault → Type 0
+FailsToReadRest named journal old new fault = FailsToFind named old new fault
+    ⊎ ((refusal : Refusal) × HasNotReadRest named journal old new refusal × (fault ≡ end.Refused refusal))
+
+-- A restore that is compared was run, and the comparison after it failed (`FailsRest`).
+pub record HasNotComparedRest (operation : Operation) (journal : Journal) (old new : BusState)
+    (outcome : Result Answer Refusal) (refusal : Refusal) : Type 0 where
+  pub rest : List ℕ
+  pub found : BusState
+  pub restored : BusState
+  pub first : HasReadBefore operation.named journal rest old found
+  pub ran : HasRunRestore operation.is_quick journal found restored outcome
+  pub followed : is_followed outcome ≡ true
+  pub fails : FailsRest journal rest restored new refusal
+
+-- the faults of a restore that is compared: memory ran out before anything was sent, or a fault before the restore or of
+-- the comparison after it
+abbrev pub FailsCompared : Operation → Journal → (old new : BusState) → JobFault → Type 0
+FailsCompared operation journal old new (ended.Fault fault) = ((new ≡ old) × (fault ≡ end.Refused Memory))
+    ⊎ FailsToReadRest operation.named journal old new fault
+FailsCompared operation journal old new (ended.RestNotCompared outcome refusal) =
+    HasNotComparedRest operation journal old new outcome refusal
+FailsCompared operation journal old new _ = ⊥
+
+-- the faults of a restore that is not compared
+abbrev pub FailsUncompared : Operation → (old new : BusState) → JobFault → Type 0
+FailsUncompared operation old new (ended.Fault fault) = FailsToFind operation.named old new fault
+FailsUncompared operation old new _ = ⊥
+
+-- the faults of a restore from this journal, with or without the comparison
+abbrev pub FailsBy : (compared : Bool) → Operation → Journal → (old new : BusState) → JobFault → Type 0
+FailsBy true operation journal old new fault = FailsCompared operation journal old new fault
+FailsBy false operation journal old new fault = FailsUncompared operation old new fault
+
+-- the bytes are no journal, which is error 15, and nothing was sent
+abbrev pub IsNoJournal : (bytes : List ℕ) → (old new : BusState) → Fault → Type 0
+IsNoJournal bytes old new fault = (new ≡ old)
+    × ((why : JournalFault) × HasFault bytes why × (fault ≡ end.Refused (BadJournal why)))
+
+-- The bytes are a journal, and the restore from that journal has this fault.
+pub record HasNotRestored (operation : Operation) (bytes : List ℕ) (old new : BusState) (fault : JobFault) : Type 0 where
+  pub journal : Journal
+  pub sound : IsContent journal
+  pub read : bytes ≡ text journal
+  pub fails : FailsBy operation.verifies_all operation journal old new fault
+
+-- the faults of a restore: the bytes are no journal, or the restore from the journal has the fault
+abbrev pub FailsRestore : Operation → (bytes : List ℕ) → (old new : BusState) → JobFault → Type 0
+FailsRestore operation bytes old new fault = HasNotRestored operation bytes old new fault
+    ⊎ ((error : Fault) × IsNoJournal bytes old new error × (fault ≡ ended.Fault error))

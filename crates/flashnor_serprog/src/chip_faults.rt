@@ -1,7 +1,7 @@
 //! The faults with which a job ends, and the lines of those that only this program has.
 ghost use Rattle.std.specs.Prelude.{◌≡◌};
 
-use nor_lines::Fault;
+use nor_lines::{Fault, Outcome};
 use nor_session::Refusal;
 use std::alloc::AllocError;
 use std::fmt;
@@ -17,6 +17,10 @@ pub enum JobFault<'a> {
     /// The change was made, and each sector that it touched was read back. Then the comparison of the whole chip with
     /// its target returned this error: 14 is printed as chip fault 4.
     NotCompared { refusal: Refusal },
+    /// A restore ended with this outcome, after the sectors that its journal doesn't save were read. Then the comparison
+    /// of these sectors returned this error: 14 is printed as chip fault 4, and 12 means that the bus stopped. If the
+    /// restore returned an error, its line is printed before.
+    RestNotCompared { outcome: Outcome, refusal: Refusal },
 }
 
 impl<'a> From<Fault<'a>> for JobFault<'a> {
@@ -50,17 +54,26 @@ impl JobFault<'_> {
                 | JobFault::NotCompared {
                     refusal: Refusal::Stopped
                 }
+                | JobFault::RestNotCompared {
+                    refusal: Refusal::Stopped,
+                    ..
+                }
         )
     }
 
-    /// Returns the line that follows the fault's own, if there is one: after a change that was made, the comparison
-    /// of the whole chip failed with another error than a difference.
+    /// Returns the line that follows the fault's own, if there is one: after a change or a restore that was made, the
+    /// comparison failed with another error than a difference.
     pub fn note(&self) -> Option<&'static str> {
         match self {
             JobFault::NotCompared {
                 refusal: Refusal::Mismatch { .. },
             } => None,
             JobFault::NotCompared { .. } => Some(NOT_COMPARED),
+            JobFault::RestNotCompared {
+                refusal: Refusal::Mismatch { .. },
+                ..
+            } => None,
+            JobFault::RestNotCompared { .. } => Some(REST_NOT_COMPARED),
             _ => None,
         }
     }
@@ -69,6 +82,10 @@ impl JobFault<'_> {
 const NOT_COMPARED: &str =
     "The change was made, and its sectors were verified. Only the comparison \
     of the whole chip is missing.";
+
+const REST_NOT_COMPARED: &str =
+    "The sectors that the journal doesn't save were not compared after the restore. \
+    Compare the chip with a backup.";
 
 impl fmt::Display for JobFault<'_> {
     fn fmt<W: fmt::Write>(&self, f: &mut fmt::Formatter<W>) -> fmt::Result {
@@ -86,13 +103,28 @@ impl fmt::Display for JobFault<'_> {
                 f,
                 "Chip fault 4: the chip differs from its target at 0x{address:06x}. {DIFFERS}"
             ),
-            JobFault::NotCompared { refusal } => write!(
-                f,
-                "Error {}: {refusal}.",
-                refusal.number()
-            ),
+            JobFault::NotCompared { refusal } => write_error(f, refusal),
+            JobFault::RestNotCompared { outcome, refusal } => {
+                if let Err(error) = outcome {
+                    write_error(f, error)?;
+                    f.write_str("\n")?;
+                }
+                match refusal {
+                    Refusal::Mismatch { address } => write!(
+                        f,
+                        "Chip fault 4: the chip differs at 0x{address:06x} from what was read \
+                        before this restore. {REST_DIFFERS}"
+                    ),
+                    _ => write_error(f, refusal),
+                }
+            }
         }
     }
+}
+
+// Writes the line of an error, without its end.
+fn write_error<W: fmt::Write>(f: &mut fmt::Formatter<W>, error: &Refusal) -> fmt::Result {
+    write!(f, "Error {}: {error}.", error.number())
 }
 
 const PROTECTED: &str = "On nearly every chip its bits 2 to 6 protect sectors, and this program \
@@ -102,3 +134,7 @@ const PROTECTED: &str = "On nearly every chip its bits 2 to 6 protect sectors, a
 const DIFFERS: &str = "The sectors of this change were verified, so this address is probably in \
     another sector, which a disturbed address on the wire has erased or programmed. Restore the chip \
     with --restore and the journal, then compare it with a backup.";
+
+const REST_DIFFERS: &str = "The journal doesn't save this sector, which a disturbed address on the \
+    wire has probably erased or programmed. Restore it from a backup: to another restore from this \
+    journal it looks as it is now.";

@@ -25,8 +25,9 @@ journal holds the old content and status of all that a change touches, and
 --restore needs it: keep it until you have accepted the change.
 
 After -w and -E the whole chip is compared with what it should hold, also
-outside the regions of -i. -N leaves that out: a wrong address on the wire,
-which erased or programmed another sector, then stays unnoticed.
+outside the regions of -i. After --restore the sectors that its journal lacks
+are compared with what they held before it. -N leaves that out: a wrong address
+on the wire, which erased or programmed another sector, then stays unnoticed.
 
 --restore rewrites each saved sector. --quick rewrites only those that differ:
 use it only if the chip never lost its power while it was being changed.

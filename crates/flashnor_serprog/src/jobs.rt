@@ -4,10 +4,9 @@ ghost use Rattle.nor_files.specs.Files.{Name, OthersStay, KeepsFile, is_lawful};
 ghost use Rattle.nor_lines.specs.Tasks.{journal_of, made_by};
 ghost use Rattle.nor_lines.specs.Readings.{HasVerified};
 ghost use Rattle.nor_lines.specs.Stored.{IsNot};
+ghost use Rattle.flashnor_serprog.specs.Identified.{FailsToFind, HasIdentified, HasLookedUp, ReportsFound, ReportsSize};
 ghost use Rattle.flashnor_serprog.specs.Jobs.{DoesTask, FailsChange, FailsPerform, FailsToAdmit, FailsToFill};
-ghost use Rattle.flashnor_serprog.specs.Jobs.{FailsToFind};
-ghost use Rattle.flashnor_serprog.specs.Jobs.{FailsToRead, HasChangedBy, HasIdentified, HasLookedUp};
-ghost use Rattle.flashnor_serprog.specs.Jobs.{HasReadChip, IsBufferOf, IsChangeable, ReportsFound, ReportsSize};
+ghost use Rattle.flashnor_serprog.specs.Jobs.{FailsToRead, HasChangedBy, HasReadChip, IsBufferOf, IsChangeable};
 ghost use Rattle.flashnor_serprog.specs.Jobs.{changes_bytes, is_compared, may_be_protected};
 
 use crate::backups::backup_chip;
@@ -29,7 +28,7 @@ use nor_words::{Change, JournalUse, Operation, Reason, Task, UsageFault, Wanted}
 use std::alloc::{AllocError, Global};
 
 /// Performs the job that the arguments ask for, with the contents of the files that it needs. An error is a fault that
-/// occurred before the job's call to the engine, or in the comparison after a write or an erase.
+/// occurred before the job's call to the engine, or in the comparison after a write, an erase or a restore.
 ///
 /// The clauses hold on every bus: the promises of each call (`DoesTask`), and the faults with the commands sent until
 /// then (`FailsPerform`). If the files obey the contract of `Store`, each file is as it was whose
@@ -66,7 +65,9 @@ pub fn perform<'a, R: Store, B: Progress>(
         Task::Read { file, .. } => Ok(read_chip(rt, bus, named, *file, sources.included.as_ref())?),
         Task::Verify { .. } => Ok(verify_chip(bus, named, sources)),
         Task::Change(change) => change_chip(rt, bus, terminal, operation, change, sources),
-        Task::Restore { .. } => Ok(restore_chip(bus, terminal, operation, &sources.bytes)?),
+        Task::Restore { .. } => {
+            restore_chip(bus, terminal, operation, &sources.bytes, rt.alloc())
+        }
     }
 }
 

@@ -15,6 +15,7 @@
 //! - `jobs.rt`: performs a job on the chip
 //! - `backups.rt`: saves a whole chip in a new journal
 //! - `restoring.rt`: restores the chip from a journal
+//! - `rest.rt`: the sectors that a restore's journal does not save, and the comparison of them after the restore
 //! - `following.rt`: the target of a change, and the comparison of the whole chip with it
 //! - `status_line.rt`: the lines for a status write that was refused, or that the chip did not store
 //! - `chip_faults.rt`: the faults with which a job ends, and the lines of those that `flashnor` lacks
@@ -29,6 +30,7 @@ mod help;
 mod jobs;
 mod port;
 mod progress;
+mod rest;
 mod restoring;
 mod roles;
 mod run;

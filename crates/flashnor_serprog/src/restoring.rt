@@ -1,36 +1,171 @@
 //! Restores a chip from a journal.
-ghost use Rattle.std.specs.Prelude.{◌≡◌, ◌⊎◌, IfErr, IfOk, OnOk, false, true};
-ghost use Rattle.flashnor_serprog.specs.Jobs.{FailsToFind, HasRestored, IsNamedFirst, IsNoJournal};
-ghost use Rattle.flashnor_serprog.specs.Restoring.{HasRunRestore};
+ghost use Rattle.std.specs.Prelude.{◌≡◌, ◌<◌, ◌^◌, IfErr, IfOk, MatchBool, OnOk, false, length, replicate, true};
+ghost use Rattle.nor_session.specs.Restore.{IsOfTypeFound};
+ghost use Rattle.flashnor_serprog.specs.Identified.{FailsToFind, IsNamedFirst};
+ghost use Rattle.flashnor_serprog.specs.Rest.{AreUnsaved, FailsToFollowRestore, FollowsRestore, is_followed};
+ghost use Rattle.flashnor_serprog.specs.Restoring.{FailsBy, FailsCompared, FailsRestore, FailsToReadRest};
+ghost use Rattle.flashnor_serprog.specs.Restoring.{FailsUncompared, HasOnlyRestored, HasReadBefore, HasRestored};
+ghost use Rattle.flashnor_serprog.specs.Restoring.{HasRestoredAndCompared, HasRestoredBy, HasRunRestore};
 
+use crate::chip_faults::JobFault;
 use crate::jobs::find_first;
 use crate::progress::{Progress, Terminal};
+use crate::rest::{compare_rest, is_followed, read_rest, sectors_of};
 use nor_chip::Bus;
 use nor_journal::Journal;
-use nor_lines::{Answer, Fault, Outcome};
-use nor_probe::ChipName;
+use nor_lines::{Answer, Fault, Outcome, erased};
+use nor_probe::{ChipName, Found};
 use nor_session::{Refusal, restore_announced, rewrite_announced};
 use nor_words::Operation;
+use std::alloc::Global;
 
 /// Restores the chip from the bytes of a journal: erases and programs every saved sector, whatever it reads, or with
-/// `--quick` each one that differs. If `-c` is given, the chip must have that name. Returns error 15 if the bytes are no
-/// journal.
+/// `--quick` each one that differs. If `-c` is given, the chip must have that name.
+///
+/// Without `-N`, the sectors that the journal doesn't save are read before the restore, and after it if it succeeded or
+/// returned error 14. They must be the same. An error is one that occurred before the restore, or in this comparison.
+/// Returns error 15 if the bytes are no journal. Without `-N`, also returns 16 (a chip of another type), 18 (out of
+/// memory) or 12 (the bus stopped) before the restore.
 pub fn restore_chip<'a, B: Progress>(
     bus: &mut B,
     terminal: Terminal<'_>,
     operation: &Operation<'a>,
     bytes: &[u8],
-) -> Result<Outcome, Fault<'a>>
+    alloc: Global,
+) -> Result<Outcome, JobFault<'a>>
     ensures ok { IfOk result (HasRestored operation.now bytes.now (B.state bus.old) (B.state bus.new)) }
-    ensures err { IfErr result (λ fault. FailsToFind operation.now.named (B.state bus.old) (B.state bus.new) fault
-        ⊎ IsNoJournal bytes.now (B.state bus.old) (B.state bus.new) fault) }
+    ensures err { IfErr result (FailsRestore operation.now bytes.now (B.state bus.old) (B.state bus.new)) }
 {
     let journal = match Journal::read(bytes) {
         Ok(journal) => journal,
-        Err(fault) => return Err(Fault::Refused(Refusal::BadJournal(fault))),
+        Err(fault) => {
+            return Err(JobFault::Fault(Fault::Refused(Refusal::BadJournal(fault))));
+        }
     };
+    restore_from(bus, terminal, operation, &journal, alloc)
+}
+
+// Restores the chip from a journal. Without `-N`, compares the sectors that it doesn't save.
+fn restore_from<'a, B: Progress>(
+    bus: &mut B,
+    terminal: Terminal<'_>,
+    operation: &Operation<'a>,
+    journal: &Journal<'_>,
+    alloc: Global,
+) -> Result<Outcome, JobFault<'a>>
+    ensures ok { IfOk result (HasRestoredBy operation.now.verifies_all operation.now journal.now
+        (B.state bus.old) (B.state bus.new)) }
+    ensures err { IfErr result (FailsBy operation.now.verifies_all operation.now journal.now
+        (B.state bus.old) (B.state bus.new)) }
+{
+    if operation.verifies_all {
+        restore_compared(bus, terminal, operation, journal, alloc)
+    } else {
+        restore_uncompared(bus, terminal, operation, journal)
+    }
+}
+
+// Restores the chip, and compares the sectors that the journal doesn't save with those before the restore.
+fn restore_compared<'a, B: Progress>(
+    bus: &mut B,
+    terminal: Terminal<'_>,
+    operation: &Operation<'a>,
+    journal: &Journal<'_>,
+    alloc: Global,
+) -> Result<Outcome, JobFault<'a>>
+    ensures ok { IfOk result
+        (HasRestoredAndCompared operation.now journal.now (B.state bus.old) (B.state bus.new)) }
+    ensures err { IfErr result (FailsCompared operation.now journal.now (B.state bus.old) (B.state bus.new)) }
+{
+    let mut rest = erased(alloc, journal.size())?;
+    let mut again = erased(alloc, journal.size())?;
+    read_before(bus, operation, journal, &mut rest)?;
+    let outcome = run_restore(bus, terminal, journal, operation.is_quick);
+    follow_restore(bus, outcome, journal, &rest, &mut again)
+}
+
+// Restores the chip, after the check of its name if one is given.
+fn restore_uncompared<'a, B: Progress>(
+    bus: &mut B,
+    terminal: Terminal<'_>,
+    operation: &Operation<'a>,
+    journal: &Journal<'_>,
+) -> Result<Outcome, JobFault<'a>>
+    ensures ok { IfOk result (HasOnlyRestored operation.now journal.now (B.state bus.old) (B.state bus.new)) }
+    ensures err { IfErr result (FailsUncompared operation.now (B.state bus.old) (B.state bus.new)) }
+{
     check_name(bus, operation.named)?;
-    Ok(run_restore(bus, terminal, &journal, operation.is_quick))
+    Ok(run_restore(bus, terminal, journal, operation.is_quick))
+}
+
+// Identifies the chip, and reads the sectors that the journal doesn't save into `rest`. Returns error 16 if the chip
+// doesn't have the journal's ID and size.
+fn read_before<'a, B: Progress>(
+    bus: &mut B,
+    operation: &Operation<'a>,
+    journal: &Journal<'_>,
+    rest: &mut [u8],
+) -> Result<(), Fault<'a>>
+    requires { rest.old ≡ replicate journal.now.size 255 }
+    ensures ok { OnOk result
+        (HasReadBefore operation.now.named journal.now rest.new (B.state bus.old) (B.state bus.new)) }
+    ensures err { IfErr result
+        (FailsToReadRest operation.now.named journal.now (B.state bus.old) (B.state bus.new)) }
+{
+    let found = find_first(bus, operation.named)?;
+    if !is_of_type(journal, &found) {
+        return Err(Fault::Refused(Refusal::OtherChip));
+    }
+    let scanned = if operation.is_quick {
+        journal.count()
+    } else {
+        0
+    };
+    bus.expect_reads(unsaved(journal).saturating_add(scanned));
+    match read_rest(bus, journal, rest) {
+        Ok(()) => Ok(()),
+        Err(_) => Err(Fault::Refused(Refusal::Stopped)),
+    }
+}
+
+// Returns whether the chip that was found has the journal's ID and size.
+fn is_of_type(journal: &Journal<'_>, found: &Found) -> bool
+    ensures { MatchBool result (IsOfTypeFound journal.now found.now) (¬ IsOfTypeFound journal.now found.now) }
+{
+    journal.id() == found.id && journal.size() == found.size
+}
+
+// Returns the number of sectors that the journal doesn't save.
+fn unsaved(journal: &Journal<'_>) -> usize {
+    (sectors_of(journal) as usize).saturating_sub(journal.count())
+}
+
+// After a restore that succeeded or returned error 14, reads the sectors that the journal doesn't save into `again`, and
+// compares them with `rest`. Returns the outcome of the restore; or, if the comparison fails, both as the fault of the
+// job.
+fn follow_restore<'a, B: Progress>(
+    bus: &mut B,
+    outcome: Outcome,
+    journal: &Journal<'_>,
+    rest: &[u8],
+    again: &mut [u8],
+) -> Result<Outcome, JobFault<'a>>
+    requires blank { again.old ≡ replicate journal.now.size 255 }
+    requires read { AreUnsaved journal.now rest.now }
+    requires short { length rest.now < 2 ^ 32 }
+    ensures ok { IfOk result (λ ended. (ended ≡ outcome)
+        × FollowsRestore (is_followed outcome) journal.now rest.now (B.state bus.old) (B.state bus.new)) }
+    ensures err { IfErr result (FailsToFollowRestore outcome journal.now rest.now
+        (B.state bus.old) (B.state bus.new)) }
+{
+    if !is_followed(&outcome) {
+        return Ok(outcome);
+    }
+    bus.expect_comparison(unsaved(journal));
+    match compare_rest(bus, journal, rest, again) {
+        Ok(()) => Ok(outcome),
+        Err(refusal) => Err(JobFault::RestNotCompared { outcome, refusal }),
+    }
 }
 
 // If `named` is given, identifies the chip and checks that it has that name. If not, sends nothing.

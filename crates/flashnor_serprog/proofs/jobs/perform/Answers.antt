@@ -1,7 +1,6 @@
 use Rattle.std.proofs.Common.{rules}
-use Rattle.std.proofs.lemmas.Result.{err_from_is_err_and}
 use Rattle.nor_lines.proofs.Lent.{stays_same}
-use Rattle.flashnor_serprog.proofs.Found.{change_done, change_failed}
+use Rattle.flashnor_serprog.proofs.Found.{change_done, change_failed, restore_failed}
 use Rattle.flashnor_serprog.proofs.jobs.perform.Goals as goal
 
 pub returns-in-Probe : goal.returns-in-Probe
@@ -30,11 +29,9 @@ returns-in-Read-2 g c = rw (c.in-Read-2.is, c.if-operation.false) (record {
   others = c.read_chip.ensures.others;
 })
 
-pub returns-in_err-restore_chip-in-Restore-clause-err : goal.returns-in_err-restore_chip-in-Restore-clause-err
-returns-in_err-restore_chip-in-Restore-clause-err g c =
-    let p = err_from_is_err_and c.from_residual-in_err-restore_chip-in-Restore.result
-    c.from_residual-in_err-restore_chip-in-Restore.ensures.1 in
-    rw (p.1, p.2, c.in-Restore.is) (rw c.deref.ensures.value at c.in_err-restore_chip-in-Restore.ensures.err)
+pub returns-clause-err : goal.returns-clause-err
+returns-clause-err g c = restore_failed c.args.operation.now _ _ _ _ _ _ c.args.operation.now.task _
+    c.in-Restore.is c.restore_chip.result (rw c.deref.ensures.value at c.restore_chip.ensures.err)
 
 pub returns-in-Change-clause-ok : goal.returns-in-Change-clause-ok
 returns-in-Change-clause-ok g c = change_done c.args.operation.now c.in-Change.change _ _ _ _ _ _

@@ -1,0 +1,85 @@
+//! The sectors that a restore's journal does not save, which are read before the restore and compared after it.
+ghost use Rattle.std.specs.Prelude.{◌≡◌, ◌≤◌, ◌<◌, ◌/◌, ◌^◌, IfErr, OnErr, OnOk, length, replicate};
+ghost use Rattle.nor_journal.specs.Saved.{is_saved};
+ghost use Rattle.flashnor_serprog.specs.Rest.{AreUnsaved, FailsRest, HasKeptRest, HasReadRest};
+ghost use Rattle.flashnor_serprog.specs.Rest.{HasStoppedInRest, is_followed};
+
+use nor_chip::{Bus, Stopped};
+use nor_driver::read_sector;
+use nor_geometry::SECTOR_LEN;
+use nor_journal::Journal;
+use nor_lines::Outcome;
+use nor_plan::bounds;
+use nor_session::Refusal;
+
+/// Reads each sector that the journal doesn't save into `bytes`, at its own address. `bytes` must hold FFh for each byte
+/// of a chip of the journal's size.
+///
+/// A saved sector is never read: after an interrupted operation two reads of it may differ, which would end the job
+/// before the restore. The sectors are read in descending order, because `ReadAhead` reads ahead only if the addresses
+/// ascend, and a saved sector may follow.
+pub fn read_rest<B: Bus>(
+    bus: &mut B,
+    journal: &Journal<'_>,
+    bytes: &mut [u8],
+) -> Result<(), Stopped>
+    requires { bytes.old ≡ replicate journal.now.size 255 }
+    ensures ok { OnOk result (HasReadRest journal.now bytes.new (B.state bus.old) (B.state bus.new)) }
+    ensures err { OnErr result (HasStoppedInRest journal.now (B.state bus.old) (B.state bus.new)) }
+{
+    let sectors = sectors_of(journal);
+    for done in 0..sectors {
+        let sector = sectors - 1 - done;
+        if !saves(journal, sector) {
+            let start = (SECTOR_LEN * sector) as usize;
+            read_sector(bus, sector, &mut bytes[start..start + SECTOR_LEN as usize])?;
+        }
+    }
+    Ok(())
+}
+
+/// Returns the number of sectors of a chip of the journal's size.
+pub fn sectors_of(journal: &Journal<'_>) -> u32
+    ensures value { result ≡ journal.now.size / 4096 }
+    ensures few { result ≤ 4096 }
+{
+    journal.size() / SECTOR_LEN
+}
+
+// Returns whether the journal saves this sector.
+fn saves(journal: &Journal<'_>, sector: u32) -> bool
+    ensures { result ≡ is_saved journal.now sector }
+{
+    journal.find(sector).is_some()
+}
+
+/// Reads the sectors that the journal doesn't save again, and compares them with `rest`, their bytes before the restore.
+/// Returns error 14 with the address of the first byte that differs, or 12 if the bus stopped. `again` must hold FFh for
+/// each byte of a chip of the journal's size.
+pub fn compare_rest<B: Bus>(
+    bus: &mut B,
+    journal: &Journal<'_>,
+    rest: &[u8],
+    again: &mut [u8],
+) -> Result<(), Refusal>
+    requires blank { again.old ≡ replicate journal.now.size 255 }
+    requires read { AreUnsaved journal.now rest.now }
+    requires short { length rest.now < 2 ^ 32 }
+    ensures ok { OnOk result (HasKeptRest journal.now rest.now (B.state bus.old) (B.state bus.new)) }
+    ensures err { IfErr result (FailsRest journal.now rest.now (B.state bus.old) (B.state bus.new)) }
+{
+    read_rest(bus, journal, &mut *again)?;
+    match bounds(rest, &*again) {
+        Some((first, _)) => Err(Refusal::Mismatch {
+            address: first as u32,
+        }),
+        None => Ok(()),
+    }
+}
+
+/// Returns whether a restore with this result is followed by the comparison.
+pub fn is_followed(outcome: &Outcome) -> bool
+    ensures { result ≡ is_followed outcome.now }
+{
+    matches!(outcome, Ok(_) | Err(Refusal::Mismatch { .. }))
+}

@@ -1,0 +1,139 @@
+"""Cases of restores that compare the sectors which their journal doesn't save, before and after them.
+
+Expected bytes and addresses are those of the models (chip.py). Where a line goes on with advice, its beginning is
+compared.
+"""
+import reference
+from bench import check
+from chip import SECTOR
+from faults import DIFFER
+from options import ALL, images
+from wire import STOPPED, begins, check_unchanged, first_difference
+
+
+def restored(seed, numbers=(2, 7, 15)):
+    """Returns the original chip, a chip in which these sectors changed, and the journal that saves them."""
+    old, new = images(seed, numbers)
+    return old, new, reference.journal("TINY64", old, numbers)
+
+
+def restore_wire(old, numbers):
+    """Returns the transactions over the wire of a restore that is compared, and the numbers of its modifying ones."""
+    plan = reference.whole_restore("TINY64", reference.restore("TINY64", old, numbers), numbers)
+    wire = reference.carried(plan)
+    return wire, [at for at, (out, _) in enumerate(wire, 1) if out[0] in reference.CHANGING]
+
+
+def compares_the_rest_of_a_restore(start):
+    """If an address bit is wrong for the whole restore, its sectors verify, and the comparison is chip fault 4.
+
+    With -N it isn't noticed. Nor is it noticed by a further restore from the same journal.
+    """
+    numbers = (2, 7, 15)
+    old, new, journal = restored("compares_the_rest_of_a_restore")
+    wire, changing = restore_wire(old, numbers)
+    # The last reads before the comparison are those of the sectors that the restore changed.
+    rest = 2 * (16 - len(numbers))
+    wrong = bytearray(new)
+    for number in numbers:
+        wrong[(number ^ 4) * SECTOR : ((number ^ 4) + 1) * SECTOR] = reference.sector_of(old, number)
+    for words in (), ("--quick",):
+        bench = start(data=new)
+        bench.write("j", journal)
+        first, last = changing[0], len(wire) - rest
+        if words:
+            plan = reference.session("TINY64", new, old, numbers)
+            quick = reference.carried(reference.whole_restore("TINY64", plan, numbers))
+            first = next(at for at, (out, _) in enumerate(quick, 1) if out[0] in reference.CHANGING)
+            last = len(quick) - rest
+        bench.server.traits.wrong_address = (first, last, 14)
+        got = bench.run("--restore", "j", *words)
+        changed = bytes(bench.chip.data)
+        begins("the restore", got, ["Chip fault 4: the chip differs at "
+               f"0x{first_difference(new, changed):06x} from what was read before this restore."])
+        check("lines", len(got.err), 1)
+        if not words:
+            bench.check_chip(bytes(wrong))
+        bench.server.traits.wrong_address = ()
+        check("a further restore", bench.run("--restore", "j", *words).status, 0)
+        bench.check_chip(b"".join(reference.sector_of(old if it in numbers else changed, it) for it in ALL))
+    plan = reference.restore("TINY64", old, numbers)
+    wire = reference.carried(plan)
+    bench = start(data=new)
+    bench.write("j", journal)
+    first = next(at for at, (out, _) in enumerate(wire, 1) if out[0] in reference.CHANGING)
+    bench.server.traits.wrong_address = (first, len(wire), 14)
+    bench.expect("--restore", "j", "-N", out=[reference.found("TINY64"), reference.report(plan, 3)])
+    bench.check_chip(bytes(wrong))
+
+
+def compares_after_error_14(start):
+    """A wrong address bit of one erase, or of one program, of a restore is error 14 and chip fault 4, each on a line."""
+    numbers = (2, 7, 15)
+    old, new, journal = restored("compares_after_error_14")
+    wire, changing = restore_wire(old, numbers)
+    for opcode in 0x20, 0x02:
+        at = next(it for it in changing if wire[it - 1][0][0] == opcode)
+        for words in (), ("-N",):
+            bench = start(data=new)
+            bench.write("j", journal)
+            # With -N the sectors that aren't saved are not read, nor is the chip identified before.
+            number = at - (len(reference.carried(reference.probe("TINY64"))) - 1 + 2 * 13) * bool(words)
+            bench.server.traits.wrong_address = (number, number, 14)
+            got = bench.run("--restore", "j", *words)
+            check("the wrong frame", bench.server.log[number - 1][0], wire[at - 1][0])
+            changed = bytes(bench.chip.data)
+            lines = [f"Error 14: bytes differ at 0x{first_difference(changed, old, numbers):06x}."]
+            if not words:
+                lines.append("Chip fault 4: the chip differs at "
+                             f"0x{first_difference(new, changed, sorted(set(ALL) - set(numbers))):06x} from what was "
+                             "read before this restore.")
+            begins(f"{opcode:02x}h {words}", got, lines)
+            check("lines", len(got.err), len(lines))
+            bench.server.traits.wrong_address = ()
+            check("a further restore", bench.run("--restore", "j").status, 0)
+            bench.check_chip(b"".join(reference.sector_of(old if it in numbers else changed, it) for it in ALL))
+
+
+def reads_restores_twice(start):
+    """A restore reads all data twice, even if it equals the journal: one wrong bit in any of its reads stops it."""
+    numbers = (2, 7, 15)
+    old, _, journal = restored("reads_restores_twice")
+    for words in (), ("--quick",), ("-N",), ("--quick", "-N"):
+        bench = start(data=old)
+        bench.write("j", journal)
+        check("the restore", bench.run("--restore", "j", *words).status, 0)
+        reads = [(at, it) for at, it in enumerate(bench.server.log, 1) if it[0][0] == 0x03]
+        check("reads", len(reads) > 0, True)
+        check("pairs of reads", [one[1] for one in reads[::2]], [other[1] for other in reads[1::2]])
+        for at, _ in reads[:: max(1, len(reads) // 8)]:
+            bench.server.traits.wrong_bits = {at: (9, 1)}
+            begins(f"{words}, transaction {at}", bench.run("--restore", "j", *words), [STOPPED, DIFFER])
+        bench.server.traits.wrong_bits = {}
+        bench.check_chip(old)
+
+
+def stops_in_the_rest(start):
+    """Two reads of the rest that differ stop a restore before it changes anything. After it, they end the comparison."""
+    numbers = (2, 7, 15)
+    old, new, journal = restored("stops_in_the_rest")
+    wire, changing = restore_wire(old, numbers)
+    note = "The sectors that the journal doesn't save were not compared after the restore."
+    before = next(at for at, (out, _) in enumerate(wire, 1) if out[0] == 0x03)
+    erase = next(at for at in changing if wire[at - 1][0][0] == 0x20)
+    for number, wrong, lines in ((before, (), [STOPPED, DIFFER]), (len(wire), (), [STOPPED, DIFFER, note]),
+                                 (len(wire), (erase, erase, 14), ["Error 14: bytes differ at ", STOPPED, DIFFER, note])):
+        bench = start(data=new)
+        bench.write("j", journal)
+        bench.server.traits.wrong_bits = {number: (7, 5)}
+        bench.server.traits.wrong_address = wrong
+        got = bench.run("--restore", "j")
+        begins(f"transaction {number}", got, lines)
+        check("lines", len(got.err), len(lines))
+        if number == before:
+            check_unchanged(bench, new, b"\0\0")
+        elif not wrong:
+            bench.check_chip(old)
+
+
+CASES = [compares_the_rest_of_a_restore, compares_after_error_14, reads_restores_twice, stops_in_the_rest]
