@@ -331,7 +331,7 @@ fn no_verify_all_option<'a>(alloc: Global) -> Arg<'a>
     Arg::new(alloc, "noverify-all")
         .short('N')
         .long("noverify-all")
-        .help("Do not compare the rest of the chip; with -w, -E or --restore")
+        .help("Do not compare the rest of the chip, see below")
         .action(ArgAction::SetTrue)
 }
 
