@@ -68,7 +68,7 @@ def compares_the_rest_of_a_restore(start):
 
 
 def compares_after_error_14(start):
-    """A wrong address bit of one erase, or of one program, of a restore is error 14 and chip fault 4, each on a line."""
+    """A wrong address bit of one erase or program of a restore is error 14 and chip fault 4, each on a line."""
     numbers = (2, 7, 15)
     old, new, journal = restored("compares_after_error_14")
     wire, changing = restore_wire(old, numbers)
@@ -114,15 +114,16 @@ def reads_restores_twice(start):
 
 
 def stops_in_the_rest(start):
-    """Two reads of the rest that differ stop a restore before it changes anything. After it, they end the comparison."""
+    """Two reads of the rest that differ stop a restore before it changes anything. After it, they are error 12."""
     numbers = (2, 7, 15)
     old, new, journal = restored("stops_in_the_rest")
     wire, changing = restore_wire(old, numbers)
     note = "The sectors that the journal doesn't save were not compared after the restore."
     before = next(at for at, (out, _) in enumerate(wire, 1) if out[0] == 0x03)
     erase = next(at for at in changing if wire[at - 1][0][0] == 0x20)
+    mismatch = "Error 14: bytes differ at "
     for number, wrong, lines in ((before, (), [STOPPED, DIFFER]), (len(wire), (), [STOPPED, DIFFER, note]),
-                                 (len(wire), (erase, erase, 14), ["Error 14: bytes differ at ", STOPPED, DIFFER, note])):
+                                 (len(wire), (erase, erase, 14), [mismatch, STOPPED, DIFFER, note])):
         bench = start(data=new)
         bench.write("j", journal)
         bench.server.traits.wrong_bits = {number: (7, 5)}

@@ -30,7 +30,8 @@ pub record AreUnsaved (journal : Journal) (bytes : List ℕ) : Type 0 where
   pub saved : (a : ℕ) → a < journal.size → is_saved journal (a / 4096) ≡ true → slice_index bytes a ≡ 255
 
 -- Each sector that the journal doesn't save was read since `old`, and nothing else was sent. At the addresses of such a
--- sector, `bytes` are the 4,096 bytes of the last reply to a read of that sector since `old`; at the others they are FFh.
+-- sector, `bytes` are the 4,096 bytes of the last reply to a read of that sector since `old`. At the others they are
+-- FFh.
 pub record HasReadRest (journal : Journal) (bytes : List ℕ) (old new : BusState) : Type 0 where
   pub only_reads : OnlyReads (journal.size / 4096) old new
   pub later : List Exchange

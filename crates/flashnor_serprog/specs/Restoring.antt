@@ -56,7 +56,8 @@ pub record HasOnlyRestored (operation : Operation) (journal : Journal) (old new 
 
 -- The chip was identified, and has the journal's ID and size. Then the sectors that the journal doesn't save were read:
 -- `rest` has their bytes (`HasReadRest`).
-pub record HasReadBefore (named : Option ChipName) (journal : Journal) (rest : List ℕ) (old new : BusState) : Type 0 where
+pub record HasReadBefore (named : Option ChipName) (journal : Journal) (rest : List ℕ)
+    (old new : BusState) : Type 0 where
   pub chip : Found
   pub found : BusState
   pub identified : HasIdentified named old found (Ok chip)
@@ -119,8 +120,8 @@ pub record HasNotComparedRest (operation : Operation) (journal : Journal) (old n
   pub followed : is_followed outcome ≡ true
   pub fails : FailsRest journal rest restored new refusal
 
--- the faults of a restore that is compared: memory ran out before anything was sent, or a fault before the restore or of
--- the comparison after it
+-- the faults of a restore that is compared: memory ran out before anything was sent, or a fault before the restore, or
+-- one of the comparison after it
 abbrev pub FailsCompared : Operation → Journal → (old new : BusState) → JobFault → Type 0
 FailsCompared operation journal old new (ended.Fault fault) = ((new ≡ old) × (fault ≡ end.Refused Memory))
     ⊎ FailsToReadRest operation.named journal old new fault
@@ -144,7 +145,8 @@ IsNoJournal bytes old new fault = (new ≡ old)
     × ((why : JournalFault) × HasFault bytes why × (fault ≡ end.Refused (BadJournal why)))
 
 -- The bytes are a journal, and the restore from that journal has this fault.
-pub record HasNotRestored (operation : Operation) (bytes : List ℕ) (old new : BusState) (fault : JobFault) : Type 0 where
+pub record HasNotRestored (operation : Operation) (bytes : List ℕ) (old new : BusState)
+    (fault : JobFault) : Type 0 where
   pub journal : Journal
   pub sound : IsContent journal
   pub read : bytes ≡ text journal

@@ -17,9 +17,9 @@ pub enum JobFault<'a> {
     /// The change was made, and each sector that it touched was read back. Then the comparison of the whole chip with
     /// its target returned this error: 14 is printed as chip fault 4.
     NotCompared { refusal: Refusal },
-    /// A restore ended with this outcome, after the sectors that its journal doesn't save were read. Then the comparison
-    /// of these sectors returned this error: 14 is printed as chip fault 4, and 12 means that the bus stopped. If the
-    /// restore returned an error, its line is printed before.
+    /// The sectors that a journal doesn't save were read, and a restore from it ended with this outcome. Then the
+    /// comparison of these sectors returned this error: 14 is printed as chip fault 4, and 12 means that the bus
+    /// stopped. If the restore returned an error, its line is printed before.
     RestNotCompared { outcome: Outcome, refusal: Refusal },
 }
 

@@ -12,8 +12,8 @@ use nor_lines::Outcome;
 use nor_plan::bounds;
 use nor_session::Refusal;
 
-/// Reads each sector that the journal doesn't save into `bytes`, at its own address. `bytes` must hold FFh for each byte
-/// of a chip of the journal's size.
+/// Reads each sector that the journal doesn't save into `bytes`, at its own address. `bytes` must hold FFh for each
+/// byte of a chip of the journal's size.
 ///
 /// A saved sector is never read: after an interrupted operation two reads of it may differ, which would end the job
 /// before the restore. The sectors are read in descending order, because `ReadAhead` reads ahead only if the addresses
@@ -53,9 +53,9 @@ fn saves(journal: &Journal<'_>, sector: u32) -> bool
     journal.find(sector).is_some()
 }
 
-/// Reads the sectors that the journal doesn't save again, and compares them with `rest`, their bytes before the restore.
-/// Returns error 14 with the address of the first byte that differs, or 12 if the bus stopped. `again` must hold FFh for
-/// each byte of a chip of the journal's size.
+/// Reads the sectors that the journal doesn't save again, and compares them with `rest`, their bytes before the
+/// restore. Returns error 14 with the address of the first byte that differs, or 12 if the bus stopped. `again` must
+/// hold FFh for each byte of a chip of the journal's size.
 pub fn compare_rest<B: Bus>(
     bus: &mut B,
     journal: &Journal<'_>,

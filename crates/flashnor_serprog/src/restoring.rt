@@ -140,9 +140,9 @@ fn unsaved(journal: &Journal<'_>) -> usize {
     (sectors_of(journal) as usize).saturating_sub(journal.count())
 }
 
-// After a restore that succeeded or returned error 14, reads the sectors that the journal doesn't save into `again`, and
-// compares them with `rest`. Returns the outcome of the restore; or, if the comparison fails, both as the fault of the
-// job.
+// After a restore that succeeded or returned error 14, reads the sectors that the journal doesn't save into `again`,
+// and compares them with `rest`. Returns the outcome of the restore; or, if the comparison fails, that outcome and the
+// error as the fault of the job.
 fn follow_restore<'a, B: Progress>(
     bus: &mut B,
     outcome: Outcome,
