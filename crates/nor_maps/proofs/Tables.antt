@@ -72,7 +72,7 @@ module _ (reading : Reading) (len first : ℕ) (bytes : List ℕ) where
           let same : count ≡ before + suc (count - (before + 1)) = omega arith in
           ap (λ n. records_say reading len [] first n bytes) same ∙ onward (Err fault) adds (count - (before + 1))
 
--- what reads one definition reads another that is equal to it, if that may ask for memory at the same records
+-- a result that fits the definition `said` fits an equal definition `other`, if memory may run out at the same records
 pub reads_same : (said other : Result (List Region) MapFault) (asks may_ask : ℕ → Type 0) → said ≡ other
     → ((number : ℕ) → asks number → may_ask number) → (result : Result (List Region) MapFault)
     → ReadsTable said asks result → ReadsTable other may_ask result

@@ -42,6 +42,7 @@ region_names =
     ∷ codes "ec" ∷ codes "reg9" ∷ codes "ie" ∷ codes "10gbe" ∷ codes "reg12" ∷ codes "reg13" ∷ codes "reg14"
     ∷ codes "reg15" ∷ []
 
+-- the name of the region of entry `index`
 abbrev pub region_name : (index : ℕ) → List ℕ
 region_name index = slice_index_or region_names index []
 
@@ -71,7 +72,7 @@ abbrev pub with_number : (size : ℕ) → List Region → (index entry : ℕ) �
 with_number size regions index entry =
     if is_unused index entry then Ok regions else with_found size regions index (entry_region index entry)
 
--- the same, for the entry that the bytes begin with
+-- the regions with that of entry `index`, which the bytes begin with, or its fault
 abbrev pub with_entry : (size : ℕ) → List Region → (index : ℕ) → List ℕ → Result (List Region) MapFault
 with_entry size regions index bytes = with_number size regions index (little_from 0 4 bytes)
 

@@ -1,4 +1,4 @@
--- What both formats share: one record after another, each with a region.
+-- Tables of records, each with a region, in both formats.
 pub mod Records
 -- The two formats.
 pub mod Descriptor

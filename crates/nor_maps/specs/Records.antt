@@ -23,12 +23,12 @@ abbrev pub with_found : (size : ℕ) → List Region → (number : ℕ) → Regi
 with_found size regions number region =
     if nat_lt region.end size then in_record number (with_region regions region) else Err (Outside number)
 
--- What one record does: from the regions of the records before it, its number, and the bytes from its first byte on, it
--- makes the regions with its own, or its fault.
+-- How a record is read: from the regions of the records before it, its number, and the bytes from its first byte on,
+-- the function makes the regions with that of the record, or its fault.
 abbrev pub Reading : Type 0
 Reading = List Region → ℕ → List ℕ → Result (List Region) MapFault
 
--- `next`, if there is no fault yet
+-- the result of `next` for the regions so far, or the fault so far
 abbrev pub if_read : (next : List Region → Result (List Region) MapFault) → Result (List Region) MapFault
     → Result (List Region) MapFault
 if_read next (Ok regions) = next regions
@@ -42,8 +42,8 @@ records_say reading len regions number zero bytes = Ok regions
 records_say reading len regions number (suc count) bytes =
     if_read (λ more. records_say reading len more (number + 1) count (drop len bytes)) (reading regions number bytes)
 
--- Holds if record `number` has a region and no fault, and the records before it have no fault. Only then reading it may
--- find no memory. `first` is the number of the first record.
+-- Holds if record `number` has a region and no fault, and the records before it have no fault. Only at such a record may
+-- memory run out. `first` is the number of the first record.
 pub record AsksAt (reading : Reading) (len first : ℕ) (bytes : List ℕ) (number : ℕ) : Type 0 where
   pub before : ℕ
   pub number_is : number ≡ before + first
@@ -52,15 +52,16 @@ pub record AsksAt (reading : Reading) (len first : ℕ) (bytes : List ℕ) (numb
   pub region : Region
   pub more : reading regions number (drop (len * before) bytes) ≡ Ok (regions ++ region ∷ [])
 
--- Holds if this is a result of reading what defines `said`. The result is `said`, or a record for which `asks` holds
--- found no memory.
+-- Holds if the result of reading is the one that is defined (`said`), or the fault `Memory` of a record for which `asks`
+-- holds.
 abbrev pub ReadsTable : (said : Result (List Region) MapFault) → (asks : ℕ → Type 0) → Result (List Region) MapFault
     → Type 0
 ReadsTable said asks (Ok regions) = said ≡ Ok regions
 ReadsTable said asks (Err (InRecord number Memory)) = asks number
 ReadsTable said asks (Err fault) = said ≡ Err fault
 
--- The same for one record: it changed the regions `old` to `new`, or failed. Used by private functions only.
+-- Holds if reading record `number` changed the regions `old` to `new`, or failed, as defined (`said`). `Memory` is only
+-- possible if the record has a region and no fault. Only private functions use this definition.
 abbrev pub AddsRecord : (old new : List Region) → (number : ℕ) → Result ⊤ MapFault
     → (said : Result (List Region) MapFault) → Type 0
 AddsRecord old new number (Ok x) said = said ≡ Ok new

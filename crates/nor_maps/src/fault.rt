@@ -41,13 +41,16 @@ impl MapFault {
 impl fmt::Display for MapFault {
     fn fmt<W: fmt::Write>(&self, f: &mut fmt::Formatter<W>) -> fmt::Result {
         match self {
-            MapFault::Missing => f.write_str("the image has no such map of its regions"),
-            MapFault::Short => f.write_str("the map of the regions is cut short"),
+            MapFault::Missing => f.write_str("the image has no table of regions"),
+            MapFault::Short => f.write_str("the table of regions is cut short"),
             MapFault::Outside { record } => write!(
                 f,
-                "region {record} of the map lies outside the chip"
+                "region {record} of the table lies outside the chip"
             ),
-            MapFault::Region { record, fault } => write!(f, "region {record} of the map: {fault}"),
+            MapFault::Region { record, fault } => write!(
+                f,
+                "region {record} of the table: {fault}"
+            ),
         }
     }
 }

@@ -20,10 +20,10 @@
 //!
 //! - `descriptor.rt`: `read_descriptor`, which reads an Intel flash descriptor
 //! - `fmap.rt`: `read_fmap`, which finds and reads an FMAP
-//! - `record.rt`: what both formats share
+//! - `record.rt`: numbers, names and regions of records, for both formats
 //! - `fault.rt`: `MapFault`, with its numbers and messages
 //!
-//! `specs/Descriptor.antt` and `specs/Fmap.antt` define the formats, and `specs/Records.antt` what both share.
+//! `specs/Descriptor.antt` and `specs/Fmap.antt` define the formats, and `specs/Records.antt` defines how a table of records is read.
 #![tactic(auto)]
 
 mod descriptor;

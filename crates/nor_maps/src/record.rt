@@ -1,4 +1,4 @@
-//! What both formats share: numbers and names in an image, and one more region for a layout.
+//! Numbers and names in an image, and adding the region of a record to a layout.
 
 ghost use Rattle.std.specs.Prelude.{◌≡◌, ◌≤◌, ◌+◌, drop, length};
 ghost use Rattle.byteorder.specs.Endian.{little_from};
