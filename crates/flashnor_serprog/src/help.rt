@@ -52,4 +52,6 @@ Usage fault 5: --wp-range needs two numbers, decimal or 0x..
 Usage fault 6: -w, -E, --wp-range need --journal, and nothing else takes it
 Usage fault 7: -l and -i need each other, and one of -r, -w, -v, -E
 Usage fault 8: -n, -N, --unlock or --quick with an operation that can't have it
-Usage fault 10: out of memory";
+Usage fault 10: out of memory
+
+The manual page, flashnor-serprog(8), says what each fault asks for.";
