@@ -1,13 +1,11 @@
 #!/usr/bin/env python3
 """scripts/prove.py CRATE: proves a crate and all crates that depend on it, lowest first.
 
-`rt check` proves each of them, over what earlier checks kept in `out/`; tests aren't proved. At most RT_JOBS crates
-(if that isn't set, one for each core, at most four) are proved at the same time. A crate is tried only if all those
-that it lists are proved. The output of each check that fails is printed. The last line has the counts, and the exit
-status is 1 if a crate wasn't proved.
+`rt check` proves each of them, over what earlier checks kept in `out/`; tests aren't proved. The crates are proved one
+after the other, each by as many jobs as `rt` chooses, because two checks in one clone wait for each other at the crates
+that both depend on. A crate is tried only if all those that it lists are proved. The output of each check that fails is
+printed. The last line has the counts, and the exit status is 1 if a crate wasn't proved.
 """
-import concurrent.futures
-import os
 import subprocess
 import sys
 import time
@@ -26,33 +24,16 @@ def dependents(name, listed):
     return found
 
 
-def check(crate, jobs):
+def check(crate):
     """Proves a crate, and returns whether it is proved. Prints the seconds that it took, or the output."""
     begun = time.monotonic()
-    ran = subprocess.run(["rt", "check", *jobs], cwd=CRATES / crate, stdin=subprocess.DEVNULL, stdout=subprocess.PIPE,
+    ran = subprocess.run(["rt", "check"], cwd=CRATES / crate, stdin=subprocess.DEVNULL, stdout=subprocess.PIPE,
                          stderr=subprocess.STDOUT, text=True, errors="replace", check=False)
     if ran.returncode:
         print(ran.stdout, end="")
     took = time.monotonic() - begun
     print(f"{crate}: {'FAILED' if ran.returncode else f'proved in {took:.0f} seconds'}", flush=True)
     return ran.returncode == 0
-
-
-def prove(order, workers):
-    """Proves these crates, each after those that it needs, and returns the names of those that are proved."""
-    jobs = ["--jobs", "1"] if workers > 1 and len(order) > 1 else []
-    proved, waiting, running = set(), dict(order), {}
-    with concurrent.futures.ThreadPoolExecutor(workers) as pool:
-        while True:
-            for crate in [it for it, needed in waiting.items() if needed <= proved]:
-                del waiting[crate]
-                running[pool.submit(check, crate, jobs)] = crate
-            if not running:
-                return proved
-            for ended in concurrent.futures.wait(running, return_when=concurrent.futures.FIRST_COMPLETED).done:
-                crate = running.pop(ended)
-                if ended.result():
-                    proved.add(crate)
 
 
 def main():
@@ -62,10 +43,12 @@ def main():
         print(f"crates.txt has no crate '{name}'. Give one of these: make prove CRATE=..", *listed, sep="\n  ",
               file=sys.stderr)
         return 1
-    order = dependents(name, listed)
-    proved = prove(order, int(os.environ.get("RT_JOBS") or min(os.cpu_count() or 1, 4)))
-    for crate in [it for it, needed in order.items() if not needed <= proved]:
-        print(f"{crate}: not tried, since it depends on a crate that isn't proved")
+    order, proved = dependents(name, listed), set()
+    for crate, needed in order.items():
+        if not needed <= proved:
+            print(f"{crate}: not tried, since it depends on a crate that isn't proved")
+        elif check(crate):
+            proved.add(crate)
     print(f"prove: {len(proved)} passed, {len(order) - len(proved)} failed")
     return int(len(proved) < len(order))
 
