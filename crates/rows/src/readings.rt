@@ -2,7 +2,8 @@
 use crate::held::assert_held;
 use crate::row::{Row, Start};
 use crate::runs::AMPLE;
-use nor_chip::{Meter, SimBus};
+use crate::spoilt::spoilt;
+use nor_chip::{Config, Delays, Meter, SimBus, Spoil};
 use nor_journal::{BrokenVault, MemVault};
 use nor_read::{Protection, read_out, verify, wp_status};
 use nor_session::{Refusal, Report};
@@ -64,6 +65,32 @@ fn any_stop_is_returned(rt: HostRuntime) {
         let told = read_under(rt.alloc(), &mut bus, &before, left);
         assert_held(&rt, told == [wanted; 2], left);
         assert!(rt; bus.bytes() == before.as_slice());
+    }
+}
+
+// Each row has the number of the transaction whose reply is lost, and the result of the verification. Transactions 1 to
+// 5 identify a TINY64, and 6 to 21 read its sixteen sectors. A lost reply has FFh, and chip and image have zeros, so the
+// first byte of that sector was read otherwise.
+const LOST_REPLIES: [(u64, Sent); 4] = [
+    (0, Ok(21)),
+    (6, Err(Refusal::Mismatch { address: 0 })),
+    (14, Err(Refusal::Mismatch { address: 0x8000 })),
+    (21, Err(Refusal::Mismatch { address: 0xF000 })),
+];
+
+#[test]
+fn a_reply_that_differs_is_a_mismatch(rt: HostRuntime) {
+    let idle = Delays { now: 0, each: 0 };
+    let image = vec![in rt.alloc(); 0; 65_536].expect(&rt, "memory");
+    for (nth, wanted) in LOST_REPLIES {
+        let bytes = vec![in rt.alloc(); 0; 65_536].expect(&rt, "memory");
+        let bus = SimBus::new(Config::tiny64(), bytes, [0x00, 0x00], idle).expect(
+            &rt,
+            "as many bytes as the chip has",
+        );
+        let mut bus = spoilt(bus, Spoil::Drop(nth));
+        let told = sent(verify(&mut bus, &image, None, None));
+        assert_held(&rt, told == wanted, nth);
     }
 }
 
