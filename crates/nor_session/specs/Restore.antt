@@ -158,9 +158,9 @@ IsLeft choice journal read a =
     (is_saved journal (a / 4096) ≡ true) × (choice.touched journal read (a / 4096) ≡ false)
 
 -- Holds if the result fits what was read back, on every bus. `scanned` is the history when the touched sectors were
--- chosen. After success each other saved sector had been read by then. The last transactions were reads of sectors, in
--- which each byte of a touched sector was read as the saved one. The address of a mismatch is the first one in a touched
--- sector that wasn't.
+-- chosen. After success each other saved sector had been read by then. The last transactions were reads of sectors,
+-- in which each byte of a touched sector was read as the saved one. The address of a mismatch is the first one in a
+-- touched sector that wasn't.
 abbrev pub RestoreReadsBack : Choice → Content → (old new : List Exchange) → Result Report Refusal → Type 0
 RestoreReadsBack choice journal old new (Ok report) = (scanned : List Exchange)
     × HaveBeenRead (IsLeft choice journal (bytes_read scanned)) old scanned

@@ -69,8 +69,8 @@ fn any_stop_is_returned(rt: HostRuntime) {
 }
 
 // Each row has the number of the transaction whose reply is lost, and the result of the verification. Transactions 1 to
-// 5 identify a TINY64, and 6 to 21 read its sixteen sectors. A lost reply has FFh, and chip and image have zeros, so the
-// first byte of that sector was read otherwise.
+// 5 identify a TINY64, and 6 to 21 read its sixteen sectors. Each byte of a lost reply is FFh, and those of chip and
+// image are zeros, so the first byte of that sector was read otherwise.
 const LOST_REPLIES: [(u64, Sent); 4] = [
     (0, Ok(21)),
     (6, Err(Refusal::Mismatch { address: 0 })),
