@@ -56,6 +56,7 @@
 //! - `sessions.rt`: sessions on chips with different erase types, on a busy chip, and with and without verification
 //! - `kernels.rt`: nor_plan's comparisons of two slices
 //! - `sets.rt`: sets of addresses made from spans
+//! - `maps.rt`: flash descriptors and FMAPs
 //! - `texts.rt`: malformed and very long layouts and journals
 //! - `words.rt`: command lines of 1 to 14 arguments, with enough memory
 #![tactic(auto)]
@@ -88,6 +89,8 @@ mod lies;
 mod losses;
 #[cfg(test)]
 mod lost;
+#[cfg(test)]
+mod maps;
 #[cfg(test)]
 mod once;
 #[cfg(test)]
