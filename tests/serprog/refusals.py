@@ -59,7 +59,7 @@ def refuses_locked(start):
 
 
 def restores(start):
-    """--restore rewrites the saved sectors, whatever they hold, and neither reads nor writes others."""
+    """--restore rewrites the saved sectors, whatever they hold. It reads the others before and after, except with -N."""
     old, new = images("restores")
     bench = start(data=new)
     bench.write("j", reference.journal("TINY64", old, (1, 2, 7, 15)))
@@ -68,7 +68,11 @@ def restores(start):
     for _ in range(2):
         bench.expect("--restore", "j", out=[reference.found("TINY64"), reference.report(plan, 4)])
         bench.check_chip(old)
-        bench.check_frames(plan)
+        bench.check_frames(reference.whole_restore("TINY64", plan, (1, 2, 7, 15)))
+    bench.chip.data[:] = new
+    bench.expect("--restore", "j", "-N", out=[reference.found("TINY64"), reference.report(plan, 4)])
+    bench.check_chip(old)
+    bench.check_frames(plan)
     bench.check_file("j", reference.journal("TINY64", old, (1, 2, 7, 15)))
 
 
@@ -81,8 +85,10 @@ def restores_the_named_chip(start):
     bench.check_frames(reference.probe("TINY64"))
     plan = reference.restore("TINY64", old, (1, 2, 7, 15))
     bench.expect("--restore", "j", "-c", "SFDP", out=[reference.found("TINY64"), reference.report(plan, 4)])
-    bench.check_frames(reference.probe("TINY64") + plan)
+    bench.check_frames(reference.whole_restore("TINY64", plan, (1, 2, 7, 15)))
     bench.check_chip(old)
+    bench.expect("--restore", "j", "-N", "-c", "SFDP", out=[reference.found("TINY64"), reference.report(plan, 4)])
+    bench.check_frames(reference.probe("TINY64") + plan)
 
 
 def restores_no_other(start):

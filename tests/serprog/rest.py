@@ -121,9 +121,10 @@ def stops_in_the_rest(start):
     note = "The sectors that the journal doesn't save were not compared after the restore."
     before = next(at for at, (out, _) in enumerate(wire, 1) if out[0] == 0x03)
     erase = next(at for at in changing if wire[at - 1][0][0] == 0x20)
+    # After the wrong erase, the verification ends at the first of the three sectors.
     mismatch = "Error 14: bytes differ at "
     for number, wrong, lines in ((before, (), [STOPPED, DIFFER]), (len(wire), (), [STOPPED, DIFFER, note]),
-                                 (len(wire), (erase, erase, 14), [mismatch, STOPPED, DIFFER, note])):
+                                 (len(wire) - 4, (erase, erase, 14), [mismatch, STOPPED, DIFFER, note])):
         bench = start(data=new)
         bench.write("j", journal)
         bench.server.traits.wrong_bits = {number: (7, 5)}
