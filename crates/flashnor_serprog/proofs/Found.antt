@@ -2,7 +2,6 @@
 use Rattle.std.proofs.Common.{◌≡◌, ℕ, Bool, List, Option, Result, Ok, Err, IfErr, IfOk, false, inl, inr, refl, true}
 use Rattle.std.specs.Borrow.{Bor}
 use Rattle.nor_model.specs.Bus.{BusState}
-use Rattle.nor_probe.specs.declared.probes.Found.{Found}
 use Rattle.nor_probe.specs.declared.table.ChipName.{ChipName}
 use Rattle.nor_request.specs.declared.refusal.Refusal.{Refusal}
 use Rattle.nor_files.specs.Files.{FilesState, View}
@@ -26,7 +25,6 @@ use Rattle.flashnor_serprog.specs.Following.{FailsToFollow}
 use Rattle.flashnor_serprog.specs.Jobs.{FailsToFill, FailsToTarget, HasChangedAndCompared, HasChangedBy}
 use Rattle.flashnor_serprog.specs.Jobs.{HasNotCompared, HasRunChange, IsBufferOf, IsProtected}
 use Rattle.flashnor_serprog.specs.Jobs.{IsRefusedAsProtected, is_compared, ranges_of}
-use Rattle.flashnor_serprog.specs.Identified.{FailsToFind, HasIdentified}
 use Rattle.flashnor_serprog.specs.Restoring.{FailsRestore}
 use Rattle.flashnor_serprog.specs.declared.chip_faults.JobFault.{JobFault}
 use Rattle.flashnor_serprog.specs.declared.chip_faults.JobFault.TheVariants as ended
@@ -44,16 +42,6 @@ module _ {T : Type 0} (P : T → Type 0) (Q : Refusal → Type 0) where
   passes_err (Err refusal) result returned is = rw returned (refusal, is, refl)
 
 module _ (named : Option ChipName) (old new : BusState) where
-  pub found_first : (outcome : Result Found Refusal) (result : Result Found Fault) → HasIdentified named old new outcome
-      → IsReportedAs outcome result → IfOk result (λ found. HasIdentified named old new (Ok found))
-  found_first (Ok found) result is returned = rw returned is
-  found_first (Err refusal) result is returned = rw returned tt
-
-  pub fails_first : (outcome : Result Found Refusal) (result : Result Found Fault) → HasIdentified named old new outcome
-      → IsReportedAs outcome result → IfErr result (FailsToFind named old new)
-  fails_first (Ok found) result is returned = rw returned tt
-  fails_first (Err refusal) result is returned = rw returned (refusal, is, refl)
-
   -- Only an identification that found a chip which may be protected is reported as chip fault 1.
   refused : (target : Wanted) (ranges : Option (List Span)) (bytes : List ℕ) (byte : ℕ)
       → FailsToTarget named target ranges bytes old new (ended.Protected byte) → IsProtected named old new byte

@@ -21,7 +21,7 @@ use Rattle.nor_lines.specs.declared.messages.Fault.{Fault}
 use Rattle.nor_lines.specs.declared.messages.Fault.TheVariants as end
 use Rattle.flashnor_serprog.specs.Backups.{IsExistingBackup}
 use Rattle.flashnor_serprog.specs.Run.{ArgumentsAskForHelp, program}
-use Rattle.flashnor_serprog.specs.Sources.{FailsRoles, FailsSources}
+use Rattle.flashnor_serprog.specs.Sources.{FailsRoles, FailsToPrepare}
 
 -- a fault of the arguments is a request for help only if they ask for it
 asks-help : (words : List Text) (fault : UsageFault) (reason : Reason) → IsHardwareFault program words fault
@@ -61,6 +61,6 @@ backup-ask view operation (end.Usage fault reason) fails is = grind arith
 backup-ask view operation _ fails is = is
 
 -- no fault of reading the files of a job is a request for help
-pub sources-ask : (view : View) (job : Task) (fault : Fault) → FailsSources view job fault → IsAnswered (Err fault) → ⊥
+pub sources-ask : (view : View) (job : Task) (fault : Fault) → FailsToPrepare view job fault → IsAnswered (Err fault) → ⊥
 sources-ask view job (end.Usage fault reason) fails is = grind arith
 sources-ask view job _ fails is = is

@@ -7,8 +7,9 @@ use Rattle.nor_request.specs.declared.refusal.Refusal.{Refusal}
 use Rattle.nor_words.specs.declared.job.Operation.{Operation}
 use Rattle.nor_lines.specs.declared.answers.Answer.{Answer}
 use Rattle.flashnor_serprog.specs.Rest.{FailsToFollowRestore, FollowsRestore, is_followed}
+use Rattle.nor_jobs.specs.Restoring.{HasRunRestore}
 use Rattle.flashnor_serprog.specs.Restoring.{FailsBy, FailsCompared, FailsRestore, HasReadBefore, HasRestored}
-use Rattle.flashnor_serprog.specs.Restoring.{HasRestoredAndCompared, HasRestoredBy, HasRunRestore}
+use Rattle.flashnor_serprog.specs.Restoring.{HasRestoredAndCompared, HasRestoredBy}
 use Rattle.flashnor_serprog.specs.declared.chip_faults.JobFault.{JobFault}
 use Rattle.flashnor_serprog.specs.declared.chip_faults.JobFault.TheVariants as ended
 

@@ -29,7 +29,7 @@ use Rattle.flashnor_serprog.specs.Following.{FailsToFollow, FailsToMerge, IsFoll
 use Rattle.flashnor_serprog.specs.Jobs.{DoesTask, FailsBefore, FailsComparison, FailsPerform, FailsToChange}
 use Rattle.flashnor_serprog.specs.Jobs.{FailsToFill, FailsToTarget, HasChangedBy, HasReadBy, HasRunChange, HasTarget}
 use Rattle.flashnor_serprog.specs.Jobs.{IsBufferOf, asked_bytes, is_compared}
-use Rattle.flashnor_serprog.specs.Identified.{IsNamedFirst}
+use Rattle.nor_jobs.specs.Finding.{IsNamedFirst}
 use Rattle.flashnor_serprog.specs.Run.{EndsJob, IsEndedAs}
 use Rattle.flashnor_serprog.specs.declared.chip_faults.JobFault.{JobFault}
 use Rattle.flashnor_serprog.specs.declared.chip_faults.JobFault.TheVariants as ended

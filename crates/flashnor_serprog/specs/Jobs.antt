@@ -28,7 +28,7 @@ use Rattle.nor_lines.specs.declared.answers.Answer.{Answer}
 use Rattle.nor_lines.specs.declared.messages.Fault.{Fault}
 use Rattle.nor_lines.specs.declared.messages.Fault.TheVariants as end
 use Rattle.flashnor_serprog.specs.Following.{FailsToFollow, FailsToMerge, IsFollowed, IsWholeTarget, ranges_if}
-use Rattle.flashnor_serprog.specs.Identified.{FailsToFind, HasIdentified, HasLookedUp, ReportsFound, ReportsSize}
+use Rattle.nor_jobs.specs.Finding.{FailsToFind, HasIdentified, HasLookedUp, ReportsFound, ReportsSize}
 use Rattle.flashnor_serprog.specs.Restoring.{FailsRestore, HasRestored}
 use Rattle.flashnor_serprog.specs.declared.chip_faults.JobFault.{JobFault}
 use Rattle.flashnor_serprog.specs.declared.chip_faults.JobFault.TheVariants as ended

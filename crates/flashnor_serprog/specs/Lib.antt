@@ -1,7 +1,6 @@
 pub mod Setting
 pub mod Backups
 pub mod Following
-pub mod Identified
 pub mod Rest
 pub mod Restoring
 pub mod Jobs

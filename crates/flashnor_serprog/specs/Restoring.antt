@@ -1,51 +1,23 @@
 -- A restore: its call to the engine, what is read before and after it, and its faults.
-use Rattle.std.specs.Prelude.{◌≡◌, ◌⊎◌, ℕ, Bool, true, false, List, Option, Result, Ok, OnOk}
+use Rattle.std.specs.Prelude.{◌≡◌, ◌⊎◌, ℕ, Bool, true, false, List, Option, Result, Ok}
 use Rattle.nor_model.specs.Bus.{BusState}
-use Rattle.nor_apply.specs.Applying.{ErasesFirst}
 use Rattle.nor_journal.specs.Fault.{HasFault}
-use Rattle.nor_journal.specs.Saved.{is_saved}
 use Rattle.nor_journal.specs.Text.{Content as Journal, IsContent, text}
 use Rattle.nor_journal.specs.declared.fault.JournalFault.{JournalFault}
-use Rattle.nor_probe.specs.Known.{IsModelled}
 use Rattle.nor_probe.specs.declared.probes.Found.{Found}
 use Rattle.nor_probe.specs.declared.table.ChipName.{ChipName}
 use Rattle.nor_request.specs.declared.refusal.Refusal.{Refusal}
 use Rattle.nor_request.specs.declared.refusal.Refusal.TheVariants.{BadJournal, Memory, OtherChip, Stopped}
-use Rattle.nor_request.specs.declared.report.Report.{Report}
-use Rattle.nor_session.specs.Headline.{RestoresOriginal, RewritesOriginal}
-use Rattle.nor_session.specs.Restore.{AlwaysBy, Choice, HonestBy, IsOfTypeFound, ModelledBy, differing, every_saved}
+use Rattle.nor_session.specs.Restore.{IsOfTypeFound}
 use Rattle.nor_words.specs.declared.job.Operation.{Operation}
-use Rattle.nor_lines.specs.Readings.{AnswersCall}
-use Rattle.nor_lines.specs.Sessions.{ReportsDone}
 use Rattle.nor_lines.specs.declared.answers.Answer.{Answer}
 use Rattle.nor_lines.specs.declared.messages.Fault.{Fault}
 use Rattle.nor_lines.specs.declared.messages.Fault.TheVariants as end
-use Rattle.flashnor_serprog.specs.Identified.{FailsToFind, HasIdentified, IsNamedFirst}
+use Rattle.nor_jobs.specs.Restoring.{HasRunRestore}
+use Rattle.nor_jobs.specs.Finding.{FailsToFind, HasIdentified, IsNamedFirst}
 use Rattle.flashnor_serprog.specs.Rest.{FailsRest, FollowsRestore, HasReadRest, HasStoppedInRest, is_followed}
 use Rattle.flashnor_serprog.specs.declared.chip_faults.JobFault.{JobFault}
 use Rattle.flashnor_serprog.specs.declared.chip_faults.JobFault.TheVariants as ended
-
--- the sectors that a restore rewrites: with `--quick` those that differ, otherwise every saved one
-abbrev pub choice_of : (quick : Bool) → Choice
-choice_of true = differing
-choice_of false = every_saved
-
--- the headline of `restore` (with `--quick`), or that of `rewrite`
-abbrev pub RestoresBy : (quick : Bool) → Journal → (old new : BusState) → Result Report Refusal → Type 0
-RestoresBy true journal old new result = RestoresOriginal journal old new result
-RestoresBy false journal old new result = RewritesOriginal journal old new result
-
--- A restore ended or returned an error. It kept all promises of `restore` (with `--quick`), or those of `rewrite`: then
--- after success an erase was sent for each saved sector, and none after the first page program (`thorough`).
-pub record HasRunRestore (quick : Bool) (journal : Journal) (old new : BusState)
-    (outcome : Result Answer Refusal) : Type 0 where
-  pub result : Result Report Refusal
-  pub restores_original : IsModelled old → RestoresBy quick journal old new result
-  pub always : AlwaysBy (choice_of quick) journal old new result
-  pub honest : old.honest ≡ true → HonestBy (choice_of quick) journal old new result
-  pub modelled : IsModelled old → ModelledBy (choice_of quick) journal old new result
-  pub thorough : quick ≡ false → OnOk result (ErasesFirst (is_saved journal) old new)
-  pub returned : AnswersCall ReportsDone result outcome
 
 -- With `-N`: a restore from this journal was run, after the chip's name was checked if a name is given.
 pub record HasOnlyRestored (operation : Operation) (journal : Journal) (old new : BusState)

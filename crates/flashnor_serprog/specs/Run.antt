@@ -21,7 +21,8 @@ use Rattle.nor_request.specs.declared.refusal.Refusal.{Refusal}
 use Rattle.flashnor_serprog.specs.Jobs.{DoesTask, FailsPerform, changes_bytes}
 use Rattle.flashnor_serprog.specs.Sends.{SendsOnly}
 use Rattle.flashnor_serprog.specs.Setting.{IsDeviceOf}
-use Rattle.flashnor_serprog.specs.Sources.{AreSources, HaveOneRole}
+use Rattle.nor_jobs.specs.Sources.{AreSources}
+use Rattle.flashnor_serprog.specs.Sources.{HaveOneRole}
 use Rattle.flashnor_serprog.specs.declared.chip_faults.JobFault.{JobFault}
 use Rattle.flashnor_serprog.specs.declared.chip_faults.JobFault.TheVariants as ended
 use Rattle.flashnor_serprog.specs.declared.trouble.Trouble.{Trouble}

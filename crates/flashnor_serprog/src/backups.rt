@@ -4,10 +4,10 @@ ghost use Rattle.nor_files.specs.Files.{OthersStay, is_lawful};
 ghost use Rattle.flashnor_serprog.specs.Backups.{IsExistingBackup};
 ghost use Rattle.flashnor_serprog.specs.Jobs.{FailsToRead, HasBackedUpChip};
 
-use crate::jobs::find_first;
 use crate::progress::Progress;
 use nor_files::Store;
 use nor_geometry::SECTOR_LEN;
+use nor_jobs::find_first;
 use nor_lines::{Fault, FileFault, Outcome, backup_in_file};
 use nor_probe::ChipName;
 use nor_words::{Operation, Task};

@@ -4,7 +4,6 @@ ghost use Rattle.nor_files.specs.Files.{Name, OthersStay, KeepsFile, is_lawful};
 ghost use Rattle.nor_lines.specs.Tasks.{journal_of, made_by};
 ghost use Rattle.nor_lines.specs.Readings.{HasVerified};
 ghost use Rattle.nor_lines.specs.Stored.{IsNot};
-ghost use Rattle.flashnor_serprog.specs.Identified.{FailsToFind, HasIdentified, HasLookedUp, ReportsFound, ReportsSize};
 ghost use Rattle.flashnor_serprog.specs.Jobs.{DoesTask, FailsChange, FailsPerform, FailsToAdmit, FailsToFill};
 ghost use Rattle.flashnor_serprog.specs.Jobs.{FailsToRead, HasChangedBy, HasReadChip, IsBufferOf, IsChangeable};
 ghost use Rattle.flashnor_serprog.specs.Jobs.{changes_bytes, is_compared, may_be_protected};
@@ -14,16 +13,15 @@ use crate::chip_faults::JobFault;
 use crate::following::{complete, follow, ranges_if, sectors_before_change, sectors_to_read};
 use crate::progress::{Progress, Terminal};
 use crate::restoring::restore_chip;
-use crate::sources::Sources;
 use nor_chip::Bus;
 use nor_files::Store;
+use nor_jobs::{Sources, find_chip, find_first, report_size};
 use nor_layout::Ranges;
 use nor_lines::{
-    Answer, Fault, Outcome, erased, list_ranges, or_fault, read_to_file, report_protection,
-    request_for, session_in_file, verify_image,
+    Fault, Outcome, erased, list_ranges, read_to_file, report_protection, request_for,
+    session_in_file, verify_image,
 };
-use nor_probe::{ChipName, Found, probe};
-use nor_session::Refusal;
+use nor_probe::{ChipName, Found};
 use nor_words::{Change, JournalUse, Operation, Reason, Task, UsageFault, Wanted};
 use std::alloc::{AllocError, Global};
 
@@ -69,37 +67,6 @@ pub fn perform<'a, R: Store, B: Progress>(
             restore_chip(bus, terminal, operation, &sources.bytes, rt.alloc())
         }
     }
-}
-
-// Identifies the chip, and returns the chip that was found.
-fn find_chip<B: Bus>(bus: &mut B, named: Option<ChipName>) -> Outcome
-    ensures { HasLookedUp ReportsFound named (B.state bus.old) (B.state bus.new) result }
-{
-    let found = find(bus, named)?;
-    Ok(Answer::Found(found))
-}
-
-// Returns the chip's size in bytes.
-fn report_size<B: Bus>(bus: &mut B, named: Option<ChipName>) -> Outcome
-    ensures { HasLookedUp ReportsSize named (B.state bus.old) (B.state bus.new) result }
-{
-    let found = find(bus, named)?;
-    Ok(Answer::Size(found.size))
-}
-
-// Identifies the chip. Returns error 3 if `named` is given and the chip has another name.
-fn find<B: Bus>(bus: &mut B, named: Option<ChipName>) -> Result<Found, Refusal>
-    ensures { HasIdentified named (B.state bus.old) (B.state bus.new) result }
-{
-    Ok(probe(bus, named)?)
-}
-
-/// Identifies the chip before a call that does more. An error of the identification is the fault of the run.
-pub fn find_first<'a, B: Bus>(bus: &mut B, named: Option<ChipName>) -> Result<Found, Fault<'a>>
-    ensures ok { IfOk result (λ found. HasIdentified named (B.state bus.old) (B.state bus.new) (Ok found)) }
-    ensures err { IfErr result (FailsToFind named (B.state bus.old) (B.state bus.new)) }
-{
-    or_fault(find(bus, named))
 }
 
 // Identifies a chip whose bytes will be changed. Returns chip fault 1 if it may be protected in a way that this program

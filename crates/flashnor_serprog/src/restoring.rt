@@ -1,21 +1,21 @@
 //! Restores a chip from a journal.
 ghost use Rattle.std.specs.Prelude.{◌≡◌, ◌<◌, ◌^◌, IfErr, IfOk, MatchBool, OnOk, false, length, replicate, true};
 ghost use Rattle.nor_session.specs.Restore.{IsOfTypeFound};
-ghost use Rattle.flashnor_serprog.specs.Identified.{FailsToFind, IsNamedFirst};
+ghost use Rattle.nor_jobs.specs.Finding.{FailsToFind};
+ghost use Rattle.nor_jobs.specs.Restoring.{HasRunRestore};
 ghost use Rattle.flashnor_serprog.specs.Rest.{AreUnsaved, FailsToFollowRestore, FollowsRestore, is_followed};
 ghost use Rattle.flashnor_serprog.specs.Restoring.{FailsBy, FailsCompared, FailsRestore, FailsToReadRest};
 ghost use Rattle.flashnor_serprog.specs.Restoring.{FailsUncompared, HasOnlyRestored, HasReadBefore, HasRestored};
-ghost use Rattle.flashnor_serprog.specs.Restoring.{HasRestoredAndCompared, HasRestoredBy, HasRunRestore};
+ghost use Rattle.flashnor_serprog.specs.Restoring.{HasRestoredAndCompared, HasRestoredBy};
 
 use crate::chip_faults::JobFault;
-use crate::jobs::find_first;
 use crate::progress::{Progress, Terminal};
 use crate::rest::{compare_rest, is_followed, read_rest, sectors_of};
-use nor_chip::Bus;
+use nor_jobs::{check_name, find_first, run_restore};
 use nor_journal::Journal;
-use nor_lines::{Answer, Fault, Outcome, erased};
-use nor_probe::{ChipName, Found};
-use nor_session::{Refusal, restore_announced, rewrite_announced};
+use nor_lines::{Fault, Outcome, erased, or_fault};
+use nor_probe::Found;
+use nor_session::Refusal;
 use nor_words::Operation;
 use std::alloc::Global;
 
@@ -80,7 +80,7 @@ fn restore_compared<'a, B: Progress>(
     let mut rest = erased(alloc, journal.size())?;
     let mut again = erased(alloc, journal.size())?;
     read_before(bus, operation, journal, &mut rest)?;
-    let outcome = run_restore(bus, terminal, journal, operation.is_quick);
+    let outcome = restore_saved(bus, terminal, journal, operation.is_quick);
     follow_restore(bus, outcome, journal, &rest, &mut again)
 }
 
@@ -94,8 +94,8 @@ fn restore_uncompared<'a, B: Progress>(
     ensures ok { IfOk result (HasOnlyRestored operation.now journal.now (B.state bus.old) (B.state bus.new)) }
     ensures err { IfErr result (FailsUncompared operation.now (B.state bus.old) (B.state bus.new)) }
 {
-    check_name(bus, operation.named)?;
-    Ok(run_restore(bus, terminal, journal, operation.is_quick))
+    or_fault(check_name(bus, operation.named))?;
+    Ok(restore_saved(bus, terminal, journal, operation.is_quick))
 }
 
 // Identifies the chip, and reads the sectors that the journal doesn't save into `rest`. Returns error 16 if the chip
@@ -168,19 +168,8 @@ fn follow_restore<'a, B: Progress>(
     }
 }
 
-// If `named` is given, identifies the chip and checks that it has that name. If not, sends nothing.
-fn check_name<'a, B: Bus>(bus: &mut B, named: Option<ChipName>) -> Result<(), Fault<'a>>
-    ensures ok { OnOk result (IsNamedFirst named (B.state bus.old) (B.state bus.new)) }
-    ensures err { IfErr result (FailsToFind named (B.state bus.old) (B.state bus.new)) }
-{
-    if named.is_some() {
-        find_first(bus, named)?;
-    }
-    Ok(())
-}
-
 // Erases and programs every saved sector; or, if the restore is `quick`, those that differ.
-fn run_restore<B: Progress>(
+fn restore_saved<B: Progress>(
     bus: &mut B,
     terminal: Terminal<'_>,
     journal: &Journal<'_>,
@@ -190,28 +179,12 @@ fn run_restore<B: Progress>(
 {
     if quick {
         bus.expect_reads(journal.count());
-        restore_differing(bus, terminal, journal)
+        run_restore(bus, journal, true, |announcement| {
+            terminal.print_restore(announcement)
+        })
     } else {
-        restore_all(bus, terminal, journal)
+        run_restore(bus, journal, false, |announcement| {
+            terminal.print_restore(announcement)
+        })
     }
-}
-
-// Reads the saved sectors, and erases and programs those that differ.
-fn restore_differing<B: Bus>(bus: &mut B, terminal: Terminal<'_>, journal: &Journal<'_>) -> Outcome
-    ensures { HasRunRestore true journal.now (B.state bus.old) (B.state bus.new) result }
-{
-    let report = restore_announced(bus, journal, |announcement| {
-        terminal.print_restore(announcement)
-    })?;
-    Ok(Answer::Done(report))
-}
-
-// Erases and programs every saved sector.
-fn restore_all<B: Bus>(bus: &mut B, terminal: Terminal<'_>, journal: &Journal<'_>) -> Outcome
-    ensures { HasRunRestore false journal.now (B.state bus.old) (B.state bus.new) result }
-{
-    let report = rewrite_announced(bus, journal, |announcement| {
-        terminal.print_restore(announcement)
-    })?;
-    Ok(Answer::Done(report))
 }

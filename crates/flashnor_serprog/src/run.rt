@@ -18,16 +18,17 @@ use crate::jobs::{changes_bytes, perform};
 use crate::progress::{Progress, Terminal};
 use crate::roles::have_one_role;
 use crate::setting::Setting;
-use crate::sources::{Sources, read_sources};
+use crate::sources::{image_of, prepare_sources};
 use crate::trouble::{Left, StopLine, Trouble};
 use nor_files::{Disk, Store};
+use nor_jobs::{Sources, arguments_after_name};
 use nor_lines::{
     Answer, DIRECTORY, Fault, Outcome, help_of, lost_output, print_answer, print_fault, print_help,
     unread,
 };
 use nor_session::Refusal;
 use nor_words::{HardwareJob, Operation, Task, operation_of};
-use std::alloc::{AllocError, Global};
+use std::alloc::Global;
 use std::env::Args;
 use std::io;
 use std::io::Write;
@@ -63,13 +64,6 @@ pub fn end_without_streams<E: Write>(errors: &mut E) -> u8
     ensures { result ≡ 1 }
 {
     end_badly(errors, &unread(DIRECTORY))
-}
-
-// Returns the arguments that follow the program's name.
-fn arguments_after_name(alloc: Global, args: Args) -> Result<Vec<String>, AllocError>
-    ensures { IfOk result (λ words. map string_bytes words.items ≡ arguments_of args) }
-{
-    args.skip(1).collect(alloc)
 }
 
 // Prints a fault, and returns the exit status, which is 1.
@@ -148,8 +142,8 @@ fn prepare<'a, 'b, R: Store>(
     let (setting, operation) = read_words(rt.alloc(), words)?;
     have_one_role(files, setting.device, &operation.task)?;
     check_new(files, &operation)?;
-    let sources = read_sources(files, &operation.task)?;
-    let image = sources.image_of(&operation);
+    let sources = prepare_sources(files, &operation.task)?;
+    let image = image_of(&sources, &operation);
     match connect(rt, setting, image) {
         Ok(bus) => Ok(Prepared {
             operation,

@@ -26,7 +26,7 @@ returns-clause-ok g c =
     = c.read_before.auto.rest ∙ ap length c.deref_mut.ensures.value in
     let is : c.in_ok-rest.rest.len ≡ length c.read_before.new.rest = omega (arith, c.in_ok-rest.rest.ok.0, long) in
     compared c.args.operation.now c.args.journal.now _ _ _ _ _ c.in_ok-read_before.ensures.ok _
-    c.run_restore-outcome.ensures c.follow_restore.result
+    c.restore_saved-outcome.ensures c.follow_restore.result
     (rw (c.deref.ensures.value, whole_again c.read_before.new.rest c.in_ok-rest.rest.items _ is)
     at c.follow_restore.ensures.ok)
 
@@ -36,6 +36,6 @@ returns-clause-err g c =
     = c.read_before.auto.rest ∙ ap length c.deref_mut.ensures.value in
     let is : c.in_ok-rest.rest.len ≡ length c.read_before.new.rest = omega (arith, c.in_ok-rest.rest.ok.0, long) in
     compares_fails c.args.operation.now c.args.journal.now _ _ _ _ _ c.in_ok-read_before.ensures.ok _
-    c.run_restore-outcome.ensures c.follow_restore.result
+    c.restore_saved-outcome.ensures c.follow_restore.result
     (rw (c.deref.ensures.value, whole_again c.read_before.new.rest c.in_ok-rest.rest.items _ is)
     at c.follow_restore.ensures.err)
