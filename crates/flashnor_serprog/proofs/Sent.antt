@@ -1,5 +1,5 @@
 -- What a job sends to the chip, from the promises of its call.
-use Rattle.std.proofs.Common.{◌≡◌, ◌⊎◌, ◌∙◌, ℕ, Bool, List, Option, None, Some, Result, Ok, Err, ap, false, inl, inr, refl, true}
+use Rattle.std.proofs.Common.{◌≡◌, ◌⊎◌, ◌∙◌, ℕ, Bool, List, Option, None, Some, Result, Ok, Err, ap, false, inl, inr, refl, subst, true}
 use Rattle.nor_model.specs.Bus.{BusState}
 use Rattle.nor_files.specs.Files.{FilesState, View, is_lawful}
 use Rattle.nor_journal.specs.Text.{Content as Journal}
@@ -355,3 +355,12 @@ module _ (operation : Operation) (ranges : Option (List Span)) (bytes : List ℕ
       (ended.Fault (end.Refused refusal)) fails
   ends_sends (Err fault) fails =
       task_fails_sends operation operation.task ranges bytes before after old new fault fails
+
+-- The end of a job from a state of the bus is its end from an equal state.
+pub ends_from : (operation : Operation) (ranges : Option (List Span)) (bytes : List ℕ) (before : View)
+    (after : FilesState) (old other new : BusState) (outcome : Result Answer JobFault) → other ≡ old
+    → EndsJob operation ranges bytes before after other new outcome
+    → EndsJob operation ranges bytes before after old new outcome
+ends_from operation ranges bytes before after old other new outcome same ends =
+    let P : BusState → Type 0 = λ state. EndsJob operation ranges bytes before after state new outcome in
+    subst P same ends

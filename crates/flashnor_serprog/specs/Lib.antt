@@ -1,5 +1,6 @@
 pub mod Setting
 pub mod Backups
+pub mod Connected
 pub mod Following
 pub mod Rest
 pub mod Restoring

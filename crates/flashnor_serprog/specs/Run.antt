@@ -1,5 +1,5 @@
 -- The end of a run: its job, and its exit status.
-use Rattle.std.specs.Prelude.{◌≡◌, ◌≤◌, ◌⊎◌, ◌&&◌, ◌++◌, ℕ, Bool, true, false, List, [], ◌∷◌, Option, Result, Ok, Err}
+use Rattle.std.specs.Prelude.{◌≡◌, ◌≤◌, ◌⊎◌, ◌&&◌, ◌++◌, ℕ, Bool, true, false, List, [], ◌∷◌, IsSomeAnd, Option, Result, Ok, Err}
 use Rattle.std.specs.Prelude.{codes, not}
 use Rattle.std.specs.Borrow.{Bor}
 use Rattle.clap.specs.Words.{IsAmong}
@@ -18,6 +18,7 @@ use Rattle.nor_lines.specs.Printing.{IsAnswered, Prints}
 use Rattle.nor_lines.specs.declared.answers.Answer.{Answer}
 use Rattle.nor_lines.specs.declared.messages.Fault.TheVariants as end
 use Rattle.nor_request.specs.declared.refusal.Refusal.{Refusal}
+use Rattle.flashnor_serprog.specs.Connected.{IsExpectedImage, IsUnused, device_of, expected_by}
 use Rattle.flashnor_serprog.specs.Jobs.{DoesTask, FailsPerform, changes_bytes}
 use Rattle.flashnor_serprog.specs.Sends.{SendsOnly}
 use Rattle.flashnor_serprog.specs.Setting.{IsDeviceOf}
@@ -25,6 +26,7 @@ use Rattle.nor_jobs.specs.Sources.{AreSources}
 use Rattle.flashnor_serprog.specs.Sources.{HaveOneRole}
 use Rattle.flashnor_serprog.specs.declared.chip_faults.JobFault.{JobFault}
 use Rattle.flashnor_serprog.specs.declared.chip_faults.JobFault.TheVariants as ended
+use Rattle.flashnor_serprog.specs.declared.connect.Connected.{Connected}
 use Rattle.flashnor_serprog.specs.declared.trouble.Trouble.{Trouble}
 use Rattle.flashnor_serprog.specs.declared.trouble.Trouble.TheVariants as trouble
 
@@ -47,6 +49,12 @@ pub record IsPrepared (words : List Text) (view : View) (operation : Operation) 
   pub asked : IsAskedFor words device operation
   pub roles : HaveOneRole view.nature device operation.task
   pub sources : AreSources view operation.task ranges bytes
+
+-- `IsPrepared` for the device of this name.
+pub record IsPreparedRun (words : List Text) (view : View) (device : Text) (operation : Operation)
+    (ranges : Option (List Span)) (bytes : List ℕ) : Type 0 where
+  pub prepared : IsPrepared words view operation ranges bytes
+  pub named : prepared.device.now ≡ device
 
 -- A job ends with the result of its call, or with a fault that occurred before the call or in the comparison after a
 -- change.
@@ -87,12 +95,10 @@ HasPrinted job (Err fault) out out' = ⊥
 -- A run of a job on a chip, with the states of the bus before and after it. The run sent only what its job may send
 -- (`SendsOnly`). The status is 0 or 1, and 0 only if the job ended with an answer and the answer's lines were printed.
 pub record HasRun (operation : Operation) (ranges : Option (List Span)) (bytes : List ℕ) (before : View)
-    (after : FilesState) (out out' : Option (List ℕ)) (status : ℕ) : Type 0 where
-  pub first : BusState
-  pub last : BusState
+    (after : FilesState) (old new : BusState) (out out' : Option (List ℕ)) (status : ℕ) : Type 0 where
   pub outcome : Result Answer JobFault
-  pub ends : EndsJob operation ranges bytes before after first last outcome
-  pub sends : SendsOnly operation.task bytes first last after
+  pub ends : EndsJob operation ranges bytes before after old new outcome
+  pub sends : SendsOnly operation.task bytes old new after
   pub few : status ≤ 1
   pub printed : status ≡ 0 → HasPrinted operation.task outcome out out'
 
@@ -109,14 +115,23 @@ AsksForHelp _ = ⊥
 abbrev pub IsHelpAskedBy : List Text → Trouble → Type 0
 IsHelpAskedBy words ended = AsksForHelp ended → ArgumentsAskForHelp words
 
--- The job that the arguments ask for was prepared and run, with status 0.
-pub record HasDoneJob (files after : FilesState) (words : List Text) (out out' : Option (List ℕ)) : Type 0 where
+-- The job that the arguments ask for was prepared, and run on a bus, from its first transaction on. The bus belongs to
+-- the device that `dev=` names; `start` is that bus before the job, and `last` its state now. At the start it expected
+-- no image, or the one that `IsExpectedImage` allows.
+pub record HasRunJob (state : Connected → BusState) (files after : FilesState) (words : List Text) (device : Text)
+    (last : BusState) (out out' : Option (List ℕ)) (status : ℕ) : Type 0 where
+  pub start : Connected
+  pub same_device : device_of start ≡ device
+  pub fresh : IsUnused (state start)
   pub operation : Operation
   pub ranges : Option (List Span)
   pub bytes : List ℕ
-  pub prepared : IsPrepared words files.view operation ranges bytes
-  pub ran : HasRun operation ranges bytes files.view after out out' 0
+  pub expected : IsExpectedImage operation bytes (expected_by start)
+  pub prepared : IsPreparedRun words files.view device operation ranges bytes
+  pub ran : HasRun operation ranges bytes files.view after (state start) last out out' status
 
--- A run with status 0: the arguments ask for help, or their job was done.
-abbrev pub HasSucceeded : (files after : FilesState) → List Text → (out out' : Option (List ℕ)) → Type 0
-HasSucceeded files after words out out' = ArgumentsAskForHelp words ⊎ HasDoneJob files after words out out'
+-- A run with status 0: the arguments ask for help, or their job was run on the bus that the run left in `used`.
+abbrev pub HasSucceeded : (state : Connected → BusState) → (files after : FilesState) → List Text
+    → (used : Option Connected) → (out out' : Option (List ℕ)) → Type 0
+HasSucceeded state files after words used out out' = ArgumentsAskForHelp words ⊎ IsSomeAnd used
+    (λ connected. HasRunJob state files after words (device_of connected) (state connected) out out' 0)

@@ -1,9 +1,12 @@
 //! Opens the device of a programmer and identifies the programmer.
+ghost use Rattle.std.specs.Prelude.{◌≡◌, [], IfOk, option_map, string_bytes};
+ghost use Rattle.nor_serprog.specs.Twice.{expected_of, history_of, twice_of};
+ghost use Rattle.flashnor_serprog.specs.Connected.{IsUnused, device_of, expected_by};
 
 use crate::port::{DevicePort, PortFault};
 use crate::progress::{Shown, Terminal};
-use crate::setting::Setting;
 use crate::trouble::ProgrammerFault;
+use nor_chip::Bus;
 use nor_files::LockFile;
 use nor_serprog::{
     AnyProgrammer, BatchingBus, CheckedStatus, Command, HandshakeFault, Link, Paced, ReadAhead,
@@ -23,26 +26,40 @@ pub type ChipBus<'a> = Shown<'a, ReadAhead<ReadTwice<CheckedStatus<PartsBus<'a>>
 // The bus that splits commands, over the one that paces polls.
 type PartsBus<'a> = SplittingBus<Paced<BatchingBus<DevicePort>, &'a HostRuntime>>;
 
+/// The bus to the chip at the programmer whose device has this name. Only `connect` makes one.
+#[derive(Drop)]
+pub struct Connected<'a> {
+    device: String,
+    pub bus: ChipBus<'a>,
+}
+
 /// Opens and locks the device, identifies the programmer, sets its clock if `spispeed=` is given, and sets its chip
 /// select if `cs=` is given. Then wakes the chip, and sends no other transaction. A terminal shows, before the first
 /// exchange, what to do if no reply ever arrives. Returns a programmer fault from 1 to 11 if one of these steps fails.
+///
+/// The bus has carried out no transaction yet, and belongs to this device. No clause is about the frames that are sent
+/// before the bus exists.
 ///
 /// If `image` is given, data that equals `image` is read once. It must be the image with which the job compares the
 /// chip at its end. Then no data that was read once gets into a journal. After a write, that comparison finds a sector
 /// that was misread as equal; with `-v` it stays unnoticed.
 pub fn connect<'a>(
     rt: &'a HostRuntime,
-    setting: Setting<'_>,
+    device: String,
+    hertz: Option<u32>,
+    chip_select: Option<u8>,
     image: Option<Vec<u8>>,
-) -> Result<ChipBus<'a>, ProgrammerFault> {
-    let device = open_device(rt, setting.device)?;
+) -> Result<Connected<'a>, ProgrammerFault>
+    ensures fresh { IfOk result (λ connected. IsUnused (⟦<ChipBus<'a> as Bus>⟧.state connected.bus)) }
+    ensures named { IfOk result (λ connected. device_of connected ≡ string_bytes device) }
+    ensures expects { IfOk result (λ connected. expected_by connected ≡ option_map (λ image. image.items) image) }
+{
+    let file = open_device(rt, device.as_str())?;
     let terminal = Terminal::new(rt);
-    terminal.print_waiting(setting.device);
-    let mut link = Link::new(DevicePort::new(device));
-    let programmer = AnyProgrammer::identify(&mut link, setting.hertz).map_err(
-        ProgrammerFault::Handshake,
-    )?;
-    if let Some(chip_select) = setting.chip_select {
+    terminal.print_waiting(device.as_str());
+    let mut link = Link::new(DevicePort::new(file));
+    let programmer = AnyProgrammer::identify(&mut link, hertz).map_err(ProgrammerFault::Handshake)?;
+    if let Some(chip_select) = chip_select {
         programmer
             .select_chip(&mut link, chip_select)
             .map_err(ProgrammerFault::Handshake)?;
@@ -51,12 +68,23 @@ pub fn connect<'a>(
     let longest_read = programmer.longest_read();
     let paced = Paced::new(BatchingBus::over(link, programmer), rt);
     let splitting = SplittingBus::new(paced, programmer.longest_part(), longest_read);
-    let bus = CheckedStatus::new(splitting);
-    let bus = match image {
+    let bus = reading_twice(CheckedStatus::new(splitting), image);
+    Ok(Connected {
+        device,
+        bus: Shown::new(ReadAhead::new(bus, longest_read), terminal),
+    })
+}
+
+// Returns a bus that reads data twice, except data that equals `image`, if one is given.
+fn reading_twice<B: Bus + Drop>(bus: B, image: Option<Vec<u8>>) -> ReadTwice<B>
+    ensures bus { twice_of result ≡ bus }
+    ensures history { history_of result ≡ [] }
+    ensures expected { expected_of result ≡ image }
+{
+    match image {
         Some(image) => ReadTwice::expecting(bus, image),
         None => ReadTwice::new(bus),
-    };
-    Ok(Shown::new(ReadAhead::new(bus, longest_read), terminal))
+    }
 }
 
 // Sends ABh, which wakes a chip in deep power-down; any other chip ignores it. The chip is awake after 3 microseconds,

@@ -48,8 +48,9 @@ fn main(rt: HostRuntime) -> ExitCode {
     let streams = keep_streams(&rt);
     let mut output = by_line(rt.alloc(), rt.stdout());
     let mut errors = by_line(rt.alloc(), rt.stderr());
+    let mut used = None;
     let status = match &streams {
-        Ok(_) => run_words(&rt, env::args(&rt), &mut output, &mut errors),
+        Ok(_) => run_words(&rt, env::args(&rt), &mut used, &mut output, &mut errors),
         Err(_) => end_without_streams(&mut errors),
     };
     ExitCode::from(status)

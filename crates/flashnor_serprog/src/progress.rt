@@ -200,7 +200,9 @@ pub struct Shown<'a, B> {
 
 impl<'a, B: Bus + Drop> Shown<'a, B> {
     /// Returns a bus that prints the progress of the job on `bus` to `terminal`.
-    pub fn new(bus: B, terminal: Terminal<'a>) -> Shown<'a, B> {
+    pub fn new(bus: B, terminal: Terminal<'a>) -> Shown<'a, B>
+        ensures { result.bus ≡ bus }
+    {
         Shown {
             bus,
             terminal,
@@ -223,7 +225,9 @@ impl<'a, B: Bus + Drop> Shown<'a, B> {
     }
 
     /// Marks the transactions from now on as those of a session, whose journal is sealed before the first change.
-    pub fn begin_session(&mut self) {
+    pub fn begin_session(&mut self)
+        ensures { self.new.bus ≡ self.old.bus }
+    {
         self.in_session = true;
     }
 }

@@ -1,18 +1,20 @@
 //! A run of the program: from its arguments to its exit status.
-ghost use Rattle.std.specs.Prelude.{◌≡◌, ◌≤◌, IfErr, IfOk, IsOk, OnOk, map, string_bytes, true};
+ghost use Rattle.std.specs.Prelude.{◌≡◌, ◌≤◌, Err, IfErr, IfOk, IfSome, IsOk, None, OnOk, map, string_bytes, true};
 ghost use Rattle.std.specs.Io.KnownBytes.{Appends};
 ghost use Rattle.nor_files.specs.Disk.{unknown};
 ghost use Rattle.nor_files.specs.Files.{AreUntouched};
-ghost use Rattle.nor_lines.specs.Printing.{Prints};
+ghost use Rattle.nor_lines.specs.Printing.{IsAnswered, Prints};
 ghost use Rattle.nor_words.specs.Words.{arguments_of};
-ghost use Rattle.flashnor_serprog.specs.Run.{AreJobLines, AsksForHelp, EndsJob, HasRun, HasSucceeded, IsAskedFor};
-ghost use Rattle.flashnor_serprog.specs.Run.{IsEndedAs, IsHelpAskedBy, IsPrepared, is_unverified, unverified_line};
+ghost use Rattle.flashnor_serprog.specs.Connected.{IsExpectedImage, IsUnused, device_of, expected_by};
+ghost use Rattle.flashnor_serprog.specs.Run.{AreJobLines, AsksForHelp, EndsJob, HasRun, HasRunJob, HasSucceeded};
+ghost use Rattle.flashnor_serprog.specs.Run.{IsAskedFor, IsEndedAs, IsHelpAskedBy, IsPreparedRun, is_unverified};
+ghost use Rattle.flashnor_serprog.specs.Run.{unverified_line};
 ghost use Rattle.flashnor_serprog.specs.Sends.{SendsOnly};
 ghost use Rattle.flashnor_serprog.specs.declared.trouble.Left.TheVariants.{Unchanged};
 
 use crate::backups::check_new;
 use crate::chip_faults::JobFault;
-use crate::connect::{ChipBus, connect};
+use crate::connect::{ChipBus, Connected, connect};
 use crate::help::HELP;
 use crate::jobs::{changes_bytes, perform};
 use crate::progress::{Progress, Terminal};
@@ -20,6 +22,7 @@ use crate::roles::have_one_role;
 use crate::setting::Setting;
 use crate::sources::{image_of, prepare_sources};
 use crate::trouble::{Left, StopLine, Trouble};
+use nor_chip::Bus;
 use nor_files::{Disk, Store};
 use nor_jobs::{Sources, arguments_after_name};
 use nor_lines::{
@@ -38,20 +41,38 @@ use std::io::Write;
 ///
 /// The first of the arguments is the program's name, which is skipped. If the system could not provide the arguments,
 /// `given` is an error, which is printed as a fault too.
-pub fn run_words<O: Write, E: Write>(
-    rt: &HostRuntime,
+///
+/// `used`, which must be `None`, receives the bus to the chip after the run, if the programmer was identified. The
+/// clauses `done` and `ran` are about this bus.
+pub fn run_words<'b, O: Write, E: Write>(
+    rt: &'b HostRuntime,
     given: io::Result<Args>,
+    used: &mut Option<Connected<'b>>,
     output: &mut O,
     errors: &mut E,
 ) -> u8
+    requires { used.old ≡ None }
     ensures few { result ≤ 1 }
-    ensures done { IfOk given (λ args. result ≡ 0 → HasSucceeded unknown unknown (arguments_of args)
+    ensures done { IfOk given (λ args. result ≡ 0 → HasSucceeded
+        (λ connected. ⟦<ChipBus<'b> as Bus>⟧.state connected.bus) unknown unknown (arguments_of args) used.new
         (O.contents output.old) (O.contents output.new)) }
+    ensures ran { IfOk given (λ args. IfSome used.new (λ connected. HasRunJob
+        (λ connected. ⟦<ChipBus<'b> as Bus>⟧.state connected.bus) unknown unknown (arguments_of args)
+        (device_of connected) (⟦<ChipBus<'b> as Bus>⟧.state connected.bus)
+        (O.contents output.old) (O.contents output.new) result)) }
     ensures unread { IfErr given (λ error. result ≡ 1) }
+    ensures unused { IfErr given (λ error. used.new ≡ None) }
 {
     match given {
         Ok(args) => match arguments_after_name(rt.alloc(), args) {
-            Ok(words) => run_over(rt, &mut Disk::new(rt), words.as_slice(), output, errors),
+            Ok(words) => run_over(
+                rt,
+                &mut Disk::new(rt),
+                used,
+                words.as_slice(),
+                output,
+                errors,
+            ),
             Err(_) => end_badly(errors, &Fault::out_of_memory()),
         },
         Err(error) => end_badly(errors, &Fault::of_words(&error)),
@@ -75,19 +96,35 @@ fn end_badly<E: Write>(errors: &mut E, fault: &Fault<'_>) -> u8
 }
 
 // Performs the job given by the arguments, without the program's name, over any store of files.
-fn run_over<R: Store, O: Write, E: Write>(
-    rt: &HostRuntime,
+fn run_over<'b, R: Store, O: Write, E: Write>(
+    rt: &'b HostRuntime,
     files: &mut R,
+    used: &mut Option<Connected<'b>>,
     words: &[String],
     output: &mut O,
     errors: &mut E,
 ) -> u8
+    requires { used.old ≡ None }
     ensures few { result ≤ 1 }
-    ensures done { result ≡ 0 → HasSucceeded (R.state files.old) (R.state files.new) (map string_bytes words.now)
+    ensures done { result ≡ 0 → HasSucceeded (λ connected. ⟦<ChipBus<'b> as Bus>⟧.state connected.bus)
+        (R.state files.old) (R.state files.new) (map string_bytes words.now) used.new
         (O.contents output.old) (O.contents output.new) }
+    ensures ran { IfSome used.new (λ connected. HasRunJob (λ connected. ⟦<ChipBus<'b> as Bus>⟧.state connected.bus)
+        (R.state files.old) (R.state files.new) (map string_bytes words.now) (device_of connected)
+        (⟦<ChipBus<'b> as Bus>⟧.state connected.bus) (O.contents output.old) (O.contents output.new) result) }
 {
     match prepare(rt, files, words) {
-        Ok(prepared) => run_prepared(files, prepared, output, errors),
+        Ok(prepared) => {
+            let Prepared {
+                operation,
+                sources,
+                mut connected,
+            } = prepared;
+            let bus = &mut connected.bus;
+            let status = run_prepared(files, bus, &operation, sources, output, errors);
+            *used = Some(connected);
+            status
+        }
         Err(trouble) => end_early(output, errors, &trouble),
     }
 }
@@ -125,7 +162,7 @@ fn status_of<E: Write>(printed: io::Result<()>, errors: &mut E) -> u8
 struct Prepared<'a, 'b> {
     operation: Operation<'a>,
     sources: Sources,
-    bus: ChipBus<'b>,
+    connected: Connected<'b>,
 }
 
 // Parses the arguments, reads the files that the job needs, and identifies the programmer.
@@ -135,8 +172,11 @@ fn prepare<'a, 'b, R: Store>(
     words: &'a [String],
 ) -> Result<Prepared<'a, 'b>, Trouble<'a>>
     ensures same { AreUntouched (R.state files.old) (R.state files.new) }
-    ensures ok { IfOk result (λ prepared. IsPrepared (map string_bytes words.now) (R.state files.old).view
-        prepared.operation prepared.sources.included prepared.sources.bytes.items) }
+    ensures ok { IfOk result (λ prepared. IsPreparedRun (map string_bytes words.now) (R.state files.old).view
+        (device_of prepared.connected) prepared.operation prepared.sources.included prepared.sources.bytes.items) }
+    ensures fresh { IfOk result (λ prepared. IsUnused (⟦<ChipBus<'b> as Bus>⟧.state prepared.connected.bus)) }
+    ensures expected { IfOk result (λ prepared. IsExpectedImage prepared.operation prepared.sources.bytes.items
+        (expected_by prepared.connected)) }
     ensures help { IfErr result (IsHelpAskedBy (map string_bytes words.now)) }
 {
     let (setting, operation) = read_words(rt.alloc(), words)?;
@@ -144,16 +184,28 @@ fn prepare<'a, 'b, R: Store>(
     check_new(files, &operation)?;
     let sources = prepare_sources(files, &operation.task)?;
     let image = image_of(&sources, &operation);
-    match connect(rt, setting, image) {
-        Ok(bus) => Ok(Prepared {
+    let name = name_of(rt.alloc(), setting.device)?;
+    match connect(rt, name, setting.hertz, setting.chip_select, image) {
+        Ok(connected) => Ok(Prepared {
             operation,
             sources,
-            bus,
+            connected,
         }),
         Err(fault) => Err(Trouble::Programmer {
             fault,
             device: setting.device,
         }),
+    }
+}
+
+// Returns a copy of the name of a device. Returns usage fault 10 if memory runs out.
+fn name_of<'a>(alloc: Global, device: &str) -> Result<String, Fault<'a>>
+    ensures ok { IfOk result (λ name. string_bytes name ≡ device.now) }
+    ensures err { IfErr result (λ fault. ¬ IsAnswered (Err fault)) }
+{
+    match String::from_str(alloc, device) {
+        Ok(name) => Ok(name),
+        Err(_) => Err(Fault::out_of_memory()),
     }
 }
 
@@ -174,31 +226,36 @@ fn read_words<'a>(
 }
 
 // Performs a job, prints its answer or its fault, and returns the exit status.
-fn run_prepared<R: Store, O: Write, E: Write>(
+fn run_prepared<'b, R: Store, O: Write, E: Write>(
     files: &mut R,
-    prepared: Prepared<'_, '_>,
+    bus: &mut ChipBus<'b>,
+    operation: &Operation<'_>,
+    sources: Sources,
     output: &mut O,
     errors: &mut E,
 ) -> u8
-    ensures { HasRun prepared.entry.operation prepared.entry.sources.included prepared.entry.sources.bytes.items
-        (R.state files.old).view (R.state files.new) (O.contents output.old) (O.contents output.new) result }
+    ensures { HasRun operation.now sources.included sources.bytes.items (R.state files.old).view (R.state files.new)
+        (⟦<ChipBus<'b> as Bus>⟧.state bus.old) (⟦<ChipBus<'b> as Bus>⟧.state bus.new)
+        (O.contents output.old) (O.contents output.new) result }
 {
-    let Prepared {
-        operation,
-        sources,
-        mut bus,
-    } = prepared;
-    if let Task::Change(_) = &operation.task {
-        bus.begin_session();
-    }
+    mark_session(bus, &operation.task);
     let terminal = bus.terminal();
     let unverified = is_unverified(&operation.task);
-    match end_job(files, &mut bus, terminal, &operation, sources) {
+    match end_job(files, bus, terminal, operation, sources) {
         Ok(answer) => end_well(output, errors, answer, unverified),
         Err(fault) => {
-            print_job_fault(errors, &fault, &bus, &operation.task);
+            print_job_fault(errors, &fault, bus, &operation.task);
             1
         }
+    }
+}
+
+// Marks the transactions of a session, whose journal is sealed before the first change.
+fn mark_session<'b>(bus: &mut ChipBus<'b>, task: &Task<'_>)
+    ensures { ⟦<ChipBus<'b> as Bus>⟧.state bus.new ≡ ⟦<ChipBus<'b> as Bus>⟧.state bus.old }
+{
+    if let Task::Change(_) = task {
+        bus.begin_session();
     }
 }
 

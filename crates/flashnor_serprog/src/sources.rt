@@ -1,7 +1,8 @@
 //! The files that a job needs, which are read and checked before the programmer is used.
-ghost use Rattle.std.specs.Prelude.{IfErr, IfOk};
+ghost use Rattle.std.specs.Prelude.{◌≡◌, IfErr, IfOk, option_map};
 ghost use Rattle.nor_files.specs.Files.{AreUntouched};
 ghost use Rattle.nor_jobs.specs.Sources.{AreSources};
+ghost use Rattle.flashnor_serprog.specs.Connected.{IsExpectedImage, ends_with_image};
 ghost use Rattle.flashnor_serprog.specs.Sources.{FailsCheck, FailsToPrepare};
 
 use crate::jobs::is_compared;
@@ -17,14 +18,26 @@ use nor_words::{Operation, Task, Wanted};
 ///
 /// Data that equals this image is read once. A sector that was misread as equal is then found in the comparison after
 /// `-w`. Without that comparison it would stay unwritten, with `Done`.
-pub fn image_of(sources: &Sources, operation: &Operation<'_>) -> Option<Vec<u8>> {
+pub fn image_of(sources: &Sources, operation: &Operation<'_>) -> Option<Vec<u8>>
+    ensures { IsExpectedImage operation.now sources.now.bytes.items (option_map (λ image. image.items) result) }
+{
+    if ends_with_image(operation) {
+        sources.bytes.clone().ok()
+    } else {
+        None
+    }
+}
+
+// True for a job that compares the whole chip with its image at its end: `-v`, and `-w` without `-n` and `-N`.
+fn ends_with_image(operation: &Operation<'_>) -> bool
+    ensures { result ≡ ends_with_image operation.now operation.now.task }
+{
     match &operation.task {
-        Task::Verify { .. } => sources.bytes.clone().ok(),
-        Task::Change(change) if is_compared(operation, change) => match change.wanted {
-            Wanted::Write { .. } => sources.bytes.clone().ok(),
-            _ => None,
-        },
-        _ => None,
+        Task::Verify { .. } => true,
+        Task::Change(change) => {
+            is_compared(operation, change) && matches!(change.wanted, Wanted::Write { .. })
+        }
+        _ => false,
     }
 }
 

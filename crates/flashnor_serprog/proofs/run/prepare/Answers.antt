@@ -1,3 +1,4 @@
+use Rattle.std.proofs.Common.{◌∙◌, sym}
 use Rattle.std.proofs.lemmas.Result.{err_from_is_err_and}
 use Rattle.flashnor_serprog.proofs.Helped.{backup-ask, roles-ask, sources-ask}
 use Rattle.flashnor_serprog.proofs.run.prepare.Goals as goal
@@ -21,3 +22,17 @@ returns-in_err-sources-clause-help g c =
     let p = err_from_is_err_and c.from_residual-in_err-sources.result c.from_residual-in_err-sources.ensures.1 in
     rw (p.1, p.2) (λ is. absurd (sources-ask (g.R.Store.state c.args.files.now).view c.in_ok-setting.operation.task
     c.in_err-sources.field-0.0 c.in_err-sources.ensures.err is))
+
+pub returns-in-Ok-clause-ok : goal.returns-in-Ok-clause-ok
+returns-in-Ok-clause-ok g c = record {
+  prepared = record {
+    device = c.in_ok-setting.setting.device;
+    asked = c.in_ok-setting.ensures.ok;
+    roles = c.in_ok-have_one_role.ensures.ok;
+    sources = c.in_ok-sources.ensures.ok;
+  };
+  named = sym (c.in-Ok.ensures.named ∙ c.in_ok-name.ensures.ok);
+}
+
+pub returns-in-Ok-clause-expected : goal.returns-in-Ok-clause-expected
+returns-in-Ok-clause-expected g c = rw c.in-Ok.ensures.expects c.image_of-image.ensures
