@@ -1,5 +1,5 @@
 -- The results of the jobs that only identify the chip, on a ready bus, from what they promise on every bus.
-use Rattle.std.proofs.Common.{◌≡◌, ◌∙◌, Option, Result, Ok, Err, MatchResult, ap}
+use Rattle.std.proofs.Common.{◌∙◌, Option, Result, Ok, Err, MatchResult, ap}
 use Rattle.nor_model.specs.Bus.{BusState}
 use Rattle.nor_probe.specs.declared.probes.Found.{Found}
 use Rattle.nor_probe.specs.declared.table.ChipName.{ChipName}

@@ -1,5 +1,5 @@
 -- The result of a restore on a modelled bus that is steady or whose chip is idle, from what it promises on every bus.
-use Rattle.std.proofs.Common.{◌≡◌, ◌∙◌, Option, None, Some, Result, Ok, Err, inl, inr, true}
+use Rattle.std.proofs.Common.{◌∙◌, Option, None, Some, Result, Ok, Err, inl, inr, true}
 use Rattle.nor_model.specs.Bus.{BusState}
 use Rattle.nor_driver.specs.OnlyReads.{IsSteadyOrIdle, OnlyReads}
 use Rattle.nor_journal.specs.Text.{Content as Journal}
