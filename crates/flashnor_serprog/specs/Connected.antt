@@ -37,8 +37,8 @@ ends_with_image operation (task.Verify file regions) = true
 ends_with_image operation (task.Change change) = is_compared operation change && writes_image change.wanted
 ends_with_image operation _ = false
 
--- Holds if no image is expected, or if the job is one for which `ends_with_image` is true, and these bytes are expected:
--- those of its image. So `-r`, `--backup` and `--restore` read all data twice.
-abbrev pub IsExpectedImage : Operation → (bytes : List ℕ) → Option (List ℕ) → Type 0
-IsExpectedImage operation bytes None = ⊤
-IsExpectedImage operation bytes (Some image) = (ends_with_image operation operation.task ≡ true) × (image ≡ bytes)
+-- Holds if no image is expected, or if `ends_with_image` is true for the job and the expected bytes are those of its
+-- image. So `-r`, `--backup` and `--restore` read all data twice.
+abbrev pub MayExpectImage : Operation → (bytes : List ℕ) → Option (List ℕ) → Type 0
+MayExpectImage operation bytes None = ⊤
+MayExpectImage operation bytes (Some image) = (ends_with_image operation operation.task ≡ true) × (image ≡ bytes)

@@ -18,7 +18,7 @@ use Rattle.nor_lines.specs.Printing.{IsAnswered, Prints}
 use Rattle.nor_lines.specs.declared.answers.Answer.{Answer}
 use Rattle.nor_lines.specs.declared.messages.Fault.TheVariants as end
 use Rattle.nor_request.specs.declared.refusal.Refusal.{Refusal}
-use Rattle.flashnor_serprog.specs.Connected.{IsExpectedImage, IsUnused, device_of, expected_by}
+use Rattle.flashnor_serprog.specs.Connected.{MayExpectImage, IsUnused, device_of, expected_by}
 use Rattle.flashnor_serprog.specs.Jobs.{DoesTask, FailsPerform, changes_bytes}
 use Rattle.flashnor_serprog.specs.Sends.{SendsOnly}
 use Rattle.flashnor_serprog.specs.Setting.{IsDeviceOf}
@@ -51,7 +51,7 @@ pub record IsPrepared (words : List Text) (view : View) (operation : Operation) 
   pub sources : AreSources view operation.task ranges bytes
 
 -- `IsPrepared` for the device of this name.
-pub record IsPreparedRun (words : List Text) (view : View) (device : Text) (operation : Operation)
+pub record IsPreparedOnDevice (words : List Text) (view : View) (device : Text) (operation : Operation)
     (ranges : Option (List Span)) (bytes : List ℕ) : Type 0 where
   pub prepared : IsPrepared words view operation ranges bytes
   pub named : prepared.device.now ≡ device
@@ -117,7 +117,7 @@ IsHelpAskedBy words ended = AsksForHelp ended → ArgumentsAskForHelp words
 
 -- The job that the arguments ask for was prepared, and run on a bus, from its first transaction on. The bus belongs to
 -- the device that `dev=` names; `start` is that bus before the job, and `last` its state now. At the start it expected
--- no image, or the one that `IsExpectedImage` allows.
+-- no image, or the one that `MayExpectImage` allows.
 pub record HasRunJob (state : Connected → BusState) (files after : FilesState) (words : List Text) (device : Text)
     (last : BusState) (out out' : Option (List ℕ)) (status : ℕ) : Type 0 where
   pub start : Connected
@@ -126,8 +126,8 @@ pub record HasRunJob (state : Connected → BusState) (files after : FilesState)
   pub operation : Operation
   pub ranges : Option (List Span)
   pub bytes : List ℕ
-  pub expected : IsExpectedImage operation bytes (expected_by start)
-  pub prepared : IsPreparedRun words files.view device operation ranges bytes
+  pub expected : MayExpectImage operation bytes (expected_by start)
+  pub prepared : IsPreparedOnDevice words files.view device operation ranges bytes
   pub ran : HasRun operation ranges bytes files.view after (state start) last out out' status
 
 -- A run with status 0: the arguments ask for help, or their job was run on the bus that the run left in `used`.

@@ -5,9 +5,9 @@ ghost use Rattle.nor_files.specs.Disk.{unknown};
 ghost use Rattle.nor_files.specs.Files.{AreUntouched};
 ghost use Rattle.nor_lines.specs.Printing.{IsAnswered, Prints};
 ghost use Rattle.nor_words.specs.Words.{arguments_of};
-ghost use Rattle.flashnor_serprog.specs.Connected.{IsExpectedImage, IsUnused, device_of, expected_by};
+ghost use Rattle.flashnor_serprog.specs.Connected.{MayExpectImage, IsUnused, device_of, expected_by};
 ghost use Rattle.flashnor_serprog.specs.Run.{AreJobLines, AsksForHelp, EndsJob, HasRun, HasRunJob, HasSucceeded};
-ghost use Rattle.flashnor_serprog.specs.Run.{IsAskedFor, IsEndedAs, IsHelpAskedBy, IsPreparedRun, is_unverified};
+ghost use Rattle.flashnor_serprog.specs.Run.{IsAskedFor, IsEndedAs, IsHelpAskedBy, IsPreparedOnDevice, is_unverified};
 ghost use Rattle.flashnor_serprog.specs.Run.{unverified_line};
 ghost use Rattle.flashnor_serprog.specs.Sends.{SendsOnly};
 ghost use Rattle.flashnor_serprog.specs.declared.trouble.Left.TheVariants.{Unchanged};
@@ -172,10 +172,10 @@ fn prepare<'a, 'b, R: Store>(
     words: &'a [String],
 ) -> Result<Prepared<'a, 'b>, Trouble<'a>>
     ensures same { AreUntouched (R.state files.old) (R.state files.new) }
-    ensures ok { IfOk result (λ prepared. IsPreparedRun (map string_bytes words.now) (R.state files.old).view
+    ensures ok { IfOk result (λ prepared. IsPreparedOnDevice (map string_bytes words.now) (R.state files.old).view
         (device_of prepared.connected) prepared.operation prepared.sources.included prepared.sources.bytes.items) }
     ensures fresh { IfOk result (λ prepared. IsUnused (⟦<ChipBus<'b> as Bus>⟧.state prepared.connected.bus)) }
-    ensures expected { IfOk result (λ prepared. IsExpectedImage prepared.operation prepared.sources.bytes.items
+    ensures expected { IfOk result (λ prepared. MayExpectImage prepared.operation prepared.sources.bytes.items
         (expected_by prepared.connected)) }
     ensures help { IfErr result (IsHelpAskedBy (map string_bytes words.now)) }
 {

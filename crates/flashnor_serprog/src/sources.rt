@@ -2,7 +2,7 @@
 ghost use Rattle.std.specs.Prelude.{◌≡◌, IfErr, IfOk, option_map};
 ghost use Rattle.nor_files.specs.Files.{AreUntouched};
 ghost use Rattle.nor_jobs.specs.Sources.{AreSources};
-ghost use Rattle.flashnor_serprog.specs.Connected.{IsExpectedImage, ends_with_image};
+ghost use Rattle.flashnor_serprog.specs.Connected.{MayExpectImage, ends_with_image};
 ghost use Rattle.flashnor_serprog.specs.Sources.{FailsCheck, FailsToPrepare};
 
 use crate::jobs::is_compared;
@@ -19,7 +19,7 @@ use nor_words::{Operation, Task, Wanted};
 /// Data that equals this image is read once. A sector that was misread as equal is then found in the comparison after
 /// `-w`. Without that comparison it would stay unwritten, with `Done`.
 pub fn image_of(sources: &Sources, operation: &Operation<'_>) -> Option<Vec<u8>>
-    ensures { IsExpectedImage operation.now sources.now.bytes.items (option_map (λ image. image.items) result) }
+    ensures { MayExpectImage operation.now sources.now.bytes.items (option_map (λ image. image.items) result) }
 {
     if ends_with_image(operation) {
         sources.bytes.clone().ok()
