@@ -97,7 +97,6 @@ def compares_after_error_14(start):
 
 def reads_restores_twice(start):
     """A restore reads all data twice, even if it equals the journal: one wrong bit in any of its reads stops it."""
-    numbers = (2, 7, 15)
     old, _, journal = restored("reads_restores_twice")
     for words in (), ("--quick",), ("-N",), ("--quick", "-N"):
         bench = start(data=old)
