@@ -56,8 +56,8 @@ NAMES = {
         "protected. Protected addresses lie at one end of the chip, so this holds if any of these is protected.",
     "Stopped": "`Stopped`: what a transaction returns that failed.",
     "SameNature":
-        "`SameNature old new`: `honest`, `steady` and `unlimited` are as before and, on a well-behaved bus, `config` "
-        "of the chip.",
+        "`SameNature old new`: `honest`, `steady` and `unlimited` are as before. On a well-behaved bus `config` of the "
+        "chip is, too.",
     "IsHonestFor":
         "`IsHonestFor out n bus`: the bus is well-behaved; and it is `unlimited`, or `out` has at most 260 bytes and "
         "`n` is at most 4,096. No call sends or reads more.",
