@@ -45,6 +45,15 @@ NAMES = {
     "Kinds":
         "`Kinds`: the fields `k32` and `k64` say whether 52h erases 32 KiB and D8h 64 KiB. Each chip erases 4 KiB "
         "(20h) and the whole chip (C7h).",
+    "has_srp0": "`has_srp0 kept`: SRP0 is set.",
+    "has_srp1": "`has_srp1 kept`: SRP1 is set.",
+    "cmp_qe_srp1": "`cmp_qe_srp1`: CMP, QE and SRP1 in status 2.",
+    "lb3_to_reserved": "`lb3_to_reserved`: LB3, LB2, LB1 and the reserved bit in status 2.",
+    "lb3_to_lb1": "`lb3_to_lb1`: LB3, LB2 and LB1 in status 2.",
+    "srp0_bit": "`srp0_bit kept`: SRP0, as 0 or 1.",
+    "lb3_to_srp1": "`lb3_to_srp1 kept`: the bits from LB3 down to SRP1, as a number.",
+    "cmp_of": "`cmp_of code`: CMP, as 0 or 1.",
+    "sec_to_bp0_of": "`sec_to_bp0_of code`: the bits from SEC down to BP0, as a number.",
     "is_chip_size": "`is_chip_size n`: `n` is a power of two from 64 KiB to 16 MiB.",
     "IsChip": "`IsChip chip`: bytes are below 256, status bits fit their registers, and `busy` is below 65,536.",
     "Command": "`Command`: the type of what a transaction asks for. Its cases are in the equations above.",
@@ -133,6 +142,15 @@ APPENDICES = {
         "If this is wrong, a real chip does something else than the model, and no promise about its bytes holds. "
         "Read it with the datasheet of the W25Q64FV.",
         {
+            "has_srp0": "nor_model/specs/Chip.antt",
+            "has_srp1": "nor_model/specs/Chip.antt",
+            "srp0_bit": "nor_model/specs/Chip.antt",
+            "lb3_to_srp1": "nor_model/specs/Chip.antt",
+            "cmp_of": "nor_driver/specs/StatusWrites.antt",
+            "sec_to_bp0_of": "nor_driver/specs/StatusWrites.antt",
+            "cmp_qe_srp1": "nor_model/specs/Step.antt",
+            "lb3_to_reserved": "nor_model/specs/Step.antt",
+            "lb3_to_lb1": "nor_model/specs/Step.antt",
             "is_idle": "nor_model/specs/Step.antt",
             "Does": "nor_model/specs/Step.antt",
             "wears": "nor_model/specs/Step.antt",

@@ -4,20 +4,30 @@ use Rattle.std.specs.Prelude.{◌≡◌, ◌≢◌, ◌+◌, ◌*◌, ◌/◌, �
 use Rattle.nor_model.specs.declared.running.Running.TheVariants as Runs
 use Rattle.nor_model.specs.declared.status.Status.{Status}
 use Rattle.nor_model.specs.Status.{bytes_of}
-use Rattle.nor_model.specs.Chip.{Chip, KeptBits, is_locked, kept_in}
+use Rattle.nor_model.specs.Chip.{Chip, KeptBits, is_locked, kept_in, lb3_to_srp1, srp0_bit}
 use Rattle.nor_model.specs.Step.{is_idle}
 use Rattle.nor_model.specs.Bus.{BusState}
 use Rattle.nor_driver.specs.Limits.{writing}
 use Rattle.nor_driver.specs.Operations.{HasEnded, ChipOperation}
 
--- the bits that flashnor never changes, which are all non-volatile bits except the protection bits: SRP0 (first
--- number); SRP1, QE, the reserved bit and LB1 to LB3 (second number)
+-- the bits that flashnor never changes: all non-volatile bits except the protection bits
 abbrev pub fixed_of : KeptBits → ℕ × ℕ
-fixed_of kept = (kept.one / 32, kept.two % 64)
+fixed_of kept = (srp0_bit kept, lb3_to_srp1 kept)
+
+-- CMP of a code: 1 if it is set, otherwise 0
+abbrev pub cmp_of : (code : ℕ) → ℕ
+cmp_of code = code / 32
+
+-- SEC, TB, BP2, BP1 and BP0 of a code as a number below 32
+abbrev pub sec_to_bp0_of : (code : ℕ) → ℕ
+sec_to_bp0_of code = code % 32
 
 -- non-volatile bits with their protection bits replaced by those of `code`
 abbrev pub with_code : (code : ℕ) → KeptBits → KeptBits
-with_code code kept = record { one = 32 * (kept.one / 32) + code % 32; two = 64 * (code / 32) + kept.two % 64 }
+with_code code kept = record {
+  one = 32 * srp0_bit kept + sec_to_bp0_of code;
+  two = 64 * cmp_of code + lb3_to_srp1 kept;
+}
 
 -- True if the bytes `one` and `two` of a status write are `status` with the protection bits of `code`. The bits that
 -- flashnor never changes are as in `status`. BUSY, WEL and (for a code below 64) SUS are clear.

@@ -50,10 +50,34 @@ status2_of chip = chip.kept.two
 abbrev pub status_of : Chip → List ℕ
 status_of chip = status1_of chip ∷ status2_of chip ∷ []
 
+-- SRP0 as a number: 1 if it is set, otherwise 0
+abbrev pub srp0_bit : KeptBits → ℕ
+srp0_bit kept = kept.one / 32
+
+-- SEC, TB, BP2, BP1 and BP0 as a number below 32, SEC being the highest bit
+abbrev pub sec_to_bp0 : KeptBits → ℕ
+sec_to_bp0 kept = kept.one % 32
+
+-- CMP as a number: 1 if it is set, otherwise 0
+abbrev pub cmp_bit : KeptBits → ℕ
+cmp_bit kept = kept.two / 64 % 2
+
+-- LB3, LB2, LB1, the reserved bit, QE and SRP1 as a number below 64, LB3 being the highest bit
+abbrev pub lb3_to_srp1 : KeptBits → ℕ
+lb3_to_srp1 kept = kept.two % 64
+
+-- true if SRP0 is set
+abbrev pub has_srp0 : KeptBits → Bool
+has_srp0 kept = srp0_bit kept % 2 == 1
+
+-- true if SRP1 is set
+abbrev pub has_srp1 : KeptBits → Bool
+has_srp1 kept = kept.two % 2 == 1
+
 -- True if SRP0 or SRP1 is set: the chip then ignores status writes. A real chip with only SRP0 set ignores them only
 -- while its WP# pin is low; the model assumes that this pin is low.
 abbrev pub is_locked : KeptBits → Bool
-is_locked kept = kept.one / 32 % 2 == 1 || kept.two % 2 == 1
+is_locked kept = has_srp0 kept || has_srp1 kept
 
 -- the SFDP byte at an address; FFh past the end of the SFDP bytes
 abbrev pub sfdp_byte : Config → (a : ℕ) → ℕ

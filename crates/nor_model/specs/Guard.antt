@@ -1,11 +1,11 @@
 -- The addresses that the block protection bits protect from programs and erases. (After the status register protection
 -- tables of the W25Q64FV and W25Q128FV datasheets.)
 use Rattle.std.specs.Prelude.{◌+◌, ◌-◌, ◌*◌, ◌/◌, ◌%◌, ◌^◌, ◌==◌, ◌&&◌, ◌||◌, ℕ, Bool, not, nat_lt, nat_le, if◌then◌else◌}
-use Rattle.nor_model.specs.Chip.{Chip, KeptBits}
+use Rattle.nor_model.specs.Chip.{Chip, KeptBits, cmp_bit, sec_to_bp0}
 
 -- The protection bits as one number below 64: CMP, SEC, TB, BP2, BP1, BP0, the highest first.
 abbrev pub code_of : KeptBits → ℕ
-code_of kept = 32 * (kept.two / 64 % 2) + kept.one % 32
+code_of kept = 32 * cmp_bit kept + sec_to_bp0 kept
 
 -- BP2, BP1 and BP0 as a number, from which the length of the selected range follows
 abbrev pub bp_of : (code : ℕ) → ℕ

@@ -1,7 +1,7 @@
 -- The transactions over a bus that may modify a chip: modifying commands, and transactions that the model does not
 -- know. Whether a transaction is one of these depends only on the bytes that it sends, even if the chip ignores it.
 -- (W25Q64FV datasheet, instruction set table.)
-use Rattle.std.specs.Prelude.{◌≡◌, ◌+◌, ◌*◌, ◌/◌, ◌-◌, ◌^◌, ◌==◌, ◌&&◌, ◌||◌, not, ℕ, Bool, true, false, List, [], ◌∷◌, min, nat_le, nat_lt, if◌then◌else◌}
+use Rattle.std.specs.Prelude.{◌≡◌, ◌+◌, ◌*◌, ◌/◌, ◌==◌, ◌&&◌, ◌||◌, not, ℕ, Bool, true, false, List, [], ◌∷◌, nat_le, nat_lt, if◌then◌else◌}
 use Rattle.nor_model.specs.Exchange.{Exchange}
 use Rattle.nor_model.specs.Command.{begins_change, begins_quiet, is_change, is_erase_opcode}
 

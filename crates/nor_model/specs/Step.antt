@@ -68,12 +68,24 @@ byte_after chip (Program at) sent a =
 byte_after chip (Erase start len) sent a = if nat_le start a && nat_lt a (start + len) then 255 else chip.bytes a
 byte_after chip _ sent a = chip.bytes a
 
+-- CMP, QE and SRP1 in status 2
+abbrev pub cmp_qe_srp1 : ℕ
+cmp_qe_srp1 = 0b1000011
+
+-- the one-time bits LB3, LB2 and LB1 in status 2
+abbrev pub lb3_to_lb1 : ℕ
+lb3_to_lb1 = 0b0111000
+
+-- LB3, LB2, LB1 and the reserved bit in status 2
+abbrev pub lb3_to_reserved : ℕ
+lb3_to_reserved = 0b0111100
+
 -- The non-volatile status bits after the command. A status write sets BP, TB, SEC, SRP0, SRP1, QE and CMP as sent. It
 -- can set an LB bit but not clear it, and does not change the reserved bit.
 abbrev pub kept_after : Chip → Command → KeptBits
 kept_after chip (WriteStatus one two) = record {
   one = one / 4;
-  two = bit_or (bit_and two 0b1000011) (bit_or (bit_and chip.kept.two 0b0111100) (bit_and two 0b0111000));
+  two = bit_or (bit_and two cmp_qe_srp1) (bit_or (bit_and chip.kept.two lb3_to_reserved) (bit_and two lb3_to_lb1));
 }
 kept_after chip _ = chip.kept
 
