@@ -52,8 +52,7 @@ NAMES = {
     "lb3_to_lb1": "`lb3_to_lb1`: LB3, LB2 and LB1 in status 2.",
     "srp0_bit": "`srp0_bit kept`: SRP0, as 0 or 1.",
     "lb3_to_srp1": "`lb3_to_srp1 kept`: the bits from LB3 down to SRP1, as a number.",
-    "cmp_of": "`cmp_of code`: CMP, as 0 or 1.",
-    "sec_to_bp0_of": "`sec_to_bp0_of code`: the bits from SEC down to BP0, as a number.",
+    "with_code": "`with_code code kept`: `kept` with the protection bits of `code` in place of its own.",
     "is_chip_size": "`is_chip_size n`: `n` is a power of two from 64 KiB to 16 MiB.",
     "IsChip": "`IsChip chip`: bytes are below 256, status bits fit their registers, and `busy` is below 65,536.",
     "Command": "`Command`: the type of what a transaction asks for. Its cases are in the equations above.",
@@ -77,7 +76,7 @@ NAMES = {
     "IsKnown":
         "`IsKnown config`: the chip is genuine, its ID isn't FF FF FF or 00 00 00, and the table has it or its SFDP is "
         "accepted.",
-    "unique_of": "`unique_of config`: the eight bytes that 4Bh reads, the unique ID.",
+    "unique_of": "`unique_of config`: its unique ID.",
     "SavedSector": "`SavedSector`: the `number` of a saved sector, and its `bytes`.",
     "IsContent":
         "`IsContent c`: the ID has 3 bytes, a unique ID 8, the status 2; the size is a power of two from 64 KiB to 16 "
@@ -146,8 +145,7 @@ APPENDICES = {
             "has_srp1": "nor_model/specs/Chip.antt",
             "srp0_bit": "nor_model/specs/Chip.antt",
             "lb3_to_srp1": "nor_model/specs/Chip.antt",
-            "cmp_of": "nor_driver/specs/StatusWrites.antt",
-            "sec_to_bp0_of": "nor_driver/specs/StatusWrites.antt",
+            "with_code": "nor_driver/specs/StatusWrites.antt",
             "cmp_qe_srp1": "nor_model/specs/Step.antt",
             "lb3_to_reserved": "nor_model/specs/Step.antt",
             "lb3_to_lb1": "nor_model/specs/Step.antt",

@@ -7,8 +7,7 @@ pub enum Running {
     Program(u32),
     /// An erase: its first address, and its length in bytes.
     Erase(u32, u32),
-    /// A status write. The fields are the non-volatile status bits from before it: bits 2 to 7 of status 1, shifted
-    /// down by two, and bits 0 to 6 of status 2.
+    /// A status write. The fields are status 1 / 4 and status 2 % 128 from before it: the non-volatile bits.
     StatusWrite(u8, u8),
     /// An operation about which nothing is known.
     Unknown,
