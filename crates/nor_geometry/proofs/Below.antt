@@ -38,7 +38,7 @@ any_below-cases n test =
           false_from_ne_true _ (λ passes. both_ways _ none (any_below-some n k test below passes)))
     ]
 
--- the first value and the step of a count
+-- the count below 0 is 0; the count below n + 1 is that below n, plus 1 if n passes
 pub count_below-zero : (test : ℕ → Bool) → count_below 0 test ≡ 0
 unfolding count_below
 count_below-zero test = refl

@@ -1,4 +1,4 @@
--- The nature of a bus stays the same over several transactions.
+-- If `KeepsNature` holds for each of several successive transactions, it holds for all of them together.
 use Rattle.std.proofs.Common.{◌≡◌, ◌∙◌, ◌∷◌, refl}
 use Rattle.nor_model.specs.Exchange.{Exchange}
 use Rattle.nor_model.specs.Bus.{BusState, SameNature, KeepsNature}

@@ -15,7 +15,7 @@ pub record IsPart (size n : ℕ) : Type 0 where
   pub whole : n % 1024 ≡ 0
   pub sectors : size % 262144 ≡ 0 → n % 4096 ≡ 0
 
--- For a size that is a multiple of 64 KiB and at least that, the length that `named_length` returns satisfies `IsPart`.
+-- If the size is a multiple of 64 KiB, and at least 64 KiB, the length that `named_length` returns satisfies `IsPart`.
 -- The first two equations are for `bp` 7, the third one is for all lesser values.
 part_of : (size : ℕ) (sectors : Bool) (bp : ℕ) → 65536 ≤ size → size % 65536 ≡ 0 → bp < 8
     → IsPart size (if bp == 0 then 0 else if bp == 7 then size else if not sectors then size / 2 ^ (7 - bp)
@@ -32,8 +32,8 @@ named_length-part size code are = part_of size (names_sectors code) (bp_of code)
 part-rest : (size n : ℕ) → size % 65536 ≡ 0 → IsPart size n → IsPart size (size - n)
 part-rest size n blocks part = grind arith
 
--- the test that `protected_by` makes of an address, given the length `named` of the selected range and the parts of the
--- code
+-- the value of `protected_by` for an address, given the length `named` of the selected range, and whether the code is
+-- undefined, has CMP set, and has TB set
 address_test : ℕ → ℕ → Bool → Bool → Bool → ℕ → Bool
 address_test size named undefined complement bottom a =
     let is_named = if bottom then nat_lt a named else nat_le (size - named) a in

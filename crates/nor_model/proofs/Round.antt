@@ -6,23 +6,22 @@ use Rattle.std.proofs.Math.ListN.{get_or-eq_default}
 use Rattle.std.proofs.lemmas.Bool.{cases_lt}
 use Rattle.std.specs.Prelude.{slice_index}
 
--- The address `done` places after `at`, modulo `n`, is `from`. Then the address `i` places after `at`, modulo `n`, is
--- `from + (i - done)`, if `i` is at least `done` and that sum is below `n`.
+-- If `at + done` is `from` modulo `n`, then `at + i` is `from + (i - done)` modulo `n`, provided that `i` is at least
+-- `done` and `from + (i - done)` is below `n`.
 pub run_on : (at done i from n : ℕ) → (at + done) % n ≡ from → done ≤ i → from + (i - done) < n
     → (at + i) % n ≡ from + (i - done)
 run_on at done i from n place later small =
     let split : at + i ≡ (from + (i - done)) + n * ((at + done) / n) = omega (arith, mod-add-div (at + done) n) in
     rw (split, add-mul-mod_self_left) (mod-eq_of_lt small)
 
--- The address `done` places after `at`, modulo `n`, is `from`, which is below `n`. Then the address `n - from` places
--- further on, modulo `n`, is 0.
+-- If `at + done` is `from` modulo `n`, and `from` is below `n`, then `at + done + (n - from)` is 0 modulo `n`.
 pub run_round : (at done from n : ℕ) → (at + done) % n ≡ from → from < n → (at + (done + (n - from))) % n ≡ 0
 run_round at done from n place within =
     let split : at + (done + (n - from)) ≡ 0 + n * ((at + done) / n + 1) = omega (arith, mod-add-div (at + done) n) in
     rw (split, add-mul-mod_self_left) (mod-eq_of_lt (omega arith))
 
--- `ys` is written to the list `xs` at index `a`: the items before `a` are as they were, and the next ones are those of
--- `ys`.
+-- If the items of `ys` replace those of the list `xs` from index `a` on, the items before `a` are as they were
+-- (`written_before`), and the next ones are those of `ys` (`written_within`).
 pub written_before : (a : ℕ) (xs ys zs : List ℕ) (i : ℕ) → a ≤ length xs → i < a
     → slice_index (take a xs ++ (ys ++ zs)) i ≡ slice_index xs i
 written_before a xs ys zs i fits before =

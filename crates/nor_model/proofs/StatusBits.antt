@@ -18,7 +18,7 @@ written_lt old sent =
     or_lt 7 (bit_and sent 67) _ (omega (arith, and_le_r sent 67))
     (or_lt 7 (bit_and old 60) _ (omega (arith, and_le_r old 60)) (omega (arith, and_le_r sent 56)))
 
--- bit 1 of status 1 is WEL
+-- ANDing a byte with 2, the mask of WEL, gives 2 if and only if bit 1 of the byte is set
 pub wel_set : (n : ℕ) → (bit_and n 2 == 2) ≡ (n / 2 % 2 == 1)
 wel_set n = let bit = and_pow n 1 in grind (arith, nat_tests)
 

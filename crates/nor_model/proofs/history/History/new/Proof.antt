@@ -1,4 +1,4 @@
--- The proof that `History::new` makes a history with no transaction and no allowance, from the laws of `Logic`.
+-- The proof, from the laws of `Logic`, that `History::new` returns a history with no transaction and no allowance.
 use Rattle.std.proofs.Common.{[], ◌∷◌, refl}
 use seplogic.Ra.Ura.{Ura}
 use mir.Syntax.{Fn}
