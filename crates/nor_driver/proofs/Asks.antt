@@ -1,4 +1,4 @@
--- Each prefix of an operation's bytes asks for that operation or for none.
+-- Each prefix of an operation's bytes is decoded as the same command as all of the bytes, or as `Ignored`.
 use Rattle.std.proofs.Common.{◌≡◌, ◌<◌, ◌≤◌, ◌∙◌, ◌⊎◌, ℕ, zero, suc, true, false, List, length, [], ◌∷◌, take, refl, sym, arith, inl, inr}
 use Rattle.std.proofs.Math.Seq.{take-nil}
 use Rattle.std.proofs.lemmas.Bool.Decides.{nat_tests}
@@ -11,7 +11,7 @@ use Rattle.nor_driver.specs.declared.units.EraseBlock.TheVariants as Units
 use Rattle.nor_driver.specs.Operations.{is_operation_or_none, IsCommandAt, AsksForOperation}
 use Rattle.nor_driver.proofs.Erasing.{erase_bytes}
 
--- a prefix asks for nothing, or for the same command as all bytes
+-- the first `count` bytes of `out` are decoded as `Ignored`, or as the same command as all bytes
 abbrev AsksAlike : Config → List ℕ → (count replies : ℕ) → Type 0
 AsksAlike config out count replies = (command_of config (take count out) replies ≡ Ignored)
     ⊎ (command_of config (take count out) replies ≡ command_of config out 0)

@@ -15,8 +15,8 @@ use Rattle.nor_driver.specs.Waits.{HasWaited, latch_when_idle}
 use Rattle.nor_driver.specs.Operations.{operation_of, AsksForOperation, MayOperate, HasOperated}
 use Rattle.nor_driver.proofs.Readings.{Wore, no_operation}
 
--- On an honest bus, after write enable: an idle chip has its latch set, a busy chip has it as before, and nothing else
--- of the chip changed. One transaction fewer is left.
+-- The effect of a write enable on a well-behaved bus: an idle chip has its latch set, a busy chip has it as before, and
+-- nothing else of the chip changed. One transaction fewer is left.
 pub record IsEnabled (old new : BusState) : Type 0 where
   pub unchanged : Unchanged old new
   pub busy : new.chip.busy ≡ old.chip.busy
@@ -30,8 +30,8 @@ enabled old new [] none carries =
     grind (arith, nothing, carries.step, carries.worn)
 enabled old new (byte ∷ rest) none carries = absurd (omega arith)
 
--- if the bytes satisfy `AsksForOperation`: after write enable, the chip carries out the command that `operation_of`
--- returns
+-- if `out` satisfies `AsksForOperation`, then after a write enable the chip carries out the command that `operation_of`
+-- returns for `out`
 pub then_done : (out : List ℕ) (old ready : BusState) → AsksForOperation out → IsEnabled old ready
     → done_of ready.chip out 0 ≡ operation_of old.chip out
 then_done out old ready asks enabling = elim (eqb_tells old.chip.busy 0) [
@@ -39,7 +39,7 @@ then_done out old ready asks enabling = elim (eqb_tells old.chip.busy 0) [
   | inr busy ↦ grind (arith, asks.whole old.chip.config)
 ]
 
--- after write enable, a prefix of the command's bytes makes the chip carry out the command's operation, or nothing
+-- after a write enable, a prefix of the command's bytes makes the chip carry out the command's operation, or nothing
 pub part_done : (out : List ℕ) (old ready : BusState) (count replies : ℕ) → AsksForOperation out
     → IsEnabled old ready → (done_of ready.chip (take count out) replies ≡ Ignored)
     ⊎ (done_of ready.chip (take count out) replies ≡ operation_of old.chip out)
@@ -50,7 +50,7 @@ part_done out old ready count replies asks enabling =
       | inr same ↦ inr (ap does same ∙ then_done out old ready asks enabling)
     ]
 
--- an operation that the chip does not carry out is ignored
+-- if `operation_of` returns no operation, it returns `Ignored`
 pub operation-ignored : (chip : Chip) (out : List ℕ) → AsksForOperation out
     → is_operation (operation_of chip out) ≡ false → operation_of chip out ≡ Ignored
 operation-ignored chip out asks none = grind (arith, asks.whole chip.config)

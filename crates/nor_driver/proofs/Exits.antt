@@ -45,7 +45,7 @@ module _ (out : List ℕ) (asks : AsksForOperation out) (old : BusState) where
       may-before (operation_of old.chip out) (drop 4 out) old new (idle-takes old.chip out asks is) (stays honest))
       (λ honest none. stays honest)
 
-  -- every honest bus takes a write enable, and the command
+  -- every well-behaved bus takes a write enable, and the command
   enable_fits : (bus : BusState) → bus.honest ≡ true → IsHonestFor (6 ∷ []) 0 bus
   enable_fits bus honest = record { honest = honest; fits = inr (omega arith, omega arith) }
 
@@ -84,8 +84,8 @@ module _ (out : List ℕ) (asks : AsksForOperation out) (old : BusState) where
           sends = command_sends out old ready new asks.known sends sends';
         }
 
-    -- The bus stopped at the command. The bytes that were sent asked for no operation, or for the command's operation:
-    -- the effect on the chip in both cases.
+    -- The effect on the chip if the bus stopped at the command. The bytes that were sent are decoded as no operation,
+    -- or as the command's operation.
     module _ (honest : old.honest ≡ true) (new : BusState) where
       stays-before : KeepsChip ready new → KeepsChip old new
       stays-before stays = stays_after old ready new sends.nature.steady (enabling honest).unchanged stays

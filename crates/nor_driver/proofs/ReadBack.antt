@@ -21,8 +21,8 @@ names_other opcode at other differs (first ∷ x ∷ y ∷ z ∷ rest) is = grin
 pub adds_none : (history : List Exchange) → AddsSectorReads history history
 adds_none history = record { later = []; is = refl; each = All-nil IsSectorRead }
 
--- One read of sector `n`, after other reads. In the sector of the address `a` the last reply is the one to this read if
--- that is sector `n`, and otherwise an earlier one.
+-- After a read of sector `n`, the last reply to a read of the sector of `a` is the reply to this read if `a` lies in
+-- sector `n`, and otherwise an earlier reply.
 module _ {n : ℕ} (out bytes : List ℕ) (reads : names 0x03 (4096 * n) out ≡ true)
     (earlier : List Exchange) (a : ℕ) where
   pub read_other : a / 4096 ≢ n → sector_read (replied out bytes ∷ earlier) a ≡ sector_read earlier a
@@ -42,7 +42,8 @@ by_test : (passes : Bool) (reply : Option (List ℕ)) (rest more : List ℕ)
 by_test true reply rest more long same = refl
 by_test false reply rest more long same = same long
 
--- If the last transactions of a history have a reply of 4,096 bytes, it is the last reply of the whole history.
+-- If the last reply in `front` to a transaction that satisfies `is` has 4,096 bytes, it is also the last one in the
+-- whole history, in which `front` follows `old`.
 last_in_front : (is : List ℕ → Bool) (front old : List Exchange) → length (last_reply is front) ≡ 4096
     → last_reply is (front ++ old) ≡ last_reply is front
 last_in_front is [] old long = absurd (omega arith)
@@ -67,7 +68,8 @@ read_since {old = old} first read = record {
       ∙ read.whole a is;
 }
 
--- One sector more was read.
+-- If the sectors of all addresses in `Before` were read, and then sector `n`, the sectors of all addresses in `After`
+-- were read, provided that each address in `After` is in sector `n` or in `Before`.
 pub more_read : {Before After : ℕ → Type 0} {n : ℕ} {bytes : List ℕ} {old mid new : List Exchange}
     → HaveBeenRead Before old mid → Answered (names 0x03 (4096 * n)) mid new bytes → length bytes ≡ 4096
     → ((a : ℕ) → After a → a / 4096 ≢ n → Before a) → HaveBeenRead After old new

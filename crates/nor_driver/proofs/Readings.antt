@@ -69,11 +69,11 @@ honest_reads_once (Ok done) out answer old new is stops carries =
     honest_reads_by old new 1 read.rested read.count
 honest_reads_once (Err stopped) out answer old new is stops carries = honest_reads_at_stop out old new 1 is.quiet stops
 
--- every honest bus takes a poll with one reply byte
+-- every well-behaved bus takes a poll with one reply byte
 pub poll_fits : (bus : BusState) → bus.honest ≡ true → IsHonestFor (5 ∷ []) 1 bus
 poll_fits bus honest = record { honest = honest; fits = inr (omega arith, omega arith) }
 
--- every honest bus takes a transaction that only reads (`IsReading`) and receives at most 4,096 bytes
+-- every well-behaved bus takes a transaction that only reads (`IsReading`) and receives at most 4,096 bytes
 pub read_fits : (out asked : List ℕ) (bus : BusState) → IsReading out → length asked ≤ 4096 → bus.honest ≡ true
     → IsHonestFor out (length asked) bus
 read_fits out asked bus is short honest = record { honest = honest; fits = inr (is.short, short) }
@@ -94,7 +94,8 @@ pub read_does : {T E : Type 0} (outcome : Result T E) (out answer : List ℕ) (o
 read_does outcome out answer old new is history carries =
     grind (arith, history, carries, carried_reading out answer old new is)
 
--- if the bus stopped at a transaction, that transaction was the last one, and an honest bus ran out of transactions
+-- if the bus stopped at a transaction, that transaction was the last one, and a well-behaved bus ran out of
+-- transactions
 pub read_fails : (outcome : Result Unit Stopped) (out answer : List ℕ) (old new : BusState)
     → Records out answer outcome old new → (old.honest ≡ true → OnErr outcome (Stops out old new))
     → OnErr outcome (HasStopped 1 old new)

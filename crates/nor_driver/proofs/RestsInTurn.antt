@@ -29,7 +29,7 @@ only_reads_after reads more most old mid new few has only_reads =
 pub runs_out : (reads most : ℕ) (old mid new : BusState) → reads < most → HasOnlyRead reads old mid → HasStopped 1 mid new → HasStopped most old new
 runs_out reads most old mid new few has out = grind (arith, has.sent, has.nature.honest, out)
 
--- a read that succeeded
+-- a read that succeeded satisfies `HasOnlyRead` with a count of 1, if `polled_ready` was not changed from true to false
 pub has_only_read-one : {old new : BusState} → OnlyReads 1 old new → (old.honest ≡ true → HasRead old new)
     → StaysReady old new → HasOnlyRead 1 old new
 has_only_read-one only_reads read polled_ready = grind arith
@@ -40,7 +40,7 @@ pub has_only_read-then : {reads more : ℕ} {old mid new : BusState} → HasOnly
 has_only_read-then {old = old} {mid = mid} {new = new} has next =
     grind (arith, nature_then old mid new next.nature has.nature, rested_then old mid new)
 
--- ---- the chip after the reads, on an honest bus
+-- ---- the chip after the reads, on a well-behaved bus
 
 pub same_bytes : {old new : BusState} → Rested old new → new.chip.bytes ≡ old.chip.bytes
 same_bytes rested = fun_ext rested.unchanged.same.bytes

@@ -25,8 +25,7 @@ use Rattle.nor_driver.proofs.Taken.{IsFor, asked_at, leaves_as, does_as}
 abbrev written : ℕ → ℕ → ℕ
 written kept sent = bit_or (bit_and sent 0b1000011) (bit_or (bit_and kept 0b0111100) (bit_and sent 0b0111000))
 
--- if the low six bits of the sent byte are those of status 2, their bits 2 to 5, which a status write doesn't clear,
--- agree
+-- if the low six bits of `kept` and `sent` agree, so do bits 2 to 5
 held_as : (kept sent : ℕ) → kept % 64 ≡ sent % 64 → bit_and kept 60 ≡ bit_and sent 60
 held_as kept sent same =
     sym (and_assoc 60 kept 63) ∙ rw (and_mask kept 6, same, ← and_mask sent 6) (and_assoc 60 sent 63)
@@ -62,7 +61,7 @@ module _ (status : Status) (code : ℕ) (below : code < 64) where
 
   module _ (old new : BusState) where
     module _ (fixed : fixed_of old.chip.kept ≡ fixed_of (kept_in (bytes_of status))) where
-      -- if the bits that flashnor never changes are those of `status`: the non-volatile bits after the status write are
+      -- if the bits that flashnor never changes are those of `status`, the non-volatile bits after the status write are
       -- those from before it, with the protection bits of `code`
       code_there : new.chip.kept ≡ record { one = one / 4; two = written old.chip.kept.two two }
           → new.chip.kept ≡ with_code code old.chip.kept

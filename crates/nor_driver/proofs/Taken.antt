@@ -9,8 +9,9 @@ use Rattle.nor_driver.specs.Limits.{limits_of}
 use Rattle.nor_driver.specs.Operations.{operation_of, MayOperate, HasOperated, ChipOperation, LeavesOperation, Operates, command_operation}
 use Rattle.nor_driver.proofs.Limits.{sends_more}
 
--- Holds if `out`, which ends with the data `sent`, is a command of this operation: a chip under `can` decodes `command`,
--- and a chip under `ignores` nothing. The limits of `out` lie within those of the operation, with equal numbers.
+-- Holds if the bytes `out`, which end with the data `sent`, are a command of this operation. After a write enable, the
+-- chip carries out `command` if the operation's condition `can` holds, and nothing if `ignores` holds. The limits of
+-- `out` lie within those of the operation, with equal numbers.
 pub record IsFor (out sent : List ℕ) (command : Command) (operation : ChipOperation) (chip : Chip) : Type 0 where
   pub sectors : (s : ℕ) → (limits_of out).sectors s ≡ true → operation.limits.sectors s ≡ true
   pub status : (one two : ℕ) → (limits_of out).status one two ≡ true → operation.limits.status one two ≡ true
@@ -22,7 +23,7 @@ pub record IsFor (out sent : List ℕ) (command : Command) (operation : ChipOper
   pub takes : operation.can chip → operation_of chip out ≡ command
   pub refuses : operation.ignores chip → operation_of chip out ≡ Ignored
 
--- a command that is carried out if a test holds, and is otherwise ignored, at one value of the test
+-- in the choice between a command and `Ignored`, the test can be replaced by its value
 pub asked_at : (test value : Bool) (command : Command) {asked : Command} → asked ≡ cond test command Ignored
     → test ≡ value → asked ≡ cond value command Ignored
 asked_at test value command asks is = asks ∙ ap (λ (b : Bool). cond b command Ignored) is
