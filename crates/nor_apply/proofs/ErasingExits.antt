@@ -179,7 +179,7 @@ module _ {kinds : Kinds} {size : ℕ} {set : ℕ → Bool} {units left : List Er
         unit_targets unit.unit unit.sector size set s of_plan.is.aligned
         (λ k low high. of_plan.inside k (in_unit (size / 4096) k unit low high))
 
-    -- a timeout names the block's first address, which is in the set
+    -- a timeout names the block's first address, which is in a sector of the set
     names_unit : (error : OperationError) → NamesTimeout (4096 * unit.sector) error → NamesTimeoutIn set error
     names_unit error returned =
         let inside = of_plan.inside unit.sector in

@@ -73,13 +73,13 @@ module _ {limits : Limits} {r : ℕ} {old mid : BusState} {done : Tally} (ran : 
   pub honest_now : old.honest ≡ true → mid.honest ≡ true
   honest_now honest = ran.nature.honest ∙ honest
 
-  -- `OperationFails` for these parts and one that returned an error after them
+  -- `OperationFails` holds for these parts together with a next one that returned an error
   pub fails_after : {part most : ℕ} {new : BusState} {error : OperationError} → OperationFails part mid new error
       → done.transactions + part ≤ most → OperationFails most old new error
   fails_after fails fits = grind (arith, ran.nature.honest, ran.tallies.sent, fails.stopped, fails.ran_out)
 
   module _ {Can : Chip → Type 0} {May : BusState → BusState → Type 0} where
-    -- `Leaves` for these parts
+    -- `Leaves` holds for these parts
     pub ran_leaves : {most : ℕ} {all : Limits} → IsPartOf limits all → done.transactions ≤ most
         → (old.honest ≡ true → Can old.chip → May old mid) → Leaves most all Can May old mid
     ran_leaves {all = all} part fits may = record {
@@ -88,7 +88,7 @@ module _ {limits : Limits} {r : ℕ} {old mid : BusState} {done : Tally} (ran : 
       reached = may;
     }
 
-    -- `Leaves` for these parts and one after them, at each of its exits
+    -- `Leaves` holds for these parts together with a next one, at each exit of that part
     pub leaves_after : {part most : ℕ} {second all : Limits} {Can' : Chip → Type 0}
         {May' : BusState → BusState → Type 0} {new : BusState} → Leaves part second Can' May' mid new
         → AreParts limits second all → done.transactions + part ≤ most
@@ -135,7 +135,7 @@ module _ {A : Type 0} {all done left : List A} {limits : ℕ → Limits} {old mi
     pub listed_fewer : tally.count + 1 ≤ length all
     listed_fewer = omega (arith, ap length listed_split, length-append done (x ∷ rest), listed.count)
 
-    -- `OperationFails` if the next operation returned an error
+    -- `OperationFails` holds if the next operation returned an error
     pub listed_fails : {most : ℕ} {new : BusState} {error : OperationError}
         → OperationFails most_operation mid new error → most_operation * length all ≤ most
         → OperationFails most old new error
@@ -143,14 +143,14 @@ module _ {A : Type 0} {all done left : List A} {limits : ℕ → Limits} {old mi
 
     module _ {one : Limits} {Can : Chip → Type 0} {May : BusState → BusState → Type 0} {new : BusState}
         (leaves : Leaves most_operation one Can May mid new) where
-      -- `Leaves` for the next operation, at each of its exits
+      -- `Leaves` holds for the operations so far together with the next one, at each exit of that operation
       pub listed_after : {most : ℕ} {limits' : Limits} {Can' : Chip → Type 0} {May' : BusState → BusState → Type 0}
           → AreParts (limits tally.count) one limits' → most_operation * length all ≤ most
           → (old.honest ≡ true → Can' old.chip → Can mid.chip × (May mid new → May' old new))
           → Leaves most limits' Can' May' old new
       listed_after parts fits follows = leaves_after listed.ran leaves parts (omega (arith, listed_fewer)) follows
 
-      -- `Listed` for one more element, if the next operation succeeded.
+      -- `Listed` holds for one more element, if the next operation succeeded.
       pub listed_more : {sent e p w : ℕ} {more : Tally}
           → IsSum (limits tally.count) (record one { erases = e; programs = p; status_writes = w }) (limits more.count)
           → SendsExactly e p w mid new → EndsWaiting mid new sent → more.count ≡ tally.count + 1

@@ -24,8 +24,8 @@ coded_again code later kept =
 pub code_cleared : (kept : KeptBits) → code_of (with_code 0 kept) ≡ 0
 code_cleared kept = omega arith
 
--- if the never-changed bits agree with two status bytes, writing the protection bits of these bytes gives all their
--- non-volatile bits
+-- if the bits that are never changed agree in `kept` and in two status bytes, then `kept` with the protection bits of
+-- these bytes has all non-volatile bits of these bytes
 pub coded_from_status : (status : List ℕ) (kept : KeptBits) → fixed_of kept ≡ fixed_of (kept_in status)
     → with_code (code_of (kept_in status)) kept ≡ kept_in status
 coded_from_status status kept fixed =
@@ -36,7 +36,7 @@ coded_from_status status kept fixed =
 
 -- ---- the lock
 
--- the lock bits are among the bits that are never changed
+-- if the bits that are never changed agree, the status is locked in both cases or in neither
 pub locked_same : (x y : KeptBits) → fixed_of y ≡ fixed_of x → is_locked y ≡ is_locked x
 locked_same x y fixed =
     let two = ap (λ (f : ℕ × ℕ). f.1) fixed in

@@ -43,8 +43,8 @@ module _ {sector : ℕ} {erased : Bool} {bytes bytes' : List ℕ} {reads : ℕ} 
 
   module _ {wanted : List ℕ} (blank : (i : ℕ) → i < 4096 → slice_index bytes i ≡ 255) (honest : first.honest ≡ true)
       (can : CanProgramSector sector wanted erased first.chip) where
-    -- On a well-behaved bus, if `CanProgramSector` held and the buffer was blank: after loading, the buffer has the
-    -- sector's bytes, and the chip is as it was.
+    -- On a well-behaved bus, if `CanProgramSector` held and the buffer was blank, the buffer has the sector's bytes
+    -- after loading, and the chip is as it was.
     has_loaded : HasMade (λ a. false) (byte_of sector wanted) none first mid × IsSectorOf mid.chip.bytes sector bytes'
     has_loaded =
         let rested = loads.honest_reads.rested honest in

@@ -22,7 +22,7 @@ pub record IsPlannable (whole : Bool) (total : ℕ) (set : ℕ → Bool) : Type 
   pub below : (s : ℕ) → set s ≡ true → s < total
   pub small : (s : ℕ) → set s ≡ true → s < 4096
 
--- a sector at which its erase block begins is in the set
+-- a sector at which a planned erase begins is in the set
 pub begins_in : (whole : Bool) (kinds : Kinds) (set : ℕ → Bool) (q : ℕ) → begins_block whole kinds set q ≡ true
     → set q ≡ true
 begins_in whole kinds set q begins = (and_parts _ _ begins).0
@@ -37,7 +37,7 @@ list_any-kept p f test (k ∷ ks) = elim (cases_Bool (test k)) [
 ]
 
 module _ (whole : Bool) (kinds : Kinds) (total : ℕ) (set : ℕ → Bool) (can : IsPlannable whole total set) where
-  -- the chip has the largest fit erase block of a sector
+  -- the chip has the erase type of the largest fit erase block (`IsLargest`) of a sector
   largest_offered : (q : ℕ) (unit : EraseBlock) → IsLargest whole kinds set q unit → is_offered kinds unit ≡ true
   largest_offered q Sector largest = refl
   largest_offered q Block32 largest = (and_parts _ _ largest.2).0

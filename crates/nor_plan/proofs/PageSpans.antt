@@ -29,7 +29,7 @@ module _ (old target : List ℕ) where
       (omega arith, omega arith, test_from_other _ _ differs.1.1))
       (ends_of (other old target) from count)
 
-  -- bytes that agree in a part of the slices agree in the slices
+  -- if the bytes at position `k` of both slices agree in the part that begins at `start`, they agree in the slices
   same_in_part : (start count k : ℕ) → start ≤ k → k < start + count
       → get_or (chunk start count old) (k - start) 0 ≡ get_or (chunk start count target) (k - start) 0
       → get_or old k 0 ≡ get_or target k 0
@@ -80,8 +80,7 @@ module _ (old target : List ℕ) where
   pub spans_from-end : (page : ℕ) → page_count old ≤ page → spans_from old target page ≡ []
   spans_from-end page past = let none : page_count old - page ≡ 0 = omega arith in rw none
 
-  -- from a page on there is one page more than from the next page on; `spans_from-none` and `spans_from-some` use it to
-  -- split off the span of the first page
+  -- the number of pages from `page` on is one more than that from the next page on
   pages_left : (page : ℕ) → page < page_count old → page_count old - page ≡ suc (page_count old - (page + 1))
   pages_left page there = omega arith
 

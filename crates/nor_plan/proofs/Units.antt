@@ -98,7 +98,7 @@ module _ (whole : Bool) (kinds : Kinds) (set : ℕ → Bool) where
       rw (largest.0, wide, largest.1, same, largest.2)
   planned_block-first s Sector largest = rw (largest.0, largest.1, largest.2)
 
-  -- each fit block that holds a sector begins there, if the largest fit one may begin there
+  -- if the largest fit block that holds a sector begins at this sector, so does each fit block that holds it
   pub larger_begins : (s : ℕ) (unit largest : EraseBlock) → is_fit s unit ≡ true → IsLargest s largest
       → is_aligned largest s ≡ true → first_of unit s ≡ s
   larger_begins s Sector _ fit is aligned = refl
