@@ -95,7 +95,7 @@ module _ (named : Option ChipName) (included : Option (List Span)) (image : List
         at_end : 4096 * (probed.found.size / 4096) ≡ length image
         at_end = let blocks = found.is.part.in_blocks in omega arith
 
-        -- An included address of the chip was read.
+        -- An included address below the length of the image lies on the chip that was found.
         read_whole : (a : ℕ) → included_below included (length image) a ≡ true
             → (a < 4096 * (probed.found.size / 4096)) × (includes included a ≡ true)
         read_whole a inside =

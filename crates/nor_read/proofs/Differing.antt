@@ -128,7 +128,7 @@ module _ (included : Option (List Span)) (image : List ℕ) {bytes : List ℕ} {
         later = adds_none new.history;
       }
 
-  -- If the reply has 4,096 bytes, the comparison is one with the last reply, whatever was read earlier.
+  -- If the reply has 4,096 bytes, `ComparesReply` holds for this read after any earlier transactions.
   part_replied : (first : Option ℕ) → length bytes ≡ 4096 → ((content : ℕ → ℕ) → AreOfSector content sector bytes
       → FindsFirst included image content (4096 * sector) (4096 * (sector + 1)) first) → (earlier : List Exchange)
       → ComparesReply included image sector (replied reads.answered.out bytes ∷ []) earlier first

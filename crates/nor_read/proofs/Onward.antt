@@ -16,7 +16,7 @@ adds_then {old} first second = record {
   each = All-append IsSectorRead second.later first.later second.each first.each;
 }
 
--- If the sector was read after `mid` (`HasReadAt`), it was read after each earlier point `old`, too.
+-- If the sector of `address` was read after `mid` (`HasReadAt`), it was also read after the earlier point `old`.
 pub read_after : {address : ℕ} {old mid new : List Exchange} → Continues old mid → HasReadAt address mid new
     → HasReadAt address old new
 read_after first has =

@@ -95,7 +95,8 @@ module _ {named : Option ChipName} {old mid : BusState} {probed : Probed}
             only_reads_within (most_read old.chip.config.size) (omega arith) only_reads after;
       }
 
-  -- If an honest bus stops after the probe, fewer transactions were left at the start than the whole call may need.
+  -- If a well-behaved bus stops after the probe, fewer transactions were left at the start than the bound `most` of the
+  -- whole call.
   pub ran_on : {new : BusState} (n most : ℕ) → most_probe + n ≤ most → HasStopped n mid new → old.honest ≡ true
       → RanOut most old new
   ran_on n most fits out honest =

@@ -190,7 +190,8 @@ module _ (request : Request) (image : List ℕ) (chip : Chip) where
   abbrev touches : (s : ℕ) → Bool
   touches = is_touched chip.bytes (wanted request image chip)
 
-  -- If the request needs a status write, it needs one for the protection bits with which the identification accepts it.
+  -- If the request needs a status write for some target protection bits, it needs one for `code`, with which the
+  -- identification accepts the request.
   needs_code : {code : ℕ} → IdentityAccepts request image chip code → NeedsStatusWrite request image chip
       → NeedsStatus request.what request.unlock code touches chip
   needs_code accepts needs = needs_same request.what _ needs.0 _ _ chip needs.1 accepts.is_wanted needs.2

@@ -37,13 +37,13 @@ use borrow.Rule.Slice.PartMut.{put_mid}
 abbrev pub AgreeBelow : (n : ℕ) → (one two : ℕ → ℕ) → Type 0
 AgreeBelow n one two = (s i : ℕ) → s < n → i < 4096 → one (4096 * s + i) ≡ two (4096 * s + i)
 
--- Holds for an address of a sector below `n` that has an included address.
+-- Holds for each address in a sector below `n`, if that sector has an included address.
 abbrev pub IsIncludedBelow : Request → (n a : ℕ) → Type 0
 IsIncludedBelow request n a = (a / 4096 < n) × (has_in_sector (includes request.included) (a / 4096) ≡ true)
 
 -- Holds if the sectors below `n` with an included address were scanned, and no byte of the image from sector `n` on was
--- changed. The marks are right, and the image's touched sectors have the target bytes, for each content that agrees
--- with what was read. On a well-behaved bus whose chip was idle at the start and has this size, they are so for the
+-- changed. For each content that agrees with what was read, the marks are right, and the image's touched sectors have
+-- the target bytes. On a well-behaved bus whose chip was idle at the start and has this size, both also hold for the
 -- chip's bytes.
 pub record HasScanned (request : Request) (size n : ℕ) (image image' : List ℕ) (old new : BusState)
     (scanned : Scanned) : Type 0 where
@@ -305,8 +305,8 @@ module _ {request : Request} {size n : ℕ} {image image' : List ℕ} {old mid :
         count_below-add (n + 1) (size / 4096 - (n + 1)) test,
       ))
 
-  -- `Scans` follows from `HasScanned` if, at the end of the loop, the counts and the marks (`AreMarks`, `AreRight`) are
-  -- those of the whole chip.
+  -- `Scans` follows from `HasScanned` if all sectors that the request scans were read, and the counts and the marks
+  -- (`AreMarks`, `AreRight`) are those of the whole chip.
   scans_of : HaveBeenRead (IsScanned request size) old.history mid.history → scanned.count ≤ scanned.reads → AreMarks (size / 4096) scanned
       → scanned.reads ≡ scanned_sectors request size
       → AreRight (wanted_at request image size (bytes_read mid.history)) (bytes_read mid.history)
