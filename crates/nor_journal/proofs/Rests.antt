@@ -1,5 +1,6 @@
--- What the vault that a function borrows ends as, if the function returns a writer that holds the vault, or an error.
--- For the proofs by hand of `Writer::into_result`, `Writer::start` and `Writer::sector`.
+-- The final state of a vault that a function borrows, if the function returns a writer that holds the vault, or an
+-- error. These lemmas are for the proofs, written by hand, of `Writer::into_result`, `Writer::start` and
+-- `Writer::sector`.
 use mathlib.Core.Path.{◌≡◌, refl}
 use mathlib.Core.Logic.{inl, inr}
 use mathlib.Core.Option.{Option, some, none}
@@ -68,7 +69,7 @@ module _ {M : Type 1} {𝓤 : Ura M} (𝓛 : Logic 𝓤) (A E : RattleType) (w :
   abbrev fields : RattleType → List Field
   fields R = row_field R ∷ []
 
-  -- who owns a value owns `Ok` of it
+  -- ownership of a value implies ownership of `Ok` of this value
   pub ok_owns : (x : A.Denot) → ent 𝓤 (sem 𝓛 (A.own_val x (w ∷ []))) (sem 𝓛 ((result.the_row A E).own_val (Ok x) (live 0 (vcons w vnil) ∷ [])))
   ok_owns x =
       qed 𝓛 (‵ (A.own_val x (w ∷ [])) ∷ []) ∵ nothing ! $ move ! (1 ∷ 0 ∷ []) $ fjoin ! $
@@ -77,7 +78,7 @@ module _ {M : Type 1} {𝓤 : Ura M} (𝓛 : Logic 𝓤) (A E : RattleType) (w :
       feq_i ! (List Val) (live 0 (vcons w vnil) ∷ []) (live 0 (vcons w vnil) ∷ []) refl $ fjoin ! $
       fpack ! (List Val) (tagged_with (form_of (shape N)) (payload (rowss N.parts)) (inl (x, tt)) (live 0 (vcons w vnil) ∷ [])) (w ∷ []) $ done !
 
-  -- who owns an error owns `Err` of it
+  -- ownership of an error implies ownership of `Err` of this error
   pub err_owns : (x : E.Denot) → ent 𝓤 (sem 𝓛 (E.own_val x (w ∷ []))) (sem 𝓛 ((result.the_row A E).own_val (Err x) (live 1 (vcons w vnil) ∷ [])))
   err_owns x =
       qed 𝓛 (‵ (E.own_val x (w ∷ [])) ∷ []) ∵ nothing ! $ move ! (1 ∷ 0 ∷ []) $ fjoin ! $
@@ -91,7 +92,7 @@ abbrev pub tail : Body → Body
 tail (seq first rest) = rest
 tail body = body
 
--- two facts that hold after an error give a third one
+-- if two facts that hold after an error imply a third one, the third one holds after an error, too
 pub err_both : {T E A B C : Type 0} (r : Result T E) → (A → B → C) → OnErr r A → OnErr r B → OnErr r C
 err_both (Ok x) f a b = tt
 err_both (Err e) f a b = f a b

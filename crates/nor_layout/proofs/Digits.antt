@@ -17,6 +17,6 @@ number_of-more digits i value lt =
     let k : length digits - i ≡ suc (length digits - (i + 1)) = omega arith in
     rw (drop_more digits i 0 lt, length-drop (i + 1) digits, k, pow-suc) (omega arith)
 
--- a number of at most 8 hexadecimal digits fits in 32 bits, because it is below 16 to the power of their number
+-- if `i` is at most 8, 16 ^ i is at most 2 ^ 32, so a number of `i` hexadecimal digits fits in 32 bits
 pub pow-fits : (i : ℕ) → i ≤ 8 → 16 ^ i ≤ 2 ^ 32
 pow-fits i le = pow-le-pow_right {n = 16} (omega arith) {i = i} {j = 8} le

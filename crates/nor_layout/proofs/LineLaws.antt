@@ -13,7 +13,8 @@ use Rattle.nor_layout.specs.Line.{cut_at, without_spaces, with_start, parts_afte
 use Rattle.nor_layout.specs.Line.{parts_say, line_says}
 use Rattle.nor_layout.specs.Grammar.{IsAddress, IsLine}
 
--- if the result of two tests in turn is Ok, the first test (`bad`) is false, and the second (`good`) is true
+-- if the result of two tests in turn is `Ok y`, the first test (`bad`) is false, the second (`good`) is true, and `y`
+-- is `x`
 passes : {A E : Type 0} (bad good : Bool) (x y : A) (first second : E)
     → (if bad then Err first else if good then Ok x else Err second) ≡ Ok y → (bad ≡ false) × (good ≡ true) × (x ≡ y)
 passes bad good x y first second e = grind arith

@@ -14,7 +14,8 @@ use Rattle.nor_probe.specs.declared.table.Part.{Part}
 use Rattle.nor_probe.specs.Found.{IsWanted, BlamesName, ProbeErrors, HasProbed, reads_by, reads_of, needed}
 use Rattle.nor_probe.specs.Steps.{IdentityErrors, IsIdentityFault}
 
--- if the chip isn't wanted, a name is requested, so the fault `OtherName` is possible
+-- if the chip's name isn't the requested one (`IsWanted` doesn't hold), a name was requested, so the fault `OtherName`
+-- is possible
 pub blames_other : (named : Option ChipName) (name : ChipName) (wanted : Bool) → (IsTrue wanted ↔ IsWanted named name)
     → wanted ≡ false → BlamesName named OtherName
 blames_other None name wanted same other = absurd (true≢false (sym (same.1 tt) ∙ other))
