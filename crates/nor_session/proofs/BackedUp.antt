@@ -24,7 +24,8 @@ module _ {named : Option ChipName} {identity : Identity} {old mid : BusState}
   pub is_shown : IsModelled old → HasIdleChip old.chip mid
   is_shown is = let rested = opens.rested is.honest in let idle = opens.idle is.honest in search rules
 
-  -- reads of all sectors of the chip that was found keep the bound of the largest chip
+  -- the identification and reads of all sectors of the chip that was found are together within the bound for the
+  -- largest chip
   pub reads_all : {new : BusState} → OnlyReads (identity.found.size / 4096) mid new → OnlyReads (most_reads 4096) old new
   reads_all more = let most = opens.part.at_most in only_reads_within (most_reads 4096) (omega arith) only_reads more
 
@@ -39,7 +40,7 @@ module _ {named : Option ChipName} {identity : Identity} {old mid : BusState}
       let idle = opens.idle is.honest in
       let busy = (has.rested (only_reads.nature.honest ∙ is.honest)).unchanged.busy in omega arith
 
-  -- the meaning of an error of the saving on a modelled bus
+  -- on a modelled bus an error of the saving means what `BackupErrors` states
   pub whole_errors : (new : BusState) (vault vault' : VaultState) (refusal : Refusal) → IsModelled old
       → SaveWholeErrors (identity.found.size / 4096) mid new vault vault' refusal
       → BackupErrors (most_reads (old.chip.config.size / 4096)) named old new refusal
@@ -49,7 +50,7 @@ module _ {named : Option ChipName} {identity : Identity} {old mid : BusState}
   whole_errors new vault vault' Vault is errors = tt
   whole_errors new vault vault' _ is errors = absurd errors
 
--- the vault after an error of the saving
+-- after an error of the saving the vault is as `BackupReturns` states
 pub whole_returns : (most : ℕ) (old new : BusState) (vault vault' : VaultState) (refusal : Refusal)
     → SaveWholeErrors most old new vault vault' refusal → BackupReturns vault vault' refusal
 whole_returns most old new vault vault' Stopped errors = errors.1

@@ -39,7 +39,8 @@ saved_below journal s is = record_below (journal.size / 4096) 0 journal.saved s 
 
 -- ---- the laws
 
--- if the journal of a chip may restore the byte at an address, a restore can write this address
+-- each open address (`open_addresses`) of a journal that saves the chip is an address that a restore can write
+-- (`writable_addresses`)
 open_writable : (journal : Content) (first : Chip) (a : ℕ) → SavesChip journal first
     → open_addresses journal first a ≡ true → writable_addresses first a ≡ true
 open_writable journal first a saves is =
@@ -48,7 +49,7 @@ open_writable journal first a saves is =
     let size = saves.kind.size in let blocks = (sized_bounds first.config).blocks in
     and_from (nat_lt a first.config.size) _ (lt-ltb a first.config.size (omega arith)) parts.1
 
--- a backup has each address of its chip in a saved sector
+-- for a backup of the whole chip, each address that a restore can write is open
 writable_open : (backup : Content) (first : Chip) (a : ℕ) → SavesWholeChip backup first
     → writable_addresses first a ≡ true → open_addresses backup first a ≡ true
 writable_open backup first a whole is =

@@ -72,8 +72,7 @@ read_whole {bytes = bytes} reads long is = record { bytes = bytes; answered = re
 -- ---- sector by sector
 
 -- Holds after each sector of the set that is below `n` was read once, and its reply had the target bytes. On a
--- well-behaved bus, if `CanCheck` held at the
--- start, the bytes of these sectors are the target ones.
+-- well-behaved bus, if `CanCheck` held at the start, the bytes of these sectors are the target ones.
 pub record HasChecked (sectors : ℕ → Bool) (wanted : ℕ → ℕ) (n : ℕ) (old new : BusState) (sent : ℕ) : Type 0 where
   pub honest_reads : HasOnlyRead sent old new
   pub few : sent ≤ n

@@ -97,7 +97,8 @@ can_restore_kept journal first new taken can (inr loses) = can_restore_chip jour
 left_can_restore : (request : Request) (image : List ℕ) (old new : BusState) (journal : Content) → LeavesJournal request image old new journal → CanRestore journal old.chip new
 left_can_restore request image old new journal left = search (arith, read_back)
 
--- the journal of a session saves exactly the touched sectors, and none of these is protected by a locked status
+-- if the status of the original chip is locked, no sector that the journal of a session saves is protected on that chip
+-- (`CanBeRewritten`)
 pub left_rewritable : (request : Request) (image : List ℕ) (old new : BusState) (journal : Content)
     → LeavesJournal request image old new journal → CanBeRewritten journal old.chip
 left_rewritable request image old new journal left = λ locked s.

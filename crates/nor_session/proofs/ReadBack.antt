@@ -80,7 +80,9 @@ other_target addresses one two address same other = record {
       let was = other.before a below hit in record { whole = was.whole; same = was.same ∙ same a hit };
 }
 
--- what was read back at the end of the changes of a restore, for the restore
+-- If `FitsReadBack` holds for the changes of a restore, from the history `mid` at which the touched sectors were
+-- chosen, `RestoreReadsBack` holds for the restore: after success (`restore_read_back`) and after an error
+-- (`restore_read_other`).
 pub restore_read_back : (choice : Choice) (journal : Content) (changes : Changes) (old mid new : List Exchange)
     → HaveBeenRead (IsLeft choice journal (bytes_read mid)) old mid
     → ((s : ℕ) → has changes.touched s ≡ choice.touched journal (bytes_read mid) s) → (work : Work) (report : Report)
@@ -115,7 +117,9 @@ prepare_read_back choice journal most old new _ errors = tt
 -- ---- a session
 
 module _ (request : Request) (image : List ℕ) where
-  -- an error of the changes or of their check, after a scan that ended in the state `mid`
+  -- If `FitsReadBack` holds for the changes of a session, from the state `mid` at the end of the scan,
+  -- `SessionReadsBack` holds for the session: after an error (`session_read_other`) and after success
+  -- (`session_read_back`).
   pub session_read_other : (kept : Scanned) (size : ℕ) (image' : List ℕ) (changes : Changes)
       (old opened mid new : BusState) → Continues old.history opened.history → Continues opened.history mid.history
       → Scans request size image image' opened mid kept → ((s : ℕ) → has changes.touched s ≡ has kept.touched s)

@@ -51,7 +51,7 @@ pub last_bound : (stops : List ℕ) (n : ℕ) → length stops ≤ n → {allowa
     → allowance ≡ slice_index_or stops n (most_of 4096)
 last_bound stops n past is = is ∙ sym (get_or_past stops n (most_of 4096) past)
 
--- the allowance of the first call of a rehearsal, which is its session
+-- the allowance of a rehearsal's session, its first call, is the one that `allowances_of` gives for one call
 pub allowed_first : (stops : List ℕ) {old new : List ℕ} → new ≡ first_allowance stops ∷ old
     → new ≡ allowances_of stops 1 ++ old
 allowed_first [] is = is
@@ -91,7 +91,7 @@ pub modelled_at : (old new : BusState) → new.honest ≡ old.honest → new.chi
 modelled_at old new honest config modelled =
     record { honest = honest ∙ modelled.honest; genuine = rw config modelled.genuine }
 
--- setting an allowance keeps what can be restored (`LeavesRestores` with no restore)
+-- setting an allowance satisfies `LeavesRestores` with no restore
 allow_leaves : {n : ℕ} (journal : Content) (old new : BusState) → Allows n old new → LeavesRestores journal 0 old new
 allow_leaves journal old new allows =
     search (arith, modelled_at, none_sent, none_written, allows.chip, allows.nature.steady)

@@ -47,7 +47,7 @@ same_unit journal config unique is same other = (rw is at other) same
 
 -- ---- errors
 
--- the clause `errors` of the preparation, for an error of the probe
+-- the clause `errors` of the preparation holds for an error of the probe
 pub probe_prepare_errors : (choice : Choice) (journal : Content) (old new : BusState) (fault : ProbeFault) → BlamesName None fault → ProbeEndsAt new.history fault
     → (old.honest ≡ true → ProbeErrors None old new fault) → PrepareErrors choice journal most_identity old new (of_probe fault)
 probe_prepare_errors choice journal old new Probes.OtherName blames last errors = absurd blames
@@ -58,7 +58,7 @@ probe_prepare_errors choice journal old new Probes.Stopped blames last errors = 
 probe_prepare_errors choice journal old new Probes.Timeout blames last errors = (refl, last, errors)
 probe_prepare_errors choice journal old new _ blames last errors = search arith
 
--- the clause `errors` of the preparation, with a higher bound
+-- the clause `errors` of the preparation stays true for a higher bound
 pub errors_more : (choice : Choice) (journal : Content) (few most : ℕ) (old new : BusState) (refusal : Refusal) → few ≤ most
     → PrepareErrors choice journal few old new refusal → PrepareErrors choice journal most old new refusal
 errors_more choice journal few most old new Stopped fits errors = record {
@@ -68,7 +68,7 @@ errors_more choice journal few most old new Stopped fits errors = record {
 errors_more choice journal few most old new (Timeout address) fits errors = errors
 errors_more choice journal few most old new _ fits errors = errors
 
--- the clause `errors` of the preparation, for errors 20 (another device) and 17 (other status bits)
+-- the clause `errors` of the preparation holds for errors 20 (another device) and 17 (other status bits)
 pub device_errors : (choice : Choice) (journal : Content) (most : ℕ) (old new : BusState) (refusal : Refusal) → IsDeviceRefusal refusal → (old.honest ≡ true → IsSame old.chip new.chip)
     → (IsModelled old → RestoreJudges choice journal old.chip refusal) → PrepareErrors choice journal most old new refusal
 device_errors choice journal most old new OtherUnit is same verdict = record { judged = refl; same = same; verdict = verdict }

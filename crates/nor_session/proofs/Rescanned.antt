@@ -30,14 +30,14 @@ use Rattle.nor_session.proofs.SavedBytes.{sector_at, byte_at, is_saved-some}
 abbrev pub saved_before : Content → ℕ → ℕ → Bool
 saved_before journal i s = is_some (saved_in (take i journal.saved) s)
 
--- Holds if two contents agree in the sectors up to that of the first `i` records.
+-- Holds if two contents agree in all sectors up to that of the last one of the first `i` records.
 abbrev pub AgreeBefore : Content → (i : ℕ) → (one two : ℕ → ℕ) → Type 0
 AgreeBefore journal i one two = (s k : ℕ) → s < least_after 0 (take i journal.saved) → k < 4096
     → one (4096 * s + k) ≡ two (4096 * s + k)
 
 -- Holds after the first `i` saved sectors were read once each. The marks are right for each content that agrees with
--- what was read. On a well-behaved bus with an idle chip of the journal's
--- size, exactly the touched ones of these are marked as touched, and the raised ones as raised.
+-- what was read. On a well-behaved bus with an idle chip of the journal's size, exactly the touched ones of these
+-- sectors are marked as touched, and the raised ones as raised.
 pub record HasRescanned (journal : Content) (i : ℕ) (old new : BusState) (scanned : Scanned) : Type 0 where
   pub marks : AreMarks (least_after 0 (take i journal.saved)) scanned
   pub reads : scanned.reads ≡ i

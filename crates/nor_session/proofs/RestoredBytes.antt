@@ -43,8 +43,9 @@ touched_byte content target_bytes s some = search (arith, any_below-found, both_
 pub touched_saved : (journal : Content) (content : ℕ → ℕ) (s : ℕ) → is_touched content (restored journal content) s ≡ true → is_saved journal s ≡ true
 touched_saved journal content s some = search (arith, both_ways, true_from_ne_false, untouched_other)
 
--- If all touched sectors are saved, and each saved sector in which a byte differs is touched: at an address at which a
--- restore wrote the saved byte if its sector is touched, and nothing otherwise, the byte is the target one.
+-- Let all touched sectors be saved, and each sector in which a byte differs from the target be touched. Suppose that a
+-- restore wrote the saved byte at `a` if the sector of `a` is touched, and otherwise left the byte as it was. Then the
+-- byte at `a` is the target one.
 pub written_restored : (journal : Content) (old mid new : ℕ → ℕ) (touched : ℕ → Bool) (a : ℕ)
     → ((s : ℕ) → touched s ≡ true → is_saved journal s ≡ true)
     → ((s : ℕ) → is_touched old (restored journal old) s ≡ true → touched s ≡ true) → mid a ≡ old a

@@ -194,8 +194,8 @@ unit_not : (unique : Option (List ℕ)) (of_first : List ℕ) → IfSome unique 
 unit_not (Some u) of_first same other = other same
 unit_not None of_first same other = other
 
--- Holds if no chosen sector is protected whenever the original chip's status is locked and the chip has its non-volatile
--- status bits.
+-- Holds if no chosen sector is protected, provided that the original chip's status is locked and `chip` has the
+-- original chip's non-volatile status bits.
 abbrev pub NeverHeld : Choice → Content → (first chip : Chip) → Type 0
 NeverHeld choice journal first chip = is_locked first.kept ≡ true → chip.kept ≡ first.kept
     → ¬ SomeProtected (choice.touched journal chip.bytes) chip
@@ -217,13 +217,14 @@ only_stopped_by choice journal first old new StatusLocked can free errors =
     ])
 only_stopped_by choice journal first old new _ can free errors = absurd errors.holds
 
--- `restore` touches only sectors that differ, and these aren't protected if the status is locked
+-- On a modelled bus, if the journal can restore the original chip, the only error of `restore` is a stop.
 pub only_stopped : (journal : Content) (first : Chip) (old new : BusState) (refusal : Refusal) → CanRestore journal first old → RestoreErrors journal old new refusal → refusal ≡ Stopped
 only_stopped journal first old new refusal can errors =
     only_stopped_by differing journal first old new refusal can
     (λ locked stay. free_held journal first old.chip can.known can.saves can.within.config stay locked can.within.bytes) errors
 
--- `rewrite` touches every saved sector
+-- On a modelled bus, if the journal can restore the original chip, and no saved sector is protected on that chip by a
+-- locked status (`CanBeRewritten`), the only error of `rewrite` is a stop.
 pub only_stopped_rewriting : (journal : Content) (first : Chip) (old new : BusState) (refusal : Refusal)
     → CanRestore journal first old → CanBeRewritten journal first → ErrorsBy every_saved journal old new refusal
     → refusal ≡ Stopped

@@ -141,7 +141,7 @@ module _ (choice : Choice) (journal : Content) (prepared : PreparedRestore) (old
       absurd (errors.1 (are.only_reads.nature.honest ∙ modelled.honest) (are.is.modelled modelled).can)
   change_errors _ are modelled errors = absurd errors
 
-  -- on a modelled bus the changes can only stop
+  -- on a modelled bus the only error of the changes is a stop
   pub change_stops : (refusal : Refusal) → AreChanged choice journal prepared old mid new → IsModelled old
       → ChangeErrors prepared.changes (saved_byte journal) mid new refusal → refusal ≡ Stopped
   change_stops Stopped are modelled errors = refl
@@ -277,7 +277,8 @@ pub work_fits : (prepared : PreparedRestore) {wanted : ℕ → ℕ} {old new : B
 work_fits prepared work fits does =
     let most = touched_most prepared.changes in let writes = two_writes prepared.changes in omega arith
 
--- a call that only read before it announced its changes keeps the promise of the announcement
+-- if `Announces` holds from `mid` to `new`, and nothing that may modify a chip was sent from `old` to `mid`,
+-- `Announces` holds from `old` to `new`
 pub announces_since : {Was : Announcement → Type 0} {old mid new : BusState} {result : Result Report Refusal}
     → mid.sent ≡ old.sent → Announces Was mid new result → Announces Was old new result
 announces_since unsent announces = record {
@@ -285,7 +286,7 @@ announces_since unsent announces = record {
   as_reported = announces.as_reported;
 }
 
--- for a call that does not fail before its first change, `RewritesOriginal` follows from `RestoresOriginal`
+-- `RewritesOriginal` follows from `RestoresOriginal`
 pub rewrites : {journal : Content} {old new : BusState} {result : Result Report Refusal}
     → RestoresOriginal journal old new result → RewritesOriginal journal old new result
 rewrites restores = record {
