@@ -32,8 +32,8 @@ impl fmt::Display for WrongLength {
 
 impl std::error::Error for WrongLength {}
 
-/// An honest bus to a chip that is simulated in memory. After the bus has carried out the number of transactions that
-/// the last `allow` set, it stops at each further one.
+/// A well-behaved bus (`honest`) to a chip that is simulated in memory. After the bus has carried out the number of
+/// transactions that the last `allow` set, it stops at each further one.
 #[derive(Drop)]
 pub struct SimBus {
     flash: Flash,

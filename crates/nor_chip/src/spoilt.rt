@@ -33,8 +33,8 @@ pub struct SpoiltBus<B> {
 }
 
 impl<B: Bus> SpoiltBus<B> {
-    /// Returns a bus that applies `spoil` to the transactions of `inner`. The new bus isn't honest, and its own history
-    /// begins empty.
+    /// Returns a bus that applies `spoil` to the transactions of `inner`. The new bus isn't well-behaved (`honest`),
+    /// and its own history begins empty.
     pub fn new(inner: B, spoil: Spoil) -> SpoiltBus<B>
         ensures inner { bus_in result ≡ inner }
         ensures spoil { spoil_of result ≡ spoil }

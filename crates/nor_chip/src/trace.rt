@@ -15,8 +15,8 @@ const PIECE: usize = 64;
 /// sent, as lower-case hexadecimal digits. If one to three bytes were received, ` > ` and their digits follow; if more
 /// were received, ` > `, their number and ` bytes`.
 ///
-/// A transaction at which the bus inside stops has no line, even if some or all of its bytes were sent to the chip
-/// before it was cut. A line that can't be written completely counts as `lost`; the transaction still succeeds.
+/// A transaction at which the bus inside stops has no line, even if some or all of its bytes were sent to the chip. A
+/// line that can't be written completely counts as `lost`; the transaction still succeeds.
 ///
 /// The bus allocates no memory and buffers nothing. If each write costs a system call, use a log with a buffer, such as
 /// `BufWriter`.

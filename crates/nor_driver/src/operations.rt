@@ -23,11 +23,11 @@ const WRITE_ENABLE: u8 = 0x06;
 /// Programs `bytes` from `address` (02h), and waits until the chip is ready. Returns the number of transactions.
 ///
 /// There must be at least one byte, the bytes must lie in one page of 256 bytes, and the address must fit in three
-/// bytes. On an honest bus, a chip that has this address ignores the program if it is busy or protects the address;
-/// unless the bus stops, this function succeeds even then.
+/// bytes. On a well-behaved bus, a chip that has this address ignores the program if it is busy or protects the
+/// address; unless the bus stops, this function succeeds even then.
 ///
-/// Returns `Stopped` if the bus stopped, and `Timeout` with this address after 65,536 polls that showed BUSY. On an
-/// honest bus there is no timeout. (W25Q64FV datasheet, Page Program.)
+/// Returns `Stopped` if the bus stopped, and `Timeout` with this address after 65,536 polls that showed BUSY. On a
+/// well-behaved bus there is no timeout. (W25Q64FV datasheet, Page Program.)
 pub fn program_page<B: Bus>(bus: &mut B, address: u32, bytes: &[u8]) -> Result<u32, OperationError>
     requires reachable { address < 2 ^ 24 }
     requires some { 0 < length bytes.now }
@@ -43,12 +43,12 @@ pub fn program_page<B: Bus>(bus: &mut B, address: u32, bytes: &[u8]) -> Result<u
 
 /// Erases an erase block (20h, 52h, D8h or C7h), and waits until the chip is ready. Returns the number of transactions.
 ///
-/// The sector must be below 4,096 and aligned to the block. On an honest bus, a chip on which the block lies ignores
-/// the erase if it is busy, lacks this erase type or protects an address of the block. Unless the bus stops, this
-/// function succeeds even then.
+/// The sector must be below 4,096 and aligned to the block. On a well-behaved bus, a chip on which the block lies
+/// ignores the erase if it is busy, lacks this erase type or protects an address of the block. Unless the bus stops,
+/// this function succeeds even then.
 ///
 /// Returns `Stopped` if the bus stopped, and `Timeout` with the block's first address after 65,536 polls that showed
-/// BUSY. On an honest bus there is no timeout. (W25Q64FV datasheet, erase instructions.)
+/// BUSY. On a well-behaved bus there is no timeout. (W25Q64FV datasheet, erase instructions.)
 pub fn erase<B: Bus>(bus: &mut B, erase: Erase) -> Result<u32, OperationError>
     requires reachable { erase.sector < 4096 }
     requires aligned { is_aligned erase.unit erase.sector ≡ true }
@@ -71,11 +71,11 @@ pub fn erase<B: Bus>(bus: &mut B, erase: Erase) -> Result<u32, OperationError>
 /// `code`, which must be below 64, all other non-volatile bits as in `status`, and BUSY, WEL and SUS clear. Returns the
 /// number of transactions.
 ///
-/// On an honest bus, a chip that is busy or has SRP0 or SRP1 set ignores the write; unless the bus stops, this function
-/// succeeds even then.
+/// On a well-behaved bus, a chip that is busy or has SRP0 or SRP1 set ignores the write; unless the bus stops, this
+/// function succeeds even then.
 ///
-/// Returns `Stopped` if the bus stopped, and `Timeout` with address 0 after 65,536 polls that showed BUSY. On an honest
-/// bus there is no timeout. (W25Q64FV datasheet, Write Status Register.)
+/// Returns `Stopped` if the bus stopped, and `Timeout` with address 0 after 65,536 polls that showed BUSY. On a
+/// well-behaved bus there is no timeout. (W25Q64FV datasheet, Write Status Register.)
 pub fn write_status<B: Bus>(bus: &mut B, status: Status, code: u8) -> Result<u32, OperationError>
     requires { code < 64 }
     ensures leaves { LeavesOperation (status_write status code) (B.state bus.old) (B.state bus.new) }
