@@ -103,7 +103,7 @@ module _ {changes : Changes} {wanted : ℕ → ℕ} {old : BusState} (can : CanA
 
   module _ {bytes : ℕ → ℕ} {worn : ℕ → Bool} {mid : BusState} (is : IsIntermediate bytes worn (code_once changes) old mid) where
     -- After the unlock, if one was requested, and before the last status write, no address in a touched sector is
-    -- protected: without an unlock by `CanApply`, and after an unlock because all protection bits are clear.
+    -- protected. Without an unlock, `CanApply` says so; after an unlock, all protection bits are clear.
     free : (a : ℕ) → touched_in changes (a / 4096) ≡ true → is_protected mid.chip a ≡ false
     free a touched =
         let before = kept_read can in let cleared = code_cleared old.chip.kept in

@@ -84,8 +84,8 @@ module _ (out : List ℕ) (asks : AsksForOperation out) (old : BusState) where
           sends = command_sends out old ready new asks.known sends sends';
         }
 
-    -- The effect on the chip if the bus stopped at the command. The bytes that were sent are decoded as no operation,
-    -- or as the command's operation.
+    -- The effect on the chip if the bus stopped at the command. For the bytes that were sent, the chip carried out no
+    -- operation, or the command's operation.
     module _ (honest : old.honest ≡ true) (new : BusState) where
       stays-before : KeepsChip ready new → KeepsChip old new
       stays-before stays = stays_after old ready new sends.nature.steady (enabling honest).unchanged stays

@@ -68,8 +68,8 @@ read_since {old = old} first read = record {
       ∙ read.whole a is;
 }
 
--- If the sectors of all addresses in `Before` were read, and then sector `n`, the sectors of all addresses in `After`
--- were read, provided that each address in `After` is in sector `n` or in `Before`.
+-- Suppose that the sectors of all addresses in `Before` were read, and then sector `n`. If each address in `After` is
+-- in sector `n` or in `Before`, the sectors of all addresses in `After` were read.
 pub more_read : {Before After : ℕ → Type 0} {n : ℕ} {bytes : List ℕ} {old mid new : List Exchange}
     → HaveBeenRead Before old mid → Answered (names 0x03 (4096 * n)) mid new bytes → length bytes ≡ 4096
     → ((a : ℕ) → After a → a / 4096 ≢ n → Before a) → HaveBeenRead After old new

@@ -1,4 +1,4 @@
--- The effect of a stop that may cut its transaction.
+-- The effect of a stop at which none, some or all bytes of the transaction were sent.
 use Rattle.std.proofs.Common.{◌≡◌, ◌∙◌, ◌⊎◌, ◌||◌, ℕ, zero, suc, Bool, true, false, true≢false, List, [], ◌∷◌, length, take, refl, sym, ap, arith, inl, inr}
 use Rattle.std.proofs.Math.Seq.{take-nil}
 use Rattle.std.proofs.Math.Bool.{or-false}
@@ -61,7 +61,8 @@ reached_stays out old new unsteady cut = elim cut.chip [
   | inr lost ↦ lost_stays (reached out old new cut) new unsteady lost (λ s. refl)
 ]
 
--- on a bus that is not steady, if the bytes that were sent ask for no operation, the stop satisfies `KeepsChip`
+-- on a bus that is not steady, if the chip carries out no operation for the bytes that were sent, the stop satisfies
+-- `KeepsChip`
 pub none_begun : (out : List ℕ) (old new : BusState) → old.steady ≡ false → (cut : AtStop out old new)
     → is_operation (done_of old.chip (take cut.count out) (length cut.read)) ≡ false → KeepsChip old new
 none_begun out old new unsteady cut none =

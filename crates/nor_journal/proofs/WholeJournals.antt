@@ -46,8 +46,8 @@ none_more_below set n is s = grind (arith, nat_tests)
 
 -- ---- completing a content
 
--- Holds if there is a content that continues c. It has the header of c, saves exactly the chip's sectors of the set
--- below n, and each prefix of the header and records of c is a prefix of its own header and records, too.
+-- Holds if there is a content that continues c. This content has the header of c, and saves exactly the chip's sectors
+-- of the set below n. Each prefix of the header and records of c is also a prefix of this content's header and records.
 pub record GoesOn (chip : ℕ → ℕ) (set : ℕ → Bool) (c : Content) (n : ℕ) : Type 0 where
   pub content : Content
   pub same : SameHeader c content

@@ -7,9 +7,9 @@ use crate::vault::{Vault, VaultFault};
 
 /// A vault that refuses one call, and passes every other call on to an inner vault.
 ///
-/// It refuses the `nth` call, counting the calls of `put` and `seal` together, from 1; if `nth` is 0, it refuses none.
-/// A refused `put` first writes the first `kept` bytes of the piece, or all of a shorter piece, to the inner vault. The
-/// count of refusals includes those of the inner vault.
+/// The vault refuses the `nth` call, counting the calls of `put` and `seal` together, from 1; if `nth` is 0, it refuses
+/// none. A refused `put` first writes the first `kept` bytes of the piece, or all of a shorter piece, to the inner
+/// vault. The count of refusals includes those of the inner vault.
 #[derive(Drop)]
 pub struct BrokenVault<V: Vault> {
     inner: V,

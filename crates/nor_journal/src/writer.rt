@@ -17,7 +17,7 @@ use sha2::{Digest, Sha256};
 
 /// A writer of a journal of format 2: first the header, then the sectors in ascending order, then the end.
 ///
-/// It borrows the vault until the end. It allocates nothing itself: it updates the digest with each piece.
+/// The writer borrows the vault until the end. It allocates nothing itself: it updates the digest with each piece.
 ///
 /// A call fails if the vault refuses a piece or the seal. The vault is then unsealed. If it is faithful (`telling`) and
 /// the sectors were written in ascending order, it holds a prefix of the journal; the clauses don't say how long the

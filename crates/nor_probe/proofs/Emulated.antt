@@ -43,7 +43,7 @@ tiny64_known config tiny = record {
 -- ---- the chips of the table
 
 -- A chip is known for any SFDP if its ID has a row in the table, and its size, erase types and block protection are
--- those of the row. Its ID must not be one that is read when nothing drives the bus.
+-- those of the row. Its ID must differ from those that are read if nothing drives the bus (`is_no_chip`).
 listed_known : (config : Config) (part : Part)
     → part_with_id (id_of config) ≡ Some part → is_no_chip (id_of config) ≡ false
     → config.size ≡ part.size → config.kinds ≡ part.kinds → config.scheme ≡ part.scheme → IsKnown config

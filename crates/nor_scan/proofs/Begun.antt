@@ -42,8 +42,8 @@ put_alike {one = one} {other = other} {saved = saved} {more = more} same equal a
 
 -- Holds if the writer has the same vault as before, which refused nothing since. If the writer had been given only a
 -- header for this size, it has now been given that header and the records of the sectors in `saved`, with the bytes
--- `read`; these sectors are below `n`. If the bus is well-behaved, and its chip idle and of this size, these are the
--- chip's bytes.
+-- `read`. These sectors are below `n`. If the bus is well-behaved, and its chip idle and of this size, `read` has the
+-- chip's bytes in these sectors.
 pub record HasJournalled {V : Type 0} (state : V → VaultState) (old new : Writer V) (size : ℕ) (bus : BusState)
     (read : ℕ → ℕ) (saved : ℕ → Bool) (n : ℕ) : Type 0 where
   pub same_vault : (vault_of new).ghost_name ≡ (vault_of old).ghost_name

@@ -65,7 +65,7 @@ ScanJudges request code touched chip (Protected address) =
     (request.unlock ≡ false) × (sector : ℕ) × (address ≡ 4096 * sector) × IsLeastProtected touched chip sector
 ScanJudges request code touched chip _ = ⊥
 
--- Holds if the status isn't locked or needs no write, and protection is lifted only if the request allows it and a
+-- Holds if the status is unlocked or needs no write, and protection is lifted only if the request allows it and a
 -- touched sector is protected. If protection isn't lifted, no touched sector is protected.
 pub record ScanPasses (request : Request) (code : ℕ) (touched : ℕ → Bool) (chip : Chip) (unlock : Bool) : Type 0 where
   pub lifts : unlock ≡ true → (request.unlock ≡ true) × SomeProtected touched chip
@@ -74,7 +74,7 @@ pub record ScanPasses (request : Request) (code : ℕ) (touched : ℕ → Bool) 
 
 -- ---- the request
 
--- A request for a range that no defined protection bits protect exactly is not a write or an erase.
+-- If the request is for a range that no defined protection bits protect exactly (`AsksForNone`), `is_data` is false.
 asks_for_range : (what : What) (chip : Chip) → AsksForNone what chip → is_data what ≡ false
 asks_for_range (WpRange start len) chip none = refl
 asks_for_range _ chip none = absurd none

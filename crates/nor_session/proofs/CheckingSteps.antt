@@ -93,7 +93,7 @@ checked_none {t} state = record {
 }
 
 module _ {t : ℕ → Bool} {w : ℕ → ℕ} {n sent : ℕ} {old mid : BusState} (has : HasChecked t w n old mid sent) where
-  -- an address of the set isn't in sector `n`, if that isn't in the set
+  -- if sector `n` isn't in the set, each address of the set lies in another sector
   elsewhere : t n ≡ false → (a : ℕ) → t (a / 4096) ≡ true → a / 4096 ≢ n
   elsewhere not a hit here = both_ways (t n) not (rw here at hit)
 

@@ -38,7 +38,7 @@ held_scheme touched chip some = true_from_ne_false chip.config.scheme (λ none.
     (and_parts (touched s) (is_block_protected chip (4096 * s) 4096) some.held).1)
 
 module _ {old new : Chip} (same : IsSame old new) where
-  -- if no touched sector of `old` is protected, no address below the size in a touched sector is protected in `new`,
+  -- if no touched sector of `old` is protected, each address on the chip in a touched sector is unprotected in `new`,
   -- which is the same chip (`IsSame`)
   pub free_address : (touched : ℕ → Bool) (a : ℕ) → NoneProtected touched old → touched (a / 4096) ≡ true
       → a < old.config.size → is_protected new a ≡ false

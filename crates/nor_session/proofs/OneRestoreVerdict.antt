@@ -1,4 +1,4 @@
--- A restore has one verdict: the first check of the code that fails gives the first error that applies, and if none
+-- A restore has one verdict: the first check of the code that fails returns the first error that applies, and if none
 -- fails, no error applies.
 use Rattle.std.proofs.Common.{◌≡◌, ◌<◌, ℕ, true, arith, rules}
 use Rattle.std.specs.Prelude.{◌≢◌, None, Err}

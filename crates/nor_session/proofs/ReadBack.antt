@@ -1,4 +1,4 @@
--- What was read back, from the check to the whole call.
+-- Lemmas about what was read back: from the check of the changes to the whole session or restore.
 use Rattle.std.proofs.Common.{◌≡◌, ◌/◌, ◌∙◌, ℕ, Bool, true, List, slice_index, Result, Ok, Err, refl, ap, sym, subst, true≢false}
 use mathlib.Core.Path.{fun_ext}
 use Rattle.nor_model.specs.Exchange.{Exchange}
@@ -47,7 +47,7 @@ module _ (changes : Changes) (wanted : ℕ → ℕ) (verify : Bool) where
       → FitsReadBack changes wanted verify old new (Ok work)
   check_passed old new sent work replies = λ verifies. (old, continues_refl old, replies)
 
-  -- an error of the changes isn't a mismatch
+  -- `FitsReadBack` holds for an error of the changes, which is never a mismatch
   pub apply_failed : (old new : List Exchange) (error : OperationError)
       → FitsReadBack changes wanted verify old new (Err (of_operation error))
   apply_failed old new Operations.Stopped = tt
@@ -60,7 +60,8 @@ module _ (changes : Changes) (wanted : ℕ → ℕ) (verify : Bool) where
   read_back_later old mid new (Err (Mismatch address)) first fits = (fits.0, continues_then first fits.1, fits.2)
   read_back_later old mid new (Err _) first fits = tt
 
--- `ReadsBack` and `ReadsOther` hold for each target that is the same at these addresses.
+-- `ReadsBack` and `ReadsOther` (`other_target`) stay true if the target is replaced by one that is the same at these
+-- addresses.
 back_target : (addresses : ℕ → Bool) (one two : ℕ → ℕ) {old new : List Exchange}
     → ((a : ℕ) → addresses a ≡ true → one a ≡ two a) → ReadsBack addresses one old new → ReadsBack addresses two old new
 back_target addresses one two same back = record {
@@ -107,7 +108,7 @@ restore_read_other choice journal changes old mid new since touched (Mismatch ad
 )
 restore_read_other choice journal changes old mid new since touched _ fits = tt
 
--- before the first change no mismatch occurs
+-- `RestoreReadsBack` holds for an error before the first change, which is never a mismatch
 pub prepare_read_back : (choice : Choice) (journal : Content) (most : ℕ) (old new : BusState) (refusal : Refusal)
     → PrepareErrors choice journal most old new refusal
     → RestoreReadsBack choice journal old.history new.history (Err refusal)
@@ -171,7 +172,7 @@ module _ (request : Request) (image : List ℕ) where
         ),
       )
 
-  -- before the first change no mismatch occurs
+  -- `SessionReadsBack` holds for an error before the first change, which is never a mismatch
   pub save_read_back : (identity : Identity) (code : ℕ) (bytes : List ℕ) (old new : BusState) (one two : List Exchange)
       (refusal : Refusal) → SaveErrors request identity code bytes old new refusal
       → SessionReadsBack request image one two (Err refusal)

@@ -57,7 +57,8 @@ pub allowed_first : (stops : List ℕ) {old new : List ℕ} → new ≡ first_al
 allowed_first [] is = is
 allowed_first (first ∷ later) is = is
 
--- the calls after the first one have the allowances that the stops after the first one give
+-- the stop with index `n` among the stops after the first one has index `n + 1` among all stops; without such a stop,
+-- both allowances are `most_of 4096`
 later_stop : (stops : List ℕ) (n : ℕ)
     → slice_index_or (drop 1 stops) n (most_of 4096) ≡ slice_index_or stops (suc n) (most_of 4096)
 later_stop [] n = refl
