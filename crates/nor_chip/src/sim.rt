@@ -116,9 +116,9 @@ impl SimBus {
         self.fill = fill;
     }
 
-    /// Sets after how many bytes a stop cuts its transaction. With `Some(count)` the first `count` bytes are sent (all
-    /// of them, if there are fewer), the chip does what these ask for, and no reply is read. With `None`, as after
-    /// `new`, no byte is sent. After the cut the chip loses its power if `lose` set that.
+    /// Sets after how many bytes a stop interrupts its transaction. With `Some(count)` the first `count` bytes are sent
+    /// (all of them, if there are fewer), the chip does what these ask for, and no reply is read. With `None`, as after
+    /// `new`, no byte is sent. In both cases the chip then loses its power, if `lose` set that.
     pub fn tear(&mut self, count: Option<u32>)
         ensures state { ⟦<SimBus as Bus>⟧.state self.new
             ≡ record (⟦<SimBus as Bus>⟧.state self.old) { steady = is_none (fill_of self.old) && is_none count } }

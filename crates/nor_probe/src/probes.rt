@@ -72,8 +72,9 @@ pub struct Probed {
 /// itself, the chip is idle, and its bytes and non-volatile status bits are unchanged. On a modelled bus the returned
 /// ID, size, erase types and block protection are those of the chip's configuration.
 ///
-/// Returns `NoChip`, `UnknownChip` or `OtherName`, checked in this order; `Stopped` if the bus stopped; and `Timeout`
-/// if 65,536 polls showed BUSY, which doesn't occur on a well-behaved bus. Nothing is sent after a stop or a timeout.
+/// Returns `NoChip`, `UnknownChip` or `OtherName`, checked in this order. Returns `Stopped` if the bus stopped, and
+/// `Timeout` if 65,536 polls showed BUSY; a timeout doesn't occur on a well-behaved bus. Nothing is sent after a stop
+/// or a timeout.
 pub fn probe<B: Bus>(bus: &mut B, named: Option<ChipName>) -> Result<Found, ProbeFault>
     ensures always { ProbeAlways named (B.state bus.old) (B.state bus.new) result }
     ensures honest { (B.state bus.old).honest ≡ true
