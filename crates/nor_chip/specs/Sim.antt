@@ -11,8 +11,8 @@ use Rattle.nor_model.specs.Sent.{sent_in}
 use Rattle.nor_model.specs.PolledReady.{polled_ready_in}
 use Rattle.nor_model.specs.Bus.{BusState}
 
--- The state of a simulated bus. The bus is always honest, and takes transactions of any length. The bus is steady if
--- and only if the settings of `lose` and `tear` are both `None`.
+-- The state of a simulated bus. The bus is always well-behaved, and takes transactions of any length. The bus is steady
+-- if and only if the settings of `lose` and `tear` are both `None`.
 abbrev pub sim_state : SimBus → BusState
 sim_state bus = record {
   chip = chip_of bus.flash;
@@ -31,8 +31,7 @@ sim_state bus = record {
 abbrev pub fill_of : SimBus → Option ℕ
 fill_of bus = bus.fill
 
--- the setting of `tear`: the number of first bytes of its transaction that a stop sends (`count`), or `None` if it
--- sends none
+-- the setting of `tear`: how many bytes of its transaction a stop sends (`count`), or `None` if it sends none
 abbrev pub torn_of : SimBus → Option ℕ
 torn_of bus = bus.torn
 

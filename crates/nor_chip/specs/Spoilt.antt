@@ -26,9 +26,9 @@ history_of bus = bus.history.exchanges
 abbrev pub succeeded_of : {B : Type 0} → SpoiltBus B → ℕ
 succeeded_of bus = bus.sent
 
--- The state of a faulty bus, which isn't honest. Its history has each transaction that it was asked to carry out, even
--- a dropped one, with the reply that the faulty bus returned. `sent` and `polled_ready` follow from this history. The
--- allowances are those that were set on the faulty bus. All else is the state of the bus inside.
+-- The state of a faulty bus, which isn't well-behaved. Its history has each transaction that it was asked to carry out,
+-- even a dropped one, with the reply that the faulty bus returned. `sent` and `polled_ready` follow from this history.
+-- The allowances are those that were set on the faulty bus. All else is the state of the bus inside.
 abbrev pub spoilt_state : {B : Type 0} → (B → BusState) → SpoiltBus B → BusState
 spoilt_state state bus = record (state bus.bus) {
   honest = false;
@@ -66,15 +66,16 @@ pub record IsWithheld {B : Type 0} (byte : ℕ) (asked answer : List ℕ) (outco
   pub replies : answer ≡ replicate (length asked) byte
 
 -- The transaction was passed on to the bus inside. Each reply byte is `byte_for` of the byte of `replied` at its index.
--- If that bus is honest and takes a transaction of this length, it carried the transaction out and replied `replied`.
+-- If that bus is well-behaved and takes a transaction of this length, it carried the transaction out and replied
+-- `replied`.
 pub record IsPassedOn (byte_for : ℕ → ℕ) (out asked answer : List ℕ) (old new : BusState) : Type 0 where
   pub replied : List ℕ
   pub as_many : length answer ≡ length replied
   pub replies : (i : ℕ) → i < length answer → slice_index answer i ≡ byte_for (slice_index replied i)
   pub inner : IsHonestFor out (length asked) old → Carries out replied old new
 
--- A transaction that is passed on succeeds (`IsPassedOn`), or the bus inside stops. If that bus is honest and takes a
--- transaction of this length, a stop leaves the reply as it was, and the chip as `Stops` allows.
+-- A transaction that is passed on succeeds (`IsPassedOn`), or the bus inside stops. If that bus is well-behaved and
+-- takes a transaction of this length, a stop leaves the reply buffer as it was, and the chip as `Stops` allows.
 abbrev pub GoesThrough : (ℕ → ℕ) → (out asked answer : List ℕ) → Result Unit Stopped → (old new : BusState) → Type 0
 GoesThrough byte_for out asked answer (Ok done) old new = IsPassedOn byte_for out asked answer old new
 GoesThrough byte_for out asked answer (Err stopped) old new =

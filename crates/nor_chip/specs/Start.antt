@@ -8,8 +8,8 @@ use Rattle.nor_model.specs.Bus.{BusState}
 
 -- The state of a simulated bus at its start. Its chip has this configuration, these bytes, and the non-volatile bits
 -- and latch of these two status bytes. The given number of polls will show BUSY, and the operation in progress is
--- unknown. The bus is honest and steady, and has no transaction left. No transaction was sent, no allowance was set, no
--- sector was erased, and no poll showed that the chip is ready.
+-- unknown. The bus is well-behaved and steady, and has no transaction left. No transaction was sent, no allowance was
+-- set, no sector was erased, and no poll showed that the chip is ready.
 pub record Starts (setup : Config) (image flags : List ℕ) (delays : Delays) (state : BusState) : Type 0 where
   pub config : state.chip.config ≡ setup
   pub bytes : (a : ℕ) → state.chip.bytes a ≡ slice_index image a

@@ -29,7 +29,7 @@ reply_digits answer =
 abbrev pub traced_line : (out answer : List ℕ) → List ℕ
 traced_line out answer = encode_lower out ++ reply_digits answer ++ codes "\n"
 
--- The effect of a transaction on the log. If the bus inside stops, the log is as it was, and `has_lost` too. If the
+-- The effect of a transaction on the log. If the bus inside stops, the log and `has_lost` are as they were. If the
 -- transaction succeeded and `has_lost` is false after it, the line was appended to the log's contents, if these are
 -- known. Once true, `has_lost` stays true.
 pub record Traces {B L : Type 0} (contents : L → Option (List ℕ)) (out answer : List ℕ) (outcome : Result Unit Stopped)

@@ -51,9 +51,9 @@ is_address_in_block erase chip a = is_sector_in_block erase chip (a / 4096)
 abbrev pub is_sector_named : Erase → ℕ → Bool
 is_sector_named erase s = is_in_targeted (block_targeted (sectors_in 4096 erase.unit) erase.sector) s
 
--- On an honest bus, at every exit of an erase that the chip can carry out: bytes and records of erased sectors outside
--- the erase block, and the non-volatile bits, are as they were. On a steady bus each byte in the block is as it was or
--- FFh; on any other bus it may have any value. A chip that is still busy executes this erase.
+-- On a well-behaved bus, at every exit of an erase that the chip can carry out: bytes and records of erased sectors
+-- outside the erase block, and the non-volatile bits, are as they were. On a steady bus each byte in the block is as it
+-- was or FFh; on any other bus it may have any value. A chip that is still busy executes this erase.
 pub record MayErase (erase : Erase) (old new : BusState) : Type 0 where
   pub config : new.chip.config ≡ old.chip.config
   pub bytes : ChangesOnly old.steady (is_address_in_block erase old.chip) (λ _. 255) old.chip.bytes new.chip.bytes
@@ -61,8 +61,8 @@ pub record MayErase (erase : Erase) (old new : BusState) : Type 0 where
   pub runs : new.chip.busy ≢ 0 → new.chip.running ≡ Runs.Erase (4096 * erase.sector) (block_length old.chip erase)
   pub worn : (s : ℕ) → is_sector_in_block erase old.chip s ≡ false → new.worn s ≡ old.worn s
 
--- On an honest bus, the block was erased, and the write enable latch is clear. All other bytes, the non-volatile bits
--- and the record of other erased sectors are as they were.
+-- On a well-behaved bus, the block was erased, and the write enable latch is clear. All other bytes, the non-volatile
+-- bits and the record of other erased sectors are as they were.
 abbrev pub HasErased : Erase → (old new : BusState) → Type 0
 HasErased erase old =
     HasEnded (λ a. if is_address_in_block erase old.chip a then 255 else old.chip.bytes a) old.chip.kept

@@ -68,14 +68,14 @@ pub record SendsExactly (erases programs status_writes : ℕ) (old new : BusStat
   pub programmed : programs_of new.sent ≡ programs_of old.sent + programs
   pub wrote_status : status_writes_of new.sent ≡ status_writes_of old.sent + status_writes
 
--- At every exit of a call: `KeepsNature` holds on every bus, and on an honest bus at most `most` transactions were
+-- At every exit of a call: `KeepsNature` holds on every bus, and on a well-behaved bus at most `most` transactions were
 -- carried out.
 pub record Spends (most : ℕ) (old new : BusState) : Type 0 where
   pub nature : KeepsNature old new
   pub falls : old.honest ≡ true → Falls most old new
 
--- At every exit of a call: on every bus the modifying commands that it sent are within `limits`. On an honest bus at
--- most `most` transactions were carried out, and if `Can` held for the chip at the start, `May` holds for the states
+-- At every exit of a call: on every bus the modifying commands that it sent are within `limits`. On a well-behaved bus
+-- at most `most` transactions were carried out, and if `Can` held for the chip at the start, `May` holds for the states
 -- before and after the call.
 pub record Leaves (most : ℕ) (limits : Limits) (Can : Chip → Type 0) (May : BusState → BusState → Type 0)
     (old new : BusState) : Type 0 where

@@ -35,7 +35,7 @@ is_operation_or_none _ = false
 
 -- For every chip, the bytes `out` ask for an operation or for nothing, if no reply byte is read. Each prefix of them
 -- asks for the same command or for nothing, for any number of reply bytes. The transaction is one that the model knows,
--- and short enough for every honest bus.
+-- and short enough for every well-behaved bus.
 pub record AsksForOperation (out : List ℕ) : Type 0 where
   pub known : is_unknown_to_model out ≡ false
   pub whole : (config : Config) → is_operation_or_none (command_of config out 0) ≡ true
@@ -49,16 +49,16 @@ abbrev pub ChangesOnly : Bool → (ℕ → Bool) → (wanted old new : ℕ → �
 ChangesOnly steady addresses wanted old new =
     (a : ℕ) → (new a ≡ old a) ⊎ ((addresses a ≡ true) × (steady ≡ true → new a ≡ wanted a))
 
--- The effect, on an honest bus, of an operation that the chip ignored and whose wait succeeded. Configuration, bytes,
--- non-volatile bits and erased sectors are as they were. The write enable latch is set if the chip was idle before the
--- operation, and clear if the chip was busy.
+-- The effect, on a well-behaved bus, of an operation that the chip ignored and whose wait succeeded. Configuration,
+-- bytes, non-volatile bits and erased sectors are as they were. The write enable latch is set if the chip was idle
+-- before the operation, and clear if the chip was busy.
 pub record HasIgnored (old new : BusState) : Type 0 where
   pub same : IsSame old.chip new.chip
   pub worn : (s : ℕ) → new.worn s ≡ old.worn s
   pub latch : new.chip.latch ≡ is_idle old.chip
 
 -- An operation succeeded with `sent` transactions. On every bus `sent` is from 3 to 65,538, and the last poll showed
--- that the chip is ready. On an honest bus `sent` fewer transactions are left, and the chip is idle.
+-- that the chip is ready. On a well-behaved bus `sent` fewer transactions are left, and the chip is idle.
 pub record EndsWaiting (old new : BusState) (sent : ℕ) : Type 0 where
   pub least : 3 ≤ sent
   pub few : sent ≤ most_operation
@@ -71,10 +71,10 @@ pub record EndsWaiting (old new : BusState) (sent : ℕ) : Type 0 where
 abbrev pub operation_of : Chip → List ℕ → Command
 operation_of chip out = done_of (record chip { latch = true }) out 0
 
--- The effect, on an honest bus and at every exit, of an operation of an idle chip. Bytes on which the operation doesn't
--- work are as they were. On a steady bus each other byte is as before or as after the operation; on any other bus it
--- may have any value. The non-volatile bits are those from before or those from after the operation. A chip that is
--- still busy executes this operation. Only sectors that the operation erases may be newly recorded as erased.
+-- The effect, on a well-behaved bus and at every exit, of an operation of an idle chip. Bytes on which the operation
+-- doesn't work are as they were. On a steady bus each other byte is as before or as after the operation; on any other
+-- bus it may have any value. The non-volatile bits are those from before or those from after the operation. A chip that
+-- is still busy executes this operation. Only sectors that the operation erases may be newly recorded as erased.
 pub record MayOperate (command : Command) (sent : List ℕ) (old new : BusState) : Type 0 where
   pub config : new.chip.config ≡ old.chip.config
   pub bytes : ChangesOnly old.steady (is_in_work (running_after old.chip command))
@@ -83,7 +83,7 @@ pub record MayOperate (command : Command) (sent : List ℕ) (old new : BusState)
   pub runs : new.chip.busy ≢ 0 → new.chip.running ≡ running_after old.chip command
   pub worn : (s : ℕ) → wears command s ≡ false → new.worn s ≡ old.worn s
 
--- On an honest bus, an operation has ended: the chip has the bytes `content` and the non-volatile bits `bits`, and the
+-- On a well-behaved bus, an operation has ended: the chip has the bytes `content` and the non-volatile bits `bits`, and
 -- exactly the sectors of `erased` are recorded as erased. The configuration is as it was, and the write enable latch is
 -- clear.
 pub record HasEnded (content : ℕ → ℕ) (bits : KeptBits) (erased : ℕ → Bool) (old new : BusState) : Type 0 where
@@ -93,14 +93,14 @@ pub record HasEnded (content : ℕ → ℕ) (bits : KeptBits) (erased : ℕ → 
   pub worn : (s : ℕ) → new.worn s ≡ erased s
   pub latch : new.chip.latch ≡ false
 
--- On an honest bus, an operation that an idle chip carried out has ended, with its whole effect on bytes, non-volatile
--- bits and erased sectors. The write enable latch is clear.
+-- On a well-behaved bus, an operation that an idle chip carried out has ended, with its whole effect on bytes,
+-- non-volatile bits and erased sectors. The write enable latch is clear.
 abbrev pub HasOperated : Command → (sent : List ℕ) → (old new : BusState) → Type 0
 HasOperated command sent old =
     HasEnded (byte_after old.chip command sent) (kept_after old.chip command) (λ s. old.worn s || wears command s) old
 
 -- An operation: its limits, a condition under which a chip carries it out (`can`), and one under which a chip ignores
--- it (`ignores`). Under `can`, on an honest bus: its effect at every exit (`may`), and after it succeeded (`has`).
+-- it (`ignores`). Under `can`, on a well-behaved bus: its effect at every exit (`may`), and after it succeeded (`has`).
 pub record ChipOperation : Type 1 where
   pub limits : Limits
   pub can : Chip → Type 0
@@ -109,16 +109,16 @@ pub record ChipOperation : Type 1 where
   pub has : (old new : BusState) → Type 0
 
 -- The effect of an operation at every exit: `Leaves` holds with at most 65,538 transactions. The bus has been asked to
--- send at least one transaction that begins with a modifying opcode, in this call or before it. On an honest bus, if
--- the chip would ignore the operation, `KeepsChip` holds.
+-- send at least one transaction that begins with a modifying opcode, in this call or before it. On a well-behaved bus,
+-- if the chip would ignore the operation, `KeepsChip` holds.
 pub record LeavesOperation (operation : ChipOperation) (old new : BusState) : Type 0 where
   pub leaves : Leaves most_operation operation.limits operation.can operation.may old new
   pub stirred : is_stirred new.sent ≡ true
   pub ignored : old.honest ≡ true → operation.ignores old.chip → KeepsChip old new
 
 -- The effect of an operation that succeeded, after `sent` transactions: on every bus `EndsWaiting` holds, and
--- `SendsExactly` for the numbers of the limits. On an honest bus `has` holds if the chip can carry the operation out,
--- and `HasIgnored` if it ignores the operation.
+-- `SendsExactly` for the numbers of the limits. On a well-behaved bus `has` holds if the chip can carry the operation
+-- out, and `HasIgnored` if it ignores the operation.
 pub record Operates (operation : ChipOperation) (old new : BusState) (sent : ℕ) : Type 0 where
   pub ends : EndsWaiting old new sent
   pub sends : SendsExactly operation.limits.erases operation.limits.programs operation.limits.status_writes old new

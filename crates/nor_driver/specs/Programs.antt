@@ -34,8 +34,8 @@ is_sector_of at s = is_in_targeted (block_targeted 1 (at / 4096)) s
 abbrev pub is_in_page : (at a : ℕ) → Bool
 is_in_page at a = a / 256 == at / 256
 
--- On an honest bus, at every exit of a program that the chip can carry out: bytes outside the page, non-volatile bits
--- and erased sectors are as they were. On a steady bus each byte in the page is as it was or as programmed; on any
+-- On a well-behaved bus, at every exit of a program that the chip can carry out: bytes outside the page, non-volatile
+-- bits and erased sectors are as they were. On a steady bus each byte in the page is as it was or as programmed; on any
 -- other bus it may have any value. A chip that is still busy executes this program.
 pub record MayProgram (at : ℕ) (sent : List ℕ) (old new : BusState) : Type 0 where
   pub config : new.chip.config ≡ old.chip.config
@@ -44,8 +44,8 @@ pub record MayProgram (at : ℕ) (sent : List ℕ) (old new : BusState) : Type 0
   pub runs : new.chip.busy ≢ 0 → new.chip.running ≡ Runs.Program (at / 256)
   pub worn : (s : ℕ) → new.worn s ≡ old.worn s
 
--- On an honest bus, the bytes were programmed, and the write enable latch is clear. All other bytes, the non-volatile
--- bits and the erased sectors are as they were.
+-- On a well-behaved bus, the bytes were programmed, and the write enable latch is clear. All other bytes, the
+-- non-volatile bits and the erased sectors are as they were.
 abbrev pub HasProgrammed : (at : ℕ) → (sent : List ℕ) → (old new : BusState) → Type 0
 HasProgrammed at sent old = HasEnded (programmed at sent old.chip.bytes) old.chip.kept old.worn old
 

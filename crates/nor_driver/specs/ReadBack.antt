@@ -46,7 +46,7 @@ pub record ReadsBack (addresses : ℕ → Bool) (target : ℕ → ℕ) (old new 
   pub each : (a : ℕ) → addresses a ≡ true → IsReadAs (target a) reads.later a
 
 -- Holds if, since the history `old`, sectors were read and nothing else was sent, and `address` is the first of these
--- addresses at which the last reply to a read of its sector doesn't have the target byte.
+-- addresses whose byte in the last reply to a read of its sector isn't the target byte.
 pub record ReadsOther (addresses : ℕ → Bool) (target : ℕ → ℕ) (address : ℕ) (old new : List Exchange) : Type 0 where
   pub reads : AddsSectorReads old new
   pub is : addresses address ≡ true
@@ -54,14 +54,14 @@ pub record ReadsOther (addresses : ℕ → Bool) (target : ℕ → ℕ) (address
   pub differs : bytes_read reads.later address ≢ target address
   pub before : (a : ℕ) → a < address → addresses a ≡ true → IsReadAs (target a) reads.later a
 
--- Holds if the transactions since `old` ended with such reads, in whose replies each of these addresses has the target
--- byte.
+-- Holds if the last transactions since `old` were reads of sectors, in whose last replies each of these addresses has
+-- the target byte (`ReadsBack`).
 abbrev pub EndsReadBack : (addresses : ℕ → Bool) → (target : ℕ → ℕ) → (old new : List Exchange) → Type 0
 EndsReadBack addresses target old new =
     (before : List Exchange) × Continues old before × ReadsBack addresses target before new
 
--- Holds if the transactions since `old` ended with such reads, in whose replies `address` is the first of these
--- addresses that doesn't have the target byte.
+-- Holds if the last transactions since `old` were reads of sectors, in whose last replies `address` is the first of
+-- these addresses that doesn't have the target byte (`ReadsOther`).
 abbrev pub EndsReadOther : (addresses : ℕ → Bool) → (target : ℕ → ℕ) → (address : ℕ) → (old new : List Exchange)
     → Type 0
 EndsReadOther addresses target address old new =

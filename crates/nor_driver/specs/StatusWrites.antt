@@ -45,9 +45,9 @@ pub record CanWriteStatus (status : Status) (chip : Chip) : Type 0 where
 abbrev pub takes_status : Chip → Bool
 takes_status chip = is_idle chip && not (is_locked chip.kept)
 
--- On an honest bus, at every exit of a status write that the chip can carry out: bytes and erased sectors are as they
--- were. The non-volatile bits are as they were, or have the protection bits of `code` and are otherwise as they were. A
--- chip that is still busy executes this status write.
+-- On a well-behaved bus, at every exit of a status write that the chip can carry out: bytes and erased sectors are as
+-- they were. The non-volatile bits are as they were, or have the protection bits of `code` and are otherwise as they
+-- were. A chip that is still busy executes this status write.
 pub record MayWriteStatus (code : ℕ) (old new : BusState) : Type 0 where
   pub config : new.chip.config ≡ old.chip.config
   pub bytes : (a : ℕ) → new.chip.bytes a ≡ old.chip.bytes a
@@ -55,8 +55,8 @@ pub record MayWriteStatus (code : ℕ) (old new : BusState) : Type 0 where
   pub runs : new.chip.busy ≢ 0 → new.chip.running ≡ Runs.StatusWrite old.chip.kept.one old.chip.kept.two
   pub worn : (s : ℕ) → new.worn s ≡ old.worn s
 
--- On an honest bus, the protection bits were written, and the write enable latch is clear. The other non-volatile bits,
--- the bytes and the erased sectors are as they were.
+-- On a well-behaved bus, the protection bits were written, and the write enable latch is clear. The other non-volatile
+-- bits, the bytes and the erased sectors are as they were.
 abbrev pub HasWrittenStatus : (code : ℕ) → (old new : BusState) → Type 0
 HasWrittenStatus code old = HasEnded old.chip.bytes (with_code code old.chip.kept) old.worn old
 

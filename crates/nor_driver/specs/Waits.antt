@@ -10,8 +10,8 @@ use Rattle.nor_driver.specs.declared.waits.OperationError.TheVariants.{Stopped, 
 use Rattle.nor_driver.specs.declared.waits.Waited.{Waited}
 use Rattle.nor_driver.specs.OnlyReads.{Rested, RanOut}
 
--- On an honest bus, one poll read status 1 as it was before the poll. A busy chip is then busy for one poll fewer, and
--- the poll that shows the last BUSY clears the write enable latch.
+-- On a well-behaved bus, one poll read status 1 as it was before the poll. A busy chip is then busy for one poll fewer,
+-- and the poll that shows the last BUSY clears the write enable latch.
 pub record HasPolled (old new : BusState) (status : ℕ) : Type 0 where
   pub rested : Rested old new
   pub status1 : status ≡ status1_of old.chip
@@ -19,7 +19,7 @@ pub record HasPolled (old new : BusState) (status : ℕ) : Type 0 where
   pub latch : new.chip.latch ≡ (if old.chip.busy == 1 then false else old.chip.latch)
   pub count : old.left ≡ new.left + 1
 
--- A poll succeeded: on every bus this status is its reply. On an honest bus its effect is `HasPolled`.
+-- A poll succeeded: on every bus this status is its reply. On a well-behaved bus its effect is `HasPolled`.
 pub record Polls (old new : BusState) (status : ℕ) : Type 0 where
   pub history : new.history ≡ replied (0x05 ∷ []) (status ∷ []) ∷ old.history
   pub done : old.honest ≡ true → HasPolled old new status
@@ -29,7 +29,7 @@ pub record Polls (old new : BusState) (status : ℕ) : Type 0 where
 abbrev pub latch_when_idle : Chip → Bool
 latch_when_idle chip = if chip.busy == 0 then chip.latch else false
 
--- On an honest bus, a wait polled until the chip was idle: once for each poll that the chip was still busy for
+-- On a well-behaved bus, a wait polled until the chip was idle: once for each poll that the chip was still busy for
 -- (`busy`), and once more. Status 1 is that of the chip after the wait.
 pub record HasWaited (old new : BusState) (waited : Waited) : Type 0 where
   pub rested : Rested old new
@@ -41,8 +41,8 @@ pub record HasWaited (old new : BusState) (waited : Waited) : Type 0 where
 
 -- A wait succeeded. On every bus its last poll received this status, which shows that the chip is ready, and the number
 -- of polls is from 1 to 65,536. For each test that is false for every poll, the last reply to a transaction that passes
--- the test is as before (`keeps_other_replies`); that leaves open whether transactions other than polls were sent. On
--- an honest bus the effect of the wait is `HasWaited`.
+-- the test is as before (`keeps_other_replies`); that leaves open whether transactions other than polls were sent. On a
+-- well-behaved bus the effect of the wait is `HasWaited`.
 pub record Waits (old new : BusState) (waited : Waited) : Type 0 where
   pub keeps_other_replies : KeepsReplies is_poll old.history new.history
   pub status : last_reply is_poll new.history ≡ waited.status1 ∷ []
@@ -64,15 +64,15 @@ EndsAt Stopped history = EndsStopped history
 EndsAt (Timeout address) history = EndsBusy history
 
 -- A call that waits returned an error. On every bus nothing was sent after the transaction that caused the error
--- (`EndsAt`). On an honest bus the error is a stop: fewer than `needed` transactions were left, and all of these were
--- carried out.
+-- (`EndsAt`). On a well-behaved bus the error is a stop: fewer than `needed` transactions were left, and all of these
+-- were carried out.
 pub record OperationFails (needed : ℕ) (old new : BusState) (error : OperationError) : Type 0 where
   pub last : EndsAt error new.history
   pub stopped : old.honest ≡ true → error ≡ Stopped
   pub ran_out : old.honest ≡ true → RanOut needed old new
 
--- A wait returned an error. On every bus a timeout contains the address `at`. On an honest bus the error is a stop, and
--- fewer transactions were left than the wait needed, which is never more than 65,536.
+-- A wait returned an error. On every bus a timeout contains the address `at`. On a well-behaved bus the error is a
+-- stop, and fewer transactions were left than the wait needed, which is never more than 65,536.
 pub record WaitFails (at : ℕ) (old new : BusState) (error : OperationError) : Type 0 where
   pub names : NamesTimeout at error
   pub fails : OperationFails 65536 old new error

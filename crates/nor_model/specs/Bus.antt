@@ -14,9 +14,10 @@ use Rattle.nor_model.specs.Step.{Step, done_of, wears}
 -- The state of a bus, as contracts see it.
 pub record BusState : Type 0 where
   pub chip : Chip
-  -- if the bus is honest: how many more transactions it will carry out unless `allow` is called; code can't read this
+  -- if the bus is well-behaved: how many transactions it still carries out unless `allow` is called; code can't read
+  -- this
   pub left : ℕ
-  -- the bus obeys the contract of a bus
+  -- the bus is well-behaved: it obeys the contract of a bus
   pub honest : Bool
   -- the transactions that the bus was asked to carry out, each with its reply, the last one first
   pub history : List Exchange
@@ -24,27 +25,27 @@ pub record BusState : Type 0 where
   pub sent : Sent
   -- the allowances that were set, the last one first
   pub allowances : List ℕ
-  -- if the bus is honest: the sectors that the chip erased so far, over this bus
+  -- if the bus is well-behaved: the sectors that the chip erased so far, over this bus
   pub worn : ℕ → Bool
-  -- if the bus is honest: a stop sends no byte of its transaction and keeps the chip's power, so the chip stays as it
-  -- was
+  -- if the bus is well-behaved: a stop sends no byte of its transaction and keeps the chip's power, so the chip stays
+  -- as it was
   pub steady : Bool
-  -- if the bus is honest: it takes transactions of any length
+  -- if the bus is well-behaved: it takes transactions of any length
   pub unlimited : Bool
   -- the last poll that received at least one reply byte showed that the chip is ready
   pub polled_ready : Bool
 
--- A bus is honest, steady or unlimited after a call if and only if it was so before the call. On an honest bus the
--- chip's configuration stays the same: its ID, size, SFDP and all else that no command changes.
+-- A bus is well-behaved, steady or unlimited after a call if and only if it was so before the call. On a well-behaved
+-- bus the chip's configuration stays the same: its ID, size, SFDP and all else that no command changes.
 pub record SameNature (old new : BusState) : Type 0 where
   pub honest : new.honest ≡ old.honest
   pub steady : new.steady ≡ old.steady
   pub unlimited : new.unlimited ≡ old.unlimited
   pub config : old.honest ≡ true → new.chip.config ≡ old.chip.config
 
--- The bus is honest, steady or unlimited if and only if it was so before, and an honest bus has a chip with the same
--- configuration as before (`SameNature`). The history continues the earlier one, and no allowance was set. Transactions
--- keep all that on every bus.
+-- The bus is well-behaved, steady or unlimited if and only if it was so before, and a well-behaved bus has a chip with
+-- the same configuration as before (`SameNature`). The history continues the earlier one, and no allowance was set.
+-- This holds for every sequence of transactions, on every bus.
 pub record KeepsNature (old new : BusState) : Type 0 where
   pub honest : new.honest ≡ old.honest
   pub steady : new.steady ≡ old.steady
@@ -53,8 +54,9 @@ pub record KeepsNature (old new : BusState) : Type 0 where
   pub history : Continues old.history new.history
   pub allowances : new.allowances ≡ old.allowances
 
--- The bus is honest, and takes a transaction that sends `out` and reads `replies` bytes. An unlimited bus takes every
--- transaction, any other bus those that send at most 260 bytes (a page program) and read at most 4,096 (a sector).
+-- The bus is well-behaved, and takes a transaction that sends `out` and reads `replies` bytes. An unlimited bus takes
+-- every transaction, any other bus those that send at most 260 bytes (a page program) and read at most 4,096 (a
+-- sector).
 pub record IsHonestFor (out : List ℕ) (replies : ℕ) (bus : BusState) : Type 0 where
   pub honest : bus.honest ≡ true
   pub fits : (bus.unlimited ≡ true) ⊎ ((length out ≤ 260) × (replies ≤ 4096))
@@ -97,7 +99,7 @@ pub record Carries (out answer : List ℕ) (old new : BusState) : Type 0 where
   pub step : Step old.chip out answer new.chip
   pub worn : (s : ℕ) → new.worn s ≡ (old.worn s || wears (done_of old.chip out (length answer)) s)
 
--- The effect of `allow`. If the bus is honest, `n` transactions are left; on any other bus the number left is not
+-- The effect of `allow`. If the bus is well-behaved, `n` transactions are left; on any other bus the number left is not
 -- stated. The allowance is recorded, and nothing else changed.
 pub record Allows (n : ℕ) (old new : BusState) : Type 0 where
   pub chip : new.chip ≡ old.chip
@@ -129,7 +131,7 @@ unknown_chip = record {
 }
 
 -- The state of a bus to a chip outside the model. Only its history is known, and what follows from it (`sent`,
--- `polled_ready`). The bus isn't honest, so nothing is claimed about its chip. No allowance is recorded.
+-- `polled_ready`). The bus isn't well-behaved, so nothing is claimed about its chip. No allowance is recorded.
 abbrev pub unknown_bus : List Exchange → BusState
 unknown_bus history = record {
   chip = unknown_chip;

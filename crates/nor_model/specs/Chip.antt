@@ -31,7 +31,7 @@ pub record Chip : Type 0 where
   pub running : Running
 
 -- The values are in range: `busy`, the non-volatile bits and each byte. An implementation of `Bus` must prove this for
--- the chip of each honest bus (`reaches` in `src/bus.rt`).
+-- the chip of each well-behaved bus (`reaches` in `src/bus.rt`).
 pub record IsChip (chip : Chip) : Type 0 where
   pub busy : chip.busy < 65536
   pub kept1 : chip.kept.one < 64

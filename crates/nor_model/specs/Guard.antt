@@ -41,7 +41,7 @@ named_length size code =
     else if bp_of code == 3 then 16384
     else 32768
 
--- true if the address `a` is in the selected range; at the end of the chip that includes addresses past the end
+-- true if the address `a` is in the selected range, which without TB includes all addresses past the chip's end
 abbrev pub is_address_named : (size code a : ℕ) → Bool
 is_address_named size code a =
     if is_bottom code then nat_lt a (named_length size code) else nat_le (size - named_length size code) a

@@ -12,8 +12,8 @@ abbrev pub next_code : Offered → ℕ
 next_code walk = walk.next
 
 -- The iterator advances to the range of `len` bytes from `start`, which starts at 0 if it is empty. The least code of
--- this range is `code`. No code from the iterator's old position on that is below `code` is the least code of a range.
--- The iterator's new position is `code + 1`.
+-- this range is `code`. No code from the iterator's old position up to, but not including, `code` is the least code of
+-- a range. The iterator's new position is `code + 1`.
 pub record IsNextRange (old : Offered) (start len : ℕ) (new : Offered) : Type 0 where
   pub code : ℕ
   pub not_passed : next_code old ≤ code
