@@ -82,9 +82,9 @@ LeavesChange changes wanted =
 
 -- Holds after the changes and their check succeeded, with the counts of `work`. If there was nothing to change, no
 -- modifying command was sent. On every bus each raised sector was erased before anything was programmed. On a
--- well-behaved bus, if `CanApply` held at the start, all changes were made (`HasApplied`). If `verify` is set there,
--- and the chip was idle with the touched sectors on it (`CanCheck`), each byte of a touched sector is the target one,
--- even if the chip ignored commands.
+-- well-behaved bus, if `CanApply` held at the start, all changes were made (`HasApplied`). If `verify` is set on such a
+-- bus, and the chip was idle with the touched sectors on it (`CanCheck`), each byte of a touched sector is the target
+-- one, even if the chip ignored commands.
 pub record DoesChange (changes : Changes) (wanted : ℕ → ℕ) (verify : Bool) (old new : BusState)
     (work : Work) : Type 0 where
   pub erases : work.erases ≡ fewest_erases changes.kinds (changes.size / 4096) (raised_in changes)
@@ -118,8 +118,8 @@ ChangeErrors changes wanted old new (Mismatch address) =
 ChangeErrors changes wanted old new _ = ⊥
 
 -- Holds if the result fits what was read back, on every bus. After success with `verify` set, and after a mismatch, the
--- last transactions were reads of sectors. After success each byte of a touched sector was read as the target one. The
--- address of a mismatch is the first one in a touched sector that wasn't.
+-- last transactions were reads of sectors. In the first case each byte of a touched sector was read as the target one.
+-- The address of a mismatch is the first one in a touched sector whose byte was read otherwise.
 abbrev pub FitsReadBack : Changes → (wanted : ℕ → ℕ) → (verify : Bool) → (old new : List Exchange)
     → Result Work Refusal → Type 0
 FitsReadBack changes wanted verify old new (Ok work) =

@@ -66,7 +66,8 @@ ChecksReply sector target old new (Err (Mismatch address)) = (first : ℕ) × (a
     × ReadsWhole sector (λ bytes. IsFirstDifference bytes target first) old new
 
 -- Holds if the result of the verification fits the replies, on every bus: each byte of these sectors was read as the
--- target one, or the address of the mismatch is the first one in these sectors at which they differ.
+-- target one, or the address of the mismatch is the first one in these sectors whose byte was read otherwise. Nothing
+-- is known after a stop.
 abbrev pub ChecksReplies : (sectors : ℕ → Bool) → (wanted : ℕ → ℕ) → (old new : List Exchange) → Result ℕ CheckFault
     → Type 0
 ChecksReplies sectors wanted old new (Ok sent) = ReadsBack (addresses_of sectors) wanted old new

@@ -25,8 +25,8 @@ pub record IsOfType (journal : Content) (config : Config) : Type 0 where
   pub id : journal.id ≡ id_of config
   pub size : journal.size ≡ config.size
 
--- Holds if the journal is valid (`IsContent`) and saves this chip: its ID and size; its unique ID, if the journal has
--- one; its non-volatile status bits; the bytes of the saved sectors.
+-- Holds if the journal is valid (`IsContent`) and saves this chip: its ID, its size, its non-volatile status bits, and
+-- the bytes of the saved sectors. If the journal has a unique ID, it is the chip's.
 pub record SavesChip (journal : Content) (first : Chip) : Type 0 where
   pub kind : IsOfType journal first.config
   pub unit : IfSome journal.unique (λ unique. unique ≡ unique_of first.config)

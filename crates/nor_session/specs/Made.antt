@@ -34,8 +34,9 @@ pub record IsTargetChip (wanted : ℕ → ℕ) (old new : Chip) : Type 0 where
 
 -- Holds if the erased sectors are those from before and the raised ones, and the report is right. The report has the
 -- chip type that the chip's replies show, and the chip's status 1, of which BUSY and WEL are known only if the chip was
--- idle. The report counts the touched sectors, the erases (the least number that covers exactly the raised sectors) and
--- the programs (the pages of touched sectors that differ from the target once the raised sectors are erased).
+-- idle. The report counts the touched sectors, the erases and the programs. The number of erases is the least that
+-- covers exactly the raised sectors. The number of programs is that of the pages of touched sectors that differ from
+-- the target once the raised sectors are erased.
 pub record IsReportedFor (touched raised : ℕ → Bool) (wanted : ℕ → ℕ) (old new : BusState)
     (report : Report) : Type 0 where
   pub worn : (s : ℕ) → new.worn s ≡ (old.worn s || raised s)
@@ -47,8 +48,8 @@ pub record IsReportedFor (touched raised : ℕ → Bool) (wanted : ℕ → ℕ) 
   pub programs : report.programs
       ≡ count_below 65536 (is_programmed touched (once_erased raised old.chip.bytes) wanted)
 
--- The same, if the touched sectors are those in which a byte differs from the target, and the raised ones those in
--- which a bit must go from 0 to 1.
+-- Holds if `IsReportedFor` holds for these sectors: touched are those in which a byte differs from the target, and
+-- raised are those in which a bit must go from 0 to 1.
 abbrev pub IsReported : (wanted : ℕ → ℕ) → (old new : BusState) → Report → Type 0
 IsReported wanted old new report =
     IsReportedFor (is_touched old.chip.bytes wanted) (is_raised old.chip.bytes wanted) wanted old new report

@@ -126,8 +126,8 @@ pub record PlansSaved (sector : ℕ) (saved bytes : List ℕ) (old new : BusStat
       → IsPlan content wanted 4096 plan
 
 -- Holds after the sectors of a restore were chosen, and the ones that the choice reads were read. Only saved sectors
--- are marked. The marks are right for the bytes that were read, and on a well-behaved bus with an idle chip of the
--- journal's size for the chip's.
+-- are marked. On every bus the touched sectors are those of the choice for the bytes that were read. On a well-behaved
+-- bus with an idle chip of the journal's size, touched and raised sectors are those of the choice for the chip's bytes.
 pub record MarksChosen (choice : Choice) (journal : Content) (old new : BusState) (scanned : Scanned) : Type 0 where
   pub marks : AreMarks (journal.size / 4096) scanned
   pub saved : (s : ℕ) → has scanned.touched s ≡ true → is_saved journal s ≡ true
@@ -217,8 +217,8 @@ pub record IsPreparedFor (choice : Choice) (journal : Content) (old new : Chip)
 
 -- The result of a restore's preparation on every bus. The changes fit the journal, the touched sectors are those of the
 -- choice for the bytes that were read, and the counts are within their bounds. On a well-behaved bus the chip is as
--- before and idle, and if it has the journal's size, the touched sectors are those of the choice. On a modelled bus the
--- chip can be restored (`IsPreparedFor`).
+-- before and idle, and if it has the journal's size, the touched sectors are those of the choice for its bytes. On a
+-- modelled bus all checks pass, and the changes can be made (`IsPreparedFor`).
 pub record IsPreparedRestore (choice : Choice) (journal : Content) (old new : BusState)
     (prepared : PreparedRestore) : Type 0 where
   pub consistent : AreConsistent prepared.changes
@@ -243,9 +243,9 @@ pub record IsPreparedRestore (choice : Choice) (journal : Content) (old new : Bu
 
 -- ---- the restore after its preparation
 
--- Holds for a choice with which a restore leaves the saved bytes. Only saved sectors are touched, and each saved sector
--- in which a byte differs is. Only touched sectors are raised, and each sector in which a bit must go from 0 to 1 is.
--- No more sectors are read before the first change than are saved.
+-- Holds for a choice with which a restore leaves the saved bytes. Each saved sector in which a byte differs is touched,
+-- and each one in which a bit must go from 0 to 1 is raised. Only saved sectors are touched, and only touched sectors
+-- are raised. Before the first change at most as many sectors are read as are saved.
 pub record IsSoundChoice (choice : Choice) : Type 0 where
   pub saved : (journal : Content) (content : ℕ → ℕ) (s : ℕ) → choice.touched journal content s ≡ true
       → is_saved journal s ≡ true

@@ -131,7 +131,7 @@ pub record RunsRestores (journal : Content) (stops : List ℕ) (old new : BusSta
   pub last : IsModelled old → FitsLastStop (length journal.saved) stops new.left restores
   pub back : IsModelled old → (first : Chip) → CanRestore journal first old → IsSame first new.chip
 
--- Holds if a restore returned this error. On a modelled bus that never occurs for a chip that the journal can restore.
+-- Holds if the restores ended with this error. On a modelled bus it does not occur if the journal can restore the chip.
 -- On a well-behaved bus, if the journal has at most 4,096 sectors, the error is neither a stop nor a timeout. On every
 -- bus the last transaction is as `EndsAtError` says.
 pub record StopsRestores (journal : Content) (old new : BusState) (refusal : Refusal) : Type 0 where

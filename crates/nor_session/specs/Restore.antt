@@ -44,7 +44,8 @@ restored journal old a = if is_saved journal (a / 4096) then saved_byte journal 
 -- ---- the sectors that are changed
 
 -- How a restore chooses its touched and its raised sectors, by the journal and the bytes that the chip has at the
--- start. `reads` is the number of sectors that it reads before it changes anything, by the number of saved sectors.
+-- start. `reads` is the number of sectors that it reads before it changes anything, as a function of the number of
+-- saved sectors.
 pub record Choice : Type 0 where
   pub touched : Content → (content : ℕ → ℕ) → (s : ℕ) → Bool
   pub raised : Content → (content : ℕ → ℕ) → (s : ℕ) → Bool
@@ -59,7 +60,7 @@ differing = record {
   reads = λ saved. saved;
 }
 
--- The choice of `rewrite`. Every saved sector is touched and raised, and none is read before.
+-- The choice of `rewrite`. Every saved sector is touched and raised, and no sector is read before the changes.
 abbrev pub every_saved : Choice
 every_saved = record {
   touched = λ journal content. is_saved journal;
@@ -158,9 +159,9 @@ IsLeft choice journal read a =
     (is_saved journal (a / 4096) ≡ true) × (choice.touched journal read (a / 4096) ≡ false)
 
 -- Holds if the result fits what was read back, on every bus. `scanned` is the history when the touched sectors were
--- chosen. After success each other saved sector had been read by then. The last transactions were reads of sectors,
--- in which each byte of a touched sector was read as the saved one. The address of a mismatch is the first one in a
--- touched sector that wasn't.
+-- chosen. After success each saved sector that isn't touched had been read by then. The last transactions were reads of
+-- sectors, in which each byte of a touched sector was read as the saved one. The address of a mismatch is the first one
+-- in a touched sector whose byte was read otherwise.
 abbrev pub RestoreReadsBack : Choice → Content → (old new : List Exchange) → Result Report Refusal → Type 0
 RestoreReadsBack choice journal old new (Ok report) = (scanned : List Exchange)
     × HaveBeenRead (IsLeft choice journal (bytes_read scanned)) old scanned
@@ -177,7 +178,7 @@ IsRestoreRefusal refusal = list_any (λ n. refusal_number refusal == n) (12 ∷ 
 
 -- ---- on a modelled bus
 
--- Holds if the error is the verdict; or 12, no transaction is left, and fewer were left at the start than the bound. A
+-- Holds for the verdict, and for error 12 if no transaction is left and fewer were left at the start than the bound. A
 -- restore promises this on a modelled bus.
 abbrev pub ErrorsBy : Choice → Content → (old new : BusState) → Refusal → Type 0
 ErrorsBy choice journal old new Stopped = RanOut (most_of (length journal.saved)) old new
@@ -227,7 +228,7 @@ pub record AlwaysBy (choice : Choice) (journal : Content) (old new : BusState)
   pub bounded : IfOk result (IsWithinCounts (choice.reads (length journal.saved)) (length journal.saved) 2 true)
   pub reported : IfOk result (λ report. SendsCounted report.erases report.programs old new)
   -- After success each saved sector was read with its saved bytes, and the touched ones were after everything was
-  -- written. Error 14 names the first address of a touched sector that wasn't read as the saved byte.
+  -- written. Error 14 names the first address in a touched sector whose byte was read otherwise.
   pub read_back : RestoreReadsBack choice journal old.history new.history result
   -- a restore succeeds only if the last poll showed that the chip is ready
   pub polled_ready : OnOk result (new.polled_ready ≡ true)

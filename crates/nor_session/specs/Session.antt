@@ -144,7 +144,7 @@ pub record IsWithinCounts (reads sectors writes : ℕ) (verify : Bool) (report :
   pub least : 4 + reads + (if verify then report.touched else 0) + 3 * (report.erases + report.programs)
       ≤ report.transactions
 
--- The same bounds, if `scanned` sectors are read before the first change, and only these may be touched.
+-- The bounds of `IsWithinCounts`, if `scanned` sectors are read before the first change, and only these may be touched.
 abbrev pub IsWithinBound : (scanned writes : ℕ) → (verify : Bool) → Report → Type 0
 IsWithinBound scanned writes verify report = IsWithinCounts scanned scanned writes verify report
 
@@ -170,8 +170,8 @@ HonestErrors most IsEarly old new refusal = IsEarly refusal → IsSame old.chip 
 
 -- ---- on a modelled bus
 
--- Holds if the error is the verdict on the request; or 11, and the vault failed; or 12, no transaction is left, and
--- fewer were left at the start than the bound. A session promises this on a modelled bus.
+-- Holds for the verdict on the request, for error 11 if the vault failed, and for error 12 if no transaction is left
+-- and fewer were left at the start than the bound. A session promises this on a modelled bus.
 abbrev pub SessionErrors : Request → List ℕ → (old new : BusState) → (vault vault' : VaultState) → Refusal → Type 0
 SessionErrors request image old new vault vault' Vault = CountsRefusal vault vault'
 SessionErrors request image old new vault vault' Stopped = RanOut (most_of (old.chip.config.size / 4096)) old new
@@ -202,8 +202,8 @@ pub record CanBeUndone (request : Request) (image : List ℕ) (old new : BusStat
       (wanted request image old.chip) old new
   pub spent : new.left + (4 + scanned_sectors request old.chip.config.size) ≤ old.left
 
--- Holds if there are no bytes; or the chip is identified, and has the requested name, if any, and the bytes are a
--- prefix of the only journal that the session could have written.
+-- Holds if there are no bytes. Holds also if the chip is identified and has the requested name, if any, and the bytes
+-- are a prefix of the only journal that the session could have written.
 abbrev pub HoldsBegun : Request → (image : List ℕ) → Chip → (bytes : List ℕ) → Type 0
 HoldsBegun request image chip bytes = (bytes ≡ [])
     ⊎ (IsNamed request.named chip.config
@@ -223,8 +223,8 @@ pub record IsJournalOfReplies (old new : BusState) (bytes : List ℕ) : Type 0 w
   pub sectors : ℕ → Bool
   pub saves : JournalSaves (header_found identity) (bytes_read at_seal) sectors bytes
 
--- true if the sector is touched, for a chip of this size from which these bytes were read: it has an address at which
--- they aren't the target
+-- true if the sector is touched, for a chip of this size from which these bytes were read: some byte of the sector
+-- isn't the target
 abbrev pub touched_for : Request → (image : List ℕ) → (size : ℕ) → (read : ℕ → ℕ) → (s : ℕ) → Bool
 touched_for request image size read s =
     sectors_below (size / 4096) s && is_touched read (wanted_at request image size read) s
@@ -233,7 +233,7 @@ touched_for request image size read s =
 -- target is the requested byte at an address that the request may change, elsewhere the byte that the scan read. After
 -- success with `verify` set, each sector with an included address had been read by then. The last transactions were
 -- reads of sectors, in which each byte of a touched sector was read as the target. The address of a mismatch is the
--- first one in a touched sector that wasn't.
+-- first one in a touched sector whose byte was read otherwise.
 abbrev pub SessionReadsBack : Request → (image : List ℕ) → (old new : List Exchange) → Result Report Refusal → Type 0
 SessionReadsBack request image old new (Ok report) = request.verify ≡ true
     → (scanned : List Exchange) × HaveBeenRead (IsScanned request report.found.size) old scanned
@@ -277,7 +277,8 @@ pub record SessionAlways (request : Request) (image : List ℕ) (old new : BusSt
   -- page programs that were sent
   pub ends : IfOk result (EndsSealed request old new vault vault')
   -- After success with `verify` set, each sector that the request may change was read with its target bytes, and the
-  -- touched ones were after everything was written. Error 14 names the first address of a touched sector that wasn't.
+  -- touched ones were after everything was written. Error 14 names the first address in a touched sector whose byte was
+  -- read otherwise.
   pub read_back : SessionReadsBack request image old.history new.history result
   -- a session succeeds only if the last poll showed that the chip is ready
   pub polled_ready : OnOk result (new.polled_ready ≡ true)

@@ -42,7 +42,7 @@ pub(crate) struct Kept<'a, B: Bus, S: Source> {
 
 impl<'a, B: Bus, S: Source> Kept<'a, B, S> {
     /// Makes the changes. If `verify` is set, reads the touched sectors back and compares them with their target bytes.
-    /// Returns the counts of the work, or 12 (the bus stopped), 13 (the chip stayed busy) or 14 (a byte differs).
+    /// Returns the counts of the work, or error 12 (the bus stopped), 13 (the chip stayed busy) or 14 (a byte differs).
     pub(crate) fn finish(self, verify: bool) -> Result<Work, Refusal>
         requires consistent { AreConsistent self.changes.now }
         requires sourced { (s : ℕ) → has self.changes.now.touched s ≡ true → S.has self.source.now s ≡ true }

@@ -33,8 +33,9 @@ pub fn power_lost_restores_original()
         → CanRestore journal first old → LosesPower old new → CanRestore journal first new }
 {}
 
-/// Proves that the journal of a session saves no sector that a locked status protects (`CanBeRewritten`). So the only
-/// possible error of `rewrite` from that journal is 12, a stop (`RewritesOriginal`).
+/// Proves that the journal of a session saves no sector that a locked status protects (`CanBeRewritten`). So on a
+/// modelled bus, if that journal can restore the chip, the only possible error of `rewrite` is 12, a stop
+/// (`RewritesOriginal`).
 pub fn session_can_be_rewritten()
     ensures { (request : Request) (image : List ℕ) (old new : BusState) (journal : Content)
         → LeavesJournal request image old new journal → CanBeRewritten journal old.chip }
@@ -42,9 +43,9 @@ pub fn session_can_be_rewritten()
 
 /// Two sessions, one after the other, left their journals in sealed `telling` vaults (`LeavesJournal`). Once a restore
 /// from the later journal has succeeded, the earlier journal can restore the chip from before the first session. All
-/// buses are modelled, and each run may have another one. Other restores from the later journal may have been stopped
-/// before: then that journal must still be able to restore its chip. Between two runs the chip may lose its power, if
-/// it was idle or its bus isn't steady, or be in files that were not completely overwritten (`IsTakenUp`).
+/// buses are modelled, and each run may use a different one. Other restores from the later journal may have been
+/// stopped before: then that journal must still be able to restore its chip. Between two runs the chip may lose its
+/// power, if it was idle or its bus isn't steady, or be in files that were not completely overwritten (`IsTakenUp`).
 pub fn undone_is_restorable()
     ensures { (request later : Request) (image later_image : List ℕ) (old mid mid' new new' back : BusState)
         (journal other : Content) (report : Report)
@@ -56,10 +57,10 @@ pub fn undone_is_restorable()
 
 /// Two sessions, one after the other, left their journals in sealed `telling` vaults (`LeavesJournal`). Restores from
 /// these journals in the reverse order leave the chip from before the first session. All buses are modelled, and each
-/// run may have another one. Before each restore that succeeds, other restores from its journal may have been stopped:
-/// then that journal must still be able to restore its chip. Between two runs the chip may lose its power, if it was
-/// idle or its bus isn't steady, or, after a session, be in files that were not completely overwritten (`MayLosePower`,
-/// `IsTakenUp`).
+/// run may use a different one. Before each restore that succeeds, other restores from its journal may have been
+/// stopped: then that journal must still be able to restore its chip. Between two runs the chip may lose its power, if
+/// it was idle or its bus isn't steady, or, after a session, be in files that were not completely overwritten
+/// (`MayLosePower`, `IsTakenUp`).
 pub fn undone_in_turn()
     ensures { (request later : Request) (image later_image : List ℕ) (old mid mid' new new' back back' end : BusState)
         (journal other : Content) (report last : Report)
@@ -113,7 +114,7 @@ pub fn same_written_over()
     ensures { (old new opened : Chip) → IsSame old new → IsWrittenOver old new opened → IsSame old opened }
 {}
 
-/// A backup can restore its chip wherever the journal of a session, or any other journal that saves that chip, can.
+/// If the journal of a session, or any other journal, can restore a chip, a backup of that chip can restore it too.
 pub fn backup_restores_original()
     ensures { (journal backup : Content) (first : Chip) (state : BusState)
         → SavesWholeChip backup first → CanRestore journal first state → CanRestore backup first state }

@@ -180,7 +180,8 @@ fn mark_saved(journal: &Journal<'_>) -> Scanned
     scanned
 }
 
-// Returns what a rewrite does to the saved sector with these bytes, whatever the chip has there: an erase and programs.
+// Returns what a rewrite does to the saved sector with these bytes, even if the chip has them already: an erase and
+// programs.
 fn plan_rewritten(_saved: &[u8; SECTOR_LEN as usize]) -> SectorPlan
     ensures { result ≡ plan_of_rewritten }
 {

@@ -77,14 +77,14 @@ pub fn restore_announced<B: Bus, F: FnOnce(Announcement) + Drop>(
 }
 
 /// Restores the saved sectors and the protection bits of `journal` as `restore` does, but erases and programs every
-/// saved sector, whatever its present bytes are, and then verifies it.
+/// saved sector, even if it has its saved bytes already, and then verifies it.
 ///
 /// After an erase or a program was interrupted, a memory cell may be left between 0 and 1: it may read right once and
 /// wrong later. `restore` doesn't write a sector that reads right, so it can leave such a cell. `rewrite` reads no
 /// sector before it writes it. After success on any bus, an erase was sent for each saved sector, and no erase was sent
 /// after the first page program (`thorough`). If a saved sector is protected, the protection is lifted first.
 ///
-/// A rewrite that is stopped can be run again, and so can a `restore`. The errors are those of `restore`, in the same
+/// After a rewrite was stopped, run `rewrite` again, or `restore`. The errors are those of `restore`, in the same
 /// order. Error 9 (locked status must be written) is also returned if the status is locked and protects a saved sector
 /// that reads right. No session saves such a sector.
 pub fn rewrite<B: Bus>(bus: &mut B, journal: &Journal<'_>) -> Result<Report, Refusal>
@@ -128,7 +128,7 @@ pub fn rewrite_announced<B: Bus, F: FnOnce(Announcement) + Drop>(
 }
 
 // Announces the prepared changes, makes them, and verifies them. The clause `keeps` has the promises of the restore
-// that began in the state `old` and prepared these changes, whatever sectors it chose.
+// that began in the state `old` and prepared these changes, however it chose its sectors.
 fn change_chip<B: Bus, F: FnOnce(Announcement) + Drop>(
     bus: &mut B,
     journal: &Journal<'_>,

@@ -94,7 +94,7 @@ pub fn session_announced<B: Bus, V: Vault, F: FnOnce(Announcement) + Drop>(
     judged.answer(announce)
 }
 
-/// A request that is accepted for an image and a chip has no verdict that refuses it.
+/// If a request is accepted for an image and a chip, no error is the verdict on it.
 #[tactic(auto, using(nor_scan::proofs::OneVerdict::accepted_only))]
 pub fn accepted_alone()
     ensures { (request : Request) (image : List ℕ) (chip : Chip) (refusal : Refusal)
