@@ -59,8 +59,9 @@ sending changes erases programs status_writes = record {
   status_writes = status_writes;
 }
 
--- The limits of all changes together. The number of erases is at most that of the raised sectors, the number of page
--- programs at most sixteen times that of the touched ones, and status writes are sent only if they are asked for.
+-- The limits of all changes together. The number of erases is at most that of the raised sectors, and the number of
+-- page programs at most sixteen times that of the touched ones. The number of status writes is at most what the changes
+-- need.
 abbrev pub most_sent : Changes → Limits
 most_sent changes =
     sending changes (sector_count (raised_in changes)) (16 * sector_count (touched_in changes)) (status_writes changes)
@@ -108,8 +109,8 @@ most_applied touched = touched + most_operation * (17 * touched + 2)
 
 -- Holds at every exit of `apply`. On every bus, erases and programs target only touched sectors, or if these are the
 -- whole chip, also sectors past its end; no more operations are sent than `most_sent` allows. `SendsWithin` says this
--- exactly. On a well-behaved bus at most `most_applied` transactions are carried out. If `CanApply` held at the start,
--- too, the chip changes only as `MayChange` allows.
+-- exactly. On a well-behaved bus at most `most_applied` transactions are carried out. On such a bus, if `CanApply` held
+-- at the start, the chip changes only as `MayChange` allows.
 abbrev pub LeavesApply : Changes → (wanted : ℕ → ℕ) → (old new : BusState) → Type 0
 LeavesApply changes wanted =
     Leaves (most_applied (sector_count (touched_in changes))) (most_sent changes) (CanApply changes wanted)

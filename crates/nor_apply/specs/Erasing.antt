@@ -31,8 +31,8 @@ pub record CanEraseAll (sectors : ℕ → Bool) (kinds : Kinds) (size : ℕ) (ch
 -- Holds at every exit of the erases. On every bus the number of erases is at most that of the sectors. The erases
 -- target only these sectors, or if these are the whole chip, also sectors past its end (`SendsWithin` says this
 -- exactly). On a well-behaved bus the number of transactions carried out is at most 65,538 times that of the sectors.
--- If `CanEraseAll` held at the start, too, the chip changes only as `MayChange` allows: the bytes of these sectors may
--- have any value.
+-- On such a bus, if `CanEraseAll` held at the start, the chip changes only as `MayChange` allows: the bytes of these
+-- sectors may have any value.
 abbrev pub LeavesErases : (sectors : ℕ → Bool) → Kinds → (size : ℕ) → (old new : BusState) → Type 0
 LeavesErases sectors kinds size =
     Leaves (most_operation * sector_count sectors) (erasing (may_target sectors size) (sector_count sectors))

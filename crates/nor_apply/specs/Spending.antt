@@ -22,9 +22,9 @@ NamesTimeoutIn sectors (Timeout address) = sectors (address / 4096) ≡ true
 
 -- Holds after a part of the changes succeeded, with `tally.count` operations and at most `readings` reads. The part
 -- took at least 3 transactions per operation, and at most 65,538 per operation and one per read. If the last poll
--- before the part showed that the chip is ready, so does the last poll after it. If `tally.count` is 0, the record of
--- modifying commands is as it was.
--- On a well-behaved bus `tally.transactions` fewer transactions are left, and a chip that was idle is idle again.
+-- before the part showed that the chip is ready, so does the last poll after it. If `tally.count` is 0, no transaction
+-- that may modify a chip was sent. On a well-behaved bus `tally.transactions` fewer transactions are left, and a chip
+-- that was idle is idle again.
 pub record Tallies (readings : ℕ) (old new : BusState) (tally : Tally) : Type 0 where
   pub least : 3 * tally.count ≤ tally.transactions
   pub few : tally.transactions ≤ readings + most_operation * tally.count

@@ -57,8 +57,7 @@ pub struct Work {
 ///
 /// The changes must fit each other (`AreConsistent`): the touched sectors lie below `changes.size`, which is at most
 /// 16 MiB; every raised sector is touched; and `changes.code` is below 64. `source` must have every touched sector. On
-/// any bus, erases and programs target only touched sectors; if these are the whole chip, they may target addresses
-/// past its end, too.
+/// any bus, erases and programs target only touched sectors and, if these are the whole chip, addresses past its end.
 ///
 /// On a well-behaved bus, after success the changes are complete if `CanApply` held at the start. Besides the
 /// conditions above and target bytes below 256, `CanApply` requires:

@@ -159,9 +159,9 @@ FindsFirst included image content from to first =
 abbrev pub ReadsDifference : (old new : List Exchange) → Option ℕ → Type 0
 ReadsDifference old new first = MatchOption first ⊤ (λ address. HasReadAt address old new)
 
--- Holds for the reads with which a sector was compared, wherever they follow `earlier` ones. In other sectors the last
--- replies stay. In this sector the last reply has 4,096 bytes if the sector has an included address, and `first` is the
--- first difference between them and the image.
+-- Holds for the reads with which a sector was compared, after any history `earlier`. For other sectors the last replies
+-- are those in `earlier`. For this sector the last reply has 4,096 bytes if the sector has an included address, and
+-- `first` is the first included address at which that reply differs from the image.
 pub record ComparesReply (included : Option (List Span)) (image : List ℕ) (sector : ℕ) (reads earlier : List Exchange)
     (first : Option ℕ) : Type 0 where
   pub others : (a : ℕ) → a / 4096 ≢ sector → sector_read (reads ++ earlier) a ≡ sector_read earlier a
@@ -182,9 +182,10 @@ pub record ComparesPart (included : Option (List Span)) (image : List ℕ) (sect
   pub errors : old.honest ≡ true → old.chip.busy ≡ 0 → 4096 * (sector + 1) ≤ old.chip.config.size
       → FindsFirst included image old.chip.bytes (4096 * sector) (4096 * (sector + 1)) compared.first
 
--- Holds after the sectors below `n` were compared. On every bus these are the last replies, and the first difference is
--- that between them and the image. The first difference is known to be right on a well-behaved bus with
--- an idle chip of this size.
+-- Holds after the sectors below `n` were compared. On every bus, for each of them that has an included address, the
+-- last reply has 4,096 bytes, and `compared.first` is the first included address at which these replies differ from the
+-- image. On a well-behaved bus with an idle chip of this size, it is the first one at which the chip differs from the
+-- image.
 pub record ComparesBelow (included : Option (List Span)) (image : List ℕ) (size n : ℕ) (old new : BusState)
     (compared : Compared) : Type 0 where
   pub counted : compared.reads ≡ count_below n (has_in_sector (includes included))

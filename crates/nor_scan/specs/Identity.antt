@@ -44,9 +44,9 @@ pub record ReadsRest (probed : Probed) (old new : BusState) (identity : Identity
 -- Holds after an identification that succeeded. On every bus the chip that was found is in the table or was identified
 -- by SFDP, and has the requested name, if any. The values read are those that the bus replied (`IsIdentifiedBy`), and
 -- the last poll showed ready. On a well-behaved bus the contents and non-volatile status bits are unchanged, the chip
--- is idle, and ID, status and unique ID are the chip's own. The size, erase types and block protection that were found
--- are known to be the chip's own only on a modelled bus. The number of transactions is then the one that the chip
--- needs (`needed_to_identify`).
+-- is idle, ID, status and unique ID are the chip's own, and the number of transactions is the one that the chip needs
+-- (`needed_to_identify`). The size, erase types and block protection that were found are known to be the chip's own
+-- only on a modelled bus.
 pub record ReadsIdentity (named : Option ChipName) (old new : BusState) (identity : Identity) : Type 0 where
   pub part : IsPart identity.found
   pub replied : IsIdentifiedBy new.history identity

@@ -11,14 +11,15 @@ use Rattle.nor_scan.specs.declared.identity.Identity.{Identity}
 use Rattle.nor_scan.specs.Saving.{IsIdentityOf, HasIdleChip, header_of}
 use Rattle.nor_scan.specs.Scanning.{sectors_below}
 
--- Holds if a `telling` vault has the journal of every sector of the chip on the bus. The bus must be well-behaved, and
--- its chip idle and one with this identification.
+-- Holds if a `telling` vault has the journal of every sector of the chip on the bus, provided that the bus is
+-- well-behaved, and its chip idle and one with this identification.
 abbrev pub HasWholeChip : Identity → BusState → VaultState → Type 0
 HasWholeChip identity old vault = vault.telling ≡ true
     → (chip : Chip) → IsIdentityOf chip identity → HasIdleChip chip old
     → JournalSaves (header_of chip) chip.bytes (sectors_below (chip.config.size / 4096)) vault.bytes
 
--- Holds if a `telling` vault has a prefix of that journal, under the same premises.
+-- Holds if a `telling` vault has a prefix of the journal of every sector of the chip on the bus, provided that the bus
+-- is well-behaved, and its chip idle and one with this identification.
 abbrev pub BeginsWholeChip : Identity → BusState → VaultState → Type 0
 BeginsWholeChip identity old vault = vault.telling ≡ true
     → (chip : Chip) → IsIdentityOf chip identity → HasIdleChip chip old

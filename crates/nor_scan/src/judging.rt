@@ -64,7 +64,7 @@ pub fn judge_identity(request: &Request, identity: &Identity, image: usize) -> R
     }
 }
 
-/// Returns the first sector of `touched` that has a protected address by the status that was read, or `None`.
+/// Returns the first sector of `touched` that has a protected address according to the status that was read, or `None`.
 #[tactic(auto, using(crate::proofs::Held::code_same))]
 pub fn first_protected(touched: &SectorSet, identity: &Identity) -> Option<u32>
     ensures held { FindsProtected (has touched.now) identity.now result }

@@ -45,8 +45,8 @@ impl Scanned {
         }
     }
 
-    /// Adds the plan of a sector that was read, and counts the read. `sector` and `reads` must be below 4,096, and
-    /// `count` must be at most `reads`.
+    /// Adds the plan of a sector, and counts a read. `sector` and `reads` must be below 4,096, and `count` must be at
+    /// most `reads`.
     pub fn mark(&mut self, sector: u32, plan: SectorPlan)
         requires reachable { sector < 4096 }
         requires room { self.old.count ≤ self.old.reads }
