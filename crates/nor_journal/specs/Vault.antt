@@ -8,7 +8,7 @@ pub record VaultState : Type 0 where
   -- true for a faithful vault, which holds exactly the bytes it accepted
   pub telling : Bool
   -- The bytes that were accepted, in order. For a vault that isn't faithful they are unknown, except that until it is
-  -- sealed, they are empty only if no byte was accepted
+  -- sealed, they are empty only if no byte was accepted.
   pub bytes : List ℕ
   -- true if the vault was sealed
   pub sealed : Bool

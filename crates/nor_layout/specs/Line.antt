@@ -24,8 +24,8 @@ pub record Parts : Type 0 where
   pub end : List ℕ
   pub name : List ℕ
 
--- the parts of a line with this start, from the two parts of the text after the first `:` of the line. The first space
--- of that text separates the two parts. `None` if that text has no space
+-- The parts of a line with this start. The pair is the text after the line's first `:`, split at its first space.
+-- `None` if that text has no space.
 abbrev pub with_start : List ℕ → Option (List ℕ × List ℕ) → Option Parts
 with_start start None = None
 with_start start (Some parts) = Some (record { start = start; end = parts.0; name = without_spaces parts.1 })

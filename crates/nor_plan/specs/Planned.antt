@@ -38,8 +38,8 @@ unfoldable pub planned_from : Bool → Kinds → (ℕ → Bool) → ℕ → List
 planned_from whole kinds set from =
     map (erase_at whole kinds set) (filter (begins_block whole kinds set) (range_with_len from (4096 - from)))
 
--- `head` is the first planned erase that begins at or after sector `from`, and the sector at or after which the others
--- begin; `None` if no planned erase begins at or after `from`
+-- `head` is a pair: the first planned erase that begins at or after sector `from`, and a sector at or after which the
+-- remaining ones begin; `None` if no planned erase begins at or after `from`
 abbrev pub HeadsPlanned : Bool → Kinds → (ℕ → Bool) → ℕ → Option (Erase × ℕ) → Type 0
 HeadsPlanned whole kinds set from head =
     MatchOption head (planned_from whole kinds set from ≡ [])
