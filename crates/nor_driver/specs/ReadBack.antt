@@ -1,4 +1,4 @@
--- What the bus replied to reads of sectors, on every bus.
+-- The replies to reads of sectors, on every bus.
 use Rattle.std.specs.Prelude.{◌≡◌, ◌≢◌, ◌<◌, ◌*◌, ◌/◌, ◌%◌, ◌++◌, ℕ, Bool, true, List, length, slice_index, Some}
 use Rattle.std.specs.List.{All}
 use Rattle.nor_model.specs.Exchange.{Exchange}

@@ -1,4 +1,4 @@
--- What a layout may have: one more region, or the reason why it can't be added.
+-- The result of adding a region to a layout: the regions with this one, or the reason why it can't be added.
 use Rattle.std.specs.Prelude.{◌≡◌, ℕ, ◌++◌, nat_lt, not, if◌then◌else◌, List, [], ◌∷◌, length, Result, Ok, Err, ⊤}
 use Rattle.nor_layout.specs.declared.region.Region.{Region}
 use Rattle.nor_layout.specs.declared.layout.adding.RegionFault.{RegionFault}

@@ -3,7 +3,7 @@ use Rattle.std.specs.Prelude.{ℕ, List, Option}
 use Rattle.std.specs.Coded.{Coded, code_by, coded×, coded_list, coded_option, coded_ℕ}
 use Rattle.std.proofs.Common.{refl}
 
--- A transaction that the bus carried out, or that it was asked to carry out.
+-- A transaction that the bus was asked to carry out, with its reply.
 pub record Exchange : Type 0 where
   -- the bytes that the transaction sends
   pub out : List ℕ

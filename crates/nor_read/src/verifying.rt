@@ -25,8 +25,8 @@ struct Compared {
 
 /// Compares the chip's included bytes with those of an image. Without ranges the whole chip is included. The call reads
 /// each sector that has an included address once, in ascending order, even after a difference. On any bus success means
-/// that the replies to these reads have the image's included bytes (`read_back`). On a modelled bus all included bytes
-/// of the chip are then equal.
+/// that the replies to these reads have the image's included bytes (`read_back`). On a modelled bus the chip's included
+/// bytes then equal the image's.
 ///
 /// Returns error 1 (no chip), 2 (unknown chip), 3 (other name), 4 (the image isn't as long as the chip) or 5 (an
 /// included address isn't on the chip). Returns 12 if the bus stopped, 13 if the chip stayed busy (not on a

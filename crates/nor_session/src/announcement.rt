@@ -6,7 +6,8 @@ ghost use Rattle.nor_session.specs.Announcing.{announcement_of};
 use nor_apply::Changes;
 use nor_plan::erases;
 
-/// The numbers that a session or restore announces: sectors in which bytes will change (touched), and erases to send.
+/// The numbers that a session, restore or rewrite announces: touched sectors (for a rewrite, every saved sector), and
+/// erases to send.
 #[derive(Clone, Copy, Debug, PartialEq, Eq)]
 pub struct Announcement {
     pub touched: u32,

@@ -17,7 +17,7 @@ use nor_scan::{identify, save_whole};
 /// The journal of a session saves only the sectors that the session will change, and can undo only that session. If a
 /// faulty wire or chip changes another sector, the session's journal doesn't have its bytes. A backup has them. On a
 /// modelled bus, after success, a `telling` vault holds a journal from which `restore` and `rewrite` can restore the
-/// chip: now, and after any changes of bytes and protection bits that they can write (`backup_restores_original`).
+/// chip: now, and after any changes of bytes and protection bits that they can write (`backup_restores_any`).
 ///
 /// On any bus no modifying command is sent, and the journal of a `telling` vault has what the bus replied. The vault is
 /// sealed if and only if the call succeeds. The report counts no change, and all transactions.

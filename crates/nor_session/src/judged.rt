@@ -1,5 +1,5 @@
-//! A session after its request was checked against the identification. `Judged` has a module of its own, which can
-//! construct the evidence `Restorer` only from a sealed vault or a journal.
+//! A session after its request was checked against the identification. `Judged` isn't in the module of the evidence
+//! `Restorer`, so it can construct that evidence only from a sealed vault or a journal.
 ghost use Rattle.std.specs.Prelude.{length};
 ghost use Rattle.nor_journal.specs.Vault.{IsFresh};
 ghost use Rattle.nor_session.specs.Judged.{IsJudged, SinceIdentity, KeepsPromise};
