@@ -78,7 +78,7 @@ JudgesChip request identity code image old refusal =
 
 -- Holds for the errors that `save` may return. After error 12 the bus stopped at the last transaction; on a
 -- well-behaved bus fewer transactions were left than the scan needs. Errors 9 and 10 are the verdict, as `JudgesChip`
--- says. About error 11 (the vault failed) nothing is stated here: `SavePuts` does that.
+-- says. `SavePuts` describes error 11 (the vault failed).
 abbrev pub SaveErrors : Request → Identity → ℕ → List ℕ → (old new : BusState) → Refusal → Type 0
 SaveErrors request identity code image old new Stopped =
     HasStopped (scanned_sectors request identity.found.size) old new

@@ -34,9 +34,9 @@ pub record LosesPower (old new : BusState) : Type 0 where
 abbrev pub MayLosePower : (old new : BusState) → Type 0
 MayLosePower old new = IsSame old.chip new.chip ⊎ LosesPower old new
 
--- Holds for the bus on which a run starts (`taken`), after a run that started on `old` and left `new`. Its chip is the
--- one that was left, and may have lost its power since. Or its chip was opened from files that held the chip of `old`
--- and were being overwritten with the chip of `new`.
+-- Holds for the bus on which a run starts (`taken`), after a run that started on `old` and left `new`. Either its chip
+-- is the one that was left, and may have lost its power since; or the chip was opened from files that held the chip of
+-- `old` and were being overwritten with the chip of `new`.
 abbrev pub IsTakenUp : (old new taken : BusState) → Type 0
 IsTakenUp old new taken = MayLosePower new taken ⊎ IsWrittenOver old.chip new.chip taken.chip
 

@@ -84,9 +84,9 @@ pub fn restore_announced<B: Bus, F: FnOnce(Announcement) + Drop>(
 /// sector before it writes it. After success on any bus, an erase was sent for each saved sector, and no erase was sent
 /// after the first page program (`thorough`). If a saved sector is protected, the protection is lifted first.
 ///
-/// After a rewrite was stopped, run `rewrite` again, or `restore`. The errors are those of `restore`, in the same
-/// order. Error 9 (locked status must be written) is also returned if the status is locked and protects a saved sector
-/// that reads right. No session saves such a sector.
+/// If a rewrite is stopped, `rewrite` can be run again, or `restore` instead. The errors are those of `restore`, in the
+/// same order. Error 9 (locked status must be written) is also returned if the status is locked and protects a saved
+/// sector that reads right. No session saves such a sector.
 pub fn rewrite<B: Bus>(bus: &mut B, journal: &Journal<'_>) -> Result<Report, Refusal>
     ensures restores_original { IsModelled (B.state bus.old)
         → RewritesOriginal journal.now (B.state bus.old) (B.state bus.new) result }
