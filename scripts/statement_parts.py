@@ -33,7 +33,7 @@ FIELDS = {
 # The names that STATEMENT.md describes in one line each; the appendices have their definitions.
 NAMES = {
     "Sent":
-        "`Sent`: a list of transactions, each with the bytes that it sends, the last one first. No program can read or "
+        "`Sent`: the transactions that the bus was given, each with the bytes that it sends, the last one first. No program can read or "
         "clear it.",
     "Records":
         "`Records out answer result old new`: the bus adds the transaction to its histories. `sent` gets all of `out` "
