@@ -16,17 +16,14 @@
 //! - `cuts.rt`: sessions that are stopped between two transactions, and one restore after each stop that follows the
 //!   seal
 //! - `undone.rt`: sessions that are stopped, restores that are also stopped, and a second restore
-//! - `torn.rt`: sessions and restores that are stopped inside a transaction
-//! - `lost.rt`: sessions and restores that lose the reply to a transaction
+//! - `torn.rt`: sessions and restores that are stopped at or inside a transaction, and lose its reply or the power
 //! - `rewritten.rt`: restores that rewrite every saved sector, stopped anywhere, and another rewrite or a restore
 //! - `backups.rt`: backups of a chip, stopped anywhere, and restores from one after changes that no session made
 //! - `in_turn.rt`: two successive sessions, stopped or run to their end, and their restores in reverse order
-//! - `power.rt`: sessions and restores during which the chip loses its power
 //! - `rehearsed.rt`: rehearsals with each stop of the session and of its first restore, and rehearsals on faulty buses
-//! - `allowances.rt`: how many transactions a rehearsal allows each of its calls
 //! - `once.rt`: after a stop or a timeout no call except a rehearsal sends anything more; a spoilt sector isn't read
 //!   again
-//! - `readings.rt`: reading calls that are stopped, or whose vault refuses a piece; the status that they report
+//! - `readings.rt`: reading calls that lose a reply, or whose vault refuses a piece; the status that they report
 //!
 //! Faulty buses, vaults and files:
 //!
@@ -53,7 +50,7 @@
 //!
 //! - `probes.rt`: which chips are found, what a probe sends, and how long it waits
 //! - `announced.rt`: what sessions and restores announce before they change the chip
-//! - `sessions.rt`: sessions on chips with different erase types, on a busy chip, and with and without verification
+//! - `sessions.rt`: sessions on chips with different erase types, and on a busy chip
 //! - `kernels.rt`: nor_plan's comparisons of two slices
 //! - `sets.rt`: sets of addresses made from spans
 //! - `maps.rt`: flash descriptors and FMAPs
@@ -61,8 +58,6 @@
 //! - `words.rt`: command lines of 1 to 14 arguments, with enough memory
 #![tactic(auto)]
 
-#[cfg(test)]
-mod allowances;
 #[cfg(test)]
 mod announced;
 #[cfg(test)]
@@ -88,13 +83,9 @@ mod lies;
 #[cfg(test)]
 mod losses;
 #[cfg(test)]
-mod lost;
-#[cfg(test)]
 mod maps;
 #[cfg(test)]
 mod once;
-#[cfg(test)]
-mod power;
 #[cfg(test)]
 mod probes;
 #[cfg(test)]

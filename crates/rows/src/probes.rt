@@ -1,17 +1,10 @@
-//! Tests of probes: the meaning of SFDP bytes (JESD216), the chips that are found, the transactions sent, and the
-//! longest wait.
-use crate::contents::put_run;
+//! Tests of probes: the chips that are found, the transactions sent, and the longest wait.
 use crate::held::assert_held;
 use crate::row::{Start, erased};
 use nor_chip::{ALL_KINDS, Config, Delays, Meter, SimBus, Spoil, SpoiltBus, TINY64_SFDP, TraceBus};
-use nor_probe::{ChipName, Found, Kinds, ProbeFault, Probed, SfdpFault, probe_counted};
+use nor_probe::{ChipName, Found, ProbeFault, Probed, SfdpFault, probe_counted};
 use std::alloc::Global;
 use std::process::Abort;
-
-const SECTORS_ALONE: Kinds = Kinds {
-    k32: false,
-    k64: false,
-};
 
 // The results of probes of the emulated chips, with BP0 set in status 1.
 const TINY64: Found = Found {
@@ -59,25 +52,6 @@ const BY_SFDP: Answer = Ok(Probed {
     transactions: 5,
 });
 
-// Returns the expected result of a probe of a chip whose ID isn't in the table and whose SFDP bytes have the meaning
-// `said`.
-fn answer_of(said: Said) -> Answer {
-    let (size, kinds) = match said {
-        Ok(geometry) => geometry,
-        Err(fault) => return Err(ProbeFault::UnknownChip(fault)),
-    };
-    let found = Found {
-        id: [0xAA, 0x11, 0x22],
-        size,
-        kinds,
-        ..TINY64
-    };
-    Ok(Probed {
-        found,
-        transactions: 5,
-    })
-}
-
 // Returns the configuration of a chip of 64 KiB with this ID and these SFDP bytes.
 fn chip(rt: &impl Abort, id: [u8; 3], sfdp: &[u8]) -> Config {
     Config::new(id, 65_536, true, true, false, sfdp).expect(rt, "a size")
@@ -88,78 +62,6 @@ fn bus_to(rt: &impl Abort, alloc: Global, config: Config, delays: Delays, allowe
     let mut bus = erased(rt, alloc, config, [0x04, 0x00], delays);
     bus.allow(allowed);
     bus
-}
-
-// Probes a chip whose ID isn't in the table. Its SFDP bytes are those of a TINY64, with the bytes `run` from position
-// `at` on.
-fn answer_to(rt: &impl Abort, alloc: Global, at: usize, run: &[u8]) -> Answer {
-    let mut sfdp = TINY64_SFDP;
-    put_run(&mut sfdp, at, run);
-    let config = chip(rt, [0xAA, 0x11, 0x22], &sfdp);
-    probe_counted(&mut bus_to(rt, alloc, config, Start::IDLE.delays, 5), None)
-}
-
-// The meaning of SFDP bytes: a size and erase types, or a fault.
-type Said = Result<(u32, Kinds), SfdpFault>;
-
-// Each row has a position and the bytes that replace a TINY64's SFDP bytes there, and their meaning. The SFDP bytes
-// are:
-//
-// - from 00h on, the header, with the major revision at 05h
-// - from 08h on, the parameter header, with its major revision at 0Ah, the table's length at 0Bh and its address at 0Ch
-// - from 10h on, the table, with the write granularity and the address bytes in double word 1, the size in double word
-//   2 (14h), and the erase types in double words 8 and 9 (2Ch)
-//
-// A table at FFFFFFh lies past the SFDP bytes, so each of its bytes is FFh, and its field of the address bytes is 3. A
-// table at 0 is the header, which begins with 53 46 44 50, so that field is 2. A probe refuses both values.
-const SAYINGS: &[(usize, &[u8], Said)] = &[
-    (0x00, &[], Ok((65_536, ALL_KINDS))),
-    (0x0C, &[0xFF, 0xFF, 0xFF], Err(SfdpFault::Address)),
-    (0x0C, &[0x00, 0x00, 0x00], Err(SfdpFault::Address)),
-    (0x05, &[0x02], Err(SfdpFault::Major)),
-    (
-        0x00,
-        &[0x00, 0x46, 0x44, 0x50, 0x00, 0x02],
-        Err(SfdpFault::Signature),
-    ),
-    (
-        0x0B,
-        &[0x08, 0x10, 0x00, 0x00, 0xFF, 0x01],
-        Err(SfdpFault::Length),
-    ),
-    (
-        0x0A,
-        &[0x02, 0x08, 0x10, 0x00, 0x00, 0xFF, 0x01],
-        Err(SfdpFault::FirstHeader),
-    ),
-    (0x10, &[0x01], Err(SfdpFault::Granularity)),
-    (0x10, &[0x01, 0x20, 0x04], Err(SfdpFault::Address)),
-    (0x12, &[0x02], Ok((65_536, ALL_KINDS))),
-    (0x14, &[0xFF, 0xFF, 0xFF, 0x03], Ok((8_388_608, ALL_KINDS))),
-    (0x14, &[0xFF, 0xFF, 0xFF, 0x07], Ok((16_777_216, ALL_KINDS))),
-    (0x14, &[0x13, 0x00, 0x00, 0x80], Ok((65_536, ALL_KINDS))),
-    (0x14, &[0x1C, 0x00, 0x00, 0x80], Err(SfdpFault::Size)),
-    (0x14, &[0xFE, 0xFF, 0x07, 0x00], Err(SfdpFault::Size)),
-    (0x14, &[0xFF, 0xFF, 0x03, 0x00], Err(SfdpFault::Size)),
-    (0x14, &[0xFF, 0xFF, 0xFF, 0x0F], Err(SfdpFault::Size)),
-    (
-        0x2C,
-        &[0x0F, 0x52, 0x0C, 0x21, 0x10, 0xD8, 0x00, 0x00],
-        Err(SfdpFault::NoSector),
-    ),
-    (
-        0x2C,
-        &[0x10, 0x52, 0x0F, 0xD8, 0x00, 0x00, 0x0C, 0x20],
-        Ok((65_536, SECTORS_ALONE)),
-    ),
-];
-
-#[test]
-fn sfdp_says_a_geometry_or_its_first_fault(rt: HostRuntime) {
-    for (at, run, said) in SAYINGS {
-        let told = answer_to(&rt, rt.alloc(), *at, run);
-        assert_held(&rt, told == answer_of(*said), *at as u64);
-    }
 }
 
 const TINY64_SENT: &str = "05 > 04\n9f > fe1010\n\

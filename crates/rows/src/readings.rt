@@ -1,11 +1,11 @@
-//! Reading calls: with a vault that refuses a piece, with stops, and the status that they report.
+//! Reading calls: with a vault that refuses a piece, with a lost reply, and the status that they report.
 use crate::held::assert_held;
 use crate::row::{Row, Start};
 use crate::runs::AMPLE;
 use crate::spoilt::spoilt;
 use nor_chip::{Config, Delays, Meter, SimBus, Spoil};
 use nor_journal::{BrokenVault, MemVault};
-use nor_read::{Protection, read_out, verify, wp_status};
+use nor_read::{read_out, verify};
 use nor_session::{Refusal, Report};
 use std::alloc::Global;
 
@@ -40,34 +40,6 @@ fn sent(answer: Result<Report, Refusal>) -> Sent {
     Ok(answer?.transactions)
 }
 
-// Reads out and verifies a TINY64, each with `left` transactions allowed. Returns the number of transactions of each,
-// or its error.
-fn read_under(alloc: Global, bus: &mut SimBus, before: &[u8], left: u64) -> [Sent; 2] {
-    bus.allow(left);
-    let mut out = MemVault::new(alloc);
-    let read = sent(read_out(bus, None, None, &mut out));
-    bus.allow(left);
-    [read, sent(verify(bus, before, None, None))]
-}
-
-// Reading out or verifying a TINY64 sends 21 transactions.
-#[test]
-fn any_stop_is_returned(rt: HostRuntime) {
-    let row = Row::ABitRises;
-    let before = row.before(&rt, rt.alloc());
-    let mut bus = row.bus(&rt, rt.alloc(), Start::IDLE);
-    for left in 0..=21 {
-        let wanted = if left < 21 {
-            Err(Refusal::Stopped)
-        } else {
-            Ok(21)
-        };
-        let told = read_under(rt.alloc(), &mut bus, &before, left);
-        assert_held(&rt, told == [wanted; 2], left);
-        assert!(rt; bus.bytes() == before.as_slice());
-    }
-}
-
 // Each row has the number of the transaction whose reply is lost, and the result of the verification. Transactions 1 to
 // 5 identify a TINY64, and 6 to 21 read its sixteen sectors. Each byte of a lost reply is FFh, and those of chip and
 // image are zeros, so the first byte of that sector was read otherwise.
@@ -91,33 +63,6 @@ fn a_reply_that_differs_is_a_mismatch(rt: HostRuntime) {
         let mut bus = spoilt(bus, Spoil::Drop(nth));
         let told = sent(verify(&mut bus, &image, None, None));
         assert_held(&rt, told == wanted, nth);
-    }
-}
-
-// `wp_status` sends 6 transactions on a TINY64, and 3 on a W25Q64FV.
-#[test]
-fn any_stop_of_a_protection_report_is_returned(rt: HostRuntime) {
-    let protection = Protection {
-        range: Some((0x7E_0000, 0x2_0000)),
-        locked: false,
-        size: 8_388_608,
-    };
-    let cases = [
-        (Row::ABitRises, 6, Err(Refusal::NoProtection)),
-        (Row::AByteBelowTheGuardIsProgrammed, 3, Ok(protection)),
-    ];
-    for (row, needed, told) in cases {
-        let mut bus = row.bus(&rt, rt.alloc(), Start::IDLE);
-        for left in 0..=needed {
-            bus.allow(left);
-            let wanted = if left < needed {
-                Err(Refusal::Stopped)
-            } else {
-                told
-            };
-            let told = wp_status(&mut bus, None);
-            assert_held(&rt, told == wanted, left);
-        }
     }
 }
 

@@ -1,10 +1,9 @@
-//! Sessions on chips of 256 KiB with different erase types, on a chip that is busy at the start, and with and without
-//! verification.
+//! Sessions on chips of 256 KiB with different erase types, and on a chip that is busy at the start.
 use crate::held::assert_held;
 use crate::row::{Row, Start, large};
 use nor_chip::{Config, Delays, Meter, SimBus};
 use nor_journal::MemVault;
-use nor_session::{Report, Request, session};
+use nor_session::{Report, session};
 use std::alloc::Global;
 use std::process::Abort;
 
@@ -65,25 +64,4 @@ fn a_busy_chip_is_waited_for(rt: HostRuntime) {
     };
     let report = blank(&rt, rt.alloc(), Config::tiny64(), 0, [0x02, 0x00], busy);
     assert!(rt; report.transactions == 65_558 && report.found.status1 == 0x00);
-}
-
-// Runs the session of a request on an idle TINY64 whose byte 0 is 00h. The request must raise at least one bit of this
-// byte, so one sector is erased. Returns the number of transactions.
-fn sent_for(rt: &impl Abort, alloc: Global, request: &Request) -> u64 {
-    let mut image = Row::ABitRises.wanted(rt, alloc);
-    let mut bus = Row::ABitRises.bus(rt, alloc, Start::IDLE);
-    bus.allow(u64::MAX);
-    let mut vault = MemVault::new(alloc);
-    let report = session(&mut bus, &mut vault, &mut image, request).expect(rt, "the session ends");
-    report.transactions
-}
-
-// A session that erases sends 7 transactions to identify the chip, 16 to scan it, and 3 for the erased sector. A
-// session that writes sends 3 more for a program. Only a session with verification reads the sector back.
-#[test]
-fn only_a_verified_request_reads_back(rt: HostRuntime) {
-    assert!(rt; sent_for(&rt, rt.alloc(), &Request::erase()) == 26);
-    assert!(rt; sent_for(&rt, rt.alloc(), &Request::erase().verified()) == 27);
-    assert!(rt; sent_for(&rt, rt.alloc(), &Request::write()) == 29);
-    assert!(rt; sent_for(&rt, rt.alloc(), &Request::write().verified()) == 30);
 }

@@ -16,7 +16,7 @@ const SHORT: [u32; 7] = [0, 1, 2, 3, 4, 5, 6];
 const LONG: [u32; 10] = [0, 1, 2, 3, 4, 5, 6, 132, 259, 260];
 
 // Returns two chips that keep their power, one of them busy at first and after each operation, and three chips that
-// lose it at a stop, one for each fill of `power.rt`.
+// lose it at a stop. An interrupted erase or program leaves 00h, 5Ah or FFh in the bytes that it works on.
 fn starts() -> [Start; 5] {
     [
         Start::IDLE,
