@@ -287,7 +287,9 @@ NOTES = {
     "The model of files":
         "`Memory` (nor_files) is proved to keep this contract, with files in memory, so it can be kept. `Disk`, the "
         "system's files, is assumed to behave so. `seen_may_stay` says that a crash may leave what a read returns. "
-        "Without it, a store whose `may_leave` never holds would meet each promise about what a crash may leave.",
+        "Without it, a store whose `may_leave` never holds would meet each promise about what a crash may leave. "
+        "`names_of_one` says that names which aren't apart are names of one file. Without it, a store for which no two "
+        "names are apart would meet each promise about other files.",
     "The files of a run":
         "`R: Store` is any store of files, and `R.state` what contracts see of it. In this appendix `Journal` is the "
         "content of a journal, which the others call `Content`, and `Content` is what the chip's files hold at the "
@@ -330,7 +332,7 @@ SUBJECTS = {
     "Rehearsals": "nor_session: src/rehearsals specs/Rehearsal",
     "Backups": "nor_session: specs/Backup",
     "Calls in turn": "nor_session: specs/WrittenOver specs/InTurn",
-    "Files": "nor_files: specs/Files specs/Faults specs/Disk specs/Calls src/store",
+    "Files": "nor_files: specs/Files specs/OneFile specs/Faults specs/Disk specs/Calls src/store",
     "Jobs": "nor_words: specs/Text src/programmer specs/Programmer src/job",
     "A chip in files":
         "flashnor: specs/Found src/chips nor_lines: specs/Stored flashnor: specs/Chips nor_lines: specs/Tasks "

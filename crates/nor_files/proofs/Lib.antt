@@ -1,4 +1,5 @@
 pub mod Changes
 pub mod Places
+pub mod OneFile
 pub mod Losses
 pub mod Syncs

@@ -1,4 +1,5 @@
 pub mod Files
+pub mod OneFile
 pub mod Calls
 pub mod Faults
 pub mod Disk

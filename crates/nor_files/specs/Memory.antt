@@ -1,14 +1,28 @@
 -- Files in memory, as contracts see them.
-use Rattle.std.specs.Prelude.{ℕ, true, List, Option, not, option_map}
-use Rattle.nor_files.specs.Files.{FilesState, Name, Nature}
+use Rattle.std.specs.Prelude.{◌≡◌, ℕ, Bool, true, false, List, Option, not, option_map}
+use Rattle.std.specs.Cmp.Lexicographic.{same_text}
+use Rattle.std.proofs.Common.{inl, inr, refl, sym}
+use Rattle.std.proofs.lemmas.Bool.{false≢true}
+use Rattle.nor_files.specs.Files.{Failure, FilesState, Name, Nature}
+use Rattle.nor_files.specs.Files.Failure.{Busy, Printed, Shared, Unheld}
 use Rattle.nor_files.specs.Named.{file_named, are_same_names}
+use Rattle.nor_files.specs.OneFile.{AreOneFile, MayBeOneFile, NamesAreOfOne}
 use Rattle.nor_files.specs.Stored.{MayLeave}
 use Rattle.nor_files.specs.declared.memory.Memory.{Memory}
 use Rattle.nor_files.specs.declared.stored.Stored.{Stored}
 
--- files that obey the contract, each with exactly one name; each call may fail in each way
+-- The failures of calls on files in memory. Each file has exactly one name. Nobody else locks a file, every file can be
+-- overwritten, and the program prints to none.
+abbrev pub memory_fails : Failure → Bool
+memory_fails (Unheld name) = false
+memory_fails (Busy name) = false
+memory_fails (Shared one other) = are_same_names one other
+memory_fails (Printed name) = false
+memory_fails failure = true
+
+-- files that obey the contract, each with exactly one name
 abbrev pub memory_nature : Nature
-memory_nature = record { lawful = true; fails = λ failure. true; apart = λ one other. not (are_same_names one other) }
+memory_nature = record { lawful = true; fails = memory_fails; apart = λ one other. not (are_same_names one other) }
 
 -- the state of files in memory, with the number of calls left and the name of the file whose vault is borrowed
 abbrev pub files_state : List Stored → (left : ℕ) (borrowed : Option Name) → FilesState
@@ -26,3 +40,24 @@ files_state files left borrowed = record {
 -- the state of a `Memory`
 abbrev pub memory_state : Memory → FilesState
 memory_state memory = files_state memory.files.items memory.left (option_map (λ name. name.items) memory.borrowed)
+
+-- ---- the names of files in memory
+
+true_from_not : (b : Bool) → not b ≡ false → b ≡ true
+true_from_not true is = refl
+true_from_not false is = absurd (false≢true (sym is))
+
+-- names that files in memory take for names of one file are equal
+pub one_name : (one other : Name) → MayBeOneFile memory_nature one other → one ≡ other
+one_name one other (inl not_apart) = same_text one other (sym (true_from_not (are_same_names one other) not_apart))
+one_name one other (inr shared) = same_text one other (sym shared)
+
+one_file_itself : (name : Name) (files : FilesState) → AreOneFile name name files
+one_file_itself name files =
+    record { seen = refl; out = refl; leaves = λ left can. can; back = λ left can. can }
+
+-- files in memory keep the law of names
+pub names_of_one : (files : List Stored) (left : ℕ) (borrowed : Option Name)
+    → NamesAreOfOne (files_state files left borrowed)
+names_of_one files left borrowed lawful one other may =
+    rw (one_name one other may) (one_file_itself other (files_state files left borrowed))

@@ -1,5 +1,6 @@
 //! The system's files, as a `Store`.
 ghost use Rattle.std.specs.Prelude.{◌≡◌, IfOk, IfSome, take};
+ghost use Rattle.std.proofs.lemmas.Bool.{false≢true};
 
 use crate::folder::sync_folder;
 use crate::held::{Held, hold_chip, hold_journal, mode_beside, sync_under, write_from_start};
@@ -89,6 +90,8 @@ where
     ghost state = { λ _. unknown };
 
     ghost seen_may_stay = { λ _ _. tt };
+
+    ghost names_of_one = { λ _ lawful. absurd (false≢true lawful) };
 
     type Filed = FileVault<VaultedFile<'a, R>>;
 

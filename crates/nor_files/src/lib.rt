@@ -25,7 +25,8 @@
 //! - `memory.rt`: `Memory`, files in memory that obey the contract, and on which only a given number of calls succeed
 //! - `stored.rt`: one file in memory, and what a host crash may leave of it
 //!
-//! `specs/Files.antt` has the state that contracts see, `specs/Calls.antt` the effect of each call.
+//! `specs/Files.antt` has the state that contracts see, `specs/OneFile.antt` what it says about several names of one
+//! file, `specs/Calls.antt` the effect of each call.
 #![tactic(auto)]
 
 mod disk;

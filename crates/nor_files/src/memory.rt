@@ -174,12 +174,15 @@ impl Alloc for Memory {
 }
 
 impl Store for Memory {
-    ghost use Rattle.nor_files.specs.Memory.{memory_state};
+    ghost use Rattle.nor_files.specs.Memory.{memory_state, names_of_one};
     ghost use Rattle.nor_files.specs.Stored as file;
 
     ghost state = { memory_state };
 
     ghost seen_may_stay = { λ memory name. file.seen_may_stay (file_named memory.files.items name) };
+
+    ghost names_of_one = { λ memory.
+        names_of_one memory.files.items memory.left (option_map (λ name. name.items) memory.borrowed) };
 
     type Filed = MemVault;
 

@@ -68,6 +68,11 @@ impl From<io::Error> for CreateFault {
 }
 
 impl From<AllocError> for CreateFault {
+    ghost use Rattle.std.specs.Prelude.{◌≡◌};
+    ghost use Rattle.nor_files.specs.declared.store.CreateFault.TheVariants.{Memory};
+
+    ghost from_gives = { λ _ fault. fault ≡ Memory };
+
     fn from(_: AllocError) -> CreateFault {
         CreateFault::Memory
     }
@@ -99,9 +104,10 @@ pub enum Stream {
 /// covers an interruption at each call that is counted, because such a call fails and changes nothing if none is left.
 ///
 /// A file may have several names. On lawful files, a call on a name leaves each file whose name is apart from it as it
-/// was; `is_one_file` returns false only for names that are apart. Nothing is promised about other names of the same
-/// file, except that `hold` and `share` leave all files as they were, and for syncs. After a successful `sync` or any
-/// `sync_folder`, a read of another name returns the same as before, if no vault or log in that file is borrowed.
+/// was; `is_one_file` returns false only for names that are apart. Names that aren't apart are names of one file: a
+/// read of either returns the same (`names_of_one`). Nothing is promised about other names of the same file, except
+/// that `hold` and `share` leave all files as they were, and for syncs. After a successful `sync` or any `sync_folder`,
+/// a read of another name returns the same as before, if no vault or log in that file is borrowed.
 pub trait Store: AllocGlobal {
     ghost use Rattle.std.specs.Prelude.{◌≡◌, ◌⊎◌, false, true, None, IfErr, IfOk, IfSome, Ok, OnErr, OnOk, option_map};
     ghost use Rattle.nor_journal.specs.Vault.{IsFresh};
@@ -112,6 +118,7 @@ pub trait Store: AllocGlobal {
     ghost use Rattle.nor_files.specs.Calls.{SetsLength, Syncs, TakesBack, WorksOn, WritesOver};
     ghost use Rattle.nor_files.specs.Faults.{IsLockFault, IsCreateFault};
     ghost use Rattle.nor_files.specs.Disk.{IsStreamName};
+    ghost use Rattle.nor_files.specs.OneFile.{NamesAreOfOne};
 
     ghost state: { Self → FilesState };
 
@@ -302,4 +309,8 @@ pub trait Store: AllocGlobal {
     // A host crash may leave what a read returns, on every store. A killed process leaves just that.
     ghost seen_may_stay: { (files : Self) (name : Name)
         → (state files).may_leave name ((state files).view.seen name) };
+
+    // On lawful files, names that aren't apart are names of one file, and so are names for which `is_one_file` may
+    // return true. Without this law, a store for which no two names are apart could change any file in each call.
+    ghost names_of_one: { (files : Self) → NamesAreOfOne (state files) };
 }

@@ -1,0 +1,20 @@
+-- On lawful files, a name that shows another file is apart.
+use Rattle.std.proofs.Common.{◌≡◌, Bool, true, false, inl, refl, sym}
+use Rattle.nor_files.specs.Files.{AreApart, FilesState, Name, is_lawful}
+use Rattle.nor_files.specs.OneFile.{AreOneFile, NamesAreOfOne}
+
+is_true : (b : Bool) → (b ≡ false → ⊥) → b ≡ true
+is_true true differs = refl
+is_true false differs = absurd (differs refl)
+
+-- if the files keep the law of names, and one of the names shows another file than the other, the names are apart
+module _ (files : FilesState) (lawful : is_lawful files.view ≡ true) (law : NamesAreOfOne files)
+    (one other : Name) (differ : AreOneFile one other files → ⊥) where
+  turned : AreOneFile other one files → AreOneFile one other files
+  turned are = record { seen = sym are.seen; out = sym are.out; leaves = are.back; back = are.leaves }
+
+  pub apart_if_other : AreApart files.view.nature one other
+  apart_if_other = (
+    is_true (files.view.nature.apart one other) (λ is. differ (law lawful one other (inl is))),
+    is_true (files.view.nature.apart other one) (λ is. differ (turned (law lawful other one (inl is)))),
+  )
