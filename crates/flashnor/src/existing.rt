@@ -11,21 +11,12 @@ ghost use Rattle.flashnor.specs.Tasks.{journal_by};
 
 use crate::chips::read_content;
 use crate::roles::has_own_trace;
+use crate::tasks::journal_by;
 use nor_files::Store;
 use nor_jobs::read_sources;
-use nor_lines::{Fault, FileFault, create_log, journal_of};
+use nor_lines::{Fault, FileFault, create_log};
 use nor_words::{ChipJob, Task};
 use std::io::BufWriter;
-
-/// Returns the name of the journal that the task creates, if it creates one.
-pub fn journal_by<'a>(task: &Task<'a>) -> Option<&'a str>
-    ensures { result ≡ journal_by task.now }
-{
-    match task {
-        Task::Change(change) => journal_of(change),
-        _ => None,
-    }
-}
 
 /// Returns the name of the task's journal, if the task is to create its file and a file or link of that name exists.
 pub fn existing_journal<'a, R: Store>(rt: &R, task: &Task<'a>) -> Option<&'a str>

@@ -1,6 +1,6 @@
 //! The chip's files in a run that changes the chip: from when they are locked and read until they are written back.
-ghost use Rattle.std.specs.Prelude.{◌≡◌, ◌+◌, true, false, List, ℕ, None, Some, IfErr, IfOk, IfSome, IsSomeAnd, OnErr, OnOk};
-ghost use Rattle.std.specs.Prelude.{option_map, vec_len};
+ghost use Rattle.std.specs.Prelude.{◌≡◌, ◌+◌, true, false, List, ℕ, None, Some, IfErr, IfOk, IfSome, IsSomeAnd, OnErr};
+ghost use Rattle.std.specs.Prelude.{OnOk, option_map, vec_len};
 ghost use Rattle.nor_files.specs.Calls.{LeaveNoMore};
 ghost use Rattle.nor_files.specs.Files.{AreAtRest, IsDurable, KnownStay, Name, OthersStay, KeepsFile, is_lawful};
 ghost use Rattle.nor_files.specs.Files.Failure.{Unwritten as FailsWrite};
@@ -13,7 +13,7 @@ ghost use Rattle.nor_lines.specs.Stored.{AreTwo, Happens, IsFileFound, IsNot, Is
 ghost use Rattle.flashnor.specs.Tasks.{journal_by};
 
 use crate::chips::{Content, content_of, read_whole};
-use crate::existing::journal_by;
+use crate::tasks::journal_by;
 use nor_chip::{Bus, SimBus};
 use nor_files::{LockFault, Store};
 use nor_lines::{Fault, FileFault, reading, taken, unheld, unmade, unread};

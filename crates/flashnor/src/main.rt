@@ -5,6 +5,8 @@
 //! memory: interrupted at a given transaction, and then undone.
 //!
 //! - `run.rt`: a run of the program, from its arguments to its exit status
+//! - `jobs.rt`: performs a job on the chip, with a trace if one is requested
+//! - `tasks.rt`: which tasks write the chip back, and the journal that a task creates
 //! - `existing.rt`: ends a run if the file for its new journal already exists
 //! - `roles.rt`: checks that no file that a job writes has a second role (except an image that is both the chip's and
 //!   the one to write)
@@ -23,11 +25,13 @@ mod changes;
 mod chips;
 mod existing;
 mod holding;
+mod jobs;
 mod laws;
 mod printing;
 mod roles;
 mod run;
 mod streams;
+mod tasks;
 
 use nor_lines::{by_line, keep_streams};
 use run::{end_without_streams, run_words};

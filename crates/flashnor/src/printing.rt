@@ -24,8 +24,8 @@ pub struct Ending {
 }
 
 /// Prints the result of a run: its answer or help to `output`; its fault and a line for each file that could not be
-/// written to `errors`, or as `to` says. If a line of the answer or of the help can't be printed, prints file fault 2 of
-/// standard output to `errors`, and the status is 1. Any other line that can't be printed is lost.
+/// written to `errors`, or as `to` says. If a line of the answer or of the help can't be printed, prints file fault 2
+/// of standard output to `errors`, and the status is 1. Any other line that can't be printed is lost.
 #[tactic(auto, using(crate::proofs::Printed::printed_well, crate::proofs::Printed::printed_badly))]
 pub fn print_end<O: Write, E: Write>(
     output: &mut O,

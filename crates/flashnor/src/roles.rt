@@ -5,7 +5,7 @@ ghost use Rattle.nor_lines.specs.Stored.{AreTwo};
 ghost use Rattle.nor_lines.specs.declared.messages.Fault.TheVariants as Faults;
 ghost use Rattle.nor_request.specs.declared.refusal.Refusal.TheVariants as Refusals;
 
-use crate::run::writes_back;
+use crate::tasks::writes_back;
 use nor_files::Store;
 use nor_lines::{Fault, Named, apart, look_ahead, named_by};
 use nor_words::ChipJob;

@@ -1,43 +1,32 @@
 //! A run of the program: from its arguments to its exit status.
-ghost use Rattle.std.specs.Prelude.{◌≡◌, ◌⊎◌, false, true, Err, IfOk, IfErr, IsSomeAnd, OnErr, OnSome};
-ghost use Rattle.std.specs.Prelude.{map, string_bytes, vec_len};
-ghost use Rattle.nor_chip.specs.Trace.{has_lost};
+ghost use Rattle.std.specs.Prelude.{◌≡◌, false, true, Err, IfErr, IfOk, map, string_bytes};
 ghost use Rattle.nor_words.specs.Words.{arguments_of};
-ghost use Rattle.flashnor.specs.Chips.{IsReady};
-ghost use Rattle.flashnor.specs.Found.{emulated_part};
 ghost use Rattle.nor_files.specs.Disk.{unknown};
-ghost use Rattle.nor_files.specs.Files.{AreAtRest, Name, KeepsFile, is_lawful};
-ghost use Rattle.nor_jobs.specs.Sources.{AreSources};
-ghost use Rattle.nor_lines.specs.Files.{IsMaking};
-ghost use Rattle.nor_lines.specs.Stored.{AreTwo, IsNot, MakesNothing};
+ghost use Rattle.nor_files.specs.Files.{AreAtRest, is_lawful};
 ghost use Rattle.nor_lines.specs.Tasks.{made_by};
 ghost use Rattle.flashnor.specs.Endings.{EndsWith, HasPrinted, IsUnread, IsWithoutStreams, all_written};
-ghost use Rattle.flashnor.specs.Run.{AnswersArguments, DoesJob, DoesStarted, EndsChipJob, FailsTask, FailsJob};
-ghost use Rattle.flashnor.specs.Roles.{FailsFileRoles, FilesHaveOneRole};
-ghost use Rattle.flashnor.specs.Run.{FailsTraced, HoldsResult, IsPrintedAt, IsStatus, KeepsFiles, StayBut};
-ghost use Rattle.flashnor.specs.Streams.{IsReportedTo};
-ghost use Rattle.flashnor.specs.Tasks.{journal_by, writes_back};
+ghost use Rattle.flashnor.specs.Roles.{FilesHaveOneRole};
+ghost use Rattle.flashnor.specs.Run.{AnswersArguments, EndsChipJob, FailsJob, HoldsResult, IsPrintedAt, IsStatus};
+ghost use Rattle.flashnor.specs.Run.{KeepsFiles, StayBut};
+ghost use Rattle.flashnor.specs.Tasks.{writes_back};
 ghost use Rattle.flashnor.specs.declared.streams.Reports.TheVariants as to;
 
-use crate::changes::{change_chip, restore_chip};
-use crate::chips::{Content, read_content, start};
-use crate::existing::{create_trace, existing_journal, fault_before};
+use crate::chips::read_content;
+use crate::existing::{existing_journal, fault_before};
 use crate::holding::{Held, Unwritten, hold_content, lost_journal, write_back};
+use crate::jobs::{Called, call_on};
 use crate::laws::runs_restore_original;
 use crate::printing::{Ending, print_end};
 use crate::roles::{have_one_role, look_at_sources};
 use crate::streams::{Reports, StreamFault, are_unprinted};
-use nor_chip::{Bus, Meter, SimBus, TraceBus};
+use crate::tasks::writes_back;
 use nor_files::{Disk, LockFile, Store};
-use nor_jobs::{Sources, arguments_after_name, find_chip, read_sources, report_size};
-use nor_lines::{
-    Answer, DIRECTORY, Fault, Outcome, list_ranges, or_fault, read_to_file, report_protection,
-    unread, verify_image,
-};
-use nor_words::{Change, ChipJob, Job, JournalUse, Task, WrongArguments, explained_request_of};
+use nor_jobs::arguments_after_name;
+use nor_lines::{Answer, DIRECTORY, Fault, or_fault, unread};
+use nor_words::{ChipJob, Job, WrongArguments, explained_request_of};
 use std::env::Args;
 use std::io;
-use std::io::{BufWriter, Write};
+use std::io::Write;
 use std::rt::Files;
 
 /// Performs the job given by the program's arguments, prints results to `output` and faults to `errors`, and returns
@@ -160,8 +149,8 @@ fn run<'a, R: Store>(rt: &mut R, words: &'a [String]) -> (Work<'a>, Reports)
     }
 }
 
-// Performs a job on a chip, unless the program prints to one of the job's files. Returns its result, and where a fault is
-// printed.
+// Performs a job on a chip, unless the program prints to one of the job's files. Returns its result, and where a fault
+// is printed.
 #[tactic(auto, using(crate::proofs::Ended::failed_ends, crate::proofs::Ended::failed_holds, crate::proofs::Ended::printed_at, crate::proofs::Ended::printed_there, crate::proofs::Before::keeps_still))]
 fn run_on_chip<'a, R: Store>(rt: &mut R, job: &ChipJob<'a>) -> (Work<'a>, Reports)
     ensures ends { EndsChipJob (R.state rt.old) (R.state rt.new) job.now result.0.unwritten result.0.answer }
@@ -256,167 +245,4 @@ fn change_files<'a, R: Store>(rt: &mut R, job: &ChipJob<'a>) -> Result<Work<'a>,
     };
     let answer = or_fault(outcome);
     Ok(Work { answer, unwritten })
-}
-
-// A call that was made: the bus after it, its result, and the trace's name if the trace lost a line.
-#[derive(Drop)]
-struct Called<'a> {
-    bus: SimBus,
-    outcome: Outcome,
-    lost: Option<&'a str>,
-}
-
-impl<'a> Called<'a> {
-    // Ends a trace: writes the rest of its buffer, and returns the call with the bus. If a line could not be written to
-    // the trace, during the call or now, `lost` is the trace's name, which is `name`.
-    fn of_traced<L: Write + Drop>(
-        mut traced: TraceBus<SimBus, L>,
-        name: Option<&'a str>,
-        outcome: Outcome,
-    ) -> Called<'a>
-        ensures bus { ⟦<SimBus as Bus>⟧.state result.bus ≡ ⟦<TraceBus<SimBus, L> as Bus>⟧.state traced }
-        ensures came { result.outcome ≡ outcome }
-        ensures lost { has_lost traced ≡ true → result.lost ≡ name.entry }
-        ensures returned { OnSome result.lost (result.lost ≡ name.entry) }
-    {
-        traced.flush();
-        let lost = if traced.lost() { name } else { None };
-        let bus = traced.into_inner();
-        Called { bus, outcome, lost }
-    }
-}
-
-// Performs the job's task on the chip with these contents, with a trace if one is requested. Creates the trace and reads
-// the files that the task needs before the chip is made. Returns a fault if one occurred before the call to the engine.
-fn call_on<'a, R: Store>(
-    rt: &mut R,
-    content: Content,
-    job: &ChipJob<'a>,
-) -> Result<Called<'a>, Fault<'a>>
-    requires { vec_len content.bytes ≡ (emulated_part job.now.programmer.chip).size }
-    ensures nature { (R.state rt.new).view.nature ≡ (R.state rt.old).view.nature }
-    ensures others { is_lawful (R.state rt.old).view ≡ true → (name : Name)
-        → IsNot (R.state rt.old).view.nature job.now.programmer.trace name
-        → IsNot (R.state rt.old).view.nature (made_by job.now.task) name
-        → KeepsFile name (R.state rt.old) (R.state rt.new) }
-    ensures unmade { is_lawful (R.state rt.old).view ≡ true
-        → AreTwo (R.state rt.old).view.nature job.now.programmer.trace (journal_by job.now.task)
-        → OnErr result (MakesNothing (journal_by job.now.task) (R.state rt.old) (R.state rt.new)) }
-    ensures ok { IfOk result (λ called. DoesStarted (R.state rt.old) (R.state rt.new) job.now content
-        (⟦<SimBus as Bus>⟧.state called.bus) called.outcome) }
-    ensures lost { IfOk result (λ called. OnSome called.lost (called.lost ≡ job.now.programmer.trace)) }
-    ensures err { IfErr result (FailsTraced (R.state rt.old).view job.now) }
-{
-    let log = open_trace(rt, job)?;
-    let sources = read_sources(rt, &job.task)?;
-    let bus = start(&job.programmer, content);
-    call(rt, bus, log, job, sources)
-}
-
-// Creates the trace's file, if a trace is requested. Then compares the job's files again, since before the trace existed
-// a link to it may have had no target.
-fn open_trace<'a, R: Store>(
-    rt: &mut R,
-    job: &ChipJob<'a>,
-) -> Result<Option<BufWriter<R::Log>>, Fault<'a>>
-    ensures nature { (R.state rt.new).view.nature ≡ (R.state rt.old).view.nature }
-    ensures others { is_lawful (R.state rt.old).view ≡ true → (name : Name)
-        → IsNot (R.state rt.old).view.nature job.now.programmer.trace name
-        → KeepsFile name (R.state rt.old) (R.state rt.new) }
-    ensures err { IfErr result (λ fault.
-        IsSomeAnd job.now.programmer.trace (λ name. IsMaking (R.state rt.old).view name.now fault)
-        ⊎ FailsFileRoles (R.state rt.old).view.nature job.now fault) }
-{
-    let log = create_trace(rt, job.programmer.trace)?;
-    if log.is_some() {
-        have_one_role(rt, job)?;
-    }
-    Ok(log)
-}
-
-// Performs the job's task on its chip, with a trace if `log` is given.
-fn call<'a, R: Store, L: Write + Drop>(
-    rt: &mut R,
-    mut bus: SimBus,
-    log: Option<L>,
-    job: &ChipJob<'a>,
-    sources: Sources,
-) -> Result<Called<'a>, Fault<'a>>
-    requires { AreSources (R.state rt.old).view job.now.task sources.included sources.bytes.items }
-    ensures nature { (R.state rt.new).view.nature ≡ (R.state rt.old).view.nature }
-    ensures others { is_lawful (R.state rt.old).view ≡ true → (name : Name)
-        → IsNot (R.state rt.old).view.nature (made_by job.now.task) name
-        → KeepsFile name (R.state rt.old) (R.state rt.new) }
-    ensures unmade { is_lawful (R.state rt.old).view ≡ true
-        → OnErr result (MakesNothing (journal_by job.now.task) (R.state rt.old) (R.state rt.new)) }
-    ensures ok { let old = ⟦<SimBus as Bus>⟧.state bus in IsReady job.now.programmer old
-        → IfOk result (λ called. DoesJob (R.state rt.old).view (R.state rt.new) job.now.programmer job.now.named
-        job.now.task old (⟦<SimBus as Bus>⟧.state called.bus) called.outcome) }
-    ensures lost { IfOk result (λ called. OnSome called.lost (called.lost ≡ job.now.programmer.trace)) }
-    ensures err { IfErr result (FailsTask (R.state rt.old).view job.now.task) }
-{
-    let Some(log) = log else {
-        let outcome = do_task(rt, &mut bus, job, sources)?;
-        return Ok(Called {
-            bus,
-            outcome,
-            lost: None,
-        });
-    };
-    let mut traced = TraceBus::new(bus, log);
-    let outcome = do_task(rt, &mut traced, job, sources)?;
-    Ok(Called::of_traced(traced, job.programmer.trace, outcome))
-}
-
-// Performs the job's task on its chip, with what was read for it. Returns a fault if one occurred before the call to the
-// engine.
-fn do_task<'a, R: Store, B: Meter>(
-    rt: &mut R,
-    bus: &mut B,
-    job: &ChipJob<'a>,
-    sources: Sources,
-) -> Result<Outcome, Fault<'a>>
-    requires { AreSources (R.state rt.old).view job.now.task sources.included sources.bytes.items }
-    ensures nature { (R.state rt.new).view.nature ≡ (R.state rt.old).view.nature }
-    ensures others { is_lawful (R.state rt.old).view ≡ true → (name : Name)
-        → IsNot (R.state rt.old).view.nature (made_by job.now.task) name
-        → KeepsFile name (R.state rt.old) (R.state rt.new) }
-    ensures unmade { is_lawful (R.state rt.old).view ≡ true
-        → OnErr result (MakesNothing (journal_by job.now.task) (R.state rt.old) (R.state rt.new)) }
-    ensures ok { IsReady job.now.programmer (B.state bus.old)
-        → IfOk result (DoesJob (R.state rt.old).view (R.state rt.new) job.now.programmer job.now.named job.now.task
-        (B.state bus.old) (B.state bus.new)) }
-    ensures err { IfErr result (FailsTask (R.state rt.old).view job.now.task) }
-{
-    let named = job.named;
-    match &job.task {
-        Task::Probe => Ok(find_chip(bus, named)),
-        Task::FlashSize => Ok(report_size(bus, named)),
-        Task::WpStatus => Ok(report_protection(bus, named)),
-        Task::WpList => Ok(list_ranges(bus, named)),
-        Task::Read { file, .. } => read_to_file(rt, bus, named, *file, sources.included.as_ref()),
-        Task::Verify { .. } => {
-            let Sources { included, bytes } = sources;
-            Ok(verify_image(bus, named, &bytes, included.as_ref()))
-        }
-        Task::Change(change) => {
-            change_chip(rt, bus, job.programmer.chip, named, change, sources)
-        }
-        Task::Restore { .. } => restore_chip(bus, named, &sources.bytes),
-    }
-}
-
-/// True if the chip is written back to its files after the call: the task is a restore, or a change that is not a
-/// rehearsal.
-pub fn writes_back(task: &Task<'_>) -> bool
-    ensures { result ≡ writes_back task.now }
-{
-    match task {
-        Task::Change(Change { journal_use, .. }) => match journal_use {
-            JournalUse::Journal { .. } => true,
-            JournalUse::Rehearse { .. } => false,
-        },
-        Task::Restore { .. } => true,
-        _ => false,
-    }
 }

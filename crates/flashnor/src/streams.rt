@@ -4,7 +4,7 @@ ghost use Rattle.flashnor.specs.Roles.{FailsFileRoles, IsPrintedName, changes_fi
 ghost use Rattle.flashnor.specs.Streams.{IsReportedTo};
 
 use crate::roles::{Role, file_with_role};
-use crate::run::writes_back;
+use crate::tasks::writes_back;
 use nor_files::{Store, Stream};
 use nor_lines::{Fault, found_streams, is_printed, taken};
 use nor_words::ChipJob;

@@ -1,4 +1,4 @@
-use Rattle.flashnor.proofs.run.call.Goals as goal
+use Rattle.flashnor.proofs.jobs.call.Goals as goal
 
 pub returns-clause-ok : goal.returns-clause-ok
 returns-clause-ok g c = λ ready. rw c.of_traced.ensures.came (

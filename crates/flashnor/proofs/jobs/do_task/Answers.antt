@@ -4,7 +4,7 @@ use Rattle.flashnor.proofs.Doing.{does_read}
 use Rattle.flashnor.proofs.Looked.{found_chip, found_size}
 use Rattle.flashnor.proofs.Ready.{steady_or_idle-ready, modelled_ready}
 use Rattle.nor_lines.proofs.Lent.{stays_same}
-use Rattle.flashnor.proofs.run.do_task.Goals as goal
+use Rattle.flashnor.proofs.jobs.do_task.Goals as goal
 
 pub returns-in-Probe : goal.returns-in-Probe
 returns-in-Probe g c = rw c.in-Probe.is (search (rules, stays_same, found_chip, c.find_chip.ensures))

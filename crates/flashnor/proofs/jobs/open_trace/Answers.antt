@@ -1,6 +1,6 @@
 use Rattle.std.proofs.Common.{inr}
 use Rattle.std.proofs.lemmas.Result.{err_from_is_err_and}
-use Rattle.flashnor.proofs.run.open_trace.Goals as goal
+use Rattle.flashnor.proofs.jobs.open_trace.Goals as goal
 
 pub returns-in_err-have_one_role-clause-err : goal.returns-in_err-have_one_role-clause-err
 returns-in_err-have_one_role-clause-err g c =

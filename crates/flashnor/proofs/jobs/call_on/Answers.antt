@@ -4,7 +4,7 @@ use Rattle.nor_lines.proofs.Lent.{lawful_after}
 use Rattle.flashnor.proofs.Sources.{task_fails}
 use Rattle.flashnor.proofs.Traced.{keeps_called, keeps_read, makes_nothing_called, makes_nothing_read, nature_read}
 use Rattle.flashnor.proofs.Traced.{unmade_traced, view_apart, view_read}
-use Rattle.flashnor.proofs.run.call_on.Goals as goal
+use Rattle.flashnor.proofs.jobs.call_on.Goals as goal
 
 pub returns-in_err-log-clause-unmade : goal.returns-in_err-log-clause-unmade
 returns-in_err-log-clause-unmade g c = λ is two.

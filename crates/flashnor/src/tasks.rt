@@ -1,0 +1,31 @@
+//! Which tasks write the chip back, and the journal that a task creates.
+ghost use Rattle.std.specs.Prelude.{◌≡◌};
+ghost use Rattle.flashnor.specs.Tasks.{journal_by, writes_back};
+
+use nor_lines::journal_of;
+use nor_words::{Change, JournalUse, Task};
+
+/// True if the chip is written back to its files after the call: the task is a restore, or a change that is not a
+/// rehearsal.
+pub fn writes_back(task: &Task<'_>) -> bool
+    ensures { result ≡ writes_back task.now }
+{
+    match task {
+        Task::Change(Change { journal_use, .. }) => match journal_use {
+            JournalUse::Journal { .. } => true,
+            JournalUse::Rehearse { .. } => false,
+        },
+        Task::Restore { .. } => true,
+        _ => false,
+    }
+}
+
+/// Returns the name of the journal that the task creates, if it creates one.
+pub fn journal_by<'a>(task: &Task<'a>) -> Option<&'a str>
+    ensures { result ≡ journal_by task.now }
+{
+    match task {
+        Task::Change(change) => journal_of(change),
+        _ => None,
+    }
+}
