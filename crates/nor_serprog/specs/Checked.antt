@@ -4,7 +4,7 @@ use Rattle.nor_model.specs.Bus.{BusState, unknown_bus}
 use Rattle.nor_model.specs.Exchange.{Exchange}
 use Rattle.nor_model.specs.declared.bus.Bus.{Ghosts}
 use Rattle.nor_serprog.specs.declared.status.CheckedStatus.{CheckedStatus}
-use Rattle.nor_serprog.specs.declared.status.Known.{Known}
+use Rattle.nor_serprog.specs.declared.known.Known.{Known}
 
 -- The bus inside.
 abbrev pub bus_of : {B : Type 0} {over : Ghosts B} → CheckedStatus B over → B

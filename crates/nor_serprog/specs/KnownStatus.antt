@@ -5,7 +5,7 @@ use Rattle.nor_model.specs.Command.{begins_change}
 use Rattle.nor_model.specs.Exchange.{Exchange}
 use Rattle.nor_model.specs.Sent.{begins_status_write, with_sent}
 use Rattle.nor_serprog.specs.StatusRead.{HasStored, IsStatusKept, pair, second}
-use Rattle.nor_serprog.specs.declared.status.Known.{Known}
+use Rattle.nor_serprog.specs.declared.known.Known.{Known}
 
 -- A transaction that sends `out` is a status write of the two bytes `sent`. Both status registers are known; SRP0 and
 -- bits 0 to 5 of status 2 are sent as they are known; BUSY, WEL and SUS are clear.

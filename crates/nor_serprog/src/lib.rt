@@ -16,6 +16,7 @@
 //! - `parts.rt`: reads and programs that are carried out in parts
 //! - `splitting.rt`: a bus that splits transactions to the limits of a programmer
 //! - `twice.rt`: a bus that reads IDs, SFDP and data twice and compares the replies
+//! - `known.rt`: what that bus knows about the status registers, and why it stops
 //! - `status.rt`: a bus that reads the status registers twice, and checks status writes
 #![tactic(auto)]
 
@@ -27,6 +28,7 @@ mod bus;
 mod command;
 mod handshake;
 mod identification;
+mod known;
 mod link;
 mod paced;
 mod parts;
@@ -40,10 +42,11 @@ pub use ahead::ReadAhead;
 pub use batching::BatchingBus;
 pub use bus::SerprogBus;
 pub use command::{Answer, Command, Frame, LONGEST_OUT, TooLong, frame_len};
+pub use known::StatusFault;
 pub use link::{Failure, Link, Sync};
 pub use paced::Paced;
 pub use port::Port;
 pub use programmer::{AnyProgrammer, HandshakeFault, Programmer};
 pub use splitting::SplittingBus;
-pub use status::{CheckedStatus, StatusFault};
+pub use status::CheckedStatus;
 pub use twice::ReadTwice;

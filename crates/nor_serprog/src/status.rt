@@ -1,15 +1,15 @@
 //! A bus that believes no status byte that it received once, and checks each status write.
-ghost use Rattle.std.specs.Prelude.{◌≡◌, ◌⊎◌, ◌%◌, ◌||◌, ◌∷◌, [], true, false, length, ℕ, List, None, Some, OnOk, OnErr, IfOk, IfSome};
+ghost use Rattle.std.specs.Prelude.{◌≡◌, ◌⊎◌, ◌%◌, ◌||◌, ◌∷◌, [], true, false, length, ℕ, List, None, Some, OnOk, OnErr, IfOk};
 ghost use Rattle.std.specs.Option.{ForSome};
 ghost use Rattle.std.proofs.lemmas.Bool.{false≢true};
 ghost use Rattle.nor_model.specs.Bus.{IsHonestFor, SameNature, Stops, Carries, Records};
 ghost use Rattle.nor_model.specs.Command.{begins_change};
 ghost use Rattle.nor_model.specs.History.{exchange_of, replied};
 ghost use Rattle.nor_model.specs.Sent.{with_sent};
-ghost use Rattle.nor_model.specs.Status.{bytes_of};
-ghost use Rattle.nor_serprog.specs.KnownStatus.{BelievesStatus, IsWritten, KeepsKnown, KeepsTask, PollAgrees, SendsKept};
+ghost use Rattle.nor_serprog.specs.KnownStatus.{BelievesStatus, IsWritten, KeepsTask, PollAgrees, SendsKept};
 ghost use Rattle.nor_serprog.specs.StatusRead.{HasStored, IsStatusKept, pair, second, was_read_twice};
 
+use crate::known::{Known, StatusFault, are_same, kept_status};
 use nor_model::{Bus, History, Status, Stopped, is_changing};
 
 const WRITE_STATUS: u8 = 0x01;
@@ -19,30 +19,6 @@ const READ_STATUS1: u8 = 0x05;
 const READ_STATUS2: u8 = 0x35;
 
 const BUSY: u8 = 0x01;
-
-/// The reason why a `CheckedStatus` stopped, if the bus inside did not.
-#[derive(Clone, Copy, Debug, PartialEq, Eq)]
-pub enum StatusFault {
-    /// Two replies to 05h, or two replies to 35h, differed.
-    Differs,
-    /// A status write was not sent. Status 1 or status 2 was not read yet, or the write has other bits than those that
-    /// were read, outside the protection bits, or BUSY, WEL or SUS. Such a write could set a one-time bit.
-    Refused,
-    /// After a status write of `sent`, the chip's status is `found`: a non-volatile bit differs.
-    NotStored { sent: [u8; 2], found: [u8; 2] },
-}
-
-// What is known about the status registers.
-#[derive(Clone, Copy)]
-struct Known {
-    // Status 1 and status 2, as two equal replies had them.
-    one: Option<u8>,
-    two: Option<u8>,
-    // True if a modifying command was passed on.
-    is_changing: bool,
-    // The bytes of a status write that was passed on and is not yet read back.
-    written: Option<[u8; 2]>,
-}
 
 /// A bus that reads status registers twice, refuses status writes that would change other bits than the protection
 /// bits, and reads each status write back.
@@ -317,29 +293,4 @@ impl<B: Bus + Drop> Bus for CheckedStatus<B> {
             }
         }
     }
-}
-
-// Returns the two bytes of a status write that keeps the bits which are known, outside the protection bits, and has
-// BUSY, WEL and SUS clear. Returns `None` for any other transaction, and if a status register is not known.
-fn kept_status(known: &Known, out: &[u8]) -> Option<[u8; 2]>
-    ensures { IfSome result (KeepsKnown known.now out.now) }
-{
-    match (out, known.one, known.two) {
-        ([WRITE_STATUS, one, two], Some(one_read), Some(two_read)) => {
-            let sent = Status::of([*one, *two]);
-            let read = Status::of([one_read, two_read]);
-            if are_same(sent.fixed(), read.fixed()) && are_same(sent.kept(), sent) {
-                Some([*one, *two])
-            } else {
-                None
-            }
-        }
-        _ => None,
-    }
-}
-
-fn are_same(one: Status, other: Status) -> bool
-    ensures { result ≡ true → bytes_of one ≡ bytes_of other }
-{
-    one == other
 }
