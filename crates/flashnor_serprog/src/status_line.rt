@@ -1,18 +1,18 @@
 //! The lines for a status write that was refused, or that the chip did not store.
 
-use nor_serprog::StatusFault;
+use nor_serprog::CheckFault;
 use std::fmt;
 
 /// The line that follows the line of error 12 if a status write was refused, or is not what the chip has.
 #[derive(Clone, Copy, Drop)]
-pub struct StatusLine(pub StatusFault);
+pub struct StatusLine(pub CheckFault);
 
 impl fmt::Display for StatusLine {
     fn fmt<W: fmt::Write>(&self, f: &mut fmt::Formatter<W>) -> fmt::Result {
         match self.0 {
-            StatusFault::Differs => f.write_str(DIFFERED),
-            StatusFault::Refused => f.write_str(REFUSED),
-            StatusFault::NotStored { sent, found } => write!(f, "{}", NotStored { sent, found }),
+            CheckFault::Differs => f.write_str(DIFFERED),
+            CheckFault::Refused => f.write_str(REFUSED),
+            CheckFault::NotStored { sent, found } => write!(f, "{}", NotStored { sent, found }),
         }
     }
 }

@@ -5,7 +5,7 @@ use crate::port::PortFault;
 use crate::setting::WrongSetting;
 use crate::status_line::{DIFFERED, StatusLine};
 use nor_lines::{Escaped, Fault, text_of_flaw};
-use nor_serprog::{Failure, HandshakeFault, StatusFault};
+use nor_serprog::{CheckFault, Failure, HandshakeFault};
 use nor_words::WrongArguments;
 use std::fmt;
 
@@ -235,7 +235,7 @@ pub struct StopLine<'a> {
     /// The reason why a transaction failed, if one did.
     pub failure: Option<&'a Failure<PortFault>>,
     /// What was wrong with a status register or a status write, if something was.
-    pub status: Option<StatusFault>,
+    pub status: Option<CheckFault>,
     /// True if two reads of the same bytes differed.
     pub differed: bool,
     /// What the job left.

@@ -9,7 +9,7 @@ const WRITE_STATUS: u8 = 0x01;
 
 /// The reason why a `CheckedStatus` stopped, if the bus inside did not.
 #[derive(Clone, Copy, Debug, PartialEq, Eq)]
-pub enum StatusFault {
+pub enum CheckFault {
     /// Two replies to 05h, or two replies to 35h, differed.
     Differs,
     /// A status write was not sent. Status 1 or status 2 was not read yet, or the write has other bits than those that

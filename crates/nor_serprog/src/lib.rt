@@ -42,7 +42,7 @@ pub use ahead::ReadAhead;
 pub use batching::BatchingBus;
 pub use bus::SerprogBus;
 pub use command::{Answer, Command, Frame, LONGEST_OUT, TooLong, frame_len};
-pub use known::StatusFault;
+pub use known::CheckFault;
 pub use link::{Failure, Link, Sync};
 pub use paced::Paced;
 pub use port::Port;

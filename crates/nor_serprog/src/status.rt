@@ -9,7 +9,7 @@ ghost use Rattle.nor_model.specs.Sent.{with_sent};
 ghost use Rattle.nor_serprog.specs.KnownStatus.{BelievesStatus, IsWritten, KeepsTask, PollAgrees, SendsKept};
 ghost use Rattle.nor_serprog.specs.StatusRead.{HasStored, IsStatusKept, pair, second, was_read_twice};
 
-use crate::known::{Known, StatusFault, are_same, kept_status};
+use crate::known::{CheckFault, Known, are_same, kept_status};
 use nor_model::{Bus, History, Status, Stopped, is_changing};
 
 const WRITE_STATUS: u8 = 0x01;
@@ -43,7 +43,7 @@ const BUSY: u8 = 0x01;
 pub struct CheckedStatus<B: Bus + Drop> {
     bus: B,
     known: Known,
-    fault: Option<StatusFault>,
+    fault: Option<CheckFault>,
     history: History,
     // The bytes that are known were the replies of the bus inside.
     ghost one_read: { ForSome known.one (λ byte. was_read_twice 0x05 byte (B.state bus).history ≡ true) },
@@ -81,7 +81,7 @@ impl<B: Bus + Drop> CheckedStatus<B> {
     }
 
     /// Returns the reason of the last stop, if the bus inside did not stop there.
-    pub fn fault(&self) -> Option<StatusFault> {
+    pub fn fault(&self) -> Option<CheckFault> {
         self.fault
     }
 
@@ -108,7 +108,7 @@ impl<B: Bus + Drop> CheckedStatus<B> {
     }
 
     // Records why the bus stops.
-    fn stop(&mut self, fault: StatusFault) -> Stopped
+    fn stop(&mut self, fault: CheckFault) -> Stopped
         ensures history { history_of self.new ≡ history_of self.old }
         ensures known { known_of self.new ≡ known_of self.old }
         ensures inside { inner_state self.new ≡ inner_state self.old }
@@ -135,7 +135,7 @@ impl<B: Bus + Drop> CheckedStatus<B> {
             return Ok(last);
         }
         if first != last {
-            return Err(self.stop(StatusFault::Differs));
+            return Err(self.stop(CheckFault::Differs));
         }
         Ok(first)
     }
@@ -153,7 +153,7 @@ impl<B: Bus + Drop> CheckedStatus<B> {
         self.pass(&[READ_STATUS2], &mut first)?;
         self.pass(&[READ_STATUS2], &mut last)?;
         if first != last {
-            return Err(self.stop(StatusFault::Differs));
+            return Err(self.stop(CheckFault::Differs));
         }
         self.known.two = Some(first[0]);
         Ok(first[0])
@@ -175,7 +175,7 @@ impl<B: Bus + Drop> CheckedStatus<B> {
         }
         let again = self.poll_once()?;
         if again != status {
-            return Err(self.stop(StatusFault::Differs));
+            return Err(self.stop(CheckFault::Differs));
         }
         self.known.one = Some(status);
         self.read_back(status)?;
@@ -198,7 +198,7 @@ impl<B: Bus + Drop> CheckedStatus<B> {
         let two = self.read_second()?;
         let found = [one, two];
         if !are_same(Status::of(found).kept(), Status::of(sent).kept()) {
-            return Err(self.stop(StatusFault::NotStored { sent, found }));
+            return Err(self.stop(CheckFault::NotStored { sent, found }));
         }
         self.known.written = None;
         Ok(())
@@ -217,7 +217,7 @@ impl<B: Bus + Drop> CheckedStatus<B> {
             ≡ replied out.now reply.new ∷ (inner_state self.old).history) }
     {
         let Some(sent) = kept_status(&self.known, out) else {
-            return Err(self.stop(StatusFault::Refused));
+            return Err(self.stop(CheckFault::Refused));
         };
         self.known.is_changing = true;
         self.known.written = Some(sent);
