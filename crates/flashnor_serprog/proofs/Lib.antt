@@ -5,3 +5,4 @@ pub mod Helped
 pub mod RestRead
 pub mod Restored
 pub mod Rates
+pub mod Estimated

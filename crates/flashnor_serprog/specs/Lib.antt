@@ -8,3 +8,4 @@ pub mod Jobs
 pub mod Sends
 pub mod Sources
 pub mod Run
+pub mod Estimates

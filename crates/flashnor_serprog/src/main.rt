@@ -11,6 +11,7 @@
 //! - `sources.rt`: reads the files that a job needs, before the programmer is used
 //! - `port.rt`: a port over the device of the programmer
 //! - `progress.rt`: a bus that prints the progress of a job to standard error
+//! - `estimates.rt`: percent, rate and time left, and about how long a change takes
 //! - `connect.rt`: opens the device and identifies the programmer
 //! - `jobs.rt`: performs a job on the chip
 //! - `backups.rt`: saves a whole chip in a new journal
@@ -25,6 +26,7 @@
 mod backups;
 mod chip_faults;
 mod connect;
+mod estimates;
 mod following;
 mod help;
 mod jobs;
