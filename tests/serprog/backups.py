@@ -1,8 +1,8 @@
 """Cases of --backup, which saves the whole chip in a new journal, and of restores from it."""
 import reference
 from bench import check
-from chip import SECTOR
-from faults import DIFFER
+from chip import READ_ID, SECTOR
+from faults import DIFFER, LOST
 from losses import UNSEALED, session_wire
 from options import ALL, FREE, SIZE, images
 from refusals import LARGE
@@ -89,8 +89,7 @@ def restores_after_wrong_addresses(start):
         old, new = images("restores_after_wrong_addresses", numbers)
         wire = session_wire(old, new)
         first = next(at for at, (out, _) in enumerate(wire, 1) if out[0] == 0x20)
-        after = next(at for at, (out, _) in enumerate(wire, 1) if at > first and out[0] == 0x9F)
-        last = first if is_one else after - 2
+        last = first if is_one else reference.compares_from(wire, first) - 1
         for words in WAYS:
             bench = start(data=old)
             bench.write("new", new)
@@ -164,7 +163,8 @@ def saves_no_wrong_bit(start):
         for byte in {0, replies // 2, replies - 1} if replies else ():
             # A wrong BUSY bit of a poll costs one more poll, and nothing else.
             bench.server.traits.wrong_bits = {number: (byte, 3)}
-            begins(f"transaction {number}, {out.hex()}", bench.run(*BACKUP), [STOPPED, DIFFER])
+            cause = LOST if out[0] == READ_ID else DIFFER
+            begins(f"transaction {number}, {out.hex()}", bench.run(*BACKUP), [STOPPED, cause])
             check_begun(bench, old)
 
 

@@ -17,6 +17,7 @@ SOON = 10
 UNPLUG = "Disconnect the programmer from power for a second before the next run."
 RESTORE = "Then restore the chip with --restore and the journal."
 UNCHANGED = "The chip was not changed."
+LOST = "Cause: the chip did not reply its ID any more: "
 DIFFER = "Cause: two reads of the same bytes differ. Lower the clock (spispeed=), shorten the wires, and try again."
 CAUSES = {
     "nak": "the programmer refused command 13h",
@@ -256,7 +257,8 @@ def reads_twice(start):
         bench.expect("--restore", f"j{first}", err=UNSEALED)
     bench.write("same", old)
     wire = reference.carried(reference.probe("TINY64"))
-    bench.server.traits.wrong_bits = {len(wire) + 2: (0, 4)}
+    # The second block, after the first one and the ID.
+    bench.server.traits.wrong_bits = {len(wire) + 3: (0, 4)}
     check("a wrong bit", bench.run("-v", "same").err[-1], DIFFER)
 
 

@@ -11,10 +11,12 @@ from chip import CMP, ERASES, PAGE, PARTS, READ_DATA, READ_ID, READ_SFDP, READ_U
 POLL = (b"\x05", 1)
 READ_STATUS_2 = (b"\x35", 1)
 # Over the wire: the command that is sent before each run, a poll with two bytes of the status, and the opcodes whose
-# replies are received twice.
+# replies are received twice. After each of these replies, except to the ID itself, `CONFIRM` reads the ID once more, and
+# the same after data and after a status that counts: a chip that is lost does not reply its ID.
 WAKES = (bytes([WAKE]), 0)
 STATUS_TWICE = (b"\x05", 2)
 TWICE = (READ_ID, READ_SFDP, READ_UNIQUE, 0x35)
+CONFIRM = (bytes([READ_ID]), 3)
 WRITE_ENABLE = (b"\x06", 0)
 PROTECTION_1 = 0x7C
 # The greatest length of a block that is read ahead, and the opcodes that modify a chip.
@@ -33,7 +35,8 @@ def carried(plan, longest=BLOCK, chip=None, image=None):
     First the chip is woken. Data is read ahead: a read that goes on where the last block ended reads a block of twice
     the length, up to the limit and the next multiple of 64 KiB. A block is forgotten at each other transaction. It is
     read twice. If an image is expected, only the sectors that differ from it are read again; `chip` is a model of the
-    chip before the plan, which is changed. Other replies are compared as `compared` says.
+    chip before the plan, which is changed. Other replies are compared as `compared` says. After each of these reads the
+    ID is read.
     """
     found, begin, end, step, last = [WAKES], 0, 0, 0, 0
     for out, replies in plan:
@@ -49,9 +52,18 @@ def carried(plan, longest=BLOCK, chip=None, image=None):
             step = min(2 * step, longest // SECTOR * SECTOR) if at == end > begin else replies
             begin, end = at, at + max(replies, min(step, BLOCK - at % BLOCK))
             again = [(begin, end)] if image is None else differing(chip.read_data(begin, end - begin), image, begin)
-            found.append((out, end - begin))
-            found += [(command(READ_DATA, start), stop - start) for start, stop in again]
+            for start, stop in [(begin, end), *again]:
+                found += [(command(READ_DATA, start), stop - start), CONFIRM]
     return found
+
+
+def compares_from(wire, first):
+    """Returns the number of the poll with which the program identifies the chip again after a change.
+
+    The change begins at the transaction with the number `first`. Only after that poll the ID is read twice in a row.
+    """
+    return next(at for at, (out, _) in enumerate(wire, 1)
+                if at > first and out[0] == wire[at][0][0] == READ_ID) - 1
 
 
 def differing(data, image, begin):
@@ -72,10 +84,14 @@ def compared(out, replies, last):
 
     `last` is the opcode of the one before it if that modifies the chip, 0 if no one before it does, or else 05h. The
     status is received twice in one reply, and in two of them where its bits count: before the first modifying command,
-    and after a status write. Then status 2 is read back, too.
+    and after a status write. Then status 2 is read back, too. The ID is read after each of these replies.
     """
     if out[0] == POLL[0][0]:
-        return [STATUS_TWICE] * (2 if last in (0, 0x01) else 1) + [READ_STATUS_2] * (2 if last == 0x01 else 0)
+        if last not in (0, 0x01):
+            return [STATUS_TWICE]
+        return [STATUS_TWICE, CONFIRM] * 2 + [READ_STATUS_2, CONFIRM] * (2 if last == 0x01 else 0)
+    if out[0] in TWICE and out[0] != READ_ID:
+        return [(out, replies), CONFIRM] * 2
     return [(out, replies)] * (2 if out[0] in TWICE else 1)
 
 

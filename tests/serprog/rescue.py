@@ -100,10 +100,9 @@ def rescues_after_each_wrong_address(start):
     old, new = images("rescues_after_each_wrong_address", (2, 7, 15))
     wire = session_wire(old, new)
     sealed = next(at for at, (out, _) in enumerate(wire, 1) if out[0] in reference.CHANGING)
-    compared = next(at for at, (out, _) in enumerate(wire, 1) if at > sealed and out[0] == 0x9F)
     changing = [at for at, (out, _) in enumerate(wire, 1) if out[0] in (0x02, 0x20)]
     faults = set()
-    for first, last in [*((at, at) for at in changing[::9]), (sealed, compared - 2)]:
+    for first, last in [*((at, at) for at in changing[::9]), (sealed, reference.compares_from(wire, sealed) - 1)]:
         bench = board(start, old, new)
         bench.server.traits.wrong_address = (first, last, 14)
         got = bench.run("-w", "new.bin", "--journal", "j1")

@@ -77,8 +77,9 @@ def compares_after_error_14(start):
         for words in (), ("-N",):
             bench = start(data=new)
             bench.write("j", journal)
-            # With -N the sectors that aren't saved are not read, nor is the chip identified before.
-            number = at - (len(reference.carried(reference.probe("TINY64"))) - 1 + 2 * 13) * bool(words)
+            # With -N the 13 sectors that aren't saved are not read (twice, each time with the ID after it), nor is the
+            # chip identified before.
+            number = at - (len(reference.carried(reference.probe("TINY64"))) - 1 + 4 * 13) * bool(words)
             bench.server.traits.wrong_address = (number, number, 14)
             got = bench.run("--restore", "j", *words)
             check("the wrong frame", bench.server.log[number - 1][0], wire[at - 1][0])
@@ -120,10 +121,11 @@ def stops_in_the_rest(start):
     note = "The sectors that the journal doesn't save were not compared after the restore."
     before = next(at for at, (out, _) in enumerate(wire, 1) if out[0] == 0x03)
     erase = next(at for at in changing if wire[at - 1][0][0] == 0x20)
-    # After the wrong erase, the verification ends at the first of the three sectors.
-    mismatch = "Error 14: bytes differ at "
-    for number, wrong, lines in ((before, (), [STOPPED, DIFFER]), (len(wire), (), [STOPPED, DIFFER, note]),
-                                 (len(wire) - 4, (erase, erase, 14), [mismatch, STOPPED, DIFFER, note])):
+    # The last transaction reads the ID, after the last read of data. After the wrong erase, the verification ends at the
+    # first of the three sectors, and each of the others would need four transactions.
+    last, mismatch = len(wire) - 1, "Error 14: bytes differ at "
+    for number, wrong, lines in ((before, (), [STOPPED, DIFFER]), (last, (), [STOPPED, DIFFER, note]),
+                                 (last - 8, (erase, erase, 14), [mismatch, STOPPED, DIFFER, note])):
         bench = start(data=new)
         bench.write("j", journal)
         bench.server.traits.wrong_bits = {number: (7, 5)}

@@ -74,6 +74,9 @@ class Traits:
     wrong_bits: dict = field(default_factory=dict)
     # Transactions that the chip misses, with the byte that is received in the place of its reply.
     misses: dict = field(default_factory=dict)
+    # The numbers of the first and the last transaction that the chip misses because it has lost contact or supply, and the
+    # byte that is received in the place of each byte of a reply.
+    lost: tuple = ()
     # The numbers of the first and the last transaction whose address has a wrong bit on its way to the chip, and which.
     wrong_address: tuple = ()
     # Seconds for each way there and back, and bytes per second.
@@ -208,6 +211,8 @@ class Server:
         for at in number, poll:
             if at in traits.misses:
                 return bytes([traits.misses.pop(at)]) * replies
+        if traits.lost and traits.lost[0] <= number <= traits.lost[1]:
+            return bytes([traits.lost[2]]) * replies
         first, last, bit = traits.wrong_address or (0, 0, 0)
         heard = out
         if first <= number <= last and out[0] in ADDRESSED:

@@ -11,7 +11,7 @@ from pathlib import Path
 
 import reference
 from chip import CMP, PARTS, SECTOR, SRP0, SRP1, protected_range
-from stand_in_link import HELP, MISTAKE, Fault, Link, Stopped, arguments, check_usage, probe
+from stand_in_link import HELP, LOST, MISTAKE, Fault, Link, Stopped, arguments, check_usage, probe
 
 RESTORE = " Then restore the chip with --restore and the journal."
 UNCHANGED = " The chip was not changed."
@@ -406,6 +406,8 @@ def run(words):
             raise Fault("Error 12: stopped.", f"{why}{after}") from None
         if "two reads" in str(why):
             advice = "Lower the clock (spispeed=), shorten the wires, and try again."
+        elif str(why).startswith(LOST):
+            advice = "Check contacts and supply."
         else:
             advice = UNPLUG
         raise Fault("Error 12: stopped.", f"Cause: {why}. {advice}{after}") from None

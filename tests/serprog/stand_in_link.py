@@ -5,7 +5,7 @@ import re
 import stat
 
 import reference
-from chip import CMP, ERASES, PARTS, SECTOR
+from chip import CMP, ERASES, PARTS, READ_DATA, READ_ID, SECTOR
 from reference import BLOCK
 
 MISTAKE = os.environ.get("MISTAKE", "")
@@ -35,6 +35,7 @@ class Stopped(Exception):
 
 
 DIFFER = "two reads of the same bytes differ"
+LOST = "the chip did not reply its ID any more"
 BITS = ((0x80, "SRP0"), (0x40, "SEC"), (0x20, "TB"), (0x10, "BP2"), (0x08, "BP1"), (0x04, "BP0"))
 
 
@@ -132,6 +133,8 @@ class Link:
         self.seen, self.last, self.has_changed = bytearray(2), b"", False
         self.sends = self.receives = 1 << 24
         self.waiting, self.frames, self.buffer, self.longest, self.image = b"", 0, 0, BLOCK, b""
+        # The first ID that was received.
+        self.id = b""
         self.forget()
         self.device = self.open(path)
         try:
@@ -291,14 +294,51 @@ class Link:
             out = out[:2] + bytes([out[2] | 0x08 * (MISTAKE == "writes other bits")])
         if out[0] in reference.CHANGING:
             self.last, self.has_changed = out, True
-        reply = self.operate(out, length)
-        believed = "believes one status 2" if out == b"\x35" else "believes one ID"
-        if out[0] in reference.TWICE and MISTAKE != "reads IDs once" and self.operate(out, length) != reply \
-                and MISTAKE != believed:
-            raise Stopped(DIFFER)
         if out == b"\x35":
-            self.seen[1] = reply[0]
+            self.seen[1] = self.read_second()
+            return bytes(self.seen[1:])
+        reply = self.confirmed(out, length)
+        if out[0] in reference.TWICE and MISTAKE != "reads IDs once" and self.confirmed(out, length) != reply \
+                and MISTAKE != "believes one ID":
+            raise Stopped(DIFFER)
         return reply
+
+    def confirmed(self, out, length):
+        """Makes a transaction, and reads the ID after one that reads data, SFDP or the unique ID."""
+        reply = self.operate(out, length)
+        if out[0] == READ_ID:
+            self.check_id(reply)
+        elif out[0] in reference.TWICE or out[0] == READ_DATA and MISTAKE != "confirms no data":
+            self.confirm()
+        return reply
+
+    def confirm(self):
+        """Reads the ID, which must be the first one."""
+        if MISTAKE != "confirms nothing":
+            self.check_id(self.operate(*reference.CONFIRM))
+
+    def check_id(self, found):
+        if not self.id or MISTAKE == "takes the last ID":
+            self.id = found
+        if found == self.id or MISTAKE == "takes FFh for the ID" and found == b"\xff" * 3:
+            return
+        raise Stopped(f"{LOST}: {self.id.hex().upper()}h before, {found.hex().upper()}h now")
+
+    def differ(self):
+        """Returns the reason for two replies of the status that differ."""
+        self.confirm()
+        return Stopped(DIFFER)
+
+    def read_second(self):
+        """Reads status 2 twice, each time with the ID after it."""
+        replies = []
+        for _ in range(1 if MISTAKE == "reads IDs once" else 2):
+            replies.append(self.operate(b"\x35", 1)[0])
+            if replies[0] != replies[-1] and MISTAKE != "believes one status 2":
+                raise self.differ()
+            if MISTAKE != "confirms no status 2":
+                self.confirm()
+        return replies[0]
 
     def poll(self):
         """Returns the status, with BUSY if one of the two bytes has it. It must be the same twice where it counts."""
@@ -308,9 +348,12 @@ class Link:
             return bytes([status[0] | 1])
         follows = self.last[:1] == b"\x01"
         is_enough = self.has_changed and (not follows or MISTAKE == "does not read a status write back")
-        again = status if is_enough else self.operate(b"\x05", 2)
-        if (status[0] != status[1] or again != status) and not believes:
-            raise Stopped(DIFFER)
+        for again in range(1 if is_enough else 2):
+            other = self.operate(b"\x05", 2) if again else status
+            if (status[0] != status[1] or other != status) and not believes:
+                raise self.differ()
+            if not is_enough and MISTAKE != "confirms no status 1":
+                self.confirm()
         self.seen[0] = status[0]
         if follows and MISTAKE != "does not read a status write back":
             self.read_back()
@@ -324,10 +367,7 @@ class Link:
     def read_back(self):
         """Compares the status with what the last status write sent."""
         sent, self.last = self.last[1:], b""
-        second = [self.operate(b"\x35", 1)[0] for _ in range(2)]
-        if second[0] != second[1] and MISTAKE != "believes one status 2":
-            raise Stopped(DIFFER)
-        got = bytes([self.seen[0] & 0xFC, second[0] & 0x7F])
+        got = bytes([self.seen[0] & 0xFC, self.read_second() & 0x7F])
         if got == sent or MISTAKE == "does not compare a status write":
             return
         names = [name for bit, name in BITS if (got[0] ^ sent[0]) & bit] + ["CMP"] * ((got[1] ^ sent[1]) & CMP > 0)
@@ -349,11 +389,11 @@ class Link:
 
     def read_twice(self, at, length):
         """Returns data. It is read twice, or only its sectors that differ from the image."""
-        block = self.operate(reference.command(3, at), length)
+        block = self.confirmed(reference.command(3, at), length)
         if MISTAKE == "reads once":
             return block
         for start, stop in reference.differing(block, self.image, at) if self.image else [(at, at + length)]:
-            if self.operate(reference.command(3, start), stop - start) != block[start - at : stop - at]:
+            if self.confirmed(reference.command(3, start), stop - start) != block[start - at : stop - at]:
                 raise Stopped(DIFFER)
         return block
 

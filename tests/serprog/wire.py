@@ -7,8 +7,8 @@ import random
 
 import reference
 from bench import check
-from chip import SECTOR, Chip
-from faults import DIFFER
+from chip import READ_ID, SECTOR, Chip
+from faults import DIFFER, LOST
 from losses import session_wire
 from options import ALL, images
 from refusals import FOUND, LARGE, LAST, LAYOUT, large_images
@@ -40,7 +40,10 @@ def check_unchanged(bench, data, status):
 
 
 def compares_replies(start):
-    """One wrong bit in a reply to 05h, 35h, 9Fh, 4Bh or 5Ah stops a run before the first modifying command."""
+    """One wrong bit in a reply to 05h, 35h, 9Fh, 4Bh or 5Ah stops a run before the first modifying command.
+
+    If it is in an ID, the chip counts as lost: each ID must be the first one.
+    """
     blank = b"\xff" * LARGE
     bench = start("W25Q64FV", data=blank, status=BEFORE, unique=bytes(range(8)))
     check("the run", bench.run(*PROTECT).status, 0)
@@ -52,12 +55,14 @@ def compares_replies(start):
             bench.chip.status[:] = BEFORE
             bench.path("j").unlink(missing_ok=True)
             bench.server.traits.wrong_bits = {number: (len(reply) - 1, bit)}
-            begins(f"{out.hex()}, bit {bit}", bench.run(*PROTECT), [STOPPED, DIFFER])
+            cause = LOST if out[0] == READ_ID else DIFFER
+            begins(f"{out.hex()}, bit {bit}", bench.run(*PROTECT), [STOPPED, cause])
             check_unchanged(bench, blank, BEFORE)
     old, new = images("compares_replies")
     bench = start(data=old)
     bench.write("new", new)
-    for number in 6, 7, 8, 9, 10, 11:
+    # Before the six reads of SFDP: ABh, two polls, each with the ID after it, and the ID twice. The ID follows each.
+    for number in 8, 10, 12, 14, 16, 18:
         bench.server.traits.wrong_bits = {number: (7, 5)}
         begins(f"SFDP, transaction {number}", bench.run("-w", "new", "--journal", "j"), [STOPPED, DIFFER])
         check("the opcode", bench.server.log[number - 1][0][:1], b"\x5a")
@@ -193,7 +198,7 @@ def compares_the_rest(start):
     old, new = images("compares_the_rest", (2, 7, 15))
     wire = session_wire(old, new)
     first = next(at for at, (out, _) in enumerate(wire, 1) if out[0] in reference.CHANGING)
-    last = next(at for at, (out, _) in enumerate(wire, 1) if at > first and out[0] == 0x9F) - 2
+    last = reference.compares_from(wire, first) - 1
     bench = start(data=old, wrong_address=(first, last, 14))
     bench.write("new", new)
     address = first_difference(old, new)
@@ -244,8 +249,8 @@ def compares_excluded_sectors(start):
         whole = reference.whole_run("TINY64", plan, is_compared, True)
         wire = reference.carried(whole, chip=Chip("TINY64", old), image=image if is_compared else None)
         first = next(at for at, (out, _) in enumerate(wire, 1) if out[0] in reference.CHANGING)
-        later = (at for at, (out, _) in enumerate(wire, 1) if at > first and out[0] == 0x9F)
-        bench = start(data=old, wrong_address=(first, next(later) - 2 if is_compared else len(wire), 14))
+        last = reference.compares_from(wire, first) - 1 if is_compared else len(wire)
+        bench = start(data=old, wrong_address=(first, last, 14))
         bench.write("image", image)
         bench.write("layout", b"6000:6fff six\n0:ffff all\n")
         got = bench.run(*words, *option)

@@ -1,9 +1,10 @@
-//! The lines for a status write that was refused, or that the chip did not store.
+//! The lines for a chip that is lost, and for a status write that was refused or that the chip did not store.
 
 use nor_serprog::CheckFault;
 use std::fmt;
 
-/// The line that follows the line of error 12 if a status write was refused, or is not what the chip has.
+/// The line that follows the line of error 12 if a `CheckedStatus` stopped: two replies differ, the chip is lost, or a
+/// status write was refused or is not what the chip has.
 #[derive(Clone, Copy, Drop)]
 pub struct StatusLine(pub CheckFault);
 
@@ -13,6 +14,13 @@ impl fmt::Display for StatusLine {
             CheckFault::Differs => f.write_str(DIFFERED),
             CheckFault::Refused => f.write_str(REFUSED),
             CheckFault::NotStored { sent, found } => write!(f, "{}", NotStored { sent, found }),
+            CheckFault::Lost { id, found } => write!(
+                f,
+                "Cause: the chip did not reply its ID any more: {}h before, {}h now. \
+                Check contacts and supply.",
+                Hex(id),
+                Hex(found)
+            ),
         }
     }
 }
@@ -25,6 +33,17 @@ pub const DIFFERED: &str =
 const REFUSED: &str =
     "Chip fault 2: a status write was not sent, because it would change status bits other than the \
     protection bits. Some of these can never be cleared again. Please report this fault of the program.";
+
+// An ID as six hexadecimal digits.
+#[derive(Clone, Copy, Drop)]
+struct Hex([u8; 3]);
+
+impl fmt::Display for Hex {
+    fn fmt<W: fmt::Write>(&self, f: &mut fmt::Formatter<W>) -> fmt::Result {
+        let [one, two, three] = self.0;
+        write!(f, "{one:02X}{two:02X}{three:02X}")
+    }
+}
 
 // A status write of `sent` after which the chip's status bytes are `found`.
 #[derive(Clone, Copy, Drop)]

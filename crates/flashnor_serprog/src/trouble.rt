@@ -234,7 +234,7 @@ impl fmt::Display for FailureText<'_> {
 pub struct StopLine<'a> {
     /// The reason why a transaction failed, if one did.
     pub failure: Option<&'a Failure<PortFault>>,
-    /// What was wrong with a status register or a status write, if something was.
+    /// Why the replies of the chip are not believed, or what was wrong with a status write, if something was.
     pub status: Option<CheckFault>,
     /// True if two reads of the same bytes differed.
     pub differed: bool,

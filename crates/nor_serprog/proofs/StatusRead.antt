@@ -1,10 +1,10 @@
 -- Status registers that were read twice stay so when a history grows.
-use Rattle.std.proofs.Common.{◌≡◌, ◌∙◌, ℕ, Bool, true, false, List, [], ◌∷◌, Option, refl, ap, eq-eqb}
+use Rattle.std.proofs.Common.{◌≡◌, ◌∙◌, ℕ, Bool, true, false, List, [], ◌∷◌, Option, None, Some, refl, ap, sym, eq-eqb}
 use Rattle.std.specs.Prelude.{◌||◌, ◌&&◌, ◌==◌}
 use Rattle.std.specs.Option.{ForSome}
 use Rattle.std.proofs.lemmas.Bool.{false≢true}
 use Rattle.nor_model.specs.Exchange.{Exchange}
-use Rattle.nor_serprog.specs.StatusRead.{has_read, pair, second, was_read_twice}
+use Rattle.nor_serprog.specs.StatusRead.{IsReadTwice, KeepsId, confirmed, has_read, has_read_id, is_known, pair, second, was_read_twice}
 
 or_true : (a : Bool) → (a || true) ≡ true
 or_true true = refl
@@ -14,8 +14,11 @@ or_true false = refl
 pub read_grown : (opcode byte : ℕ) (more : Exchange) (old : List Exchange)
     → was_read_twice opcode byte old ≡ true → was_read_twice opcode byte (more ∷ old) ≡ true
 read_grown opcode byte more [] read = absurd (false≢true read)
-read_grown opcode byte more (last ∷ earlier) read =
-    ap (λ (b : Bool). (has_read opcode byte more && has_read opcode byte last) || b) read ∙ or_true _
+read_grown opcode byte more (d ∷ []) read = absurd (false≢true read)
+read_grown opcode byte more (d ∷ c ∷ []) read = absurd (false≢true read)
+read_grown opcode byte more (d ∷ c ∷ b ∷ earlier) read =
+    ap (λ (x : Bool). (has_read_id more && has_read opcode byte d && has_read_id c && has_read opcode byte b) || x) read
+    ∙ or_true _
 
 -- `read_grown` for a byte that may be known.
 pub still_read : (known : Option ℕ) (opcode : ℕ) (more : Exchange) (old new : List Exchange) → new ≡ more ∷ old
@@ -24,16 +27,28 @@ pub still_read : (known : Option ℕ) (opcode : ℕ) (more : Exchange) (old new 
 still_read known opcode more old new grows read =
     λ byte is. ap (λ (h : List Exchange). was_read_twice opcode byte h) grows ∙ read_grown opcode byte more old (read byte is)
 
--- After two equal replies to a poll with two bytes, and after two equal replies to 35h, the register was read twice.
+-- After two equal replies to a poll with two bytes, and after two equal replies to 35h, the register was read twice, if
+-- the ID was read after each of them.
 byte_is : (byte : ℕ) → (byte == byte) ≡ true
 byte_is byte = eq-eqb byte byte refl
 
-pub pair_read : (byte : ℕ) (earlier new : List Exchange) → new ≡ pair byte ∷ pair byte ∷ earlier
+pub pair_read : (byte : ℕ) (known : Option (List ℕ)) (old new : List Exchange) → IsReadTwice (pair byte) known old new
     → was_read_twice 5 byte new ≡ true
-pair_read byte earlier new is =
-    ap (λ (h : List Exchange). was_read_twice 5 byte h) is ∙ rw byte_is refl
+pair_read byte None old new twice = absurd (false≢true twice.knows)
+pair_read byte (Some id) old new twice =
+    ap (λ (h : List Exchange). was_read_twice 5 byte h) twice.is ∙ rw byte_is refl
 
-pub second_read : (byte : ℕ) (earlier new : List Exchange) → new ≡ second byte ∷ second byte ∷ earlier
-    → was_read_twice 53 byte new ≡ true
-second_read byte earlier new is =
-    ap (λ (h : List Exchange). was_read_twice 53 byte h) is ∙ rw byte_is refl
+pub second_read : (byte : ℕ) (known : Option (List ℕ)) (old new : List Exchange)
+    → IsReadTwice (second byte) known old new → was_read_twice 53 byte new ≡ true
+second_read byte None old new twice = absurd (false≢true twice.knows)
+second_read byte (Some id) old new twice =
+    ap (λ (h : List Exchange). was_read_twice 53 byte h) twice.is ∙ rw byte_is refl
+
+-- The ID that is known after two reads is still known later.
+pub still_known : (read : Exchange) (known later : Option (List ℕ)) (old new : List Exchange)
+    → IsReadTwice read known old new → KeepsId known later → IsReadTwice read later old new
+still_known read known later old new twice keeps =
+    let same = keeps.same twice.knows in record {
+      knows = ap is_known same ∙ twice.knows;
+      is = twice.is ∙ sym (ap (λ (k : Option (List ℕ)). confirmed k (read ∷ confirmed k (read ∷ old))) same);
+    }

@@ -1,4 +1,4 @@
--- A bus that reads status registers twice and checks status writes, as contracts see it.
+-- A bus that notices a lost chip, reads status registers twice and checks status writes, as contracts see it.
 use Rattle.std.specs.Prelude.{ℕ, Bool, List, Option}
 use Rattle.nor_model.specs.Bus.{BusState, unknown_bus}
 use Rattle.nor_model.specs.Exchange.{Exchange}
@@ -14,7 +14,7 @@ bus_of checked = checked.bus
 abbrev pub inner_state : {B : Type 0} {over : Ghosts B} → CheckedStatus B over → BusState
 inner_state {over = over} checked = over.state (bus_of checked)
 
--- What is known about the status registers.
+-- What is known about the chip: its status registers and its ID.
 abbrev pub known_of : {B : Type 0} {over : Ghosts B} → CheckedStatus B over → Known
 known_of checked = checked.known
 

@@ -1,10 +1,10 @@
--- What is known of the status registers: when a reply is believed, and which status writes keep what is known.
+-- What is known about the chip: when a reply is believed, and which status writes keep what is known.
 use Rattle.std.specs.Prelude.{◌≡◌, ◌/◌, ◌%◌, ◌||◌, ◌⊎◌, ℕ, true, false, List, [], ◌∷◌, Option, None, Some, length, slice_index}
 use Rattle.nor_model.specs.Bus.{BusState}
 use Rattle.nor_model.specs.Command.{begins_change}
 use Rattle.nor_model.specs.Exchange.{Exchange}
 use Rattle.nor_model.specs.Sent.{begins_status_write, with_sent}
-use Rattle.nor_serprog.specs.StatusRead.{HasStored, IsStatusKept, pair, second}
+use Rattle.nor_serprog.specs.StatusRead.{AgreesWithSent, IsReadTwice, IsStatusKept, pair, second}
 use Rattle.nor_serprog.specs.declared.known.Known.{Known}
 
 -- A transaction that sends `out` is a status write of the two bytes `sent`. Both status registers are known; SRP0 and
@@ -24,13 +24,12 @@ pub record KeepsKnown (known : Known) (out sent : List ℕ) : Type 0 where
   pub awake : two / 128 ≡ 0
 
 -- A poll that shows that the chip is ready, from what was known before it. Both bytes of its reply were `status`.
--- Before the first modifying command, a second poll had the same reply. After a status write, a second poll had the
--- same reply, and then the status that was sent was read back (`HasStored`).
-pub record PollAgrees (known : Known) (status : ℕ) (old new : List Exchange) : Type 0 where
-  pub unchanged : known.is_changing ≡ false → known.written ≡ None → new ≡ pair status ∷ pair status ∷ old
+-- Before the first modifying command, a second poll had the same reply, and each time the ID was read (`IsReadTwice`).
+-- After a status write that was done, too, and then the status that was sent was read back (`AgreesWithSent`).
+pub record PollAgrees (known known' : Known) (status : ℕ) (old new : List Exchange) : Type 0 where
+  pub unchanged : known.is_changing ≡ false → known.written ≡ None → IsReadTwice (pair status) known'.id old new
   pub changing : known.is_changing ≡ true → known.written ≡ None → new ≡ pair status ∷ old
-  pub stored : (sent : List ℕ) → known.written ≡ Some sent
-      → HasStored sent status (pair status ∷ pair status ∷ old) new
+  pub stored : (sent : List ℕ) → known.written ≡ Some sent → AgreesWithSent sent status known'.id old new
 
 -- The two bytes of this status write are to be read back.
 pub record IsWritten (out : List ℕ) (remembered : Option (List ℕ)) : Type 0 where
@@ -41,6 +40,13 @@ pub record IsWritten (out : List ℕ) (remembered : Option (List ℕ)) : Type 0 
 
 -- Whether a modifying command was passed on, and which status write is to be read back, is as before.
 pub record KeepsTask (old new : Known) : Type 0 where
+  pub is_changing : new.is_changing ≡ old.is_changing
+  pub written : new.written ≡ old.written
+
+-- All that is known, except for the ID, is as before.
+pub record KeepsStatus (old new : Known) : Type 0 where
+  pub one : new.one ≡ old.one
+  pub two : new.two ≡ old.two
   pub is_changing : new.is_changing ≡ old.is_changing
   pub written : new.written ≡ old.written
 
@@ -55,10 +61,9 @@ pub record SendsKept (out : List ℕ) (old new : BusState) : Type 0 where
 pub record BelievesStatus (out answer : List ℕ) (known known' : Known) (old new : List Exchange) : Type 0 where
   -- a poll that shows that the chip is ready was believed only after equal replies
   pub poll : out ≡ 0x05 ∷ [] → length answer ≡ 1 → slice_index answer 0 % 2 ≡ 0
-      → PollAgrees known (slice_index answer 0) old new
-  -- status 2 was read twice with the same reply
-  pub twice : out ≡ 0x35 ∷ [] → length answer ≡ 1
-      → new ≡ second (slice_index answer 0) ∷ second (slice_index answer 0) ∷ old
+      → PollAgrees known known' (slice_index answer 0) old new
+  -- status 2 was read twice with the same reply, each time before the known ID
+  pub twice : out ≡ 0x35 ∷ [] → length answer ≡ 1 → IsReadTwice (second (slice_index answer 0)) known'.id old new
   -- a status write is to be read back by the next poll that shows that the chip is ready
   pub written : begins_status_write out ≡ true → IsWritten out known'.written
   -- a modifying command is remembered

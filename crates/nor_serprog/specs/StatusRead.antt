@@ -1,5 +1,5 @@
--- Status registers that were read twice, and status writes that fit what was read.
-use Rattle.std.specs.Prelude.{◌≡◌, ◌/◌, ◌%◌, ◌&&◌, ◌||◌, ℕ, Bool, true, false, List, [], ◌∷◌, slice_index}
+-- Replies after which the ID was read, status registers that were read twice, and status writes that fit what was read.
+use Rattle.std.specs.Prelude.{◌≡◌, ◌/◌, ◌%◌, ◌&&◌, ◌||◌, ◌==◌, ℕ, Bool, true, false, List, [], ◌∷◌, Option, None, Some, slice_index}
 use Rattle.nor_model.specs.Exchange.{Exchange}
 use Rattle.nor_model.specs.History.{begins_with, bytes_or_none, replied}
 
@@ -11,20 +11,78 @@ pair status = replied (0x05 ∷ []) (status ∷ status ∷ [])
 abbrev pub second : (status : ℕ) → Exchange
 second status = replied (0x35 ∷ []) (status ∷ [])
 
+-- A read of the ID whose reply is these bytes.
+abbrev pub read_id : (id : List ℕ) → Exchange
+read_id id = replied (0x9F ∷ []) id
+
+-- True if a transaction begins with the opcode of a read of data (03h), of SFDP (5Ah) or of the unique ID (4Bh).
+abbrev pub begins_confirmed : (out : List ℕ) → Bool
+begins_confirmed [] = false
+begins_confirmed (opcode ∷ rest) = opcode == 0x03 || opcode == 0x5A || opcode == 0x4B
+
+-- True if an ID is known.
+abbrev pub is_known : Option (List ℕ) → Bool
+is_known None = false
+is_known (Some id) = true
+
+-- The history after the ID was read, and the reply was the known ID.
+abbrev pub confirmed : (known : Option (List ℕ)) → List Exchange → List Exchange
+confirmed None history = history
+confirmed (Some id) history = read_id id ∷ history
+
+-- An ID that was known is still the known one.
+pub record KeepsId (old new : Option (List ℕ)) : Type 0 where
+  pub same : is_known old ≡ true → new ≡ old
+
+-- Since `old` the bus inside made the transaction `read`, and then read the ID. The reply was the ID that is known
+-- afterwards.
+pub record IsConfirmed (read : Exchange) (known : Option (List ℕ)) (old new : List Exchange) : Type 0 where
+  pub knows : is_known known ≡ true
+  pub is : new ≡ confirmed known (read ∷ old)
+
+-- Since `old` the bus inside made the transaction `read` twice, with the same reply, and each time read the ID after it.
+-- Both replies to that were the ID that is known afterwards.
+pub record IsReadTwice (read : Exchange) (known : Option (List ℕ)) (old new : List Exchange) : Type 0 where
+  pub knows : is_known known ≡ true
+  pub is : new ≡ confirmed known (read ∷ confirmed known (read ∷ old))
+
+-- After a status write of the bytes `sent`, and after status 1 was read as `one`, status 2 was read twice with the same
+-- reply (`IsReadTwice`). All non-volatile bits are those that were sent: in status 1 all except BUSY and WEL, in status 2
+-- all except SUS.
+pub record HasStored (sent : List ℕ) (one : ℕ) (known : Option (List ℕ)) (old new : List Exchange) : Type 0 where
+  pub two : ℕ
+  pub twice : IsReadTwice (second two) known old new
+  pub first : one / 4 ≡ slice_index sent 0 / 4
+  pub last : two % 128 ≡ slice_index sent 1 % 128
+
+-- Status 1 was read twice as `status` (`IsReadTwice`), and then the status that was sent was read back (`HasStored`).
+pub record AgreesWithSent (sent : List ℕ) (status : ℕ) (known : Option (List ℕ)) (old new : List Exchange)
+    : Type 0 where
+  pub between : List Exchange
+  pub twice : IsReadTwice (pair status) known old between
+  pub stored : HasStored sent status known between new
+
 -- True if the transaction begins with this opcode, and its reply begins with this byte.
 abbrev pub has_read : (opcode byte : ℕ) → Exchange → Bool
 has_read opcode byte exchange = begins_with opcode exchange.out && begins_with byte (bytes_or_none exchange.reply)
 
--- True if somewhere in the history two transactions, one directly after the other, began with this opcode, and the
--- replies to both began with this byte.
+-- True if the transaction begins with the opcode of a read of the ID (9Fh).
+abbrev pub has_read_id : Exchange → Bool
+has_read_id exchange = begins_with 0x9F exchange.out
+
+-- True if somewhere in the history four transactions followed each other: one that began with this opcode and whose reply
+-- began with this byte, a read of the ID, and the same two again.
 abbrev pub was_read_twice : (opcode byte : ℕ) → List Exchange → Bool
 was_read_twice opcode byte [] = false
-was_read_twice opcode byte (last ∷ []) = false
-was_read_twice opcode byte (last ∷ before ∷ earlier) =
-    (has_read opcode byte last && has_read opcode byte before) || was_read_twice opcode byte (before ∷ earlier)
+was_read_twice opcode byte (d ∷ []) = false
+was_read_twice opcode byte (d ∷ c ∷ []) = false
+was_read_twice opcode byte (d ∷ c ∷ b ∷ []) = false
+was_read_twice opcode byte (d ∷ c ∷ b ∷ a ∷ earlier) =
+    (has_read_id d && has_read opcode byte c && has_read_id b && has_read opcode byte a)
+    || was_read_twice opcode byte (c ∷ b ∷ a ∷ earlier)
 
 -- A transaction that sends `out` is a status write, and outside the protection bits it has the bits of status registers
--- that were read twice with equal replies (`was_read_twice`).
+-- that were read twice with equal replies, each before the ID (`was_read_twice`).
 pub record IsStatusKept (out : List ℕ) (history : List Exchange) : Type 0 where
   -- the bytes that the status write sends
   pub one : ℕ
@@ -44,12 +102,3 @@ pub record IsStatusKept (out : List ℕ) (history : List Exchange) : Type 0 wher
   -- BUSY and WEL are clear, and so is SUS
   pub idle : one % 4 ≡ 0
   pub awake : two / 128 ≡ 0
-
--- After a status write of the bytes `sent`, and after status 1 was read as `one`, status 2 was read twice with the same
--- reply. All non-volatile bits are those that were sent: in status 1 all except BUSY and WEL, in status 2 all except
--- SUS.
-pub record HasStored (sent : List ℕ) (one : ℕ) (old new : List Exchange) : Type 0 where
-  pub two : ℕ
-  pub is : new ≡ second two ∷ second two ∷ old
-  pub first : one / 4 ≡ slice_index sent 0 / 4
-  pub last : two % 128 ≡ slice_index sent 1 % 128

@@ -1,4 +1,4 @@
-//! What a `CheckedStatus` knows about the status registers, and why it stops.
+//! What a `CheckedStatus` knows about the chip, and why it stops.
 ghost use Rattle.std.specs.Prelude.{◌≡◌, true, IfSome};
 ghost use Rattle.nor_model.specs.Status.{bytes_of};
 ghost use Rattle.nor_serprog.specs.KnownStatus.{KeepsKnown};
@@ -17,18 +17,23 @@ pub enum CheckFault {
     Refused,
     /// After a status write of `sent`, the chip's status is `found`: a non-volatile bit differs.
     NotStored { sent: [u8; 2], found: [u8; 2] },
+    /// The chip replied the ID `id`, and later `found`. If contact or supply fails, all replies are FFh or 00h, and so is
+    /// this ID.
+    Lost { id: [u8; 3], found: [u8; 3] },
 }
 
-// What is known about the status registers.
+// What is known about the chip.
 #[derive(Clone, Copy)]
 pub(crate) struct Known {
-    // Status 1 and status 2, as two equal replies had them.
+    // Status 1 and status 2, as two equal replies had them, each before an ID that was the known one.
     pub(crate) one: Option<u8>,
     pub(crate) two: Option<u8>,
     // True if a modifying command was passed on.
     pub(crate) is_changing: bool,
     // The bytes of a status write that was passed on and is not yet read back.
     pub(crate) written: Option<[u8; 2]>,
+    // The ID, as the first reply to 9Fh had it.
+    pub(crate) id: Option<[u8; 3]>,
 }
 
 // Returns the two bytes of a status write that keeps the bits which are known, outside the protection bits, and has

@@ -16,8 +16,9 @@
 //! - `parts.rt`: reads and programs that are carried out in parts
 //! - `splitting.rt`: a bus that splits transactions to the limits of a programmer
 //! - `twice.rt`: a bus that reads IDs, SFDP and data twice and compares the replies
-//! - `known.rt`: what that bus knows about the status registers, and why it stops
-//! - `status.rt`: a bus that reads the status registers twice, and checks status writes
+//! - `status.rt`: a bus that notices a lost chip, reads the status registers twice, and checks status writes
+//! - `status/reads.rt`: what that bus reads: IDs and status registers
+//! - `known.rt`: what that bus knows about the chip, and why it stops
 #![tactic(auto)]
 
 mod again;

@@ -1,13 +1,16 @@
-//! A bus that believes no status byte that it received once, and checks each status write.
+//! A bus that believes no status byte that it received once, notices a lost chip, and checks each status write.
 ghost use Rattle.std.specs.Prelude.{◌≡◌, ◌⊎◌, ◌%◌, ◌||◌, ◌∷◌, [], true, false, length, ℕ, List, None, Some, OnOk, OnErr, IfOk};
 ghost use Rattle.std.specs.Option.{ForSome};
 ghost use Rattle.std.proofs.lemmas.Bool.{false≢true};
 ghost use Rattle.nor_model.specs.Bus.{IsHonestFor, SameNature, Stops, Carries, Records};
 ghost use Rattle.nor_model.specs.Command.{begins_change};
-ghost use Rattle.nor_model.specs.History.{exchange_of, replied};
+ghost use Rattle.nor_model.specs.History.{replied};
 ghost use Rattle.nor_model.specs.Sent.{with_sent};
 ghost use Rattle.nor_serprog.specs.KnownStatus.{BelievesStatus, IsWritten, KeepsTask, PollAgrees, SendsKept};
-ghost use Rattle.nor_serprog.specs.StatusRead.{HasStored, IsStatusKept, pair, second, was_read_twice};
+ghost use Rattle.nor_serprog.specs.StatusRead.{HasStored, IsConfirmed, IsReadTwice, IsStatusKept, KeepsId};
+ghost use Rattle.nor_serprog.specs.StatusRead.{begins_confirmed, second, was_read_twice};
+
+mod reads;
 
 use crate::known::{CheckFault, Known, are_same, kept_status};
 use nor_model::{Bus, History, Status, Stopped, is_changing};
@@ -18,16 +21,30 @@ const READ_STATUS1: u8 = 0x05;
 
 const READ_STATUS2: u8 = 0x35;
 
+const READ_DATA: u8 = 0x03;
+
+const READ_UNIQUE: u8 = 0x4B;
+
+const READ_SFDP: u8 = 0x5A;
+
+const READ_ID: u8 = 0x9F;
+
 const BUSY: u8 = 0x01;
 
-/// A bus that reads status registers twice, refuses status writes that would change other bits than the protection
-/// bits, and reads each status write back.
+/// A bus that notices a lost chip, reads status registers twice, refuses status writes that would change other bits than
+/// the protection bits, and reads each status write back.
 ///
+/// - If contact or supply fails, each reply is FFh or 00h, however often it is read. Therefore the ID is read (9Fh with
+///   three reply bytes) after each reply on which a decision depends. Each ID must be the first one that was read, also
+///   if the caller reads it; otherwise the call returns `Stopped`. A wrong reply is believed only if the chip is lost for
+///   each of its reads, and has contact for the IDs before and after each of them.
+/// - The ID is read after each transaction that begins with the opcode of a read of data (03h), of SFDP (5Ah) or of the
+///   unique ID (4Bh).
 /// - A poll (05h with one reply byte) is carried out with two reply bytes, since a chip repeats its status (W25Q64FV
 ///   datasheet, Read Status Register). If one of them shows BUSY, that byte is returned. If both show that the chip is
-///   ready, they must be equal. Until the first modifying command, and after a status write, the poll is then carried
-///   out a second time, with the same reply.
-/// - Status 2 (35h with one reply byte) is read twice, with the same reply.
+///   ready, they must be equal. Until the first modifying command, and after a status write, the ID is then read, and the
+///   poll is carried out a second time, with the same reply, and the ID after it. Other polls are believed at once.
+/// - Status 2 (35h with one reply byte) is read twice, with the same reply, each time with the ID after it.
 /// - A status write (01h) is passed on only if both status registers were read in this way before, and if outside the
 ///   protection bits it has the bits that were read: SRP0, SRP1, QE, the reserved bit, and the one-time bits LB1, LB2
 ///   and LB3. BUSY, WEL and SUS must be clear. Otherwise nothing is sent.
@@ -35,6 +52,11 @@ const BUSY: u8 = 0x01;
 ///   non-volatile bit isn't as it was sent, the poll returns `Stopped`.
 ///
 /// `fault` says why the bus stopped if the bus inside did not.
+///
+/// A busy chip ignores a read of its ID (W25Q64FV datasheet, Instructions), so it would count as lost. Therefore the ID
+/// is read only after a poll that shows that the chip is ready, and data, SFDP, the unique ID and status 2 must be read
+/// only while the chip is ready. The engine does so: a probe waits first, and each operation waits at its end (`wait` of
+/// nor_driver).
 ///
 /// A transaction over this bus may be several over the bus inside, so this bus is not honest as `Bus` defines it, even
 /// if the bus inside is. The history has each transaction over this bus with its reply; one that failed or was refused
@@ -67,6 +89,7 @@ impl<B: Bus + Drop> CheckedStatus<B> {
                 two: None,
                 is_changing: false,
                 written: None,
+                id: None,
             },
             fault: None,
             history: History::new(),
@@ -96,86 +119,39 @@ impl<B: Bus + Drop> CheckedStatus<B> {
 impl<B: Bus + Drop> CheckedStatus<B> {
     ghost use Rattle.nor_serprog.specs.Checked.{has_begun, history_of, inner_state, known_of, written_of};
 
-    // Makes one transaction over the bus inside. What is known stays.
-    fn pass(&mut self, out: &[u8], reply: &mut [u8]) -> Result<(), Stopped>
-        ensures history { history_of self.new ≡ history_of self.old }
-        ensures known { known_of self.new ≡ known_of self.old }
-        ensures carried { (inner_state self.new).history
-            ≡ exchange_of out.now reply.new result ∷ (inner_state self.old).history }
-        ensures sent { (inner_state self.new).sent ≡ with_sent out.now (inner_state self.old).sent }
-    {
-        self.bus.transfer(out, reply)
-    }
-
-    // Records why the bus stops.
-    fn stop(&mut self, fault: CheckFault) -> Stopped
-        ensures history { history_of self.new ≡ history_of self.old }
-        ensures known { known_of self.new ≡ known_of self.old }
-        ensures inside { inner_state self.new ≡ inner_state self.old }
-    {
-        self.fault = Some(fault);
-        Stopped
-    }
-
-    // Polls once, with two reply bytes. Returns one of them that shows BUSY, or else the byte that both of them are.
-    fn poll_once(&mut self) -> Result<u8, Stopped>
-        ensures history { history_of self.new ≡ history_of self.old }
-        ensures known { known_of self.new ≡ known_of self.old }
-        ensures sent { (inner_state self.new).sent ≡ (inner_state self.old).sent }
-        ensures ready { IfOk result (λ status. status % 2 ≡ 0
-            → (inner_state self.new).history ≡ pair status ∷ (inner_state self.old).history) }
-    {
-        let mut bytes = [0; 2];
-        self.pass(&[READ_STATUS1], &mut bytes)?;
-        let [first, last] = bytes;
-        if first & BUSY != 0 {
-            return Ok(first);
-        }
-        if last & BUSY != 0 {
-            return Ok(last);
-        }
-        if first != last {
-            return Err(self.stop(CheckFault::Differs));
-        }
-        Ok(first)
-    }
-
-    // Reads status 2 twice. Returns the byte, which both replies had.
+    // Reads status 2, and believes it if it was the same twice.
+    #[tactic(auto, using(crate::proofs::StatusRead::second_read))]
     fn read_second(&mut self) -> Result<u8, Stopped>
         ensures history { history_of self.new ≡ history_of self.old }
         ensures known { KeepsTask (known_of self.old) (known_of self.new) }
+        ensures id { KeepsId (known_of self.old).id (known_of self.new).id }
         ensures sent { (inner_state self.new).sent ≡ (inner_state self.old).sent }
-        ensures twice { IfOk result (λ status. (inner_state self.new).history
-            ≡ second status ∷ second status ∷ (inner_state self.old).history) }
+        ensures twice { IfOk result (λ status. IsReadTwice (second status) (known_of self.new).id
+            (inner_state self.old).history (inner_state self.new).history) }
     {
-        let mut first = [0];
-        let mut last = [0];
-        self.pass(&[READ_STATUS2], &mut first)?;
-        self.pass(&[READ_STATUS2], &mut last)?;
-        if first != last {
-            return Err(self.stop(CheckFault::Differs));
-        }
-        self.known.two = Some(first[0]);
-        Ok(first[0])
+        let status = self.second_twice()?;
+        self.known.two = Some(status);
+        Ok(status)
     }
 
-    // Polls until two replies are equal, if the chip is ready and the caller needs to believe its status. Returns
+    // Polls, twice if the caller needs to believe the status of a ready chip. Then reads a status write back. Returns
     // status 1.
+    #[tactic(auto, using(crate::proofs::StatusRead::pair_read, crate::proofs::StatusRead::still_known))]
     fn poll(&mut self) -> Result<u8, Stopped>
         ensures history { history_of self.new ≡ history_of self.old }
         ensures begun { has_begun self.new ≡ has_begun self.old }
+        ensures id { KeepsId (known_of self.old).id (known_of self.new).id }
         ensures sent { (inner_state self.new).sent ≡ (inner_state self.old).sent }
-        ensures agrees { IfOk result (λ status. status % 2 ≡ 0
-            → PollAgrees (known_of self.old) status (inner_state self.old).history (inner_state self.new).history) }
+        ensures agrees { IfOk result (λ status. status % 2 ≡ 0 → PollAgrees (known_of self.old) (known_of self.new)
+            status (inner_state self.old).history (inner_state self.new).history) }
         ensures waits { IfOk result (λ status. status % 2 ≡ 1 → written_of self.new ≡ written_of self.old) }
     {
-        let status = self.poll_once()?;
-        if status & BUSY != 0 || self.known.is_changing && self.known.written.is_none() {
-            return Ok(status);
+        if self.known.is_changing && self.known.written.is_none() {
+            return self.poll_once();
         }
-        let again = self.poll_once()?;
-        if again != status {
-            return Err(self.stop(CheckFault::Differs));
+        let status = self.poll_twice()?;
+        if status & BUSY != 0 {
+            return Ok(status);
         }
         self.known.one = Some(status);
         self.read_back(status)?;
@@ -187,10 +163,11 @@ impl<B: Bus + Drop> CheckedStatus<B> {
     fn read_back(&mut self, one: u8) -> Result<(), Stopped>
         ensures history { history_of self.new ≡ history_of self.old }
         ensures begun { has_begun self.new ≡ has_begun self.old }
+        ensures id { KeepsId (known_of self.old).id (known_of self.new).id }
         ensures sent { (inner_state self.new).sent ≡ (inner_state self.old).sent }
         ensures none { written_of self.old ≡ None → OnOk result (self.new ≡ self.old) }
         ensures stored { (sent : List ℕ) → written_of self.old ≡ Some sent → OnOk result
-            (HasStored sent one (inner_state self.old).history (inner_state self.new).history) }
+            (HasStored sent one (known_of self.new).id (inner_state self.old).history (inner_state self.new).history) }
     {
         let Some(sent) = self.known.written else {
             return Ok(());
@@ -212,6 +189,7 @@ impl<B: Bus + Drop> CheckedStatus<B> {
         ensures sent { ((inner_state self.new).sent ≡ (inner_state self.old).sent)
             ⊎ ((inner_state self.new).sent ≡ with_sent out.now (inner_state self.old).sent) }
         ensures begun { OnOk result (has_begun self.new ≡ true) }
+        ensures id { KeepsId (known_of self.old).id (known_of self.new).id }
         ensures written { OnOk result (IsWritten out.now (written_of self.new)) }
         ensures carried { OnOk result ((inner_state self.new).history
             ≡ replied out.now reply.new ∷ (inner_state self.old).history) }
@@ -234,6 +212,11 @@ impl<B: Bus + Drop> CheckedStatus<B> {
         ensures sends { SendsKept out.now (inner_state self.old) (inner_state self.new) }
         ensures believes { OnOk result (BelievesStatus out.now reply.new (known_of self.old) (known_of self.new)
             (inner_state self.old).history (inner_state self.new).history) }
+        ensures id { KeepsId (known_of self.old).id (known_of self.new).id }
+        ensures identified { out.now ≡ 0x9F ∷ [] → length reply.new ≡ 3
+            → OnOk result ((known_of self.new).id ≡ Some reply.new) }
+        ensures read { begins_confirmed out.now ≡ true → OnOk result (IsConfirmed (replied out.now reply.new)
+            (known_of self.new).id (inner_state self.old).history (inner_state self.new).history) }
     {
         match (out, reply.len()) {
             ([READ_STATUS1], 1) => {
@@ -254,11 +237,38 @@ impl<B: Bus + Drop> CheckedStatus<B> {
         ensures history { history_of self.new ≡ history_of self.old }
         ensures sent { (inner_state self.new).sent ≡ with_sent out.now (inner_state self.old).sent }
         ensures begun { (known_of self.new).is_changing ≡ ((known_of self.old).is_changing || begins_change out.now) }
+        ensures id { KeepsId (known_of self.old).id (known_of self.new).id }
+        ensures identified { out.now ≡ 0x9F ∷ [] → length reply.new ≡ 3
+            → OnOk result ((known_of self.new).id ≡ Some reply.new) }
+        ensures read { begins_confirmed out.now ≡ true → OnOk result (IsConfirmed (replied out.now reply.new)
+            (known_of self.new).id (inner_state self.old).history (inner_state self.new).history) }
+    {
+        match (out, reply.len()) {
+            ([READ_ID], 3) => {
+                reply.copy_from_slice(&self.read_id()?);
+                Ok(())
+            }
+            _ => self.pass_confirmed(out, reply),
+        }
+    }
+
+    // Makes a transaction that is not checked in itself. Reads the ID after a read of data, of SFDP or of the unique ID.
+    fn pass_confirmed(&mut self, out: &[u8], reply: &mut [u8]) -> Result<(), Stopped>
+        ensures history { history_of self.new ≡ history_of self.old }
+        ensures sent { (inner_state self.new).sent ≡ with_sent out.now (inner_state self.old).sent }
+        ensures begun { (known_of self.new).is_changing ≡ ((known_of self.old).is_changing || begins_change out.now) }
+        ensures id { KeepsId (known_of self.old).id (known_of self.new).id }
+        ensures read { begins_confirmed out.now ≡ true → OnOk result (IsConfirmed (replied out.now reply.new)
+            (known_of self.new).id (inner_state self.old).history (inner_state self.new).history) }
     {
         if is_changing(out) {
             self.known.is_changing = true;
         }
-        self.pass(out, reply)
+        self.pass(out, reply)?;
+        if is_confirmed(out) {
+            self.read_id()?;
+        }
+        Ok(())
     }
 }
 
@@ -281,6 +291,11 @@ impl<B: Bus + Drop> Bus for CheckedStatus<B> {
         ensures sends { SendsKept out.now (inner_state self.old) (inner_state self.new) }
         ensures believes { OnOk result (BelievesStatus out.now reply.new (known_of self.old) (known_of self.new)
             (inner_state self.old).history (inner_state self.new).history) }
+        ensures id { KeepsId (known_of self.old).id (known_of self.new).id }
+        ensures identified { out.now ≡ 0x9F ∷ [] → length reply.new ≡ 3
+            → OnOk result ((known_of self.new).id ≡ Some reply.new) }
+        ensures read { begins_confirmed out.now ≡ true → OnOk result (IsConfirmed (replied out.now reply.new)
+            (known_of self.new).id (inner_state self.old).history (inner_state self.new).history) }
     {
         match self.carry(out, reply) {
             Ok(()) => {
@@ -293,4 +308,11 @@ impl<B: Bus + Drop> Bus for CheckedStatus<B> {
             }
         }
     }
+}
+
+// Returns whether a transaction begins with the opcode of a read of data, of SFDP or of the unique ID.
+fn is_confirmed(out: &[u8]) -> bool
+    ensures { result ≡ begins_confirmed out.now }
+{
+    matches!(out, [READ_DATA | READ_SFDP | READ_UNIQUE, ..])
 }

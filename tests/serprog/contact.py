@@ -1,0 +1,176 @@
+"""Cases of a chip that loses its contact or its supply, for a while or until the run ends.
+
+A lost chip misses what is sent, and each byte of a reply is FFh or 00h, also if it is read twice. The loss begins at each
+transaction in turn. No run may end with status 0 unless the chip, and the file that it made, are as asked. No sealed
+journal may have bytes that the chip never had, and no one-time bit may be set. If a run changed the chip, its journal
+must restore it. If the chip stays lost, the line below error 12 says so.
+"""
+import hashlib
+
+import bits
+import reference
+from bench import check, check_data
+from chip import ONCE, PARTS, SECTOR
+from faults import LOST, RESTORE, UNCHANGED
+from losses import FEW, chip_images
+from wire import STOPPED
+
+UNIQUE = bits.UNIQUE
+ALL = range(16)
+# The number of transactions at the start, with the identification, for which each length of a loss is tried, with both
+# bytes. At each later transaction one length and one byte are tried, and a loss until the end.
+IDENTIFICATION = 20
+LENGTHS = (1, 2, 3, 5, 9)
+END = 1 << 24
+ADVICE = "h now. Check contacts and supply."
+
+
+def tiny(words, after, saved=()):
+    """Returns a job on TINY64 whose journal saves these sectors."""
+    old, _ = chip_images(FEW)
+    return bits.Work("TINY64", words, old, after, b"\0\0", b"\0\0", [],
+                     reference.journal("TINY64", old, saved, b"\0\0", UNIQUE))
+
+
+def records(journal):
+    """Returns the header of a journal before its size, and its sectors by their numbers; nothing if it isn't sealed."""
+    if hashlib.sha256(journal[:-32]).digest() != journal[-32:]:
+        return None, {}
+    found = {}
+    for at in range(25, len(journal) - 36, SECTOR + 4):
+        found[int.from_bytes(journal[at : at + 4], "little")] = journal[at + 4 : at + 4 + SECTOR]
+    return journal[:21], found
+
+
+def check_journal(bench, name, work):
+    """Checks that a journal, if it is sealed, has bytes of the chip from before the job only."""
+    if not bench.path(name).exists():
+        return
+    header, sectors = records(bench.path(name).read_bytes())
+    if header is None:
+        return
+    check("the ID, the unique ID and the status in the sealed journal", header, work.journal[:21])
+    for number, data in sectors.items():
+        original = work.after if work.words[0] == "--restore" else work.before
+        check_data(f"sector {number} in the sealed journal", data, reference.sector_of(original, number))
+
+
+def begin(bench, work):
+    """Sets the chip and the files up as before the job."""
+    bench.chip.data[:], bench.chip.status[:], bench.chip.wel = work.before, work.status, False
+    for name in ("j", "out"):
+        bench.path(name).unlink(missing_ok=True)
+    if work.words[0] == "--restore":
+        bench.write("j", work.journal)
+
+
+def try_lost(bench, work, lost):
+    """Runs a job with such a loss, checks what it leaves, and returns its result."""
+    begin(bench, work)
+    bench.server.traits.lost = lost
+    got = bench.run(*work.words)
+    bench.server.traits.lost = ()
+    chip = bench.chip
+    check("one-time bits", chip.status[1] & ONCE, work.status[1] & ONCE)
+    check("the exit status is 0 or 1", got.status in (0, 1), True)
+    name = "out" if work.words[0] == "--backup" else "j"
+    check_journal(bench, name, work)
+    is_as_before = chip.data == work.before and chip.status == work.status
+    if got.status == 0:
+        check("the chip is as asked", chip.data == work.after, True)
+        check("status bytes", bytes(chip.status), work.new_status)
+        if work.words[0] == "-r":
+            bench.check_file("out", work.before)
+        else:
+            bench.check_file(name, work.journal)
+        return got
+    if any(it.endswith(UNCHANGED) for it in got.err):
+        check("the chip is unchanged", is_as_before, True)
+    if not is_as_before:
+        back = (work.after, work.new_status) if work.words[0] == "--restore" else (work.before, work.status)
+        again = bench.run("--restore", "j", *["-N"] * (work.part != "TINY64"))
+        check("the restore", (again.err, again.status), ([], 0))
+        check("the chip after the restore", chip.data == back[0], True)
+        check("status bytes after the restore", bytes(chip.status), back[1])
+    return got
+
+
+def check_cause(got, work, at, seal, byte):
+    """Checks the lines of a run whose chip was lost from the transaction `at` on."""
+    cause = f"{LOST}{PARTS[work.part].id.hex().upper()}h before, {3 * f'{byte:02X}'}{ADVICE}"
+    if work.words[0] == "--restore":
+        cause += " " + RESTORE
+    elif work.words[0] in ("-w", "-E", "--wp-range"):
+        cause += " " + (UNCHANGED if at <= seal else RESTORE)
+    check("the cause", (got.err[:2], got.out), ([STOPPED, cause], []))
+
+
+def lose(start, work):
+    """Tries the losses in a job."""
+    bench = start(work.part, data=work.before, status=work.status, unique=UNIQUE)
+    bench.remembers = False
+    bench.write("layout", bits.LAYOUT)
+    bench.write("new", work.after)
+    check("the run without a loss", try_lost(bench, work, ()).status, 0)
+    log = list(bench.server.log)
+    # The first modifying command is sent together with the next transactions, and not before.
+    seal = next((at for at, (out, _) in enumerate(log) if out[0] in reference.CHANGING), END)
+    for at in range(2, len(log) + 1):
+        is_first = at <= IDENTIFICATION
+        # A poll that receives FFh shows BUSY: a run waits 400 s for a chip that is lost there, and ends with error 13.
+        is_poll = next(out for out, reply in log[at - 1 :] if reply) == b"\x05"
+        for byte in (0xFF, 0x00) if is_first else ((0xFF, 0x00)[at % 2],):
+            for length in LENGTHS if is_first else (LENGTHS[at // 2 % len(LENGTHS)],):
+                try_lost(bench, work, (at, at + length - 1, byte))
+            if is_poll and byte == 0xFF:
+                continue
+            got = try_lost(bench, work, (at, END, byte))
+            # The first ID is received by the third transaction. If the chip is lost before, nothing is compared with it.
+            if at > 3:
+                check_cause(got, work, at, seal, byte)
+
+
+def loses_a_write(start):
+    """-w of a chip of 64 KiB, with the comparison of the whole chip."""
+    lose(start, tiny(("-w", "new", "--journal", "j"), chip_images(FEW)[1], FEW))
+
+
+def loses_an_erase(start):
+    """-E of such a chip."""
+    old, _ = chip_images(FEW)
+    blank = b"\xff" * len(old)
+    lose(start, tiny(("-E", "--journal", "j"), blank, reference.touched(old, blank)))
+
+
+def loses_a_read(start):
+    """-r of such a chip."""
+    lose(start, tiny(("-r", "out"), chip_images(FEW)[0]))
+
+
+def loses_a_backup(start):
+    """--backup of such a chip."""
+    lose(start, tiny(("--backup", "out"), chip_images(FEW)[0], ALL))
+
+
+def loses_a_restore(start):
+    """--restore of a chip of 64 KiB, with the comparison of what its journal doesn't save."""
+    lose(start, bits.restore_tiny())
+
+
+def loses_a_change_of_range(start):
+    """--wp-range of a W25Q64FV with QE and CMP set."""
+    lose(start, bits.protect())
+
+
+def loses_a_restore_of_the_range(start):
+    """--restore of such a range."""
+    lose(start, bits.restore_range())
+
+
+def loses_an_unlock(start):
+    """-w --unlock of one sector of a W25Q64FV that is protected as a whole."""
+    lose(start, bits.unlock())
+
+
+CASES = [loses_a_write, loses_an_erase, loses_a_read, loses_a_backup, loses_a_restore, loses_a_change_of_range,
+         loses_a_restore_of_the_range, loses_an_unlock]
