@@ -21,8 +21,8 @@ const READ_DATA: u8 = 0x03;
 ///
 /// The block is forgotten at each transaction that is passed on as it is, and if the bus inside stops. A block ends at
 /// a multiple of 64 KiB at the latest, so it never reaches past the end of a chip. It is never longer than the bus
-/// inside can read. A transaction is passed on as it is if it is no read of data, reads more than the longest block, or
-/// reaches past a multiple of 64 KiB.
+/// inside can read, and `end_blocks_at` ends it earlier. A transaction is passed on as it is if it is no read of data,
+/// reads more than the longest block, or reaches past a multiple of 64 KiB.
 ///
 /// If a read of data of at least one byte returns `Ok`, the last transaction over the bus inside is a read of data, and
 /// the bytes returned are those that its reply has for the same addresses.
@@ -42,6 +42,8 @@ pub struct ReadAhead<B: Bus + Drop> {
     // the read needed more bytes.
     step: u32,
     longest: u32,
+    // The address at which a block ends at the latest, unless the read needs more bytes.
+    end: u32,
     history: History,
     ghost fits: { len ≤ 65536 },
     ghost below: { start ≤ 16777216 },
@@ -69,8 +71,18 @@ impl<B: Bus + Drop> ReadAhead<B> {
             len: 0,
             step: 0,
             longest,
+            end: u32::MAX,
             history: History::new(),
         }
+    }
+
+    /// Ends each further block at this address at the latest, unless the read itself needs more bytes. `u32::MAX` lifts
+    /// this limit.
+    pub fn end_blocks_at(&mut self, address: u32)
+        ensures bus { ahead_of self.new ≡ ahead_of self.old }
+        ensures history { history_of self.new ≡ history_of self.old }
+    {
+        self.end = address;
     }
 
     /// Returns the bus inside.
@@ -138,12 +150,11 @@ impl<B: Bus + Drop> ReadAhead<B> {
         } else {
             len
         };
-        self.fill(
-            address,
-            self.step
-                .min(LONGEST_BLOCK - address % LONGEST_BLOCK)
-                .max(len),
-        )
+        let ahead = self
+            .step
+            .min(LONGEST_BLOCK - address % LONGEST_BLOCK)
+            .min(self.end.saturating_sub(address));
+        self.fill(address, ahead.max(len))
     }
 
     // Reads a block of `len` bytes from `address` on. If that fails, the block holds no bytes.
