@@ -1,4 +1,4 @@
--- Lemmas on reading the sectors that a journal does not save, one after another, from the last one down.
+-- Lemmas on reading the sectors that a journal does not save, one after another.
 use Rattle.std.proofs.Common.{◌≡◌, ◌≢◌, ◌<◌, ◌≤◌, ◌+◌, ◌*◌, ◌/◌, ◌∙◌, ◌++◌, ◌∷◌, [], ℕ, List, ap, arith, false, inl, inr, length, refl}
 use Rattle.std.proofs.Common.{replicate, slice_index, subst, sym, true}
 use Rattle.std.specs.List.{All}
@@ -30,56 +30,56 @@ names_other opcode at other differs (first ∷ x ∷ []) is = refl
 names_other opcode at other differs (first ∷ x ∷ y ∷ []) is = refl
 names_other opcode at other differs (first ∷ x ∷ y ∷ z ∷ rest) is = grind (arith, nat_tests)
 
--- The sectors from `from` on that the journal doesn't save were read since `old`, and nothing else was sent. At their
+-- The sectors below `to` that the journal doesn't save were read since `old`, and nothing else was sent. At their
 -- addresses `bytes` are what was read, and at the saved ones FFh.
-pub record HasReadDown (journal : Journal) (from : ℕ) (bytes : List ℕ) (old new : BusState) : Type 0 where
+pub record HasReadUp (journal : Journal) (to : ℕ) (bytes : List ℕ) (old new : BusState) : Type 0 where
   pub reads : ℕ
-  pub few : reads + from ≤ journal.size / 4096
+  pub few : reads ≤ to
   pub honest_reads : HasOnlyRead reads old new
   pub later : List Exchange
   pub is : new.history ≡ later ++ old.history
   pub only : All (IsRestRead journal) later
-  pub replied : (s : ℕ) → from ≤ s → s < journal.size / 4096 → is_saved journal s ≡ false
+  pub replied : (s : ℕ) → s < to → is_saved journal s ≡ false
       → IsWholeSector (slice_index bytes) s (last_reply (names 0x03 (4096 * s)) later)
   pub saved : (a : ℕ) → a < journal.size → is_saved journal (a / 4096) ≡ true → slice_index bytes a ≡ 255
 
-pub down_none : (journal : Journal) (from : ℕ) (bytes : List ℕ) (state : BusState)
-    → bytes ≡ replicate journal.size 255 → from ≡ journal.size / 4096 → HasReadDown journal from bytes state state
-down_none journal from bytes state blank all = record {
+pub up_none : (journal : Journal) (bytes : List ℕ) (state : BusState)
+    → bytes ≡ replicate journal.size 255 → HasReadUp journal 0 bytes state state
+up_none journal bytes state blank = record {
   reads = 0;
-  few = omega (arith, all);
+  few = omega arith;
   honest_reads = has_only_read-none state;
   later = [];
   is = refl;
   only = All-nil (IsRestRead journal);
-  replied = λ s above below out. absurd (omega (arith, all, above, below));
+  replied = λ s below out. absurd (omega (arith, below));
   saved = λ a below is. rw blank (get_or-replicate journal.size a 255 0 below);
 }
 
 -- A sector that the journal saves is not read.
-pub down_skip : {journal : Journal} {from next : ℕ} {bytes : List ℕ} {old new : BusState} → from + 1 ≡ next
-    → is_saved journal from ≡ true → HasReadDown journal next bytes old new → HasReadDown journal from bytes old new
-down_skip {journal} {from} {next} step saved has = record {
+pub up_skip : {journal : Journal} {n : ℕ} {bytes : List ℕ} {old new : BusState}
+    → is_saved journal n ≡ true → HasReadUp journal n bytes old new → HasReadUp journal (n + 1) bytes old new
+up_skip {journal} {n} {bytes} {old} {new} saved has = record {
   reads = has.reads;
-  few = let few = has.few in omega (arith, few, step);
+  few = let few = has.few in omega (arith, few);
   honest_reads = has.honest_reads;
   later = has.later;
   is = has.is;
   only = has.only;
-  replied = λ s above below out. elim (cases_lt from s) [
-    | inl higher ↦ has.replied s (omega (arith, higher, step)) below out
-    | inr lower ↦
-        let same : s ≡ from = omega (arith, above, lower) in
+  replied = λ s below out. elim (cases_lt s n) [
+    | inl lower ↦ has.replied s lower out
+    | inr higher ↦
+        let same : s ≡ n = omega (arith, below, higher) in
         absurd (false≢true (sym out ∙ ap (is_saved journal) same ∙ saved))
   ];
   saved = has.saved;
 }
 
 -- One more sector, which the journal doesn't save, is read into its part of the bytes.
-module _ {journal : Journal} {n next width : ℕ} {bytes part : List ℕ} {old mid new : BusState}
-    (step : n + 1 ≡ next) (exact : width ≡ 4096) (below : n < journal.size / 4096)
+module _ {journal : Journal} {n width : ℕ} {bytes part : List ℕ} {old mid new : BusState}
+    (exact : width ≡ 4096) (below : n < journal.size / 4096)
     (size : length bytes ≡ journal.size) (long : length part ≡ 4096) (out : is_saved journal n ≡ false)
-    (has : HasReadDown journal next bytes old mid) (does : ReadsSector n mid new part) where
+    (has : HasReadUp journal n bytes old mid) (does : ReadsSector n mid new part) where
   abbrev last_read : Exchange
   last_read = replied does.answered.out part
 
@@ -94,33 +94,33 @@ module _ {journal : Journal} {n next width : ℕ} {bytes part : List ℕ} {old m
   here = subst (λ (bytes' : List ℕ). IsWholeSector (slice_index (put_mid (4096 * n) width bytes part)) n bytes')
       (sym (answered_last one_more)) (record { whole = long; same = λ i small. sym (put.inside i small) })
 
-  earlier : (s : ℕ) → n < s → s < journal.size / 4096 → is_saved journal s ≡ false
+  earlier : (s : ℕ) → s < n → is_saved journal s ≡ false
       → IsWholeSector (slice_index (put_mid (4096 * n) width bytes part)) s
       (last_reply (names 0x03 (4096 * s)) (last_read ∷ has.later))
-  earlier s above inside unsaved =
-      let was = has.replied s (omega (arith, step, above)) inside unsaved in
+  earlier s lower unsaved =
+      let was = has.replied s lower unsaved in
       let kept = (answered_keeps one_more).same (names 0x03 (4096 * s))
-      (names_other 0x03 (4096 * n) (4096 * s) (λ same. omega (arith, same, above))) in
+      (names_other 0x03 (4096 * n) (4096 * s) (λ same. omega (arith, same, lower))) in
       subst (λ (bytes' : List ℕ). IsWholeSector (slice_index (put_mid (4096 * n) width bytes part)) s bytes')
       (sym kept) (record {
         whole = was.whole;
-        same = λ i small. was.same i small ∙ sym (put.outside (4096 * s + i) (λ same. omega (arith, same, above, small)));
+        same = λ i small. was.same i small ∙ sym (put.outside (4096 * s + i) (λ same. omega (arith, same, lower, small)));
       })
 
-  pub down_more : OnlyReads 1 mid new → StaysReady mid new
-      → HasReadDown journal n (put_mid (4096 * n) width bytes part) old new
-  down_more only_reads ready = record {
+  pub up_more : OnlyReads 1 mid new → StaysReady mid new
+      → HasReadUp journal (n + 1) (put_mid (4096 * n) width bytes part) old new
+  up_more only_reads ready = record {
     reads = has.reads + 1;
-    few = let few = has.few in omega (arith, few, step);
+    few = let few = has.few in omega (arith, few);
     honest_reads = has_only_read-then has.honest_reads (has_only_read-one only_reads does.read ready);
     later = last_read ∷ has.later;
     is = does.answered.history ∙ ap (λ (h : List Exchange). last_read ∷ h) has.is;
     only = All-cons (IsRestRead journal) last_read has.later
         (record { sector = n; bytes = part; unsaved = out; reads = does.answered.asks; replied = refl }) has.only;
-    replied = λ s above inside unsaved. elim (cases_lt n s) [
-      | inl higher ↦ earlier s higher inside unsaved
-      | inr lower ↦
-          let same : n ≡ s = omega (arith, above, lower) in
+    replied = λ s inside unsaved. elim (cases_lt s n) [
+      | inl lower ↦ earlier s lower unsaved
+      | inr higher ↦
+          let same : n ≡ s = omega (arith, inside, higher) in
           subst (λ (k : ℕ). IsWholeSector (slice_index (put_mid (4096 * n) width bytes part)) k
           (last_reply (names 0x03 (4096 * k)) (last_read ∷ has.later))) same here
     ];
@@ -128,22 +128,22 @@ module _ {journal : Journal} {n next width : ℕ} {bytes part : List ℕ} {old m
         ∙ has.saved a inside is;
   }
 
-pub down_all : {journal : Journal} {from : ℕ} {bytes : List ℕ} {old new : BusState} → from ≡ 0
-    → length bytes ≡ journal.size → HasReadDown journal from bytes old new → HasReadRest journal bytes old new
-down_all {journal} {from} {bytes} {old} {new} all long has = record {
-  only_reads = only_reads_after has.reads 0 _ old new new (let few = has.few in omega (arith, few)) has.honest_reads
+pub up_all : {journal : Journal} {to : ℕ} {bytes : List ℕ} {old new : BusState} → to ≡ journal.size / 4096
+    → length bytes ≡ journal.size → HasReadUp journal to bytes old new → HasReadRest journal bytes old new
+up_all {journal} {to} {bytes} {old} {new} all long has = record {
+  only_reads = only_reads_after has.reads 0 _ old new new (let few = has.few in omega (arith, few, all)) has.honest_reads
       (only_reads_none new);
   later = has.later;
   is = has.is;
   only = has.only;
-  replied = λ s below out. has.replied s (omega (arith, all)) below out;
+  replied = λ s below out. has.replied s (omega (arith, all, below)) out;
   unsaved = record { long = long; saved = has.saved };
 }
 
-pub down_stops : {journal : Journal} {from : ℕ} {bytes : List ℕ} {old mid new : BusState} → 0 < from
-    → HasReadDown journal from bytes old mid → OnlyReads 1 mid new → HasStopped 1 mid new
+pub up_stops : {journal : Journal} {n : ℕ} {bytes : List ℕ} {old mid new : BusState} → n < journal.size / 4096
+    → HasReadUp journal n bytes old mid → OnlyReads 1 mid new → HasStopped 1 mid new
     → HasStoppedInRest journal old new
-down_stops {old = old} {mid = mid} {new = new} more has only_reads stopped = let few = has.few in record {
+up_stops {old = old} {mid = mid} {new = new} more has only_reads stopped = let few = has.few in record {
   only_reads = only_reads_after has.reads 1 _ old mid new (omega (arith, few, more)) has.honest_reads only_reads;
   stopped = runs_out has.reads _ old mid new (omega (arith, few, more)) has.honest_reads stopped;
 }

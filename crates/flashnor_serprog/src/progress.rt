@@ -5,6 +5,7 @@ use crate::trouble::MODES;
 use nor_chip::{Bus, Stopped, is_changing};
 use nor_journal::journal_len;
 use nor_lines::Escaped;
+use nor_serprog::ReadAhead;
 use nor_session::Announcement;
 use std::fs;
 use std::os::unix::fs::FileTypeExt;
@@ -175,6 +176,11 @@ pub trait Progress: Bus {
     /// The state of the bus, as contracts see it, stays the same.
     fn expect_comparison(&mut self, sectors: usize)
         ensures { Self.state self.new ≡ Self.state self.old };
+
+    /// Keeps reads ahead below this address. `u32::MAX` lifts this limit. The state of the bus, as contracts see it,
+    /// stays the same.
+    fn end_blocks_at(&mut self, address: u32)
+        ensures { Self.state self.new ≡ Self.state self.old };
 }
 
 /// A bus that prints a line to standard error for the first transaction of each step, and then one for each
@@ -319,7 +325,7 @@ impl<B: Bus> Bus for Shown<'_, B> {
     }
 }
 
-impl<B: Bus> Progress for Shown<'_, B> {
+impl<B: Bus + Drop> Progress for Shown<'_, ReadAhead<B>> {
     fn expect_reads(&mut self, sectors: usize) {
         self.expected = Some(sectors);
     }
@@ -327,5 +333,9 @@ impl<B: Bus> Progress for Shown<'_, B> {
     fn expect_comparison(&mut self, sectors: usize) {
         self.expected = Some(sectors);
         self.phase = Phase::After;
+    }
+
+    fn end_blocks_at(&mut self, address: u32) {
+        self.bus.end_blocks_at(address);
     }
 }

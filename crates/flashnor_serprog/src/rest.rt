@@ -4,7 +4,8 @@ ghost use Rattle.nor_journal.specs.Saved.{is_saved};
 ghost use Rattle.flashnor_serprog.specs.Rest.{AreUnsaved, FailsRest, HasKeptRest, HasReadRest};
 ghost use Rattle.flashnor_serprog.specs.Rest.{HasStoppedInRest, is_followed};
 
-use nor_chip::{Bus, Stopped};
+use crate::progress::Progress;
+use nor_chip::Stopped;
 use nor_driver::read_sector;
 use nor_geometry::SECTOR_LEN;
 use nor_journal::Journal;
@@ -12,13 +13,15 @@ use nor_lines::Outcome;
 use nor_plan::bounds;
 use nor_session::Refusal;
 
+// The number of sectors in the longest block that is read at once, which has 64 KiB.
+const LONGEST_RUN: u32 = 16;
+
 /// Reads each sector that the journal doesn't save into `bytes`, at its own address. `bytes` must hold FFh for each
 /// byte of a chip of the journal's size.
 ///
 /// A saved sector is never read: after an interrupted operation two reads of it may differ, which would end the job
-/// before the restore. The sectors are read in descending order, because `ReadAhead` reads ahead only if the addresses
-/// ascend, and a saved sector may follow.
-pub fn read_rest<B: Bus>(
+/// before the restore. So no block that is read ahead reaches a saved sector.
+pub fn read_rest<B: Progress>(
     bus: &mut B,
     journal: &Journal<'_>,
     bytes: &mut [u8],
@@ -27,15 +30,29 @@ pub fn read_rest<B: Bus>(
     ensures ok { OnOk result (HasReadRest journal.now bytes.new (B.state bus.old) (B.state bus.new)) }
     ensures err { OnErr result (HasStoppedInRest journal.now (B.state bus.old) (B.state bus.new)) }
 {
-    let sectors = sectors_of(journal);
-    for done in 0..sectors {
-        let sector = sectors - 1 - done;
+    for sector in 0..sectors_of(journal) {
         if !saves(journal, sector) {
+            bus.end_blocks_at(SECTOR_LEN * next_saved(journal, sector));
             let start = (SECTOR_LEN * sector) as usize;
             read_sector(bus, sector, &mut bytes[start..start + SECTOR_LEN as usize])?;
         }
     }
+    bus.end_blocks_at(u32::MAX);
     Ok(())
+}
+
+// Returns the first of the `LONGEST_RUN` sectors from `sector` on that the journal saves. If it saves none of them,
+// returns the one after them.
+fn next_saved(journal: &Journal<'_>, sector: u32) -> u32
+    requires { sector < 4096 }
+    ensures { result ≤ 4112 }
+{
+    for next in sector..sector + LONGEST_RUN {
+        if saves(journal, next) {
+            return next;
+        }
+    }
+    sector + LONGEST_RUN
 }
 
 /// Returns the number of sectors of a chip of the journal's size.
@@ -56,7 +73,7 @@ fn saves(journal: &Journal<'_>, sector: u32) -> bool
 /// Reads the sectors that the journal doesn't save again, and compares them with `rest`, their bytes before the
 /// restore. Returns error 14 with the address of the first byte that differs, or 12 if the bus stopped. `again` must
 /// hold FFh for each byte of a chip of the journal's size.
-pub fn compare_rest<B: Bus>(
+pub fn compare_rest<B: Progress>(
     bus: &mut B,
     journal: &Journal<'_>,
     rest: &[u8],
