@@ -70,6 +70,7 @@ module _ (files after : FilesState) (on_chip : ChipJob) (unwritten : Unwritten) 
   fails_ends (end.Usage fault reason) fails = fails
   fails_ends end.NoText fails = fails
   fails_ends (end.Layout fault) fails = fails
+  fails_ends (end.Map fault) fails = fails
   fails_ends (end.NoRegion name) fails = fails
   fails_ends (end.File fault name) fails = fails
 

@@ -1,15 +1,18 @@
 -- The reasons why names include nothing of a layout's text.
 use Rattle.std.proofs.Common.{◌≡◌, ℕ, ◌+◌, Bool, true, List, [], ◌∷◌, None, Some, Result, Ok, Err, arith, find, not, refl}
 use Rattle.std.specs.List.{list_all}
+use Rattle.std.specs.Prelude.{⊤}
 use Rattle.nor_layout.specs.declared.fault.LayoutFault.{LayoutFault}
 use Rattle.nor_layout.specs.declared.fault.LayoutFault.TheVariants as layout
 use Rattle.nor_layout.specs.declared.region.Region.{Region}
 use Rattle.nor_layout.specs.Grammar.{IsLayout}
 use Rattle.nor_layout.specs.Included.{are_known, names_of}
 use Rattle.nor_layout.specs.Text.{◌>>=◌, AsksMemory, ReadsLayout, is_region_named, layout_says, lines_of, lines_say, with_line}
+use Rattle.nor_words.specs.declared.job.LayoutForm.{LayoutForm}
+use Rattle.nor_words.specs.declared.job.LayoutForm.TheVariants as form
 use Rattle.nor_words.specs.declared.job.Regions.{Regions}
 use Rattle.nor_files.specs.Files.{View}
-use Rattle.nor_lines.specs.Requests.{FailsToInclude, IsLayoutFault, IsUnparsed, first_unknown}
+use Rattle.nor_lines.specs.Requests.{FailsToInclude, IsLayoutFault, IsUnparsed, LacksLayout, first_unknown}
 use Rattle.nor_lines.specs.declared.messages.Fault.{Fault}
 use Rattle.nor_lines.specs.declared.messages.Fault.TheVariants as end
 
@@ -56,9 +59,22 @@ pub all_known : (regions : List Region) (names : List ℕ) → first_unknown reg
     → are_known regions names ≡ true
 all_known regions names none = all_pass (is_region_named regions) (names_of names) none
 
+-- Holds for layout faults and map faults.
+abbrev IsOfLayout : Fault → Type 0
+IsOfLayout (end.Layout fault) = ⊤
+IsOfLayout (end.Map fault) = ⊤
+IsOfLayout fault = ⊥
+
+lacks-only : (of : LayoutForm) (text : List ℕ) (fault : Fault) → LacksLayout of text fault → IsOfLayout fault
+lacks-only form.Lines text (end.Layout fault) is = tt
+lacks-only form.Fmap text (end.Map fault) is = tt
+lacks-only form.Descriptor text (end.Map fault) is = tt
+lacks-only _ text _ is = absurd is
+
 -- a reason why nothing is included is a fault of including the regions
 pub fails_included : (view : View) (regions : Regions) (fault : Fault) → IsLayoutFault view regions fault
     → FailsToInclude view (Some regions) fault
 fails_included view regions (end.Layout fault) is = is
+fails_included view regions (end.Map fault) is = is
 fails_included view regions (end.NoRegion name) is = is
-fails_included view regions _ is = absurd is.why
+fails_included view regions _ is = absurd (lacks-only regions.form _ _ is.why)

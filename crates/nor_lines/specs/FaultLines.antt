@@ -3,13 +3,14 @@ use Rattle.std.specs.Prelude.{ℕ, List, [], ◌∷◌, ◌++◌, Option, Some, 
 use Rattle.std.specs.Fmt.{option_append, with_newline}
 use Rattle.std.specs.List.{concat}
 use Rattle.nor_layout.specs.Faults.{line_of_fault, layout_fault_number as layout_number}
+use Rattle.nor_maps.specs.Faults.{map_fault_number}
 use Rattle.nor_request.specs.Refusal.{refusal_number}
 use Rattle.nor_request.specs.Texts.{refusal_text}
 use Rattle.nor_words.specs.Faults.{usage_fault_text as usage_text}
 use Rattle.nor_words.specs.Text.{Text}
 use Rattle.nor_lines.specs.Escapes.{escaped}
 use Rattle.nor_lines.specs.Messages.{file_number}
-use Rattle.nor_lines.specs.ReasonLines.{journal_line, layout_line, reason_line}
+use Rattle.nor_lines.specs.ReasonLines.{journal_line, layout_line, map_line, reason_line}
 use Rattle.nor_lines.specs.declared.messages.Fault.{Fault}
 use Rattle.nor_lines.specs.declared.messages.Fault.TheVariants as end
 use Rattle.nor_lines.specs.declared.messages.FileFault.{FileFault}
@@ -32,6 +33,8 @@ text_of end.NoText = Some (codes "error: invalid UTF-8 was detected in one or mo
 text_of (end.Layout fault) =
     Some (concat (layout_line fault ∷ codes "Layout fault " ∷ decimal (layout_number fault)
     ∷ place (line_of_fault fault) ∷ codes "." ∷ []))
+text_of (end.Map fault) =
+    Some (concat (map_line fault ∷ codes "Map fault " ∷ decimal (map_fault_number fault) ∷ codes "." ∷ []))
 text_of (end.NoRegion name) =
     Some (concat (codes "error: the layout has no region '" ∷ escaped name.now ∷ codes "'\nLayout fault 8." ∷ []))
 text_of (end.File fault name) = Some (file_text fault name.now)

@@ -20,6 +20,11 @@ IsAnswered (Ok found) = ⊤
 IsAnswered (Err (end.Usage (usage.Words error) reason)) = kind_of error ≡ kind.DisplayHelp
 IsAnswered (Err fault) = ⊥
 
+-- Holds if the arguments asked for the version, which only programs for hardware print.
+abbrev pub AsksForVersion : Fault → Type 0
+AsksForVersion (end.Usage (usage.Words error) reason) = kind_of error ≡ kind.DisplayVersion
+AsksForVersion fault = ⊥
+
 -- Holds if the result is an answer whose lines were printed, or a request for help. Nothing is stated about what is
 -- printed for help.
 abbrev pub PrintsAnswer : Result Answer Fault → (old new : Option (List ℕ)) → Type 0

@@ -1,11 +1,15 @@
 -- The lines that precede the numbered line of a fault, and say what is wrong, byte by byte.
-use Rattle.std.specs.Prelude.{ℕ, List, [], ◌∷◌, codes}
+use Rattle.std.specs.Prelude.{ℕ, List, [], ◌∷◌, codes, decimal}
 use Rattle.std.specs.List.{concat}
 use Rattle.nor_journal.specs.declared.fault.JournalFault.TheVariants as journal
 use Rattle.nor_layout.specs.declared.fault.LayoutFault.{LayoutFault}
 use Rattle.nor_layout.specs.declared.fault.LayoutFault.TheVariants as layout
 use Rattle.nor_layout.specs.declared.fault.LineFault.{LineFault}
 use Rattle.nor_layout.specs.declared.fault.LineFault.TheVariants as in_line
+use Rattle.nor_layout.specs.declared.layout.adding.RegionFault.{RegionFault}
+use Rattle.nor_layout.specs.declared.layout.adding.RegionFault.TheVariants as region
+use Rattle.nor_maps.specs.declared.fault.MapFault.{MapFault}
+use Rattle.nor_maps.specs.declared.fault.MapFault.TheVariants as map
 use Rattle.nor_request.specs.declared.refusal.Refusal.{Refusal}
 use Rattle.nor_request.specs.declared.refusal.Refusal.TheVariants.{BadJournal}
 use Rattle.nor_words.specs.Reasons.{option_text}
@@ -33,13 +37,16 @@ reason_line (because.Operations first last) = concat (codes "error: " ∷ option
     ∷ option_text last ∷ codes " cannot be used together\n" ∷ [])
 reason_line (because.Range value) =
     concat (codes "error: invalid value of --wp-range: '" ∷ escaped value.now ∷ codes "'\n" ∷ [])
+reason_line (because.Progress value) =
+    concat (codes "error: invalid value of --progress: '" ∷ escaped value.now ∷ codes "'\n" ∷ [])
 reason_line (because.NoJournal option) = concat (codes "error: " ∷ option_text option ∷ codes " needs --journal\n" ∷ [])
 reason_line because.JournalAndRehearse = codes "error: --journal and --rehearse cannot be used together\n"
 reason_line (because.NoChange option) =
     concat (codes "error: " ∷ option_text option ∷ codes " needs -w, -E or --wp-range\n" ∷ [])
-reason_line because.NoNames = codes "error: -l needs -i\n"
+reason_line (because.NoNames option) = concat (codes "error: " ∷ option_text option ∷ codes " needs -i\n" ∷ [])
 reason_line because.NoLayout = codes "error: -i needs -l\n"
-reason_line because.NoRegions = codes "error: -l and -i need -r, -v, -w or -E\n"
+reason_line (because.NoRegions option) =
+    concat (codes "error: " ∷ option_text option ∷ codes " and -i need -r, -v, -w or -E\n" ∷ [])
 reason_line (because.NoContent option) = concat (codes "error: " ∷ option_text option ∷ codes " needs -w or -E\n" ∷ [])
 reason_line because.NoComparison = codes "error: -N needs -w, -E or --restore\n"
 reason_line because.NoRestore = codes "error: --quick needs --restore\n"
@@ -62,6 +69,21 @@ layout_line (layout.InLine line fault) = concat (codes "error: " ∷ line_fault_
 layout_line layout.TooMany = codes "error: the layout has more than 64 regions\n"
 layout_line layout.Memory = []
 layout_line layout.NoRegion = codes "error: a name of -i is no region\n"
+
+-- the line for a region of an image that a layout can't have; no bytes if memory ran out
+abbrev pub region_fault_text : RegionFault → List ℕ
+region_fault_text region.Name = codes "error: the image has a region without a valid name\n"
+region_fault_text region.Twice = codes "error: the image has two regions with one name\n"
+region_fault_text region.TooMany = codes "error: the image has more than 64 regions\n"
+region_fault_text region.Memory = []
+
+-- the line that says what is wrong with an FMAP or a flash descriptor; no bytes if memory ran out
+abbrev pub map_line : MapFault → List ℕ
+map_line map.Missing = codes "error: the image has no FMAP, or does not begin with a flash descriptor\n"
+map_line map.Short = codes "error: the image or its table of regions is cut off\n"
+map_line (map.Outside number) =
+    concat (codes "error: region " ∷ decimal number ∷ codes " of the image does not lie in the image\n" ∷ [])
+map_line (map.Region number fault) = region_fault_text fault
 
 -- the line that says whether an invalid journal was never sealed or is damaged; no bytes for any other error
 abbrev pub journal_line : Refusal → List ℕ

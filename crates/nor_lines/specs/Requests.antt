@@ -1,5 +1,5 @@
 -- The request of a job, and the faults of reading its layout.
-use Rattle.std.specs.Prelude.{◌≡◌, ◌≤◌, ◌⊎◌, ℕ, true, List, Option, Some, None, Err, find, length, not}
+use Rattle.std.specs.Prelude.{◌≡◌, ◌≤◌, ◌⊎◌, ℕ, true, List, Option, Some, None, Ok, Err, find, length, not}
 use Rattle.nor_layout.specs.declared.fault.LayoutFault.{LayoutFault}
 use Rattle.nor_layout.specs.declared.fault.LayoutFault.TheVariants as layout
 use Rattle.nor_layout.specs.declared.ranges.Span.{Span}
@@ -8,11 +8,16 @@ use Rattle.nor_layout.specs.Grammar.{IsLayout}
 use Rattle.nor_layout.specs.Included.{are_known, is_included, names_of}
 use Rattle.nor_layout.specs.Ranges.{contains}
 use Rattle.nor_layout.specs.Text.{AsksMemory, is_region_named, layout_says}
+use Rattle.nor_maps.specs.Descriptor.{AsksInDescriptor, descriptor_says}
+use Rattle.nor_maps.specs.Fmap.{AsksInFmap, fmap_says}
+use Rattle.nor_maps.specs.Records.{ReadsTable}
 use Rattle.nor_probe.specs.declared.table.ChipName.{ChipName}
 use Rattle.nor_request.specs.declared.request.Request.{Request}
 use Rattle.nor_request.specs.declared.request.What.{What}
 use Rattle.nor_request.specs.declared.request.What.TheVariants as what
 use Rattle.nor_words.specs.declared.job.Change.{Change}
+use Rattle.nor_words.specs.declared.job.LayoutForm.{LayoutForm}
+use Rattle.nor_words.specs.declared.job.LayoutForm.TheVariants as form
 use Rattle.nor_words.specs.declared.job.Regions.{Regions}
 use Rattle.nor_words.specs.declared.job.Wanted.{Wanted}
 use Rattle.nor_words.specs.declared.job.Wanted.TheVariants as wanted
@@ -38,11 +43,18 @@ request_for change named ranges = record {
   verify = change.verify;
 }
 
--- Holds if the text is a layout, each name is that of one of its regions, and the ranges contain exactly the addresses
--- of the named regions.
-pub record AreIncluded (text names : List ℕ) (ranges : List Span) : Type 0 where
+-- Holds if the text is a layout of this form with these regions: lines, or an image with an FMAP or a flash descriptor of
+-- a chip with the image's length.
+abbrev pub HasLayout : LayoutForm → (text : List ℕ) → List Region → Type 0
+HasLayout form.Lines text regions = IsLayout text regions
+HasLayout form.Fmap text regions = fmap_says (length text) text ≡ Ok regions
+HasLayout form.Descriptor text regions = descriptor_says (length text) text ≡ Ok regions
+
+-- Holds if the text is a layout of this form, each name is that of one of its regions, and the ranges contain exactly the
+-- addresses of the named regions.
+pub record AreIncluded (form : LayoutForm) (text names : List ℕ) (ranges : List Span) : Type 0 where
   pub regions : List Region
-  pub layout : IsLayout text regions
+  pub layout : HasLayout form text regions
   pub known : are_known regions names ≡ true
   pub union : (a : ℕ) → contains ranges a ≡ is_included regions names a
 
@@ -52,7 +64,7 @@ pub record AreOfLayout (view : View) (regions : Regions) (ranges : List Span) : 
   pub text : List ℕ
   pub read : IsRead view regions.layout.now 16777217 text
   pub whole : length text ≤ 16777216
-  pub included : AreIncluded text regions.names.now ranges
+  pub included : AreIncluded regions.form text regions.names.now ranges
 
 -- Holds if the ranges are those of the named regions, or, if no regions are given, `None` (the whole chip).
 abbrev pub AreRangesOf : View → Option Regions → Option (List Span) → Type 0
@@ -69,10 +81,11 @@ pub record IsNoLayout (text : List ℕ) (fault : LayoutFault) : Type 0 where
 abbrev pub first_unknown : List Region → (names : List ℕ) → Option (List ℕ)
 first_unknown regions names = find (λ name. not (is_region_named regions name)) (names_of names)
 
--- Holds if the text is a layout, and `name` is the first of the names that is not that of one of its regions.
-pub record IsUnknown (text names name : List ℕ) : Type 0 where
+-- Holds if the text is a layout of this form, and `name` is the first of the names that is not that of one of its
+-- regions.
+pub record IsUnknown (form : LayoutForm) (text names name : List ℕ) : Type 0 where
   pub regions : List Region
-  pub layout : IsLayout text regions
+  pub layout : HasLayout form text regions
   pub first : first_unknown regions names ≡ Some name
 
 -- Holds if the fault is a reason why the text can't be parsed: memory may run out, or the text is no layout.
@@ -81,11 +94,19 @@ IsUnparsed text layout.Memory = AsksMemory text
 IsUnparsed text layout.NoRegion = ⊥
 IsUnparsed text fault = IsNoLayout text fault
 
--- Holds if the fault is a reason why nothing is included: the text can't be parsed, or a name is that of no region.
-abbrev pub IncludesNone : (text names : List ℕ) → Fault → Type 0
-IncludesNone text names (end.Layout fault) = IsUnparsed text fault
-IncludesNone text names (end.NoRegion name) = IsUnknown text names name.now
-IncludesNone text names fault = ⊥
+-- Holds if the fault is a reason why the text isn't read as a layout of this form.
+abbrev pub LacksLayout : LayoutForm → (text : List ℕ) → Fault → Type 0
+LacksLayout form.Lines text (end.Layout fault) = IsUnparsed text fault
+LacksLayout form.Fmap text (end.Map fault) =
+    ReadsTable (fmap_says (length text) text) (AsksInFmap (length text) text) (Err fault)
+LacksLayout form.Descriptor text (end.Map fault) =
+    ReadsTable (descriptor_says (length text) text) (AsksInDescriptor (length text) text) (Err fault)
+LacksLayout form text fault = ⊥
+
+-- Holds if the fault is a reason why nothing is included: the text isn't read as a layout, or a name is that of no region.
+abbrev pub IncludesNone : LayoutForm → (text names : List ℕ) → Fault → Type 0
+IncludesNone form text names (end.NoRegion name) = IsUnknown form text names name.now
+IncludesNone form text names fault = LacksLayout form text fault
 
 -- Holds if the layout's file has at most 16 MiB, and the fault is a reason why its text and the names include nothing.
 -- That `text` is the content of the file has the premise of `IsRead`.
@@ -93,13 +114,14 @@ pub record IsLayoutFault (view : View) (regions : Regions) (fault : Fault) : Typ
   pub text : List ℕ
   pub read : IsRead view regions.layout.now 16777217 text
   pub whole : length text ≤ 16777216
-  pub why : IncludesNone text regions.names.now fault
+  pub why : IncludesNone regions.form text regions.names.now fault
 
 -- Holds for the faults of including regions: those of the layout's text and names, of reading its file, and of a file
 -- of more than 16 MiB. Without regions there is no fault.
 abbrev pub FailsToInclude : View → Option Regions → Fault → Type 0
 FailsToInclude view None fault = ⊥
 FailsToInclude view (Some regions) (end.Layout fault) = IsLayoutFault view regions (end.Layout fault)
+FailsToInclude view (Some regions) (end.Map fault) = IsLayoutFault view regions (end.Map fault)
 FailsToInclude view (Some regions) (end.NoRegion name) = IsLayoutFault view regions (end.NoRegion name)
 FailsToInclude view (Some regions) fault =
     IsReadingFault view regions.layout.now 16777217 fault ⊎ IsTooLong view regions.layout.now 16777216 fault

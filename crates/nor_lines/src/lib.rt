@@ -41,7 +41,7 @@ pub use files::{
     taken, unheld, unmade, unread,
 };
 pub use messages::{Fault, FileFault, or_fault};
-pub use printing::{help_of, print_answer, print_fault, print_help};
+pub use printing::{help_of, print_answer, print_fault, print_help, version_of};
 pub use reasons::text_of_flaw;
 pub use requests::{read_included, request_for};
 pub use roles::{

@@ -3,8 +3,9 @@ ghost use Rattle.std.specs.Prelude.{◌≡◌, Some};
 ghost use Rattle.nor_lines.specs.Messages.{IsReportedAs};
 
 use crate::escapes::Escaped;
-use crate::reasons::{JournalLine, LayoutLine, ReasonLine};
+use crate::reasons::{JournalLine, LayoutLine, MapLine, ReasonLine};
 use nor_layout::LayoutFault;
+use nor_maps::MapFault;
 use nor_session::Refusal;
 use nor_words::{Reason, UsageFault};
 use std::alloc::AllocError;
@@ -52,6 +53,8 @@ pub enum Fault<'a> {
     NoText,
     /// A layout that can't be used.
     Layout(LayoutFault),
+    /// An FMAP or a flash descriptor that can't be used, or that the image lacks.
+    Map(MapFault),
     /// Layout fault 8: the first of the given names that is not the name of a region.
     NoRegion {
         name: &'a str,
@@ -129,6 +132,10 @@ impl fmt::Display for Fault<'_> {
             Fault::Layout(fault) => {
                 let (number, place) = (fault.number(), Place(fault.line()));
                 write!(f, "{}Layout fault {number}{place}.", LayoutLine(*fault))
+            }
+            Fault::Map(fault) => {
+                let number = fault.number();
+                write!(f, "{}Map fault {number}.", MapLine(*fault))
             }
             Fault::NoRegion { name } => {
                 let name = Escaped(name);

@@ -4,7 +4,7 @@ ghost use Rattle.std.specs.Io.KnownBytes.{Appends};
 ghost use Rattle.nor_probe.specs.Table.{chips};
 ghost use Rattle.nor_lines.specs.AnswerLines.{AreLines, AreRangeLines, chip_line, chip_lines, counts_line, done_lines, found_line, restored_line, how_it_went, name_line, protected_line, protection_lines, range_line, read_lines, rehearsal_lines, restores_line, size_line, stop_line, verified_lines};
 ghost use Rattle.nor_lines.specs.FaultLines.{line_of};
-ghost use Rattle.nor_lines.specs.Printing.{IsAnswered, Prints};
+ghost use Rattle.nor_lines.specs.Printing.{AsksForVersion, IsAnswered, Prints};
 
 use crate::answers::Answer;
 use crate::messages::Fault;
@@ -33,7 +33,22 @@ pub fn help_of<'a>(fault: &'a Fault<'_>) -> Option<&'a WordsError>
     }
 }
 
-/// Prints the parser's help and flushes the writer.
+/// Returns the parser's error, which contains the version, if the fault is a request for the version. Returns `None` for
+/// any other fault.
+pub fn version_of<'a>(fault: &'a Fault<'_>) -> Option<&'a WordsError>
+    ensures some { IsSome result → AsksForVersion fault.now }
+    ensures none { IsNone result → AsksForVersion fault.now → ⊥ }
+{
+    match fault {
+        Fault::Usage {
+            fault: UsageFault::Words(said),
+            ..
+        } if said.kind() == ErrorKind::DisplayVersion => Some(said),
+        _ => None,
+    }
+}
+
+/// Prints the parser's help or version and flushes the writer.
 pub fn print_help<W: Write>(output: &mut W, help: &WordsError) -> io::Result<()> {
     write!(output, "{help}")?;
     output.flush()

@@ -1,10 +1,11 @@
 //! The lines that precede the numbered line of a fault, and say what is wrong.
 ghost use Rattle.std.specs.Prelude.{◌≡◌, Some};
-ghost use Rattle.nor_lines.specs.ReasonLines.{flaw_text, line_fault_text};
+ghost use Rattle.nor_lines.specs.ReasonLines.{flaw_text, line_fault_text, region_fault_text};
 
 use crate::escapes::Escaped;
 use nor_journal::JournalFault;
-use nor_layout::{LayoutFault, LineFault};
+use nor_layout::{LayoutFault, LineFault, RegionFault};
+use nor_maps::MapFault;
 use nor_session::Refusal;
 use nor_words::{Flaw, Reason};
 use std::fmt;
@@ -38,6 +39,10 @@ impl fmt::Display for ReasonLine<'_> {
                 let value = Escaped(value);
                 writeln!(f, "error: invalid value of --wp-range: '{value}'")
             }
+            Reason::Progress(value) => {
+                let value = Escaped(value);
+                writeln!(f, "error: invalid value of --progress: '{value}'")
+            }
             Reason::NoJournal(option) => {
                 writeln!(f, "error: {} needs --journal", option.as_str())
             }
@@ -47,9 +52,12 @@ impl fmt::Display for ReasonLine<'_> {
             Reason::NoChange(option) => {
                 writeln!(f, "error: {} needs -w, -E or --wp-range", option.as_str())
             }
-            Reason::NoNames => f.write_str("error: -l needs -i\n"),
+            Reason::NoNames(option) => writeln!(f, "error: {} needs -i", option.as_str()),
             Reason::NoLayout => f.write_str("error: -i needs -l\n"),
-            Reason::NoRegions => f.write_str("error: -l and -i need -r, -v, -w or -E\n"),
+            Reason::NoRegions(option) => {
+                let option = option.as_str();
+                writeln!(f, "error: {option} and -i need -r, -v, -w or -E")
+            }
             Reason::NoContent(option) => writeln!(f, "error: {} needs -w or -E", option.as_str()),
             Reason::NoComparison => f.write_str("error: -N needs -w, -E or --restore\n"),
             Reason::NoRestore => f.write_str("error: --quick needs --restore\n"),
@@ -104,6 +112,46 @@ fn text_of_line(fault: LineFault) -> &'static str
         LineFault::Backwards => "the end is below the start",
         LineFault::Name => "the name is not 1 to 32 visible ASCII characters other than , and :",
         LineFault::Twice => "an earlier line has this name",
+    }
+}
+
+/// The line that says what is wrong with an FMAP or a flash descriptor. It is empty if memory ran out. Entries of a flash
+/// descriptor are counted from 0, areas of an FMAP from 1.
+#[derive(Drop)]
+pub struct MapLine(pub MapFault);
+
+impl fmt::Display for MapLine {
+    ghost use Rattle.nor_lines.specs.ReasonLines.{map_line};
+
+    ghost output = { λ shown. Some (map_line shown.0) };
+
+    fn fmt<W: fmt::Write>(&self, f: &mut fmt::Formatter<W>) -> fmt::Result {
+        match self.0 {
+            MapFault::Missing => {
+                f.write_str(
+                    "error: the image has no FMAP, or does not begin with a flash descriptor\n",
+                )
+            }
+            MapFault::Short => f.write_str("error: the image or its table of regions is cut off\n"),
+            MapFault::Outside { record } => {
+                writeln!(
+                    f,
+                    "error: region {record} of the image does not lie in the image"
+                )
+            }
+            MapFault::Region { fault, .. } => f.write_str(text_of_region(fault)),
+        }
+    }
+}
+
+fn text_of_region(fault: RegionFault) -> &'static str
+    ensures { result.now ≡ region_fault_text fault }
+{
+    match fault {
+        RegionFault::Name => "error: the image has a region without a valid name\n",
+        RegionFault::Twice => "error: the image has two regions with one name\n",
+        RegionFault::TooMany => "error: the image has more than 64 regions\n",
+        RegionFault::Memory => "",
     }
 }
 

@@ -1,25 +1,29 @@
 //! The request of a change, and the addresses of the regions that it includes.
-ghost use Rattle.std.specs.Prelude.{◌≡◌, IfOk, IfErr, option_map};
+ghost use Rattle.std.specs.Prelude.{◌≡◌, ◌≤◌, IfOk, IfErr, length, option_map};
 ghost use Rattle.nor_layout.specs.Text.{is_region_named};
-ghost use Rattle.nor_lines.specs.Requests.{AreIncluded, AreRangesOf, FailsToInclude, IncludesNone, first_unknown, request_for, what_of};
+ghost use Rattle.nor_lines.specs.Requests.{AreIncluded, AreRangesOf, FailsToInclude, HasLayout, IncludesNone};
+ghost use Rattle.nor_lines.specs.Requests.{LacksLayout, first_unknown, request_for, what_of};
 
 use crate::files::{MOST_LAYOUT_BYTES, read_file};
 use crate::messages::{Fault, FileFault};
 use nor_files::Store;
 use nor_layout::{Layout, Ranges, Region};
+use nor_maps::{read_descriptor, read_fmap};
 use nor_probe::ChipName;
 use nor_session::{Request, What};
-use nor_words::{Change, Regions, Wanted};
+use nor_words::{Change, LayoutForm, Regions, Wanted};
 use std::alloc::Global;
 
 /// Reads the layout from its file, and returns the addresses of the named regions. If no regions are given, returns
-/// `None` and reads no file.
+/// `None` and reads no file. A layout in an image is that of a chip with the image's length.
 ///
 /// Returns one of these faults:
 ///
 /// - file fault 1 if the file is missing, can't be read, or has more than 16 MiB
 /// - a layout fault if the layout or the names of the regions are wrong, or if memory runs out while the layout is
 ///   parsed
+/// - a map fault if the file of `--fmap-file` or `--ifd-file` has no valid FMAP or flash descriptor, or if memory runs
+///   out while it is read
 /// - error 18 if memory runs out while the file is read
 pub fn read_included<'a, R: Store>(
     rt: &R,
@@ -28,7 +32,14 @@ pub fn read_included<'a, R: Store>(
     ensures ok { IfOk result (AreRangesOf ((R.state rt.now).view) regions.entry) }
     ensures err { IfErr result (FailsToInclude ((R.state rt.now).view) regions.entry) }
 {
-    let Some(Regions { layout, names }) = regions else {
+    let Some(
+        Regions {
+            layout,
+            form,
+            names,
+        },
+    ) = regions
+    else {
         return Ok(None);
     };
     let text = read_file(rt, layout, MOST_LAYOUT_BYTES + 1)?;
@@ -36,26 +47,53 @@ pub fn read_included<'a, R: Store>(
         let (fault, name) = (FileFault::Read, layout);
         return Err(Fault::File { fault, name });
     }
-    let included = included_in(rt.alloc(), &text, names)?;
+    let included = included_in(rt.alloc(), form, &text, names)?;
     Ok(Some(included))
 }
 
-// Parses `text` as a layout, and returns the addresses of its regions with the comma-separated `names`.
-#[tactic(auto, using(crate::proofs::Included::is_unparsed, crate::proofs::Included::all_known))]
-fn included_in<'a>(alloc: Global, text: &[u8], names: &'a str) -> Result<Ranges, Fault<'a>>
-    ensures ok { IfOk result (AreIncluded text.now names.now) }
-    ensures err { IfErr result (IncludesNone text.now names.now) }
+// Reads `text` as a layout of this form, and returns the addresses of its regions with the comma-separated `names`.
+#[tactic(auto, using(crate::proofs::Included::all_known))]
+fn included_in<'a>(
+    alloc: Global,
+    form: LayoutForm,
+    text: &[u8],
+    names: &'a str,
+) -> Result<Ranges, Fault<'a>>
+    requires { length text.now ≤ 16777216 }
+    ensures ok { IfOk result (AreIncluded form text.now names.now) }
+    ensures err { IfErr result (IncludesNone form text.now names.now) }
 {
-    let layout = match Layout::read(alloc, text) {
-        Ok(layout) => layout,
-        Err(fault) => return Err(Fault::Layout(fault)),
-    };
+    let layout = read_layout(alloc, form, text)?;
     if let Some(name) = first_unknown(layout.regions(), names) {
         return Err(Fault::NoRegion { name });
     }
     match layout.include(names) {
         Ok(ranges) => Ok(ranges),
         Err(fault) => Err(Fault::Layout(fault)),
+    }
+}
+
+// Reads `text` as a layout of this form.
+#[tactic(auto, using(crate::proofs::Included::is_unparsed))]
+fn read_layout<'a>(alloc: Global, form: LayoutForm, text: &[u8]) -> Result<Layout, Fault<'a>>
+    requires { length text.now ≤ 16777216 }
+    ensures ok { IfOk result (λ layout. HasLayout form text.now layout) }
+    ensures err { IfErr result (LacksLayout form text.now) }
+{
+    let size = text.len() as u32;
+    match form {
+        LayoutForm::Lines => match Layout::read(alloc, text) {
+            Ok(layout) => Ok(layout),
+            Err(fault) => Err(Fault::Layout(fault)),
+        },
+        LayoutForm::Fmap => match read_fmap(alloc, text, size) {
+            Ok(layout) => Ok(layout),
+            Err(fault) => Err(Fault::Map(fault)),
+        },
+        LayoutForm::Descriptor => match read_descriptor(alloc, text, size) {
+            Ok(layout) => Ok(layout),
+            Err(fault) => Err(Fault::Map(fault)),
+        },
     }
 }
 

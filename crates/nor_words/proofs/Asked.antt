@@ -1,14 +1,14 @@
 -- The job or fault of the arguments follows from that of the options that they give.
-use Rattle.std.proofs.Common.{◌≡◌, arith, Bool, List, [], Some, None, Result, Ok, Err, refl, subst, sym}
+use Rattle.std.proofs.Common.{◌≡◌, arith, Bool, false, List, [], Some, None, Result, Ok, Err, inl, inr, refl, subst, sym}
 use Rattle.std.specs.Prelude.{MatchResult}
 use Rattle.clap.specs.declared.error.Error.{Error}
 use Rattle.nor_words.specs.Text.{Text}
 use Rattle.nor_words.specs.Given.{Texts, given_by, hardware_given_by}
-use Rattle.nor_words.specs.Faults.{first_fault, usage_faults}
-use Rattle.nor_words.specs.Job.{IsAsked, IsHardwareAsked, LacksProgrammer}
+use Rattle.nor_words.specs.Faults.{first_fault, operation_faults, usage_faults}
+use Rattle.nor_words.specs.Job.{IsAsked, IsHardwareAsked, IsWrongForHardware}
 use Rattle.nor_words.specs.Reasons.{IsReason}
-use Rattle.nor_words.specs.Words.{AreWrong, AreWrongForHardware, IsFault, IsHardwareJob, IsJob, hardware_refusals_of}
-use Rattle.nor_words.specs.Words.{refusals_of}
+use Rattle.nor_words.specs.Words.{AreWrong, AreWrongForHardware, HasNoJob, IsFault, IsHardwareFault, IsHardwareJob}
+use Rattle.nor_words.specs.Words.{IsJob, hardware_refusals_of, refusals_of}
 use Rattle.nor_words.specs.declared.job.HardwareJob.{HardwareJob}
 use Rattle.nor_words.specs.declared.job.Job.{Job}
 use Rattle.nor_words.specs.declared.reasons.WrongArguments.{WrongArguments}
@@ -19,6 +19,9 @@ use Rattle.nor_words.proofs.Sound.{cases}
 -- none of the faults 2 to 9 is the fault 1, which `clap` reports
 not-words : (a b c d e f g h : Bool) (error : Error) → first_fault (cases a b c d e f g h) ≡ Some (why.Words error) → ⊥
 not-words a b c d e f g h error is = grind arith
+
+words-apart : {error : Error} → why.Words error ≡ why.NoProgrammer → ⊥
+words-apart is = grind arith
 
 fault-returned : (words : List Text) (fault : UsageFault) → refusals_of words ≡ []
     → first_fault (usage_faults (given_by words)) ≡ Some fault → IsFault words fault
@@ -46,16 +49,34 @@ wrong-by_words words given fault wrong taken same is named because =
 
 -- ---- programs for hardware
 
+-- the options have a fault, with its reason
+no-job : (given : Texts) (wrong : WrongArguments) → IsWrongForHardware given wrong
+    → HasNoJob given wrong.fault × IsReason given wrong.fault wrong.reason
+no-job given wrong (inl checked) = (inl (checked.0, checked.1.fault), checked.1.reason)
+no-job given wrong (inr other) =
+    (inr (other.0, (other.1.fault, other.1.lacks)), rw (other.1.fault, other.1.reason) refl)
+
+-- none of the faults 4 to 9 is the fault 1, which `clap` reports
+no-words : (given : Texts) (error : Error) → first_fault (operation_faults given) ≡ Some (why.Words error) → ⊥
+no-words given error is = not-words false false _ _ _ _ _ _ error is
+
+hardware_fault-returned : (program : Text) (words : List Text) (fault : UsageFault)
+    → hardware_refusals_of program words ≡ [] → HasNoJob (hardware_given_by program words) fault
+    → IsHardwareFault program words fault
+hardware_fault-returned program words (why.Words error) taken (inl checked) =
+    absurd (no-words (hardware_given_by program words) error checked.1)
+hardware_fault-returned program words (why.Words error) taken (inr other) = absurd (words-apart other.1.0)
+hardware_fault-returned program words _ taken h = search
+
 -- if `clap` accepts the arguments of a program for hardware, the job or fault of the options that they give is that of
 -- the arguments
 pub hardware_asked-by_words : (program : Text) (words : List Text) (given : Texts)
     (r : Result HardwareJob WrongArguments)
     → hardware_refusals_of program words ≡ [] → given ≡ hardware_given_by program words
-    → MatchResult r (IsHardwareAsked given) (LacksProgrammer given)
+    → MatchResult r (IsHardwareAsked given) (IsWrongForHardware given)
     → MatchResult r (IsHardwareJob program words) (AreWrongForHardware program words)
 hardware_asked-by_words program words given (Ok job) taken same h =
     record { taken = taken; asked = subst (λ (g : Texts). IsHardwareAsked g job) same h }
-hardware_asked-by_words program words given (Err wrong) taken same h = record {
-  fault = rw h.fault (taken, subst (λ (g : Texts). g.programmer ≡ None) same h.lacks);
-  reason = rw (h.fault, h.reason) refl;
-}
+hardware_asked-by_words program words given (Err wrong) taken same h =
+    let has = no-job (hardware_given_by program words) wrong (subst (λ (g : Texts). IsWrongForHardware g wrong) same h) in
+    record { fault = hardware_fault-returned program words wrong.fault taken has.0; reason = has.1 }

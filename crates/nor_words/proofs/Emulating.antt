@@ -3,11 +3,12 @@ use Rattle.std.proofs.Common.{◌≡◌, Bool, None, Option, Some, arith, codes,
 use Rattle.std.specs.Prelude.{is_some, not}
 use Rattle.std.specs.Borrow.{Bor}
 use Rattle.nor_words.specs.Text.{Text}
-use Rattle.nor_words.specs.Given.{Texts}
+use Rattle.nor_words.specs.Given.{Texts, progress_mode}
 use Rattle.nor_words.specs.Faults.{first_fault, usage_faults}
 use Rattle.nor_words.specs.Job.{IsAsked, IsOperation, IsTask}
 use Rattle.nor_words.specs.declared.job.ChipJob.{ChipJob}
 use Rattle.nor_words.specs.declared.job.Job.TheVariants as job
+use Rattle.nor_words.specs.declared.job.ProgressMode.{ProgressMode}
 use Rattle.nor_words.specs.declared.job.Task.{Task}
 
 abbrev any_chip : Text
@@ -26,13 +27,19 @@ given_text None is same = same
 given_text (Some text) is same = same
 
 -- an operation that the options ask for on an emulated chip is the one that they ask for
-pub operation-asked : (given : Texts) (on_chip : ChipJob) (backup : Bool) → backup ≡ is_some given.backup
+pub operation-asked : (given : Texts) (on_chip : ChipJob) (backup : Bool)
+    (progress : ProgressMode) (log : Option (Bor Text))
+    → backup ≡ is_some given.backup → progress ≡ progress_mode given → option_map (λ file. file.now) log ≡ given.log
     → (first_fault (usage_faults (emulated given)) ≡ None) × IsAsked (emulated given) (job.Chip on_chip)
     → IsOperation given (record {
       named = on_chip.named;
       verifies_all = not given.no_verify_all;
       is_quick = given.quick;
       is_backup = backup;
+      is_flash_name = given.flash_name;
+      progress = progress;
+      is_verbose = given.verbose;
+      log = log;
       task = on_chip.task;
     })
-operation-asked given on_chip backup same is = search task-same
+operation-asked given on_chip backup progress log same shown logged is = search task-same

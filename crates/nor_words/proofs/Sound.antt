@@ -1,10 +1,10 @@
 -- Properties of options without a fault.
 use Rattle.std.proofs.Common.{◌≡◌, arith, ◌&&◌, ◌||◌, ℕ, Bool, true, false, List, [], ◌∷◌, Option, None, is_some}
 use Rattle.std.specs.Prelude.{option_and_then}
-use Rattle.nor_words.specs.Text.{reads}
+use Rattle.nor_words.specs.Text.{Text, reads}
 use Rattle.nor_words.specs.Given.{Texts, asks_change, is_new_content}
-use Rattle.nor_words.specs.Faults.{Case, first_fault, has_wrong_journal, has_wrong_regions, is_no, passes_test}
-use Rattle.nor_words.specs.Faults.{usage_faults}
+use Rattle.nor_words.specs.Faults.{Case, first_fault, has_wrong_journal, has_wrong_regions, has_wrong_value, is_no}
+use Rattle.nor_words.specs.Faults.{passes_test, usage_faults}
 use Rattle.nor_words.specs.Numbers.{range_of}
 use Rattle.nor_words.specs.Programmer.{has_stop}
 use Rattle.nor_words.specs.Stops.{stops_of}
@@ -19,7 +19,7 @@ cases a b c d e f g h = (a, why.NoProgrammer) ∷ (b, why.Programmer) ∷ (c, wh
 
 -- Holds if the options have none of the faults 5, 6, 7 and 9.
 pub record Sound (given : Texts) : Type 0 where
-  pub range : is_no (reads range_of) given.wp_range ≡ false
+  pub value : has_wrong_value given ≡ false
   pub journal : has_wrong_journal given ≡ false
   pub regions : has_wrong_regions given ≡ false
   pub stops : (is_no (reads stops_of) given.rehearse || (is_some given.rehearse && passes_test has_stop given.programmer))
@@ -31,7 +31,7 @@ none-holds a b c d e f g h none = grind arith
 
 pub sound-none : (given : Texts) → first_fault (usage_faults given) ≡ None → Sound given
 sound-none given none =
-    let no = none-holds _ _ _ _ _ _ _ _ none in record { range = no.0; journal = no.1; regions = no.2; stops = no.3 }
+    let no = none-holds _ _ _ _ _ _ _ _ none in record { value = no.0; journal = no.1; regions = no.2; stops = no.3 }
 
 -- if `Sound` holds, the options ask for a change only if they have `-w`, `-E` or a parsed range
 pub no_change-wanted : (given : Texts) → Sound given → is_new_content given ≡ false
@@ -42,8 +42,19 @@ no_change-wanted given sound same none = grind arith
 change-wanted : (given : Texts) (wanted : Wanted) → IsWantedByArguments given wanted → asks_change given ≡ true
 change-wanted given wanted is = grind arith
 
+-- a change without a journal is rehearsed
+rehearsed : (given : Texts) → has_wrong_journal given ≡ false → asks_change given ≡ true → given.journal ≡ None
+    → is_some given.rehearse ≡ true
+rehearsed given sound asks journal = grind arith
+
+parsed : (text : Option Text) (stops : Option (List ℕ)) (stopped : Bool)
+    → (is_no (reads stops_of) text || (is_some text && stopped)) ≡ false → is_some text ≡ true
+    → option_and_then stops_of text ≡ stops → is_some stops ≡ true
+parsed text stops stopped sound some same = grind arith
+
 -- if `Sound` holds, options that have a target of a change, but no journal, have parsed stops
 pub stops-kept : (given : Texts) (wanted : Wanted) (stops : Option (List ℕ)) → Sound given
     → IsWantedByArguments given wanted → option_and_then stops_of given.rehearse ≡ stops
     → given.journal ≡ None → is_some stops ≡ true
-stops-kept given wanted stops sound is same journal = grind (arith, change-wanted given wanted is)
+stops-kept given wanted stops sound is same journal = parsed given.rehearse stops _ sound.stops
+    (rehearsed given sound.journal (change-wanted given wanted is) journal) same

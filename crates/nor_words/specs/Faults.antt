@@ -3,7 +3,7 @@
 use Rattle.std.specs.Prelude.{◌&&◌, ◌||◌, ◌++◌, ℕ, Bool, false, Option, Some, None, List, [], ◌∷◌, codes, decimal, drop, is_some, nat_eq, nat_lt, not, if◌then◌else◌}
 use Rattle.std.specs.Option.{option_map_or}
 use Rattle.nor_words.specs.Text.{Text, reads}
-use Rattle.nor_words.specs.Given.{Texts, how_many, asks_change, is_new_content, operations, takes_regions}
+use Rattle.nor_words.specs.Given.{Texts, asks_change, has_two_layouts, how_many, is_new_content, layout_file, operations, progress_of, takes_regions}
 use Rattle.nor_words.specs.Numbers.{range_of}
 use Rattle.nor_words.specs.Programmer.{has_stop, is_programmer_text}
 use Rattle.nor_words.specs.Stops.{stops_of}
@@ -28,10 +28,16 @@ abbrev pub has_wrong_journal : Texts → Bool
 has_wrong_journal given =
     not (nat_eq (how_many (is_some given.journal ∷ is_some given.rehearse ∷ [])) (if asks_change given then 1 else 0))
 
--- fault 7: true if there is only one of `-l` and `-i`, or both without any of `-r`, `-v`, `-w` and `-E`
+-- fault 5: true if the value of `--wp-range` isn't a start and a length, or that of `--progress` no mode; flashnor lacks
+-- `--progress`
+abbrev pub has_wrong_value : Texts → Bool
+has_wrong_value given = is_no (reads range_of) given.wp_range || is_no (reads progress_of) given.progress
+
+-- fault 7: true if there is only one of a layout and `-i`, or both without any of `-r`, `-v`, `-w` and `-E`, or more than
+-- one layout; flashnor has only the layout of `-l`
 abbrev pub has_wrong_regions : Texts → Bool
-has_wrong_regions given = (is_some given.layout || is_some given.names)
-    && not (is_some given.layout && (is_some given.names && takes_regions given))
+has_wrong_regions given = (is_some (layout_file given) || is_some given.names)
+    && not (is_some (layout_file given) && (is_some given.names && (takes_regions given && not (has_two_layouts given))))
 
 -- true for `-N` without `-w`, `-E` or `--restore`, and for `--quick` without `--restore`; flashnor has neither option
 abbrev pub has_unneeded_for_hardware : Texts → Bool
@@ -49,7 +55,7 @@ usage_faults given =
     (not (is_some given.programmer) && not given.list, why.NoProgrammer)
     ∷ (is_no is_programmer_text given.programmer, why.Programmer)
     ∷ (nat_lt 1 (operations given), why.TwoOperations)
-    ∷ (is_no (reads range_of) given.wp_range, why.Range)
+    ∷ (has_wrong_value given, why.Range)
     ∷ (has_wrong_journal given, why.Journal)
     ∷ (has_wrong_regions given, why.Layout)
     ∷ (has_unneeded given, why.Unneeded)

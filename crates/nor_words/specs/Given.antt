@@ -1,5 +1,5 @@
 -- The values that the arguments give the options.
-use Rattle.std.specs.Prelude.{◌||◌, ℕ, Bool, false, Option, None, List, [], ◌∷◌, codes, is_some, option_map}
+use Rattle.std.specs.Prelude.{◌&&◌, ◌||◌, ℕ, Bool, false, Option, Some, None, List, [], ◌∷◌, codes, is_some, option_and_then, option_map, unwrap_or, if◌then◌else◌}
 use Rattle.std.specs.List.{count_by}
 use Rattle.std.specs.Option.{option_map_or, option_or}
 use Rattle.std.specs.Str.{bytes_eq}
@@ -7,15 +7,20 @@ use Rattle.clap.specs.Words.{Row, first_of, matches_of}
 use Rattle.nor_words.specs.Text.{Text}
 use Rattle.nor_words.specs.Options.{hardware_options, options}
 use Rattle.nor_words.specs.declared.given.Given.{Given}
+use Rattle.nor_words.specs.declared.job.LayoutForm.{LayoutForm}
+use Rattle.nor_words.specs.declared.job.LayoutForm.TheVariants as form
+use Rattle.nor_words.specs.declared.job.ProgressMode.{ProgressMode}
+use Rattle.nor_words.specs.declared.job.ProgressMode.TheVariants as mode
 
 -- The values of the options that take one, and for each flag whether it is set.
 pub record Texts : Type 0 where
   -- `-p TEXT`, `-c NAME`
   pub programmer : Option Text
   pub chip : Option Text
-  -- `-L`, `--flash-size`, `--wp-status`, `--wp-list`
+  -- `-L`, `--flash-size`, `--flash-name`, `--wp-status`, `--wp-list`
   pub list : Bool
   pub flash_size : Bool
+  pub flash_name : Bool
   pub wp_status : Bool
   pub wp_list : Bool
   -- `-r FILE`, `-v FILE`
@@ -26,20 +31,27 @@ pub record Texts : Type 0 where
   pub erase : Bool
   pub wp_range : Option Text
   pub restore : Option Text
-  -- `--backup FILE`
+  -- `--backup FILE`, `--check-journal FILE`
   pub backup : Option Text
+  pub check_journal : Option Text
   -- `--quick`
   pub quick : Bool
   -- `--journal FILE`, `--rehearse N,N,..`
   pub journal : Option Text
   pub rehearse : Option Text
-  -- `-l FILE`, `-i NAMES`
+  -- `-l FILE`, `--fmap-file FILE`, `--ifd-file FILE`, `-i NAMES`
   pub layout : Option Text
+  pub fmap_file : Option Text
+  pub ifd_file : Option Text
   pub names : Option Text
   -- `-n`, `-N`, `--unlock`
   pub no_verify : Bool
   pub no_verify_all : Bool
   pub unlock : Bool
+  -- `--progress MODE`, `-V`, `-o FILE`
+  pub progress : Option Text
+  pub verbose : Bool
+  pub log : Option Text
 
 -- true if the value is `true`, which `clap` gives a flag that is set
 abbrev pub is_flag_set : Option Text → Bool
@@ -53,13 +65,14 @@ text_in rows id = first_of id rows
 abbrev pub is_set_in : List Row → Text → Bool
 is_set_in rows id = is_flag_set (first_of id rows)
 
--- the options in the matches of a parse for flashnor, which has none of `--backup`, `-N` and `--quick`
+-- the options in the matches of a parse for flashnor, which lacks those that only programs for hardware have
 abbrev pub given_in : List Row → Texts
 given_in rows = record {
   programmer = text_in rows (codes "programmer");
   chip = text_in rows (codes "chip");
   list = is_set_in rows (codes "list");
   flash_size = is_set_in rows (codes "flash-size");
+  flash_name = false;
   wp_status = is_set_in rows (codes "wp-status");
   wp_list = is_set_in rows (codes "wp-list");
   read = text_in rows (codes "read");
@@ -69,29 +82,42 @@ given_in rows = record {
   wp_range = text_in rows (codes "wp-range");
   restore = text_in rows (codes "restore");
   backup = None;
+  check_journal = None;
   quick = false;
   journal = text_in rows (codes "journal");
   rehearse = text_in rows (codes "rehearse");
   layout = text_in rows (codes "layout");
+  fmap_file = None;
+  ifd_file = None;
   names = text_in rows (codes "include");
   no_verify = is_set_in rows (codes "noverify");
   no_verify_all = false;
   unlock = is_set_in rows (codes "unlock");
+  progress = None;
+  verbose = false;
+  log = None;
 }
 
 -- the options that the arguments give, as `clap` parses them
 abbrev pub given_by : List Text → Texts
 given_by words = given_in (matches_of options words)
 
--- the options in the matches of a parse for a program for hardware, which has `--backup`, `-N` and `--quick`, but
--- neither `-L` nor `--rehearse`
+-- the options in the matches of a parse for a program for hardware, which has more than flashnor, but neither `-L` nor
+-- `--rehearse`
 abbrev pub hardware_given_in : List Row → Texts
 hardware_given_in rows = record (given_in rows) {
   list = false;
   rehearse = None;
+  flash_name = is_set_in rows (codes "flash-name");
   backup = text_in rows (codes "backup");
+  check_journal = text_in rows (codes "check-journal");
   quick = is_set_in rows (codes "quick");
+  fmap_file = text_in rows (codes "fmap-file");
+  ifd_file = text_in rows (codes "ifd-file");
   no_verify_all = is_set_in rows (codes "noverify-all");
+  progress = text_in rows (codes "progress");
+  verbose = is_set_in rows (codes "verbose");
+  log = text_in rows (codes "output");
 }
 
 -- the options that the arguments give a program for hardware with this name, as `clap` parses them
@@ -105,6 +131,7 @@ texts_of given = record {
   chip = option_map (λ text. text.now) given.chip;
   list = given.list;
   flash_size = given.flash_size;
+  flash_name = given.flash_name;
   wp_status = given.wp_status;
   wp_list = given.wp_list;
   read = option_map (λ text. text.now) given.read;
@@ -114,14 +141,20 @@ texts_of given = record {
   wp_range = option_map (λ text. text.now) given.wp_range;
   restore = option_map (λ text. text.now) given.restore;
   backup = option_map (λ text. text.now) given.backup;
+  check_journal = option_map (λ text. text.now) given.check_journal;
   quick = given.quick;
   journal = option_map (λ text. text.now) given.journal;
   rehearse = option_map (λ text. text.now) given.rehearse;
   layout = option_map (λ text. text.now) given.layout;
+  fmap_file = option_map (λ text. text.now) given.fmap_file;
+  ifd_file = option_map (λ text. text.now) given.ifd_file;
   names = option_map (λ text. text.now) given.names;
   no_verify = given.no_verify;
   no_verify_all = given.no_verify_all;
   unlock = given.unlock;
+  progress = option_map (λ text. text.now) given.progress;
+  verbose = given.verbose;
+  log = option_map (λ text. text.now) given.log;
 }
 
 -- how many of these are true
@@ -131,10 +164,36 @@ how_many = count_by (λ asked. asked)
 -- the number of operations that the options ask for
 abbrev pub operations : Texts → ℕ
 operations given = how_many (
-    given.list ∷ given.flash_size ∷ given.wp_status ∷ given.wp_list
+    given.list ∷ given.flash_size ∷ given.flash_name ∷ given.wp_status ∷ given.wp_list
     ∷ is_some given.read ∷ is_some given.verify
     ∷ is_some given.write ∷ given.erase ∷ is_some given.wp_range ∷ is_some given.restore
-    ∷ is_some given.backup ∷ [])
+    ∷ is_some given.backup ∷ is_some given.check_journal ∷ [])
+
+-- the file of the layout: the value of `-l`, or else of `--fmap-file`, or else of `--ifd-file`
+abbrev pub layout_file : Texts → Option Text
+layout_file given = option_or given.layout (option_or given.fmap_file given.ifd_file)
+
+-- the form in which that file has its layout
+abbrev pub layout_form : Texts → LayoutForm
+layout_form given =
+    if is_some given.layout then form.Lines else if is_some given.fmap_file then form.Fmap else form.Descriptor
+
+-- true if more than one of `-l`, `--fmap-file` and `--ifd-file` is given
+abbrev pub has_two_layouts : Texts → Bool
+has_two_layouts given = (is_some given.layout && (is_some given.fmap_file || is_some given.ifd_file))
+    || (is_some given.fmap_file && is_some given.ifd_file)
+
+-- the mode that a value of `--progress` names, if it names one
+abbrev pub progress_of : Text → Option ProgressMode
+progress_of text =
+    if bytes_eq text (codes "auto") then Some mode.Auto
+    else if bytes_eq text (codes "plain") then Some mode.Plain
+    else if bytes_eq text (codes "none") then Some mode.Hidden
+    else None
+
+-- the mode that `--progress` names; `auto` without that option
+abbrev pub progress_mode : Texts → ProgressMode
+progress_mode given = unwrap_or (option_and_then progress_of given.progress) mode.Auto
 
 -- the file that the chip is read into: the value of `-r`, or else of `--backup`
 abbrev pub output_of : Texts → Option Text

@@ -1,10 +1,10 @@
 -- The job that options without a fault ask for, and its parts.
-use Rattle.std.specs.Prelude.{◌≡◌, true, false, MatchResult, Option, Some, None, is_some, not, option_and_then, option_map}
+use Rattle.std.specs.Prelude.{◌≡◌, ◌⊎◌, [], ◌∷◌, true, false, MatchResult, Option, Some, None, is_some, not, option_and_then, option_map}
 use Rattle.std.specs.Borrow.{Bor}
 use Rattle.std.specs.Option.{IsSomeAnd}
 use Rattle.nor_probe.specs.Table.{name_of}
 use Rattle.nor_words.specs.Faults.{first_fault, operation_faults}
-use Rattle.nor_words.specs.Given.{Texts, operations, output_of}
+use Rattle.nor_words.specs.Given.{Texts, how_many, layout_file, layout_form, operations, output_of, progress_mode}
 use Rattle.nor_words.specs.Numbers.{range_of}
 use Rattle.nor_words.specs.Programmer.{IsProgrammer}
 use Rattle.nor_words.specs.Reasons.{IsReason}
@@ -13,11 +13,13 @@ use Rattle.nor_words.specs.Text.{Text}
 use Rattle.nor_words.specs.declared.job.Change.{Change}
 use Rattle.nor_words.specs.declared.job.ChipJob.{ChipJob}
 use Rattle.nor_words.specs.declared.job.HardwareJob.{HardwareJob}
+use Rattle.nor_words.specs.declared.job.HardwareJob.TheVariants as hardware
 use Rattle.nor_words.specs.declared.job.Job.{Job}
 use Rattle.nor_words.specs.declared.job.Job.TheVariants as job
 use Rattle.nor_words.specs.declared.job.JournalUse.{JournalUse}
 use Rattle.nor_words.specs.declared.job.JournalUse.TheVariants as uses
 use Rattle.nor_words.specs.declared.job.Operation.{Operation}
+use Rattle.nor_words.specs.declared.job.ProgrammerJob.{ProgrammerJob}
 use Rattle.nor_words.specs.declared.job.Regions.{Regions}
 use Rattle.nor_words.specs.declared.job.Task.{Task}
 use Rattle.nor_words.specs.declared.job.Task.TheVariants as task
@@ -31,10 +33,11 @@ use Rattle.nor_words.specs.declared.words.UsageFault.TheVariants as why
 abbrev pub NamesFile : Option Text → Bor Text → Type 0
 NamesFile option text = option ≡ Some text.now
 
--- Holds if the regions are the values of `-l` and `-i`, or `None` if both options are missing.
+-- Holds if the regions are the file of the layout with its form, and the value of `-i`; or `None` if both are missing.
 abbrev pub IsRegions : Texts → Option Regions → Type 0
-IsRegions given None = (given.layout ≡ None) × (given.names ≡ None)
-IsRegions given (Some regions) = NamesFile given.layout regions.layout × NamesFile given.names regions.names
+IsRegions given None = (layout_file given ≡ None) × (given.names ≡ None)
+IsRegions given (Some regions) = NamesFile (layout_file given) regions.layout
+    × (regions.form ≡ layout_form given) × NamesFile given.names regions.names
 
 -- Holds if the target of a change is the one that the options ask for.
 abbrev pub IsWantedByArguments : Texts → Wanted → Type 0
@@ -56,9 +59,9 @@ pub record IsChange (given : Texts) (change : Change) : Type 0 where
   pub verify : change.verify ≡ not given.no_verify
   pub journal_use : IsJournalUse given change.journal_use
 
--- Holds if the options ask for this operation. They ask for `Probe` if they have no operation.
+-- Holds if the options ask for this operation. They ask for `Probe` if they have no operation except `--flash-name`.
 abbrev pub IsTask : Texts → Task → Type 0
-IsTask given task.Probe = operations given ≡ 0
+IsTask given task.Probe = operations given ≡ how_many (given.flash_name ∷ [])
 IsTask given task.FlashSize = given.flash_size ≡ true
 IsTask given task.WpStatus = given.wp_status ≡ true
 IsTask given task.WpList = given.wp_list ≡ true
@@ -82,13 +85,17 @@ IsAsked given (job.Chip on_chip) = (given.list ≡ false) × IsChipJob given on_
 -- ---- programs for hardware
 
 -- Holds if the options have none of the faults 4 to 9, and ask for this operation: the name is the value of `-c`, and
--- `-N`, `--quick` and `--backup` say how the operation is performed.
+-- the other fields have the values of the options that say how the operation is performed and shown.
 pub record IsOperation (given : Texts) (operation : Operation) : Type 0 where
   pub sound : first_fault (operation_faults given) ≡ None
   pub named : operation.named ≡ option_map name_of given.chip
   pub verifies_all : operation.verifies_all ≡ not given.no_verify_all
   pub is_quick : operation.is_quick ≡ given.quick
   pub is_backup : operation.is_backup ≡ is_some given.backup
+  pub is_flash_name : operation.is_flash_name ≡ given.flash_name
+  pub progress : operation.progress ≡ progress_mode given
+  pub is_verbose : operation.is_verbose ≡ given.verbose
+  pub log : option_map (λ file. file.now) operation.log ≡ given.log
   pub task : IsTask given operation.task
 
 -- Holds if the fault is the first of the faults 4 to 9 that the options have, and the reason is its reason.
@@ -102,8 +109,25 @@ pub record LacksProgrammer (given : Texts) (wrong : WrongArguments) : Type 0 whe
   pub reason : wrong.reason ≡ because.NoProgrammer
   pub lacks : given.programmer ≡ None
 
--- Holds if the programmer's text is the value of `-p`, and the operation is the one that the options ask for, or the
--- first of the faults 4 to 9 that they have, with its reason.
-pub record IsHardwareAsked (given : Texts) (on_hardware : HardwareJob) : Type 0 where
-  pub programmer : NamesFile given.programmer on_hardware.programmer
-  pub operation : MatchResult on_hardware.operation (IsOperation given) (IsWrongOperation given)
+-- Holds if the options lack a job: with `--check-journal` the fault is the first of the faults 4 to 9 that they have,
+-- without it `-p` is missing.
+abbrev pub IsWrongForHardware : Texts → WrongArguments → Type 0
+IsWrongForHardware given wrong = ((is_some given.check_journal ≡ true) × IsWrongOperation given wrong)
+    ⊎ ((given.check_journal ≡ None) × LacksProgrammer given wrong)
+
+-- Holds if `--check-journal` names this file, and the options have none of the faults 4 to 9.
+pub record IsJournalCheck (given : Texts) (file : Bor Text) : Type 0 where
+  pub named : NamesFile given.check_journal file
+  pub sound : first_fault (operation_faults given) ≡ None
+
+-- Holds if `--check-journal` is missing, the programmer's text is the value of `-p`, and the operation is the one that
+-- the options ask for, or the first of the faults 4 to 9 that they have, with its reason.
+pub record IsProgrammerJob (given : Texts) (on_chip : ProgrammerJob) : Type 0 where
+  pub unchecked : given.check_journal ≡ None
+  pub programmer : NamesFile given.programmer on_chip.programmer
+  pub operation : MatchResult on_chip.operation (IsOperation given) (IsWrongOperation given)
+
+-- Holds if this is the job that the options ask for.
+abbrev pub IsHardwareAsked : Texts → HardwareJob → Type 0
+IsHardwareAsked given (hardware.CheckJournal file) = IsJournalCheck given file
+IsHardwareAsked given (hardware.Chip on_chip) = IsProgrammerJob given on_chip

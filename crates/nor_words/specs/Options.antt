@@ -4,7 +4,7 @@ use Rattle.std.specs.List.{filter}
 use Rattle.std.specs.Str.{bytes_eq}
 use Rattle.clap.specs.Words.{App, Rule, new_app, new_rule, rule_of, with_rule}
 use Rattle.clap.specs.declared.builder.arg.Arg.{Arg}
-use Rattle.clap.specs.declared.builder.action.ArgAction.TheVariants.{Set, SetTrue, HelpShort}
+use Rattle.clap.specs.declared.builder.action.ArgAction.TheVariants.{Set, SetTrue, HelpShort, Version}
 use Rattle.nor_words.specs.declared.options.Choice.{Choice}
 use Rattle.nor_words.specs.Text.{Text}
 
@@ -101,35 +101,50 @@ options =
 abbrev pub is_for_hardware : Text → Bool
 is_for_hardware id = not (bytes_eq id (codes "list")) && not (bytes_eq id (codes "rehearse"))
 
--- `--backup`, which only programs for hardware have
-abbrev pub backup_rule : Rule
-backup_rule = by_name (valued (codes "backup"))
+-- the options that only programs for hardware have, except `-R`; before they have their long names
+abbrev pub own_rules : List Rule
+own_rules =
+    by_name (valued (codes "backup"))
+    ∷ by_letter (codes "N") (flag (codes "noverify-all"))
+    ∷ by_name (flag (codes "quick"))
+    ∷ by_name (flag (codes "flash-name"))
+    ∷ by_name (valued (codes "check-journal"))
+    ∷ by_name (valued (codes "fmap-file"))
+    ∷ by_name (valued (codes "ifd-file"))
+    ∷ by_name (valued (codes "progress"))
+    ∷ by_letter (codes "V") (flag (codes "verbose"))
+    ∷ by_letter (codes "o") (valued (codes "output"))
+    ∷ []
 
--- `-N` or `--noverify-all`, which only programs for hardware have
-abbrev pub no_verify_all_rule : Rule
-no_verify_all_rule = by_letter (codes "N") (by_name (flag (codes "noverify-all")))
+-- the command of a program for hardware with this name, without options: it has a version, and `clap`'s own version
+-- option is disabled
+abbrev pub no_hardware_options_of : (program : Text) → App
+no_hardware_options_of program = let app = no_options_of program in
+    record app { top = record app.top { has_version = true; disable_version_flag = true } }
 
--- `--quick`, which only programs for hardware have
-abbrev pub quick_rule : Rule
-quick_rule = by_name (flag (codes "quick"))
+-- the options of these that a program for hardware has, all with a long name
+abbrev pub for_hardware : List Rule → List Rule
+for_hardware rules = map by_name (filter (λ rule. is_for_hardware rule.id) rules)
 
--- the options of flashnor that a program for hardware with this name has; those with a letter have a long name too
-abbrev pub shared_options : Text → App
-shared_options program =
-    with_rules (no_options_of program) (map by_name (filter (λ rule. is_for_hardware rule.id) most_rules))
+-- `-R` or `--version`, which prints the version of a program for hardware
+abbrev pub version_rule : Rule
+version_rule = record (by_letter (codes "R") (new_rule (codes "release"))) {
+  long = Some (codes "version");
+  action = Some Version;
+}
 
 -- `-h` or `--help`, which prints the help of a program for hardware
 abbrev pub hardware_help_rule : Rule
 hardware_help_rule = record help_rule { long = Some (codes "help") }
 
 -- the command of a program for hardware with this name: the options of flashnor except `-L` and `--rehearse`, and
--- `--backup`, `-N` and `--quick`, all with a long name
-abbrev pub hardware_options : Text → App
+-- those of `own_rules`, `-R` and `-h`, all with a long name
+abbrev pub hardware_options : (program : Text) → App
 hardware_options program =
-    with_rule (with_rule (with_rule (with_rule (shared_options program) backup_rule) no_verify_all_rule) quick_rule)
-    hardware_help_rule
+    let shared = with_rules (no_hardware_options_of program) (for_hardware most_rules) in
+    with_rule (with_rule (with_rules shared (for_hardware own_rules)) version_rule) hardware_help_rule
 
--- ---- the table in src/options.rt
+-- ---- the tables in src/options.rt and src/options/hardware.rt
 
 -- the option with a row's name and letter, before it says whether it takes a value
 abbrev pub named : Choice → Rule

@@ -2,7 +2,8 @@
 use Rattle.std.specs.Prelude.{◌≡◌, ◌&&◌, ◌||◌, ℕ, Bool, true, false, ⊤, List, [], ◌∷◌, Option, Some, None, codes, find, is_some, nat_eq, not, option_map, reverse, if◌then◌else◌}
 use Rattle.std.specs.List.{list_any, starts_with}
 use Rattle.nor_words.specs.Text.{Text, pieces_of, reads}
-use Rattle.nor_words.specs.Given.{Texts, asks_change, is_new_content}
+use Rattle.nor_words.specs.Given.{Texts, asks_change, has_two_layouts, is_new_content, progress_of}
+use Rattle.nor_words.specs.Faults.{is_no}
 use Rattle.nor_words.specs.Numbers.{decimal_number}
 use Rattle.nor_words.specs.Programmer.{has_key, is_setting, is_alone_in, keys, settings_of}
 use Rattle.nor_words.specs.Stops.{stops_of}
@@ -20,6 +21,7 @@ use Rattle.nor_words.specs.declared.words.UsageFault.TheVariants as why
 abbrev pub option_text : OptionName → List ℕ
 option_text option.List = codes "-L"
 option_text option.FlashSize = codes "--flash-size"
+option_text option.FlashName = codes "--flash-name"
 option_text option.WpStatus = codes "--wp-status"
 option_text option.WpList = codes "--wp-list"
 option_text option.Read = codes "-r"
@@ -29,8 +31,12 @@ option_text option.Erase = codes "-E"
 option_text option.WpRange = codes "--wp-range"
 option_text option.Restore = codes "--restore"
 option_text option.Backup = codes "--backup"
+option_text option.CheckJournal = codes "--check-journal"
 option_text option.Journal = codes "--journal"
 option_text option.Rehearse = codes "--rehearse"
+option_text option.Layout = codes "-l"
+option_text option.FmapFile = codes "--fmap-file"
+option_text option.IfdFile = codes "--ifd-file"
 option_text option.NoVerify = codes "-n"
 option_text option.Unlock = codes "--unlock"
 
@@ -76,18 +82,18 @@ Choosing = Bool × OptionName
 -- the operations in the order of the help
 abbrev pub operation_choices : Texts → List Choosing
 operation_choices given =
-    (given.list, option.List) ∷ (given.flash_size, option.FlashSize) ∷ (given.wp_status, option.WpStatus)
-    ∷ (given.wp_list, option.WpList) ∷ (is_some given.read, option.Read) ∷ (is_some given.verify, option.Verify)
+    (given.list, option.List) ∷ (given.flash_size, option.FlashSize) ∷ (given.flash_name, option.FlashName)
+    ∷ (given.wp_status, option.WpStatus) ∷ (given.wp_list, option.WpList) ∷ (is_some given.read, option.Read) ∷ (is_some given.verify, option.Verify)
     ∷ (is_some given.write, option.Write) ∷ (given.erase, option.Erase)
     ∷ (is_some given.wp_range, option.WpRange) ∷ (is_some given.restore, option.Restore)
-    ∷ (is_some given.backup, option.Backup) ∷ []
+    ∷ (is_some given.backup, option.Backup) ∷ (is_some given.check_journal, option.CheckJournal) ∷ []
 
 -- the first option that is given
 abbrev pub first_given : List Choosing → Option OptionName
 first_given choices =
     option_map (λ (choosing : Choosing). choosing.1) (find (λ (choosing : Choosing). choosing.0) choices)
 
--- the reason with the first and the last operation that are given
+-- the reason with the first and the last of some options that are given
 abbrev pub operations_reason : (first last : Option OptionName) → Reason
 operations_reason (Some first) (Some last) = because.Operations first last
 operations_reason first last = because.Unsaid
@@ -100,6 +106,17 @@ IsWrongRange (Some value) (because.Range text) = text.now ≡ value
 IsWrongRange None because.Unsaid = ⊤
 IsWrongRange value _ = ⊥
 
+-- Holds if this is the reason of fault 5 for the value of `--progress`: the value itself.
+abbrev pub IsWrongMode : Option Text → Reason → Type 0
+IsWrongMode (Some value) (because.Progress text) = text.now ≡ value
+IsWrongMode None because.Unsaid = ⊤
+IsWrongMode value _ = ⊥
+
+-- Holds if this is the reason of fault 5: the value of `--progress` if it is wrong, otherwise that of `--wp-range`.
+abbrev pub IsWrongValue : (wrong_mode : Bool) → Texts → Reason → Type 0
+IsWrongValue true given reason = IsWrongMode given.progress reason
+IsWrongValue false given reason = IsWrongRange given.wp_range reason
+
 -- the option of a change that is given first, in the order of the help
 abbrev pub change_option : Texts → OptionName
 change_option given = if is_some given.write then option.Write else if given.erase then option.Erase else option.WpRange
@@ -111,11 +128,31 @@ journal_reason given =
     else if asks_change given then because.NoJournal (change_option given)
     else because.NoChange (if is_some given.journal then option.Journal else option.Rehearse)
 
--- the reason of fault 7
+-- the first of `-l`, `--fmap-file` and `--ifd-file` that is given
+abbrev pub first_layout : Texts → Option OptionName
+first_layout given =
+    if is_some given.layout then Some option.Layout
+    else if is_some given.fmap_file then Some option.FmapFile
+    else if is_some given.ifd_file then Some option.IfdFile else None
+
+-- the last of `-l`, `--fmap-file` and `--ifd-file` that is given
+abbrev pub last_layout : Texts → Option OptionName
+last_layout given =
+    if is_some given.ifd_file then Some option.IfdFile
+    else if is_some given.fmap_file then Some option.FmapFile
+    else if is_some given.layout then Some option.Layout else None
+
+-- the reason of fault 7 for at most one layout
+abbrev pub names_reason : (layout : Option OptionName) → (names : Option Text) → Reason
+names_reason (Some layout) (Some names) = because.NoRegions layout
+names_reason (Some layout) None = because.NoNames layout
+names_reason None names = because.NoLayout
+
+-- the reason of fault 7: two layouts, or what is missing
 abbrev pub regions_reason : Texts → Reason
 regions_reason given =
-    if is_some given.layout then (if is_some given.names then because.NoRegions else because.NoNames)
-    else because.NoLayout
+    if has_two_layouts given then operations_reason (first_layout given) (last_layout given)
+    else names_reason (first_layout given) given.names
 
 -- the reason of fault 8: an option that needs `-w` or `-E`; or `-N`, which needs one of these or `--restore`; or
 -- `--quick`, which needs `--restore`
@@ -153,7 +190,7 @@ IsReason given why.NoProgrammer reason = reason ≡ because.NoProgrammer
 IsReason given why.Programmer reason = IsProgrammerReason given.programmer reason
 IsReason given why.TwoOperations reason = reason
     ≡ operations_reason (first_given (operation_choices given)) (first_given (reverse (operation_choices given)))
-IsReason given why.Range reason = IsWrongRange given.wp_range reason
+IsReason given why.Range reason = IsWrongValue (is_no (reads progress_of) given.progress) given reason
 IsReason given why.Journal reason = reason ≡ journal_reason given
 IsReason given why.Layout reason = reason ≡ regions_reason given
 IsReason given why.Unneeded reason = reason ≡ unneeded_reason given

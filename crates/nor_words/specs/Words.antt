@@ -1,5 +1,5 @@
 -- Which arguments ask for which job, which have a usage fault, and which are refused.
-use Rattle.std.specs.Prelude.{◌≡◌, ◌≢◌, [], List, Some, None, ⊤, ◌⊎◌, drop, map, string_bytes}
+use Rattle.std.specs.Prelude.{◌≡◌, ◌≢◌, [], List, Some, None, ⊤, ◌⊎◌, drop, is_some, map, string_bytes, true}
 use Rattle.std.specs.Global.{Global}
 use Rattle.std.specs.Vec.Iter.{into_iter_items}
 use Rattle.std.specs.declared.string.String.{String}
@@ -9,8 +9,8 @@ use Rattle.clap.specs.declared.error.Error.{Error}
 use Rattle.clap.specs.declared.error.kind.ErrorKind.TheVariants as kind
 use Rattle.nor_words.specs.Text.{Text}
 use Rattle.nor_words.specs.Options.{hardware_options, options}
-use Rattle.nor_words.specs.Given.{given_by, hardware_given_by}
-use Rattle.nor_words.specs.Faults.{first_fault, usage_faults}
+use Rattle.nor_words.specs.Given.{Texts, given_by, hardware_given_by}
+use Rattle.nor_words.specs.Faults.{first_fault, operation_faults, usage_faults}
 use Rattle.nor_words.specs.Job.{IsAsked, IsHardwareAsked}
 use Rattle.nor_words.specs.Reasons.{IsReason}
 use Rattle.nor_words.specs.declared.job.HardwareJob.{HardwareJob}
@@ -76,14 +76,21 @@ pub record IsHardwareJob (program : Text) (words : List Text) (job : HardwareJob
   pub taken : hardware_refusals_of program words ≡ []
   pub asked : IsHardwareAsked (hardware_given_by program words) job
 
+-- Holds if the options have this fault: with `--check-journal` it is the first of the faults 4 to 9, without it `-p` is
+-- missing.
+abbrev pub HasNoJob : Texts → UsageFault → Type 0
+HasNoJob given fault =
+    ((is_some given.check_journal ≡ true) × (first_fault (operation_faults given) ≡ Some fault))
+    ⊎ ((given.check_journal ≡ None) × ((fault ≡ why.NoProgrammer) × (given.programmer ≡ None)))
+
 -- Holds if the arguments of the program with this name may have this fault: `clap` may reject them with an error of
--- this kind, or it accepts them and `-p` is missing. Any arguments may have the fault `Memory` (out of memory).
+-- this kind, or it accepts them and the options have the fault. Any arguments may have the fault `Memory` (out of
+-- memory).
 abbrev pub IsHardwareFault : (program : Text) → List Text → UsageFault → Type 0
 IsHardwareFault program words (why.Words error) = IsAmong (kind_of error) (hardware_refusals_of program words)
 IsHardwareFault program words why.Memory = ⊤
-IsHardwareFault program words why.NoProgrammer =
-    (hardware_refusals_of program words ≡ []) × ((hardware_given_by program words).programmer ≡ None)
-IsHardwareFault program words fault = ⊥
+IsHardwareFault program words fault =
+    (hardware_refusals_of program words ≡ []) × HasNoJob (hardware_given_by program words) fault
 
 -- Holds if the arguments of the program with this name may have this fault, and the reason is its reason.
 pub record AreWrongForHardware (program : Text) (words : List Text) (wrong : WrongArguments) : Type 0 where

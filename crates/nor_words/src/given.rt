@@ -1,17 +1,21 @@
 //! The values that the arguments give the options; the job that the options ask for, or the first fault that they have.
-ghost use Rattle.std.specs.Prelude.{◌≡◌, ◌&&◌, ◌||◌, None, Some, false, true, is_some, not, option_map, option_and_then, MatchOption, MatchResult};
+ghost use Rattle.std.specs.Prelude.{◌≡◌, None, Some, codes, false, is_some, true, option_map, option_and_then, MatchOption, MatchResult};
 ghost use Rattle.std.specs.Option.{IsSomeAnd};
 ghost use Rattle.clap.specs.Words.{found_of, rows_of};
 ghost use Rattle.nor_words.specs.Given.{given_in, hardware_given_in, operations, is_new_content, asks_change, takes_regions};
-ghost use Rattle.nor_words.specs.Faults.{first_fault, has_unneeded, has_wrong_journal, has_wrong_regions, is_no, passes_test, usage_faults};
-ghost use Rattle.nor_words.specs.Job.{IsAsked, IsHardwareAsked, IsJournalUse, IsOperation, IsRegions, IsTask, IsWantedByArguments, IsWrongOperation, LacksProgrammer};
+ghost use Rattle.nor_words.specs.Given.{has_two_layouts, layout_file, layout_form, progress_mode, progress_of};
+ghost use Rattle.nor_words.specs.Faults.{first_fault, has_unneeded, has_wrong_journal, has_wrong_regions, is_no, operation_faults, passes_test, usage_faults};
+ghost use Rattle.nor_words.specs.Job.{IsAsked, IsHardwareAsked, IsJournalUse, IsOperation, IsRegions, IsTask, IsWantedByArguments, IsWrongForHardware, IsWrongOperation};
 ghost use Rattle.nor_words.specs.Numbers.{range_of};
 ghost use Rattle.nor_words.specs.Programmer.{IsProgrammer, has_stop, is_programmer_text};
 ghost use Rattle.nor_words.specs.Stops.{stops_of};
 ghost use Rattle.nor_words.specs.Text.{reads};
 
 use crate::given::flags::is_set;
-use crate::job::{Change, ChipJob, HardwareJob, Job, JournalUse, Operation, Regions, Task, Wanted};
+use crate::job::{
+    Change, ChipJob, HardwareJob, Job, JournalUse, LayoutForm, Operation, ProgrammerJob,
+    ProgressMode, Regions, Task, Wanted,
+};
 use crate::numbers::read_range;
 use crate::programmer::Programmer;
 use crate::reasons::WrongArguments;
@@ -21,6 +25,7 @@ use arrayvec::ArrayVec;
 use clap::ArgMatches;
 use nor_probe::ChipName;
 
+mod faults;
 mod flags;
 mod reasons;
 
@@ -34,6 +39,7 @@ pub struct Given<'a> {
     chip: Option<&'a str>,
     list: bool,
     flash_size: bool,
+    flash_name: bool,
     wp_status: bool,
     wp_list: bool,
     read: Option<&'a str>,
@@ -43,20 +49,27 @@ pub struct Given<'a> {
     wp_range: Option<&'a str>,
     restore: Option<&'a str>,
     backup: Option<&'a str>,
+    check_journal: Option<&'a str>,
     quick: bool,
     layout: Option<&'a str>,
+    fmap_file: Option<&'a str>,
+    ifd_file: Option<&'a str>,
     names: Option<&'a str>,
     no_verify: bool,
     no_verify_all: bool,
     unlock: bool,
     journal: Option<&'a str>,
     rehearse: Option<&'a str>,
+    progress: Option<&'a str>,
+    verbose: bool,
+    log: Option<&'a str>,
 }
 
 impl<'a> Given<'a> {
     ghost use Rattle.nor_words.specs.Given.{texts_of};
 
-    /// Collects the options of flashnor, which has none of `--backup`, `-N` and `--quick`, from the matches of `clap`.
+    /// Collects the options of flashnor, which lacks those that only programs for hardware have, from the matches of
+    /// `clap`.
     pub fn of(matches: &ArgMatches<'a>) -> Given<'a>
         ensures { texts_of result ≡ given_in (rows_of (found_of matches.now)) }
     {
@@ -65,6 +78,7 @@ impl<'a> Given<'a> {
             chip: matches.get_str("chip"),
             list: is_set(matches, "list"),
             flash_size: is_set(matches, "flash-size"),
+            flash_name: false,
             wp_status: is_set(matches, "wp-status"),
             wp_list: is_set(matches, "wp-list"),
             read: matches.get_str("read"),
@@ -74,18 +88,24 @@ impl<'a> Given<'a> {
             wp_range: matches.get_str("wp-range"),
             restore: matches.get_str("restore"),
             backup: None,
+            check_journal: None,
             quick: false,
             layout: matches.get_str("layout"),
+            fmap_file: None,
+            ifd_file: None,
             names: matches.get_str("include"),
             no_verify: is_set(matches, "noverify"),
             no_verify_all: false,
             unlock: is_set(matches, "unlock"),
             journal: matches.get_str("journal"),
             rehearse: matches.get_str("rehearse"),
+            progress: None,
+            verbose: false,
+            log: None,
         }
     }
 
-    /// Collects the options of a program for hardware: also `--backup`, `-N` and `--quick`, but neither `-L` nor
+    /// Collects the options of a program for hardware: also those that only these programs have, but neither `-L` nor
     /// `--rehearse`.
     pub fn of_hardware(matches: &ArgMatches<'a>) -> Given<'a>
         ensures { texts_of result ≡ hardware_given_in (rows_of (found_of matches.now)) }
@@ -93,15 +113,24 @@ impl<'a> Given<'a> {
         Given {
             list: false,
             rehearse: None,
+            flash_name: is_set(matches, "flash-name"),
             backup: matches.get_str("backup"),
+            check_journal: matches.get_str("check-journal"),
             quick: is_set(matches, "quick"),
+            fmap_file: matches.get_str("fmap-file"),
+            ifd_file: matches.get_str("ifd-file"),
             no_verify_all: is_set(matches, "noverify-all"),
+            progress: matches.get_str("progress"),
+            verbose: is_set(matches, "verbose"),
+            log: matches.get_str("output"),
             ..Given::of(matches)
         }
     }
 
-    /// Returns the job that the options ask for, or the first of the faults 2 to 9 that they have.
+    /// Returns the job that the options ask for, or the first of the faults 2 to 9 that they have. Requires options
+    /// without `--check-journal`.
     pub fn job(self) -> Result<Job<'a>, UsageFault>
+        requires { (texts_of self).check_journal ≡ None }
         ensures { MatchResult result
             (λ job. (first_fault (usage_faults (texts_of self.entry)) ≡ None) × IsAsked (texts_of self.entry) job)
             (λ fault. first_fault (usage_faults (texts_of self.entry)) ≡ Some fault) }
@@ -119,42 +148,69 @@ impl<'a> Given<'a> {
         }
     }
 
-    /// Returns the job of a program for hardware: the value of `-p`, and the operation or its fault. Returns fault 2 if
-    /// `-p` is missing. Requires options without `-L`.
+    /// Returns the job of a program for hardware: with `--check-journal` the name of the journal, otherwise the value of
+    /// `-p`, and the operation or its fault. Returns the first of the faults 4 to 9 if there is one and
+    /// `--check-journal` is given, and fault 2 if both `-p` and `--check-journal` are missing. Requires options without
+    /// `-L`.
     pub fn hardware_job(self) -> Result<HardwareJob<'a>, WrongArguments<'a>>
         requires { self.list ≡ false }
-        ensures { MatchResult result (IsHardwareAsked (texts_of self.entry)) (LacksProgrammer (texts_of self.entry)) }
+        ensures { MatchResult result (IsHardwareAsked (texts_of self.entry)) (IsWrongForHardware (texts_of self.entry)) }
     {
-        match self.programmer {
-            Some(programmer) => Ok(HardwareJob {
+        match (self.check_journal, self.programmer) {
+            (Some(file), _) => match self.emulated().fault() {
+                None => Ok(HardwareJob::CheckJournal { file }),
+                Some(fault) => Err(self.explained(fault)),
+            },
+            (None, Some(programmer)) => Ok(HardwareJob::Chip(ProgrammerJob {
                 programmer,
                 operation: self.operation(),
-            }),
-            None => Err(self.explained(UsageFault::NoProgrammer)),
+            })),
+            (None, None) => Err(self.explained(UsageFault::NoProgrammer)),
         }
     }
 
     // Returns the operation that the options ask for, or the first of the faults 4 to 9 that they have, with its
-    // reason. Requires options without `-L`, so the job is never a list.
+    // reason. Requires options without `-L`, so the job is never a list, and without `--check-journal`.
     fn operation(self) -> Result<Operation<'a>, WrongArguments<'a>>
-        requires { self.list ≡ false }
+        requires { (self.list ≡ false) × ((texts_of self).check_journal ≡ None) }
         ensures { MatchResult result (IsOperation (texts_of self.entry)) (IsWrongOperation (texts_of self.entry)) }
     {
-        // The faults of the other options are the same for each emulated chip without a `stop=`, so any will do.
-        let emulated = Given {
-            programmer: Some(ANY_CHIP),
-            ..self
-        };
-        match emulated.job() {
+        match self.emulated().job() {
             Ok(Job::Chip(ChipJob { named, task, .. })) => Ok(Operation {
                 named,
                 verifies_all: !self.no_verify_all,
                 is_quick: self.quick,
                 is_backup: self.backup.is_some(),
+                is_flash_name: self.flash_name,
+                progress: self.progress_mode(),
+                is_verbose: self.verbose,
+                log: self.log,
                 task,
             }),
             Ok(Job::List) => Err(self.explained(UsageFault::TwoOperations)),
             Err(fault) => Err(self.explained(fault)),
+        }
+    }
+
+    // Returns the same options with an emulated chip without a `stop=`. The faults of the other options are the same
+    // for each such chip, so any will do.
+    fn emulated(&self) -> Given<'a>
+        ensures { texts_of result
+            ≡ record (texts_of self.now) { programmer = Some (codes "dummy:emulate=TINY64") } }
+    {
+        Given {
+            programmer: Some(ANY_CHIP),
+            ..*self
+        }
+    }
+
+    // Returns the mode that `--progress` names; `auto` if it is missing or names none.
+    fn progress_mode(&self) -> ProgressMode
+        ensures { result ≡ progress_mode (texts_of self.now) }
+    {
+        match self.progress {
+            Some(text) => ProgressMode::read(text).unwrap_or(ProgressMode::Auto),
+            None => ProgressMode::Auto,
         }
     }
 
@@ -183,147 +239,34 @@ impl<'a> Given<'a> {
         self.rehearse.and_then(read_stops)
     }
 
-    // Returns the first of the faults 2 to 9 that the options have, if any.
-    fn fault(&self) -> Option<UsageFault>
-        ensures { result ≡ first_fault (usage_faults (texts_of self.now)) }
+    // Returns the file of the layout: the value of `-l`, or else of `--fmap-file`, or else of `--ifd-file`.
+    fn layout_file(&self) -> Option<&'a str>
+        ensures { option_map (λ file. file.now) result ≡ layout_file (texts_of self.now) }
     {
-        if self.lacks_programmer() {
-            Some(UsageFault::NoProgrammer)
-        } else if self.has_wrong_programmer() {
-            Some(UsageFault::Programmer)
-        } else if self.operations() > 1 {
-            Some(UsageFault::TwoOperations)
-        } else if self.has_wrong_range() {
-            Some(UsageFault::Range)
-        } else if self.has_wrong_journal() {
-            Some(UsageFault::Journal)
-        } else if self.has_wrong_regions() {
-            Some(UsageFault::Layout)
-        } else if self.has_unneeded() {
-            Some(UsageFault::Unneeded)
-        } else if self.has_wrong_stops() {
-            Some(UsageFault::Stops)
+        match (self.layout, self.fmap_file) {
+            (Some(file), _) => Some(file),
+            (None, Some(file)) => Some(file),
+            (None, None) => self.ifd_file,
+        }
+    }
+
+    // Returns the form in which the file of the layout has it.
+    fn layout_form(&self) -> LayoutForm
+        ensures { result ≡ layout_form (texts_of self.now) }
+    {
+        if self.layout.is_some() {
+            LayoutForm::Lines
+        } else if self.fmap_file.is_some() {
+            LayoutForm::Fmap
         } else {
-            None
+            LayoutForm::Descriptor
         }
     }
 
-    // Fault 2: true if there is neither `-p` nor `-L`.
-    fn lacks_programmer(&self) -> bool
-        ensures { result ≡ (not (is_some (texts_of self.now).programmer) && not (texts_of self.now).list) }
-    {
-        self.programmer.is_none() && !self.list
-    }
-
-    // Fault 3: true if the value of `-p` doesn't describe a programmer.
-    fn has_wrong_programmer(&self) -> bool
-        ensures { result ≡ is_no is_programmer_text (texts_of self.now).programmer }
-    {
-        self.programmer.is_some() && self.parsed_programmer().is_none()
-    }
-
-    // Fault 5: true if the value of `--wp-range` isn't a start and a length.
-    fn has_wrong_range(&self) -> bool
-        ensures { result ≡ is_no (reads range_of) (texts_of self.now).wp_range }
-    {
-        self.wp_range.is_some() && self.parsed_range().is_none()
-    }
-
-    // Fault 9: true if the value of `--rehearse` isn't a list of stops, or if both `--rehearse` and a `stop=` in `-p`
-    // are given.
-    fn has_wrong_stops(&self) -> bool
-        ensures { result ≡ (is_no (reads stops_of) (texts_of self.now).rehearse
-            || (is_some (texts_of self.now).rehearse && passes_test has_stop (texts_of self.now).programmer)) }
-    {
-        self.rehearse.is_some() && (self.parsed_stops().is_none() || self.has_stop())
-    }
-
-    // True if the value of `-p` describes a programmer and has a `stop=`.
-    fn has_stop(&self) -> bool
-        ensures { result ≡ passes_test has_stop (texts_of self.now).programmer }
-    {
-        match self.parsed_programmer() {
-            Some(programmer) => programmer.stop.is_some(),
-            None => false,
-        }
-    }
-
-    // Returns the number of operations that are asked for.
-    fn operations(&self) -> usize
-        ensures { result ≡ operations (texts_of self.now) }
-    {
-        let asked = [
-            self.list,
-            self.flash_size,
-            self.wp_status,
-            self.wp_list,
-            self.read.is_some(),
-            self.verify.is_some(),
-            self.write.is_some(),
-            self.erase,
-            self.wp_range.is_some(),
-            self.restore.is_some(),
-            self.backup.is_some(),
-        ];
-        asked.iter().filter(|asked| **asked).count()
-    }
-
-    // True for `-w` or `-E`, which change the bytes of the chip.
-    fn is_new_content(&self) -> bool
-        ensures { result ≡ is_new_content (texts_of self.now) }
-    {
-        self.write.is_some() || self.erase
-    }
-
-    // True for `-w`, `-E` or `--wp-range`, which change the chip and write a journal or rehearse.
-    fn is_change(&self) -> bool
-        ensures { result ≡ asks_change (texts_of self.now) }
-    {
-        self.is_new_content() || self.wp_range.is_some()
-    }
-
-    // True for `-r`, `-v`, `-w` or `-E`, which may include only some regions.
-    fn takes_regions(&self) -> bool
-        ensures { result ≡ takes_regions (texts_of self.now) }
-    {
-        self.read.is_some() || self.verify.is_some() || self.is_new_content()
-    }
-
-    // Fault 6: true if `-w`, `-E` or `--wp-range` is given without exactly one of `--journal` and `--rehearse`, or if
-    // none of the three is given, and `--journal` or `--rehearse` is.
-    fn has_wrong_journal(&self) -> bool
-        ensures { result ≡ has_wrong_journal (texts_of self.now) }
-    {
-        match (self.journal, self.rehearse) {
-            (None, None) => self.is_change(),
-            (Some(_), Some(_)) => true,
-            _ => !self.is_change(),
-        }
-    }
-
-    // Fault 8: true if `-n`, `-N`, `--unlock` or `--quick` is given without an operation that takes it.
-    fn has_unneeded(&self) -> bool
-        ensures { result ≡ has_unneeded (texts_of self.now) }
-    {
-        let (changes, restores) = (self.is_new_content(), self.restore.is_some());
-        let unneeded = (self.no_verify_all && !(changes || restores)) || (self.quick && !restores);
-        ((self.no_verify || self.unlock) && !changes) || unneeded
-    }
-
-    // Fault 7: true if there is only one of `-l` and `-i`, or both without any of `-r`, `-v`, `-w` and `-E`.
-    fn has_wrong_regions(&self) -> bool
-        ensures { result ≡ has_wrong_regions (texts_of self.now) }
-    {
-        match (self.layout, self.names) {
-            (None, None) => false,
-            (Some(_), Some(_)) => !self.takes_regions(),
-            _ => true,
-        }
-    }
-
-    // Returns the operation on the chip. Requires options without `-L` and without a fault.
+    // Returns the operation on the chip. Requires options without `-L`, `--check-journal` and a fault.
     fn task(&self) -> Task<'a>
-        requires { ((texts_of self.now).list ≡ false) × (first_fault (usage_faults (texts_of self.now)) ≡ None) }
+        requires { ((texts_of self.now).list ≡ false) × ((texts_of self.now).check_journal ≡ None)
+            × (first_fault (usage_faults (texts_of self.now)) ≡ None) }
         ensures { IsTask (texts_of self.now) result }
     {
         let Some(wanted) = self.wanted() else {
@@ -366,22 +309,28 @@ impl<'a> Given<'a> {
         }
     }
 
-    // Returns the regions that are included, or `None` if `-l` and `-i` are missing. Requires options without fault 7.
+    // Returns the regions that are included, or `None` if a layout and `-i` are missing. Requires options without
+    // fault 7.
     fn regions(&self) -> Option<Regions<'a>>
         requires { has_wrong_regions (texts_of self.now) ≡ false }
         ensures { IsRegions (texts_of self.now) result }
     {
-        match (self.layout, self.names) {
-            (Some(layout), Some(names)) => Some(Regions { layout, names }),
+        match (self.layout_file(), self.names) {
+            (Some(layout), Some(names)) => Some(Regions {
+                layout,
+                form: self.layout_form(),
+                names,
+            }),
             _ => None,
         }
     }
 
     // Returns an operation other than `Change`: a read or a backup, a comparison, a report, a restore, or only the
     // identification.
-    // Requires options without `-L`, `-w`, `-E`, `--wp-range` and fault 7.
+    // Requires options without `-L`, `--check-journal`, `-w`, `-E`, `--wp-range` and fault 7.
     fn plain_task(&self) -> Task<'a>
-        requires { ((texts_of self.now).list ≡ false) × (asks_change (texts_of self.now) ≡ false)
+        requires { ((texts_of self.now).list ≡ false) × ((texts_of self.now).check_journal ≡ None)
+            × (asks_change (texts_of self.now) ≡ false)
             × (has_wrong_regions (texts_of self.now) ≡ false) }
         ensures { IsTask (texts_of self.now) result }
     {

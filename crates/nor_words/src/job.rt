@@ -1,4 +1,5 @@
 //! The job that the arguments ask for.
+ghost use Rattle.std.specs.Prelude.{◌≡◌};
 
 use crate::programmer::Programmer;
 use crate::reasons::WrongArguments;
@@ -26,7 +27,16 @@ pub struct ChipJob<'a> {
 
 /// The job of a program for hardware, as its arguments give it.
 #[derive(Drop)]
-pub struct HardwareJob<'a> {
+pub enum HardwareJob<'a> {
+    /// `--check-journal FILE`: describe the journal in the named file. No programmer is needed, and `-p` is ignored.
+    CheckJournal { file: &'a str },
+    /// Without `--check-journal`: a job on the chip of a programmer.
+    Chip(ProgrammerJob<'a>),
+}
+
+/// A job on the chip of a programmer.
+#[derive(Drop)]
+pub struct ProgrammerJob<'a> {
     /// The value of `-p`, which isn't parsed.
     pub programmer: &'a str,
     /// The operation, or the first of the usage faults 4 to 8 with its reason. Fault 9 can't occur, because there is no
@@ -46,13 +56,53 @@ pub struct Operation<'a> {
     pub is_quick: bool,
     /// `--backup`: the file of `Task::Read` is a new journal, which saves the whole chip.
     pub is_backup: bool,
+    /// `--flash-name`: print only the name of the chip that `Task::Probe` identifies.
+    pub is_flash_name: bool,
+    /// `--progress MODE`: how the progress is shown.
+    pub progress: ProgressMode,
+    /// `-V`: print more about the run.
+    pub is_verbose: bool,
+    /// `-o FILE`: the name of the file that receives a log of the run.
+    pub log: Option<&'a str>,
     pub task: Task<'a>,
+}
+
+/// How a program for hardware shows the progress of its job.
+#[derive(Clone, Copy)]
+pub enum ProgressMode {
+    /// `auto`, and without `--progress`: on a terminal.
+    Auto,
+    /// `plain`: one line per step, also if standard error is no terminal.
+    Plain,
+    /// `none`: not at all.
+    Hidden,
+}
+
+impl ProgressMode {
+    ghost use Rattle.nor_words.specs.Given.{progress_of};
+
+    /// Returns the mode that a value of `--progress` names: `auto`, `plain` or `none`. Returns `None` for any other
+    /// text.
+    pub fn read(text: &str) -> Option<ProgressMode>
+        ensures { result ≡ progress_of text.now }
+    {
+        if text == "auto" {
+            Some(ProgressMode::Auto)
+        } else if text == "plain" {
+            Some(ProgressMode::Plain)
+        } else if text == "none" {
+            Some(ProgressMode::Hidden)
+        } else {
+            None
+        }
+    }
 }
 
 /// The operation on a chip.
 #[derive(Drop)]
 pub enum Task<'a> {
-    /// No operation: only identify the chip.
+    /// No operation: only identify the chip. A program for hardware also has `--flash-name`, which is this task with
+    /// `Operation::is_flash_name`.
     Probe,
     /// `--flash-size`: print the size of the chip.
     FlashSize,
@@ -82,10 +132,23 @@ pub enum Task<'a> {
 /// The regions that an operation includes.
 #[derive(Clone, Copy)]
 pub struct Regions<'a> {
-    /// `-l FILE`: the name of the layout file.
+    /// `-l FILE`, or for a program for hardware `--fmap-file FILE` or `--ifd-file FILE`: the name of the layout file.
     pub layout: &'a str,
+    /// The form in which that file has the layout.
+    pub form: LayoutForm,
     /// `-i NAMES`: the names of the regions, separated by commas.
     pub names: &'a str,
+}
+
+/// The form of a layout in a file.
+#[derive(Clone, Copy)]
+pub enum LayoutForm {
+    /// `-l`: lines `START:END NAME`, as in flashrom.
+    Lines,
+    /// `--fmap-file`: an image of the chip that contains an FMAP.
+    Fmap,
+    /// `--ifd-file`: an image of the chip that begins with an Intel flash descriptor.
+    Descriptor,
 }
 
 /// A write, an erase or a change of protection, either with a journal or as a rehearsal.

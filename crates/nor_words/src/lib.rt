@@ -13,7 +13,9 @@
 //!
 //! - `words.rt`: `request_of`, `operation_of` for programs for hardware, and the usage faults
 //! - `options.rt`: the options, as `clap` parses them and as the help shows them
-//! - `given.rt`: the values of the options; the job that they ask for, or the first fault that they have
+//! - `options/hardware.rt`: the options that only programs for hardware have
+//! - `given.rt`: the values of the options, and the job that they ask for
+//! - `given/faults.rt`: the faults that the options have
 //! - `given/flags.rt`: whether a flag is set
 //! - `given/reasons.rt`: the reason of each fault that the options have
 //! - `reasons.rt`: the types of reasons
@@ -39,7 +41,10 @@ mod settings;
 mod stops;
 mod words;
 
-pub use job::{Change, ChipJob, HardwareJob, Job, JournalUse, Operation, Regions, Task, Wanted};
+pub use job::{
+    Change, ChipJob, HardwareJob, Job, JournalUse, LayoutForm, Operation, ProgrammerJob,
+    ProgressMode, Regions, Task, Wanted,
+};
 pub use numbers::read_number;
 pub use options::Help;
 pub use programmer::{Emulated, Programmer};

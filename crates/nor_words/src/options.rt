@@ -2,15 +2,19 @@
 ghost use Rattle.std.specs.Prelude.{◌≡◌, IfOk, fold, map};
 ghost use Rattle.clap.specs.Words.{app_of};
 ghost use Rattle.nor_words.specs.Options.{options, no_options_of, help_rule, most_rules, IsOption};
-ghost use Rattle.nor_words.specs.Options.{backup_rule, hardware_help_rule, no_verify_all_rule, quick_rule};
-ghost use Rattle.nor_words.specs.Options.{hardware_options, is_for_hardware, named, chosen, with_choice, with_hardware_choice};
+ghost use Rattle.nor_words.specs.Options.{hardware_help_rule, hardware_options, no_hardware_options_of, version_rule};
+ghost use Rattle.nor_words.specs.Options.{is_for_hardware, named, chosen, with_choice, with_hardware_choice};
 
+use crate::options::hardware::hardware_choices;
 use clap::{Arg, ArgAction, Command};
 use std::alloc::{AllocError, Global};
+
+mod hardware;
 
 // The help of flashnor.
 const FLASHNOR: Help = Help {
     program: "flashnor",
+    version: "1.0",
     about: "flashnor 1.0: programs SPI NOR flash, and can restore what it changed.",
     notes: NOTES,
 };
@@ -214,6 +218,8 @@ pub fn make_options<'a>(alloc: Global) -> Result<Command<'a>, AllocError>
 pub struct Help {
     /// The name of the program.
     pub program: &'static str,
+    /// The version, which `--version` of a program for hardware prints after the name.
+    pub version: &'static str,
     /// The first line of the help.
     pub about: &'static str,
     /// The end of the help, below the options.
@@ -221,17 +227,16 @@ pub struct Help {
 }
 
 /// Returns the `clap` command of a program for hardware. It has all options except `-L`, which needs no chip, and
-/// `--rehearse`, which needs an emulated one; and three that flashnor lacks, `--backup`, `-N` and `--quick`. Each option
-/// with a letter has a long name too, as in flashrom: `-r` is also `--read`, and `-h` is also `--help`. Fails only if
-/// memory runs out.
+/// `--rehearse`, which needs an emulated one; those that only programs for hardware have; and `-R`, which prints the
+/// version. Each option with a letter has a long name too, as in flashrom: `-r` is also `--read`, and `-h` is also
+/// `--help`. Fails only if memory runs out.
 pub fn make_hardware_options<'a>(alloc: Global, help: Help) -> Result<Command<'a>, AllocError>
     ensures { IfOk result (λ command. app_of command ≡ hardware_options help.program.now) }
 {
-    let chosen = add_hardware_choices(alloc, new_command(alloc, help), choices())?;
-    let saved = chosen.arg(backup_option(alloc))?;
-    let compared = saved.arg(no_verify_all_option(alloc))?;
-    let restored = compared.arg(quick_option(alloc))?;
-    restored.arg(hardware_help_option(alloc))
+    let shared = add_hardware_choices(alloc, new_hardware_command(alloc, help), choices())?;
+    let chosen = add_hardware_choices(alloc, shared, hardware_choices())?;
+    let versioned = chosen.arg(version_option(alloc))?;
+    versioned.arg(hardware_help_option(alloc))
 }
 
 // Adds an option for each row that a program for hardware has, in the order of the table. Each has a long name.
@@ -267,6 +272,15 @@ fn new_command<'a>(alloc: Global, help: Help) -> Command<'a>
         .disable_help_flag(true)
         .about(help.about)
         .after_help(help.notes)
+}
+
+// Returns the command of a program for hardware without options. The version option of `clap` itself is disabled.
+fn new_hardware_command<'a>(alloc: Global, help: Help) -> Command<'a>
+    ensures { app_of result ≡ no_hardware_options_of help.program.now }
+{
+    new_command(alloc, help)
+        .version(help.version)
+        .disable_version_flag(true)
 }
 
 // Returns the table `CHOICES`, whose options are `most_rules`.
@@ -315,33 +329,15 @@ impl Choice {
     }
 }
 
-fn backup_option<'a>(alloc: Global) -> Arg<'a>
-    ensures { IsOption backup_rule result }
+// Its ID can't be `version`, which is that of the option of `clap` itself.
+fn version_option<'a>(alloc: Global) -> Arg<'a>
+    ensures { IsOption version_rule result }
 {
-    Arg::new(alloc, "backup")
-        .long("backup")
-        .value_name("FILE")
-        .help("Save the whole chip in a new journal, for --restore")
-        .action(ArgAction::Set)
-}
-
-fn no_verify_all_option<'a>(alloc: Global) -> Arg<'a>
-    ensures { IsOption no_verify_all_rule result }
-{
-    Arg::new(alloc, "noverify-all")
-        .short('N')
-        .long("noverify-all")
-        .help("Do not compare the rest of the chip, see below")
-        .action(ArgAction::SetTrue)
-}
-
-fn quick_option<'a>(alloc: Global) -> Arg<'a>
-    ensures { IsOption quick_rule result }
-{
-    Arg::new(alloc, "quick")
-        .long("quick")
-        .help("Rewrite only sectors that differ; with --restore")
-        .action(ArgAction::SetTrue)
+    Arg::new(alloc, "release")
+        .short('R')
+        .long("version")
+        .help("Print the name and the version of the program")
+        .action(ArgAction::Version)
 }
 
 fn hardware_help_option<'a>(alloc: Global) -> Arg<'a>

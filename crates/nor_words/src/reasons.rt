@@ -10,6 +10,7 @@ use std::alloc::AllocError;
 pub enum OptionName {
     List,
     FlashSize,
+    FlashName,
     WpStatus,
     WpList,
     Read,
@@ -19,8 +20,12 @@ pub enum OptionName {
     WpRange,
     Restore,
     Backup,
+    CheckJournal,
     Journal,
     Rehearse,
+    Layout,
+    FmapFile,
+    IfdFile,
     NoVerify,
     Unlock,
 }
@@ -35,6 +40,7 @@ impl OptionName {
         match self {
             OptionName::List => "-L",
             OptionName::FlashSize => "--flash-size",
+            OptionName::FlashName => "--flash-name",
             OptionName::WpStatus => "--wp-status",
             OptionName::WpList => "--wp-list",
             OptionName::Read => "-r",
@@ -44,8 +50,12 @@ impl OptionName {
             OptionName::WpRange => "--wp-range",
             OptionName::Restore => "--restore",
             OptionName::Backup => "--backup",
+            OptionName::CheckJournal => "--check-journal",
             OptionName::Journal => "--journal",
             OptionName::Rehearse => "--rehearse",
+            OptionName::Layout => "-l",
+            OptionName::FmapFile => "--fmap-file",
+            OptionName::IfdFile => "--ifd-file",
             OptionName::NoVerify => "-n",
             OptionName::Unlock => "--unlock",
         }
@@ -92,22 +102,24 @@ pub enum Reason<'a> {
     Setting { setting: &'a str, flaw: Flaw },
     /// 3: no setting of `-p` has a flaw, but `emulate=` is missing.
     NoChip,
-    /// 4: the first and the last of the given operations, in the order of the help.
+    /// 4: the first and the last of the given operations, in the order of the help. 7: those of the given layouts.
     Operations { first: OptionName, last: OptionName },
     /// 5: the value of `--wp-range`.
     Range(&'a str),
+    /// 5: the value of `--progress`.
+    Progress(&'a str),
     /// 6: this change has neither `--journal` nor `--rehearse`.
     NoJournal(OptionName),
     /// 6: both `--journal` and `--rehearse` are given.
     JournalAndRehearse,
     /// 6: this option is given, but no change.
     NoChange(OptionName),
-    /// 7: `-i` is missing.
-    NoNames,
-    /// 7: `-l` is missing.
+    /// 7: this layout is given, but `-i` is missing.
+    NoNames(OptionName),
+    /// 7: `-i` is given, but no layout.
     NoLayout,
-    /// 7: `-l` and `-i` are given, but no operation that takes regions.
-    NoRegions,
+    /// 7: this layout and `-i` are given, but no operation that takes regions.
+    NoRegions(OptionName),
     /// 8: this option is given with neither `-w` nor `-E`.
     NoContent(OptionName),
     /// 8: `-N` is given with none of `-w`, `-E` and `--restore`.

@@ -25,12 +25,14 @@ pub enum UsageFault {
     Programmer,
     /// 4: more than one operation.
     TwoOperations,
-    /// 5: the value of `--wp-range` isn't a start and a length.
+    /// 5: the value of `--wp-range` isn't a start and a length. For a program for hardware also: that of `--progress` is
+    /// no mode.
     Range,
     /// 6: `-w`, `-E` or `--wp-range` without exactly one of `--journal` and `--rehearse`, or any other arguments with
     /// `--journal` or `--rehearse`.
     Journal,
-    /// 7: `-l` or `-i` without the other, or both without any of `-r`, `-v`, `-w` and `-E`.
+    /// 7: `-l` or `-i` without the other, or both without any of `-r`, `-v`, `-w` and `-E`. In a program for hardware
+    /// `--fmap-file` and `--ifd-file` may be in place of `-l`; more than one of the three is this fault, too.
     Layout,
     /// 8: `-n` or `--unlock` without `-w` or `-E`. For a program for hardware also `-N` without `-w` or `-E`, or
     /// `--quick` without `--restore`.
@@ -129,9 +131,10 @@ pub fn explained_request_of<'a>(
 }
 
 /// Returns the job of a program for hardware that the arguments ask for, or one of the usage faults 1, 2 and 10 with
-/// its reason. `words` has the arguments without the program's name. The options are those of flashnor except `-L` and
-/// `--rehearse`, and also `--backup`, `-N` and `--quick`. The value of `-p` isn't parsed. Fault 10, out of memory, may
-/// be returned for any arguments.
+/// its reason; with `--check-journal`, which needs no `-p`, one of the faults 4 to 8 in place of fault 2. `words` has
+/// the arguments without the program's name. The options are those of flashnor except `-L` and `--rehearse`, and those
+/// that only programs for hardware have. The value of `-p` isn't parsed. Fault 10, out of memory, may be returned for any
+/// arguments.
 pub fn operation_of<'a>(
     alloc: Global,
     help: Help,

@@ -1,7 +1,9 @@
 //! The reason of each usage fault that the options have.
 ghost use Rattle.std.specs.Prelude.{◌≡◌, reverse};
 ghost use Rattle.nor_words.specs.Given.{texts_of};
-ghost use Rattle.nor_words.specs.Reasons.{IsProgrammerReason, IsReason, IsWrongRange, IsWrongStops, change_option, first_given};
+ghost use Rattle.nor_words.specs.Reasons.{IsProgrammerReason, IsReason, IsWrongMode, IsWrongRange, IsWrongStops};
+ghost use Rattle.nor_words.specs.Reasons.{change_option, first_given, first_layout, last_layout};
+ghost use Rattle.nor_words.specs.declared.words.UsageFault.TheVariants.{Range};
 ghost use Rattle.nor_words.specs.Reasons.{journal_reason, operation_choices, operations_reason, regions_reason, unneeded_reason};
 
 use crate::flaws::programmer_reason;
@@ -28,7 +30,7 @@ impl<'a> Given<'a> {
             UsageFault::NoProgrammer => Reason::NoProgrammer,
             UsageFault::Programmer => self.programmer_reason(),
             UsageFault::TwoOperations => self.operations_reason(),
-            UsageFault::Range => self.range_reason(),
+            UsageFault::Range => self.value_reason(),
             UsageFault::Journal => self.journal_reason(),
             UsageFault::Layout => self.regions_reason(),
             UsageFault::Unneeded => self.unneeded_reason(),
@@ -82,12 +84,13 @@ impl<'a> Given<'a> {
     }
 
     // Returns the operations in the order of the help, and for each whether it is given.
-    fn operation_choices(&self) -> [(bool, OptionName); 11]
+    fn operation_choices(&self) -> [(bool, OptionName); 13]
         ensures { result ≡ operation_choices (texts_of self.now) }
     {
         [
             (self.list, OptionName::List),
             (self.flash_size, OptionName::FlashSize),
+            (self.flash_name, OptionName::FlashName),
             (self.wp_status, OptionName::WpStatus),
             (self.wp_list, OptionName::WpList),
             (self.read.is_some(), OptionName::Read),
@@ -97,7 +100,27 @@ impl<'a> Given<'a> {
             (self.wp_range.is_some(), OptionName::WpRange),
             (self.restore.is_some(), OptionName::Restore),
             (self.backup.is_some(), OptionName::Backup),
+            (self.check_journal.is_some(), OptionName::CheckJournal),
         ]
+    }
+
+    fn value_reason(&self) -> Reason<'a>
+        ensures { IsReason (texts_of self.now) Range result }
+    {
+        if self.has_wrong_progress() {
+            self.progress_reason()
+        } else {
+            self.range_reason()
+        }
+    }
+
+    fn progress_reason(&self) -> Reason<'a>
+        ensures { IsWrongMode (texts_of self.now).progress result }
+    {
+        match self.progress {
+            Some(value) => Reason::Progress(value),
+            None => Reason::Unsaid,
+        }
     }
 
     fn range_reason(&self) -> Reason<'a>
@@ -136,10 +159,44 @@ impl<'a> Given<'a> {
     fn regions_reason(&self) -> Reason<'a>
         ensures { result ≡ regions_reason (texts_of self.now) }
     {
-        match (self.layout, self.names) {
-            (Some(_), Some(_)) => Reason::NoRegions,
-            (Some(_), None) => Reason::NoNames,
-            (None, _) => Reason::NoLayout,
+        let (first, last) = (self.first_layout(), self.last_layout());
+        match (first, last, self.names) {
+            (Some(first), Some(last), _) if self.has_two_layouts() => {
+                Reason::Operations { first, last }
+            }
+            (Some(layout), _, Some(_)) => Reason::NoRegions(layout),
+            (Some(layout), _, None) => Reason::NoNames(layout),
+            (None, _, _) => Reason::NoLayout,
+        }
+    }
+
+    // Returns the first of `-l`, `--fmap-file` and `--ifd-file` that is given.
+    fn first_layout(&self) -> Option<OptionName>
+        ensures { result ≡ first_layout (texts_of self.now) }
+    {
+        if self.layout.is_some() {
+            Some(OptionName::Layout)
+        } else if self.fmap_file.is_some() {
+            Some(OptionName::FmapFile)
+        } else if self.ifd_file.is_some() {
+            Some(OptionName::IfdFile)
+        } else {
+            None
+        }
+    }
+
+    // Returns the last of `-l`, `--fmap-file` and `--ifd-file` that is given.
+    fn last_layout(&self) -> Option<OptionName>
+        ensures { result ≡ last_layout (texts_of self.now) }
+    {
+        if self.ifd_file.is_some() {
+            Some(OptionName::IfdFile)
+        } else if self.fmap_file.is_some() {
+            Some(OptionName::FmapFile)
+        } else if self.layout.is_some() {
+            Some(OptionName::Layout)
+        } else {
+            None
         }
     }
 

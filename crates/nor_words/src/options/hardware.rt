@@ -1,0 +1,76 @@
+//! The options that only programs for hardware have.
+ghost use Rattle.std.specs.Prelude.{◌≡◌, map};
+ghost use Rattle.nor_words.specs.Options.{chosen, own_rules};
+
+use crate::options::Choice;
+
+// In the order of the help, in which they follow those that both programs have.
+static HARDWARE_CHOICES: [Choice; 10] = [
+    Choice {
+        letter: None,
+        name: "backup",
+        value: Some("FILE"),
+        help: "Save the whole chip in a new journal, for --restore",
+    },
+    Choice {
+        letter: Some('N'),
+        name: "noverify-all",
+        value: None,
+        help: "Do not compare the rest of the chip, see below",
+    },
+    Choice {
+        letter: None,
+        name: "quick",
+        value: None,
+        help: "Rewrite only sectors that differ; with --restore",
+    },
+    Choice {
+        letter: None,
+        name: "flash-name",
+        value: None,
+        help: "Print the name of the chip",
+    },
+    Choice {
+        letter: None,
+        name: "check-journal",
+        value: Some("FILE"),
+        help: "Describe a journal; needs no programmer",
+    },
+    Choice {
+        letter: None,
+        name: "fmap-file",
+        value: Some("FILE"),
+        help: "In place of -l: the regions of the FMAP in this image",
+    },
+    Choice {
+        letter: None,
+        name: "ifd-file",
+        value: Some("FILE"),
+        help: "In place of -l: those of its Intel flash descriptor",
+    },
+    Choice {
+        letter: None,
+        name: "progress",
+        value: Some("MODE"),
+        help: "How to show progress: auto, plain or none",
+    },
+    Choice {
+        letter: Some('V'),
+        name: "verbose",
+        value: None,
+        help: "Print more about the run",
+    },
+    Choice {
+        letter: Some('o'),
+        name: "output",
+        value: Some("FILE"),
+        help: "Write a log of the run into this file",
+    },
+];
+
+// Returns the table `HARDWARE_CHOICES`, whose options are `own_rules`.
+pub(super) fn hardware_choices() -> &'static [Choice; 10]
+    ensures { map chosen result.now ≡ own_rules }
+{
+    &HARDWARE_CHOICES
+}
