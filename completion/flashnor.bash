@@ -133,6 +133,9 @@ _flashnor_letter() {
         --include) letter=-i ;;
         --noverify) letter=-n ;;
         --noverify-all) letter=-N ;;
+        --verbose) letter=-V ;;
+        --output) letter=-o ;;
+        --version) letter=-R ;;
         --help) letter=-h ;;
         *) letter=$1 ;;
     esac
@@ -141,7 +144,8 @@ _flashnor_letter() {
 # Succeeds if this word is an operation. A line has only one operation.
 _flashnor_is_operation() {
     case ${1%%=*} in
-        -r | -w | -v | -E | -L | --flash-size | --wp-status | --wp-list | --wp-range | --restore | --backup) ;;
+        -r | -w | -v | -E | -L | --flash-size | --flash-name | --wp-status | --wp-list | --wp-range) ;;
+        --restore | --backup | --check-journal) ;;
         *) return 1 ;;
     esac
 }
@@ -205,18 +209,23 @@ _flashnor_serprog() {
     case $letter in
         -p) _flashnor_serprog_programmer "$word" ;;
         -c) _flashnor_answer "$word" "${_flashnor_chips[@]}" SFDP ;;
-        -w | -v | -l | --restore) _flashnor_files "$word" "" -f ;;
-        -r | --journal | --backup) _flashnor_files "$word" "" -d ;;
+        -w | -v | -l | --restore | --check-journal | --fmap-file | --ifd-file) _flashnor_files "$word" "" -f ;;
+        -r | -o | --journal | --backup) _flashnor_files "$word" "" -d ;;
+        --progress) _flashnor_answer "$word" auto plain none ;;
         -i) _flashnor_regions "$word" ;;
         --wp-range) ;;
         *)
             case $word in
-                --write=* | --verify=* | --layout=* | --restore=*) _flashnor_files "$word" "${word%%=*}=" -f ;;
-                --read=* | --journal=* | --backup=*) _flashnor_files "$word" "${word%%=*}=" -d ;;
+                --write=* | --verify=* | --layout=* | --restore=* | --check-journal=* | --fmap-file=* | --ifd-file=*)
+                    _flashnor_files "$word" "${word%%=*}=" -f
+                    ;;
+                --read=* | --journal=* | --backup=* | --output=*) _flashnor_files "$word" "${word%%=*}=" -d ;;
+                --progress=*) _flashnor_answer "$word" --progress={auto,plain,none} ;;
                 *)
                     _flashnor_options "$word" -p --programmer -r --read -w --write -v --verify -E --erase --backup \
-                        --restore --flash-size --wp-status --wp-list --wp-range -c --chip -l --layout -i --include \
-                        --journal --unlock -n --noverify -N --noverify-all --quick -h --help
+                        --restore --check-journal --flash-name --flash-size --wp-status --wp-list --wp-range -c --chip \
+                        -l --layout --fmap-file --ifd-file -i --include --journal --unlock -n --noverify -N \
+                        --noverify-all --quick --progress -V --verbose -o --output -R --version -h --help
                     ;;
             esac
             ;;

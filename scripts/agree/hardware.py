@@ -28,7 +28,7 @@ def codes(crate):
 
 def options():
     """Returns the options of a program for hardware: for each one its spellings, and the name of its value."""
-    text = code("nor_words/src/options.rt")
+    text = code("nor_words/src/options.rt") + code("nor_words/src/options/hardware.rt")
     left_out = re.findall(r'name != "([-a-z]+)"', text)
     table = re.findall(r"Choice \{\s*letter: (?:None|Some\('(\w)'\)),\s*name: \"([-a-z]+)\",\s*"
                        r"value: (?:None|Some\(\"([^\"]*)\"\))", text)

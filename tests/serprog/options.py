@@ -479,6 +479,38 @@ def takes_long_names(start):
         bench.check_nothing_sent()
 
 
+def prints_the_version(start):
+    """-R and --version print the program's name and version, and need no -p; the first of them and -h counts."""
+    bench = start()
+    for words in ("--version",), ("-R",), ("--version", "-p", "x"), ("-R", "-r"), ("--version", "--help"):
+        bench.server.begin({})
+        got = bench.finish(bench.start_words([str(bench.program), *words]))
+        bench.compare(got, ["flashnor-serprog 1.0"], [])
+        bench.check_nothing_sent()
+
+
+def prints_the_name(start):
+    """--flash-name prints only the name of the chip, which -c takes."""
+    for part, name in ("TINY64", "SFDP"), ("W25Q64FV", "W25Q64FV"), ("W25Q128FV", "W25Q128FV"):
+        bench = start(part)
+        bench.expect("--flash-name", "-c", name, out=[name])
+        bench.check_frames(reference.probe(part))
+    bench.expect("--flash-name", "-c", "W25Q64FV", err=["Error 3: another chip than named."])
+    bench.expect("--flash-name", "--flash-size", err=[
+        "error: --flash-size and --flash-name cannot be used together", "Usage fault 4."])
+
+
+def takes_modes_of_progress(start):
+    """--progress takes one of three words, and any other one is usage fault 5."""
+    bench = start()
+    for mode in "auto", "plain", "none":
+        got = bench.run("--progress", mode)
+        check("lines", (got.out, got.status), ([reference.found("TINY64")], 0))
+    for mode in "", "Auto", "plain ", "all":
+        bench.expect("--progress", mode, err=[f"error: invalid value of --progress: '{mode}'", "Usage fault 5."])
+        bench.check_nothing_sent()
+
+
 def needs_its_output(start):
     """If a line can't be printed, standard error says so, the exit status is 1, and the job is done nevertheless."""
     old, new = images("needs_its_output")
@@ -495,4 +527,4 @@ CASES = [identifies, sets_the_clock, selects_a_chip, keeps_to_the_protocol, name
          refuses_needless_options, restores_quickly, writes_regions, writes_at_random, writes_large_chips,
          changes_nothing, erases, erases_regions, prints_the_size, shows_protection, lists_ranges, protects,
          shows_progress, shows_long_progress, shows_what_a_power_loss_means, takes_long_names,
-         needs_its_output]
+         prints_the_version, prints_the_name, takes_modes_of_progress, needs_its_output]

@@ -2,10 +2,10 @@
 """tests/serprog/run.py PROGRAM: the program flashnor-serprog with a serial programmer at a pseudo-terminal.
 
 The programmer is server.py, and its chip is a model from the datasheets (chip.py). The cases are in options.py,
-backups.py, refusals.py, faults.py, wire.py, contact.py and rest.py; manual.py and rescue.py play the manual page. bits.py tries
-each single wrong bit of each reply, and misses each single frame. losses.py kills the program, and loses replies, at
-each transaction of a session and of its restores; busy.py does so while the chip is busy. What the program must send
-and print is computed by reference.py, without the program.
+journals.py, maps.py, backups.py, refusals.py, faults.py, wire.py, contact.py and rest.py; manual.py and
+rescue.py play the manual page. bits.py tries each single wrong bit of each reply, and misses each single frame. losses.py kills the
+program, and loses replies, at each transaction of a session and of its restores; busy.py does so while the chip is
+busy. What the program must send and print is computed by reference.py, without the program.
 
 A case that failed is printed, with what was wanted and what was got. The last line is `N passed, M failed`, and the
 exit status is 1 if one failed. `run.py PROGRAM NAME..` runs only the cases with these names, or `losses`, or the jobs
@@ -24,8 +24,10 @@ import bits
 import busy
 import contact
 import faults
+import journals
 import losses
 import manual
+import maps
 import narrow
 import options
 import refusals
@@ -34,7 +36,9 @@ import rest
 import wire
 from bench import Bench, Differs
 
-MODULES = (options, backups, refusals, faults, wire, contact, rest, narrow, busy, manual, rescue)
+MODULES = (
+    options, journals, maps, backups, refusals, faults, wire, contact, rest, narrow, busy, manual, rescue,
+)
 CASES = {case.__name__: case for module in MODULES for case in module.CASES}
 
 

@@ -6,3 +6,4 @@ pub mod RestRead
 pub mod Restored
 pub mod Rates
 pub mod Estimated
+pub mod Described

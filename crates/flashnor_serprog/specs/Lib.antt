@@ -7,5 +7,6 @@ pub mod Restoring
 pub mod Jobs
 pub mod Sends
 pub mod Sources
+pub mod Journals
 pub mod Run
 pub mod Estimates

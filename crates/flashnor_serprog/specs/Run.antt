@@ -9,24 +9,29 @@ use Rattle.nor_files.specs.Files.{FilesState, View}
 use Rattle.nor_layout.specs.declared.ranges.Span.{Span}
 use Rattle.nor_words.specs.Text.{Text}
 use Rattle.nor_words.specs.Words.{IsHardwareJob, hardware_refusals_of}
+use Rattle.nor_words.specs.declared.job.HardwareJob.TheVariants as hardware
 use Rattle.nor_words.specs.declared.job.Operation.{Operation}
 use Rattle.nor_words.specs.declared.job.Task.{Task}
 use Rattle.nor_words.specs.declared.job.Task.TheVariants as task
-use Rattle.nor_lines.specs.AnswerLines.{AreLines}
+use Rattle.nor_lines.specs.AnswerLines.{AreLines, name_line}
 use Rattle.nor_lines.specs.Lines.{line}
-use Rattle.nor_lines.specs.Printing.{IsAnswered, Prints}
+use Rattle.nor_lines.specs.Printing.{AsksForVersion, IsAnswered, Prints}
 use Rattle.nor_lines.specs.declared.answers.Answer.{Answer}
+use Rattle.nor_lines.specs.declared.answers.Answer.TheVariants as answer
 use Rattle.nor_lines.specs.declared.messages.Fault.TheVariants as end
 use Rattle.nor_request.specs.declared.refusal.Refusal.{Refusal}
 use Rattle.flashnor_serprog.specs.Connected.{MayExpectImage, IsUnused, device_of, expected_by}
+use Rattle.flashnor_serprog.specs.Journals.{IsSealedIn}
 use Rattle.flashnor_serprog.specs.Jobs.{DoesTask, FailsPerform, changes_bytes}
 use Rattle.flashnor_serprog.specs.Sends.{SendsOnly}
 use Rattle.flashnor_serprog.specs.Setting.{IsDeviceOf}
 use Rattle.nor_jobs.specs.Sources.{AreSources}
-use Rattle.flashnor_serprog.specs.Sources.{HaveOneRole}
+use Rattle.flashnor_serprog.specs.Sources.{HaveOneRole, IsOwnLog}
 use Rattle.flashnor_serprog.specs.declared.chip_faults.JobFault.{JobFault}
 use Rattle.flashnor_serprog.specs.declared.chip_faults.JobFault.TheVariants as ended
 use Rattle.flashnor_serprog.specs.declared.connect.Connected.{Connected}
+use Rattle.flashnor_serprog.specs.declared.run.Asked.{Asked}
+use Rattle.flashnor_serprog.specs.declared.run.Asked.TheVariants as asked
 use Rattle.flashnor_serprog.specs.declared.trouble.Trouble.{Trouble}
 use Rattle.flashnor_serprog.specs.declared.trouble.Trouble.TheVariants as trouble
 
@@ -37,24 +42,23 @@ program = codes "flashnor-serprog"
 -- Holds if the arguments ask for this operation, and the value of `-p` names this device.
 pub record IsAskedFor (words : List Text) (device : Bor Text) (operation : Operation) : Type 0 where
   pub programmer : Bor Text
-  pub asked : IsHardwareJob program words (record { programmer = programmer; operation = Ok operation })
+  pub asked : IsHardwareJob program words
+      (hardware.Chip (record { programmer = programmer; operation = Ok operation }))
   pub named : IsDeviceOf programmer.now device.now
 
--- Before the programmer is used: the arguments ask for the operation, and name the device of the programmer; neither
--- the device nor a file that the job writes has a second role (`HaveOneRole`); and the job's ranges and bytes were
--- read.
-pub record IsPrepared (words : List Text) (view : View) (operation : Operation) (ranges : Option (List Span))
-    (bytes : List ℕ) : Type 0 where
-  pub device : Bor Text
-  pub asked : IsAskedFor words device operation
-  pub roles : HaveOneRole view.nature device operation.task
-  pub sources : AreSources view operation.task ranges bytes
+-- Holds if this is what the arguments ask for: the description of the journal in a file, or an operation on the chip at
+-- a device.
+abbrev pub IsAskedByArguments : List Text → Asked → Type 0
+IsAskedByArguments words (asked.Description file) = IsHardwareJob program words (hardware.CheckJournal file)
+IsAskedByArguments words (asked.Chip setting operation) = IsAskedFor words setting.device operation
 
--- `IsPrepared` for the device of this name.
-pub record IsPreparedOnDevice (words : List Text) (view : View) (device : Text) (operation : Operation)
-    (ranges : Option (List Span)) (bytes : List ℕ) : Type 0 where
-  pub prepared : IsPrepared words view operation ranges bytes
-  pub named : prepared.device.now ≡ device
+-- Before the programmer is used: neither the device nor a file that the job writes has a second role (`HaveOneRole`),
+-- nor has the log (`IsOwnLog`), and the job's ranges and bytes were read.
+pub record IsPrepared (view : View) (device : Bor Text) (operation : Operation) (ranges : Option (List Span))
+    (bytes : List ℕ) : Type 0 where
+  pub roles : HaveOneRole view.nature device operation.task
+  pub log : IsOwnLog view.nature device operation.log operation.task
+  pub sources : AreSources view operation.task ranges bytes
 
 -- A job ends with the result of its call, or with a fault that occurred before the call or in the comparison after a
 -- change.
@@ -82,15 +86,26 @@ is_unverified _ = false
 abbrev pub unverified_line : List ℕ
 unverified_line = line (codes "Nothing was verified (-n)." ∷ [])
 
--- Holds if `text` is the lines of this answer, with one more line (`unverified_line`) if nothing was verified.
-abbrev pub AreJobLines : (unverified : Bool) → Answer → List ℕ → Type 0
-AreJobLines false found text = AreLines found text
-AreJobLines true found text = (lines : List ℕ) × AreLines found lines × (text ≡ lines ++ unverified_line)
+-- Holds if `text` is the name of the chip that was identified, as a line; for any other answer its lines.
+abbrev pub AreNameLines : Answer → List ℕ → Type 0
+AreNameLines (answer.Found found) text = text ≡ name_line found.name
+AreNameLines found text = AreLines found text
+
+-- Holds if `text` is the lines of this answer: for `--flash-name` only the name of the chip, and with one more line
+-- (`unverified_line`) if nothing was verified.
+abbrev pub AreLinesBy : (named unverified : Bool) → Answer → List ℕ → Type 0
+AreLinesBy true unverified found text = AreNameLines found text
+AreLinesBy false false found text = AreLines found text
+AreLinesBy false true found text = (lines : List ℕ) × AreLines found lines × (text ≡ lines ++ unverified_line)
+
+-- Holds if `text` is the lines of this answer of this operation (`AreLinesBy`).
+abbrev pub AreJobLines : Operation → Answer → List ℕ → Type 0
+AreJobLines operation found text = AreLinesBy operation.is_flash_name (is_unverified operation.task) found text
 
 -- the run has an answer, whose lines were printed
-abbrev pub HasPrinted : Task → Result Answer JobFault → (out out' : Option (List ℕ)) → Type 0
-HasPrinted job (Ok found) out out' = Prints (AreJobLines (is_unverified job) found) out out'
-HasPrinted job (Err fault) out out' = ⊥
+abbrev pub HasPrinted : Operation → Result Answer JobFault → (out out' : Option (List ℕ)) → Type 0
+HasPrinted operation (Ok found) out out' = Prints (AreJobLines operation found) out out'
+HasPrinted operation (Err fault) out out' = ⊥
 
 -- A run of a job on a chip, with the states of the bus before and after it. The run sent only what its job may send
 -- (`SendsOnly`). The status is 0 or 1, and 0 only if the job ended with an answer and the answer's lines were printed.
@@ -100,38 +115,56 @@ pub record HasRun (operation : Operation) (ranges : Option (List Span)) (bytes :
   pub ends : EndsJob operation ranges bytes before after old new outcome
   pub sends : SendsOnly operation.task bytes old new after
   pub few : status ≤ 1
-  pub printed : status ≡ 0 → HasPrinted operation.task outcome out out'
+  pub printed : status ≡ 0 → HasPrinted operation outcome out out'
 
--- Holds if the arguments ask for help: `clap` may reject them with the help as its error.
+-- Holds if the arguments ask for the help or the version: `clap` may reject them with that text as its error.
 abbrev pub ArgumentsAskForHelp : List Text → Type 0
 ArgumentsAskForHelp words = IsAmong kind.DisplayHelp (hardware_refusals_of program words)
+    ⊎ IsAmong kind.DisplayVersion (hardware_refusals_of program words)
 
--- Holds if the reason why a run ends early is a request for help.
+-- Holds if the reason why a run ends early is a request for the help or the version.
 abbrev pub AsksForHelp : Trouble → Type 0
-AsksForHelp (trouble.Fault fault) = IsAnswered (Err fault)
+AsksForHelp (trouble.Fault fault) = IsAnswered (Err fault) ⊎ AsksForVersion fault
 AsksForHelp _ = ⊥
 
--- Holds if the reason why a run ends early is a request for help only if the arguments ask for it.
+-- Holds if the reason why a run ends early is such a request only if the arguments ask for it.
 abbrev pub IsHelpAskedBy : List Text → Trouble → Type 0
 IsHelpAskedBy words ended = AsksForHelp ended → ArgumentsAskForHelp words
 
--- The job that the arguments ask for was prepared, and run on a bus, from its first transaction on. The bus belongs to
--- the device that `dev=` names; `start` is that bus before the job, and `last` its state now. At the start it expected
--- no image, or the one that `MayExpectImage` allows.
-pub record HasRunJob (state : Connected → BusState) (files after : FilesState) (words : List Text) (device : Text)
-    (last : BusState) (out out' : Option (List ℕ)) (status : ℕ) : Type 0 where
+-- An operation was prepared, and run on a bus, from its first transaction on. The bus belongs to the device of this
+-- name (`name`); `start` is that bus before the operation, and `last` its state now. At the start it expected no image,
+-- or the one that `MayExpectImage` allows.
+pub record HasRunOperation (state : Connected → BusState) (files after : FilesState) (name : Bor Text)
+    (operation : Operation) (device : Text) (last : BusState) (out out' : Option (List ℕ)) (status : ℕ)
+    : Type 0 where
   pub start : Connected
   pub same_device : device_of start ≡ device
+  pub named : device ≡ name.now
   pub fresh : IsUnused (state start)
-  pub operation : Operation
   pub ranges : Option (List Span)
   pub bytes : List ℕ
   pub expected : MayExpectImage operation bytes (expected_by start)
-  pub prepared : IsPreparedOnDevice words files.view device operation ranges bytes
+  pub prepared : IsPrepared files.view name operation ranges bytes
   pub ran : HasRun operation ranges bytes files.view after (state start) last out out' status
 
--- A run with status 0: the arguments ask for help, or their job was run on the bus that the run left in `used`.
+-- The operation that the arguments ask for was run on the device that `dev=` names (`HasRunOperation`).
+pub record HasRunJob (state : Connected → BusState) (files after : FilesState) (words : List Text) (device : Text)
+    (last : BusState) (out out' : Option (List ℕ)) (status : ℕ) : Type 0 where
+  pub name : Bor Text
+  pub operation : Operation
+  pub asked : IsAskedFor words name operation
+  pub run : HasRunOperation state files after name operation device last out out' status
+
+-- The arguments ask for the description of a journal, which is sealed and undamaged.
+pub record HasChecked (view : View) (words : List Text) : Type 0 where
+  pub file : Bor Text
+  pub asked : IsHardwareJob program words (hardware.CheckJournal file)
+  pub sealed : IsSealedIn view file.now
+
+-- A run with status 0: the arguments ask for the help or the version; or for the description of a journal, which is
+-- sealed and undamaged; or their job was run on the bus that the run left in `used`.
 abbrev pub HasSucceeded : (state : Connected → BusState) → (files after : FilesState) → List Text
     → (used : Option Connected) → (out out' : Option (List ℕ)) → Type 0
-HasSucceeded state files after words used out out' = ArgumentsAskForHelp words ⊎ IsSomeAnd used
-    (λ connected. HasRunJob state files after words (device_of connected) (state connected) out out' 0)
+HasSucceeded state files after words used out out' = ArgumentsAskForHelp words
+    ⊎ (HasChecked files.view words
+    ⊎ IsSomeAnd used (λ connected. HasRunJob state files after words (device_of connected) (state connected) out out' 0))

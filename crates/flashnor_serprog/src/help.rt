@@ -6,6 +6,7 @@ use nor_words::Help;
 /// list of options.
 pub const HELP: Help = Help {
     program: "flashnor-serprog",
+    version: "1.0",
     about: "flashnor-serprog 1.0: programs SPI NOR flash at a serial programmer, and can restore it.",
     notes: NOTES,
 };
@@ -39,18 +40,24 @@ was erased by a wrong address on the wire, which no journal of a change has.
 After a run that was killed, disconnect the programmer from power for a second
 before the next run.
 
+--check-journal says what a journal holds, whether it is complete and undamaged,
+and how to restore from it. It needs no programmer.
+
+The files of --fmap-file and --ifd-file are images that you have read from this
+board with -r: the regions are those of the table in the image.
+
 Examples: save the chip; write an image and keep a journal; restore the chip:
   flashnor-serprog -p serprog:dev=/dev/ttyACM0 --backup whole.journal
   flashnor-serprog -p serprog:dev=/dev/ttyACM0 -w new.bin --journal j
   flashnor-serprog -p serprog:dev=/dev/ttyACM0 --restore j
 
 Usage fault 1: an argument is not an option, or an option lacks its value
-Usage fault 2: there is no -p
+Usage fault 2: there is no -p, which all but --check-journal need
 Usage fault 3: -p isn't serprog: with dev= and only known keys with valid values
 Usage fault 4: there is more than one operation
-Usage fault 5: --wp-range needs two numbers, decimal or 0x..
+Usage fault 5: --wp-range needs two numbers, --progress one of its words
 Usage fault 6: -w, -E, --wp-range need --journal, and nothing else takes it
-Usage fault 7: -l and -i need each other, and one of -r, -w, -v, -E
+Usage fault 7: -i and one layout need each other, and one of -r, -w, -v, -E
 Usage fault 8: -n, -N, --unlock or --quick with an operation that can't have it
 Usage fault 10: out of memory
 

@@ -5,6 +5,7 @@
 //! `flashnor`, and prints the same lines and error numbers.
 //!
 //! - `run.rt`: a run of the program, from its arguments to its exit status
+//! - `ending.rt`: the end of a run: prints its answer or its fault
 //! - `help.rt`: the text of the help that `-h` prints
 //! - `setting.rt`: the value of `-p`
 //! - `roles.rt`: checks that neither the device nor a file that a job writes has a second role
@@ -14,6 +15,7 @@
 //! - `estimates.rt`: percent, rate and time left, and about how long a change takes
 //! - `connect.rt`: opens the device and identifies the programmer
 //! - `jobs.rt`: performs a job on the chip
+//! - `journals.rt`: describes a journal, for `--check-journal`
 //! - `backups.rt`: saves a whole chip in a new journal
 //! - `restoring.rt`: restores the chip from a journal
 //! - `rest.rt`: the sectors that a restore's journal does not save, and the comparison of them after the restore
@@ -26,10 +28,12 @@
 mod backups;
 mod chip_faults;
 mod connect;
+mod ending;
 mod estimates;
 mod following;
 mod help;
 mod jobs;
+mod journals;
 mod port;
 mod progress;
 mod rest;

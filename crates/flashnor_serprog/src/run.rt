@@ -1,34 +1,31 @@
 //! A run of the program: from its arguments to its exit status.
-ghost use Rattle.std.specs.Prelude.{◌≡◌, ◌≤◌, Err, IfErr, IfOk, IfSome, IsOk, None, OnOk, map, string_bytes, true};
-ghost use Rattle.std.specs.Io.KnownBytes.{Appends};
+ghost use Rattle.std.specs.Prelude.{◌≡◌, ◌≤◌, IfErr, IfOk, IfSome, IsSome, None, is_some, map, string_bytes, true};
 ghost use Rattle.nor_files.specs.Disk.{unknown};
 ghost use Rattle.nor_files.specs.Files.{AreUntouched};
-ghost use Rattle.nor_lines.specs.Printing.{IsAnswered, Prints};
 ghost use Rattle.nor_words.specs.Words.{arguments_of};
 ghost use Rattle.flashnor_serprog.specs.Connected.{MayExpectImage, IsUnused, device_of, expected_by};
-ghost use Rattle.flashnor_serprog.specs.Run.{AreJobLines, AsksForHelp, EndsJob, HasRun, HasRunJob, HasSucceeded};
-ghost use Rattle.flashnor_serprog.specs.Run.{IsAskedFor, IsEndedAs, IsHelpAskedBy, IsPreparedOnDevice, is_unverified};
-ghost use Rattle.flashnor_serprog.specs.Run.{unverified_line};
+ghost use Rattle.flashnor_serprog.specs.Run.{AsksForHelp, EndsJob, HasRun, HasRunJob, HasRunOperation};
+ghost use Rattle.flashnor_serprog.specs.Run.{HasSucceeded, IsAskedByArguments, IsEndedAs, IsHelpAskedBy, IsPrepared};
 ghost use Rattle.flashnor_serprog.specs.Sends.{SendsOnly};
 ghost use Rattle.flashnor_serprog.specs.declared.trouble.Left.TheVariants.{Unchanged};
 
 use crate::backups::check_new;
 use crate::chip_faults::JobFault;
 use crate::connect::{ChipBus, Connected, connect};
+use crate::ending::{end_badly, end_well, status_of};
 use crate::help::HELP;
-use crate::jobs::{changes_bytes, perform};
+use crate::jobs::perform;
+use crate::journals::check_journal;
 use crate::progress::{Progress, Terminal};
-use crate::roles::have_one_role;
+use crate::roles::{has_own_log, have_one_role};
 use crate::setting::Setting;
 use crate::sources::{image_of, prepare_sources};
 use crate::trouble::{Left, StopLine, Trouble};
+use clap::Error as WordsError;
 use nor_chip::Bus;
 use nor_files::{Disk, Store};
 use nor_jobs::{Sources, arguments_after_name};
-use nor_lines::{
-    Answer, DIRECTORY, Fault, Outcome, help_of, lost_output, print_answer, print_fault, print_help,
-    unread,
-};
+use nor_lines::{Answer, DIRECTORY, Fault, Outcome, help_of, print_help, unread, version_of};
 use nor_session::Refusal;
 use nor_words::{HardwareJob, Operation, Task, operation_of};
 use std::alloc::Global;
@@ -87,14 +84,6 @@ pub fn end_without_streams<E: Write>(errors: &mut E) -> u8
     end_badly(errors, &unread(DIRECTORY))
 }
 
-// Prints a fault, and returns the exit status, which is 1.
-fn end_badly<E: Write>(errors: &mut E, fault: &Fault<'_>) -> u8
-    ensures { result ≡ 1 }
-{
-    print_fault(errors, fault);
-    1
-}
-
 // Performs the job given by the arguments, without the program's name, over any store of files.
 fn run_over<'b, R: Store, O: Write, E: Write>(
     rt: &'b HostRuntime,
@@ -113,84 +102,108 @@ fn run_over<'b, R: Store, O: Write, E: Write>(
         (R.state files.old) (R.state files.new) (map string_bytes words.now) (device_of connected)
         (⟦<ChipBus<'b> as Bus>⟧.state connected.bus) (O.contents output.old) (O.contents output.new) result) }
 {
-    match prepare(rt, files, words) {
-        Ok(prepared) => {
-            let Prepared {
-                operation,
-                sources,
-                mut connected,
-            } = prepared;
-            let bus = &mut connected.bus;
-            let status = run_prepared(files, bus, &operation, sources, output, errors);
-            *used = Some(connected);
-            status
+    match read_words(rt.alloc(), words) {
+        Ok(Asked::Description { file }) => check_journal(files, file, output, errors),
+        Ok(Asked::Chip { setting, operation }) => {
+            run_on_chip(rt, files, used, &setting, &operation, output, errors)
         }
         Err(trouble) => end_early(output, errors, &trouble),
     }
 }
 
-// Ends a run before its first transaction. Prints the fault to `errors`; or the help to `output`, if the arguments ask
-// for it. Returns the exit status.
+// Performs an operation on the chip of a programmer.
+fn run_on_chip<'b, R: Store, O: Write, E: Write>(
+    rt: &'b HostRuntime,
+    files: &mut R,
+    used: &mut Option<Connected<'b>>,
+    setting: &Setting<'_>,
+    operation: &Operation<'_>,
+    output: &mut O,
+    errors: &mut E,
+) -> u8
+    requires { used.old ≡ None }
+    ensures few { result ≤ 1 }
+    ensures used { result ≡ 0 → is_some used.new ≡ true }
+    ensures ran { IfSome used.new (λ connected. HasRunOperation
+        (λ connected. ⟦<ChipBus<'b> as Bus>⟧.state connected.bus) (R.state files.old) (R.state files.new)
+        setting.now.device operation.now (device_of connected) (⟦<ChipBus<'b> as Bus>⟧.state connected.bus)
+        (O.contents output.old) (O.contents output.new) result) }
+{
+    match prepare(rt, files, setting, operation) {
+        Ok(
+            Prepared {
+                sources,
+                mut connected,
+            },
+        ) => {
+            let bus = &mut connected.bus;
+            let status = run_prepared(files, bus, operation, sources, output, errors);
+            *used = Some(connected);
+            status
+        }
+        Err(trouble) => {
+            let _ = writeln!(errors, "{trouble}");
+            1
+        }
+    }
+}
+
+// Ends a run whose arguments ask for no job. Prints the fault to `errors`; or the help or the version to `output`, if
+// the arguments ask for it. Returns the exit status.
 fn end_early<O: Write, E: Write>(output: &mut O, errors: &mut E, trouble: &Trouble<'_>) -> u8
     ensures few { result ≤ 1 }
     ensures help { result ≡ 0 → AsksForHelp trouble.now }
 {
-    if let Trouble::Fault(fault) = trouble
-        && let Some(help) = help_of(fault)
-    {
-        return status_of(print_help(output, help), errors);
+    if let Some(text) = asked_text(trouble) {
+        return status_of(print_help(output, text), errors);
     }
     let _ = writeln!(errors, "{trouble}");
     1
 }
 
-// Returns the exit status after an answer or the help: 0 if it was printed. If not, prints file fault 2 of standard
-// output to `errors`, and returns 1.
-fn status_of<E: Write>(printed: io::Result<()>, errors: &mut E) -> u8
-    ensures few { result ≤ 1 }
-    ensures printed { result ≡ 0 → IsOk printed }
-    ensures quiet { IsOk printed → E.contents errors.new ≡ E.contents errors.old }
+// Returns the parser's error, which contains the help or the version, if the arguments ask for it.
+fn asked_text<'a>(trouble: &'a Trouble<'_>) -> Option<&'a WordsError>
+    ensures { IsSome result → AsksForHelp trouble.now }
 {
-    match printed {
-        Ok(()) => 0,
-        Err(_) => end_badly(errors, &lost_output()),
+    let Trouble::Fault(fault) = trouble else {
+        return None;
+    };
+    match help_of(fault) {
+        Some(help) => Some(help),
+        None => version_of(fault),
     }
 }
 
-// A job whose files were read and whose programmer was identified.
+// The files of an operation, which were read, and its programmer, which was identified.
 #[derive(Drop)]
-struct Prepared<'a, 'b> {
-    operation: Operation<'a>,
+struct Prepared<'b> {
     sources: Sources,
     connected: Connected<'b>,
 }
 
-// Parses the arguments, reads the files that the job needs, and identifies the programmer.
+// Reads the files that the operation needs, and identifies the programmer.
 fn prepare<'a, 'b, R: Store>(
     rt: &'b HostRuntime,
     files: &mut R,
-    words: &'a [String],
-) -> Result<Prepared<'a, 'b>, Trouble<'a>>
+    setting: &Setting<'a>,
+    operation: &Operation<'a>,
+) -> Result<Prepared<'b>, Trouble<'a>>
     ensures same { AreUntouched (R.state files.old) (R.state files.new) }
-    ensures ok { IfOk result (λ prepared. IsPreparedOnDevice (map string_bytes words.now) (R.state files.old).view
-        (device_of prepared.connected) prepared.operation prepared.sources.included prepared.sources.bytes.items) }
+    ensures ok { IfOk result (λ prepared. IsPrepared (R.state files.old).view setting.now.device operation.now
+        prepared.sources.included prepared.sources.bytes.items) }
+    ensures named { IfOk result (λ prepared. device_of prepared.connected ≡ setting.now.device.now) }
     ensures fresh { IfOk result (λ prepared. IsUnused (⟦<ChipBus<'b> as Bus>⟧.state prepared.connected.bus)) }
-    ensures expected { IfOk result (λ prepared. MayExpectImage prepared.operation prepared.sources.bytes.items
+    ensures expected { IfOk result (λ prepared. MayExpectImage operation.now prepared.sources.bytes.items
         (expected_by prepared.connected)) }
-    ensures help { IfErr result (IsHelpAskedBy (map string_bytes words.now)) }
 {
-    let (setting, operation) = read_words(rt.alloc(), words)?;
     have_one_role(files, setting.device, &operation.task)?;
-    check_new(files, &operation)?;
+    has_own_log(files, setting.device, operation)?;
+    check_new(files, operation)?;
     let sources = prepare_sources(files, &operation.task)?;
-    let image = image_of(&sources, &operation);
+    let image = image_of(&sources, operation);
     let name = name_of(rt.alloc(), setting.device)?;
     match connect(rt, name, setting.hertz, setting.chip_select, image) {
-        Ok(connected) => Ok(Prepared {
-            operation,
-            sources,
-            connected,
-        }),
+        Ok(connected) => Ok(Prepared { sources, connected }),
         Err(fault) => Err(Trouble::Programmer {
             fault,
             device: setting.device,
@@ -200,8 +213,7 @@ fn prepare<'a, 'b, R: Store>(
 
 // Returns a copy of the name of a device. Returns usage fault 10 if memory runs out.
 fn name_of<'a>(alloc: Global, device: &str) -> Result<String, Fault<'a>>
-    ensures ok { IfOk result (λ name. string_bytes name ≡ device.now) }
-    ensures err { IfErr result (λ fault. ¬ IsAnswered (Err fault)) }
+    ensures { IfOk result (λ name. string_bytes name ≡ device.now) }
 {
     match String::from_str(alloc, device) {
         Ok(name) => Ok(name),
@@ -209,20 +221,33 @@ fn name_of<'a>(alloc: Global, device: &str) -> Result<String, Fault<'a>>
     }
 }
 
-// Returns the programmer and the operation that the arguments ask for, or the first fault of the arguments.
-fn read_words<'a>(
-    alloc: Global,
-    words: &'a [String],
-) -> Result<(Setting<'a>, Operation<'a>), Trouble<'a>>
-    ensures ok { IfOk result (λ asked. IsAskedFor (map string_bytes words.now) asked.0.device asked.1) }
+// What the arguments ask for.
+#[derive(Drop)]
+enum Asked<'a> {
+    // The description of the journal in the file of this name.
+    Description {
+        file: &'a str,
+    },
+    // An operation on the chip of a programmer.
+    Chip {
+        setting: Setting<'a>,
+        operation: Operation<'a>,
+    },
+}
+
+// Returns what the arguments ask for, or their first fault.
+fn read_words<'a>(alloc: Global, words: &'a [String]) -> Result<Asked<'a>, Trouble<'a>>
+    ensures ok { IfOk result (IsAskedByArguments (map string_bytes words.now)) }
     ensures help { IfErr result (IsHelpAskedBy (map string_bytes words.now)) }
 {
-    let HardwareJob {
-        programmer,
-        operation,
-    } = operation_of(alloc, HELP, words)?;
-    let setting = Setting::read(programmer)?;
-    Ok((setting, operation?))
+    match operation_of(alloc, HELP, words)? {
+        HardwareJob::CheckJournal { file } => Ok(Asked::Description { file }),
+        HardwareJob::Chip(job) => {
+            let setting = Setting::read(job.programmer)?;
+            let operation = job.operation?;
+            Ok(Asked::Chip { setting, operation })
+        }
+    }
 }
 
 // Performs a job, prints its answer or its fault, and returns the exit status.
@@ -240,9 +265,8 @@ fn run_prepared<'b, R: Store, O: Write, E: Write>(
 {
     mark_session(bus, &operation.task);
     let terminal = bus.terminal();
-    let unverified = is_unverified(&operation.task);
     match end_job(files, bus, terminal, operation, sources) {
-        Ok(answer) => end_well(output, errors, answer, unverified),
+        Ok(answer) => end_well(output, errors, answer, operation),
         Err(fault) => {
             print_job_fault(errors, &fault, bus, &operation.task);
             1
@@ -299,51 +323,6 @@ fn end_call<'a>(outcome: Outcome) -> Result<Answer, JobFault<'a>>
     match outcome {
         Ok(answer) => Ok(answer),
         Err(refusal) => Err(JobFault::Fault(Fault::Refused(refusal))),
-    }
-}
-
-// Prints an answer, and returns the exit status, which is 0 only if all lines were printed.
-fn end_well<O: Write, E: Write>(
-    output: &mut O,
-    errors: &mut E,
-    answer: Answer,
-    unverified: bool,
-) -> u8
-    ensures few { result ≤ 1 }
-    ensures printed { result ≡ 0
-        → Prints (AreJobLines unverified answer) (O.contents output.old) (O.contents output.new) }
-{
-    status_of(print_lines(output, answer, unverified), errors)
-}
-
-// Prints the lines of an answer and, if nothing was verified, the line that says so.
-fn print_lines<O: Write>(output: &mut O, answer: Answer, unverified: bool) -> io::Result<()>
-    ensures { OnOk result
-        (Prints (AreJobLines unverified answer) (O.contents output.old) (O.contents output.new)) }
-{
-    if unverified {
-        print_answer(output, answer)?;
-        print_unverified(output)
-    } else {
-        print_answer(output, answer)
-    }
-}
-
-#[tactic(auto, unfolding(nor_lines::specs::Lines::line))]
-fn print_unverified<O: Write>(output: &mut O) -> io::Result<()>
-    ensures { OnOk result (Appends (O.contents output.old) (O.contents output.new) unverified_line) }
-{
-    writeln!(output, "Nothing was verified (-n).")?;
-    output.flush()
-}
-
-// True for a write or an erase with `-n`, after which nothing was verified.
-fn is_unverified(task: &Task<'_>) -> bool
-    ensures { result ≡ is_unverified task.now }
-{
-    match task {
-        Task::Change(change) => changes_bytes(change.wanted) && !change.verify,
-        _ => false,
     }
 }
 

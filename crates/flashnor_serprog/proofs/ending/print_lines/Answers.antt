@@ -1,15 +1,15 @@
-use Rattle.std.proofs.Common.{◌++◌, ℕ, List, Option, refl, true}
+use Rattle.std.proofs.Common.{◌++◌, ℕ, List, Option, false, refl, true}
 use Rattle.std.proofs.KnownBytes.{Appends-trans}
 use Rattle.std.proofs.lemmas.Result.{on_ok_weaker}
 use Rattle.std.specs.Io.KnownBytes.{Appends}
 use Rattle.nor_lines.specs.AnswerLines.{AreLines}
 use Rattle.nor_lines.specs.Printing.{Prints}
 use Rattle.nor_lines.specs.declared.answers.Answer.{Answer}
-use Rattle.flashnor_serprog.specs.Run.{AreJobLines, unverified_line}
-use Rattle.flashnor_serprog.proofs.run.print_lines.Goals as goal
+use Rattle.flashnor_serprog.specs.Run.{AreLinesBy, unverified_line}
+use Rattle.flashnor_serprog.proofs.ending.print_lines.Goals as goal
 
 one-more : (found : Answer) (a b c : Option (List ℕ)) → Prints (AreLines found) a b → Appends b c unverified_line
-    → Prints (AreJobLines true found) a c
+    → Prints (AreLinesBy false true found) a c
 one-more found a b c printed appended = (
   printed.0 ++ unverified_line,
   (printed.0, printed.1, refl),
@@ -17,5 +17,4 @@ one-more found a b c printed appended = (
 )
 
 pub returns-in_ok-print_answer : goal.returns-in_ok-print_answer
-returns-in_ok-print_answer g c = rw c.if-unverified.true (on_ok_weaker c.print_unverified.result
-    (one-more c.args.answer _ _ _ c.in_ok-print_answer.ensures) c.print_unverified.ensures)
+returns-in_ok-print_answer g c = search one-more

@@ -8,7 +8,7 @@ returns-in-Ok g c = record {
   ends = rw c.mark_session.ensures at c.in-Ok.ensures.ends;
   sends = rw c.mark_session.ensures at c.end_job.ensures.sends;
   few = c.end_well.ensures.few;
-  printed = rw c.is_unverified-unverified.ensures at c.end_well.ensures.printed;
+  printed = c.end_well.ensures.printed;
 }
 
 pub returns-in-Err : goal.returns-in-Err

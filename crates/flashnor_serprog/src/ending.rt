@@ -1,0 +1,99 @@
+//! The end of a run: prints its answer or its fault, and returns the exit status.
+ghost use Rattle.std.specs.Prelude.{◌≡◌, ◌≤◌, IsOk, OnOk};
+ghost use Rattle.std.specs.Io.KnownBytes.{Appends};
+ghost use Rattle.nor_lines.specs.Printing.{Prints};
+ghost use Rattle.flashnor_serprog.specs.Run.{AreJobLines, AreNameLines, is_unverified, unverified_line};
+
+use crate::jobs::changes_bytes;
+use nor_lines::{Answer, Fault, lost_output, print_answer, print_fault};
+use nor_words::{Operation, Task};
+use std::io;
+use std::io::Write;
+
+/// Prints a fault, and returns the exit status, which is 1.
+pub fn end_badly<E: Write>(errors: &mut E, fault: &Fault<'_>) -> u8
+    ensures { result ≡ 1 }
+{
+    print_fault(errors, fault);
+    1
+}
+
+/// Returns the exit status after an answer or the help: 0 if it was printed. If not, prints file fault 2 of standard
+/// output to `errors`, and returns 1.
+pub fn status_of<E: Write>(printed: io::Result<()>, errors: &mut E) -> u8
+    ensures few { result ≤ 1 }
+    ensures printed { result ≡ 0 → IsOk printed }
+    ensures quiet { IsOk printed → E.contents errors.new ≡ E.contents errors.old }
+{
+    match printed {
+        Ok(()) => 0,
+        Err(_) => end_badly(errors, &lost_output()),
+    }
+}
+
+/// Prints an answer, and returns the exit status, which is 0 only if all lines were printed.
+pub fn end_well<O: Write, E: Write>(
+    output: &mut O,
+    errors: &mut E,
+    answer: Answer,
+    operation: &Operation<'_>,
+) -> u8
+    ensures few { result ≤ 1 }
+    ensures printed { result ≡ 0
+        → Prints (AreJobLines operation.now answer) (O.contents output.old) (O.contents output.new) }
+{
+    status_of(print_lines(output, answer, operation), errors)
+}
+
+// Prints the lines of an answer and, if nothing was verified, the line that says so; with `--flash-name` only the name
+// of the chip.
+fn print_lines<O: Write>(
+    output: &mut O,
+    answer: Answer,
+    operation: &Operation<'_>,
+) -> io::Result<()>
+    ensures { OnOk result
+        (Prints (AreJobLines operation.now answer) (O.contents output.old) (O.contents output.new)) }
+{
+    if operation.is_flash_name {
+        print_name(output, answer)
+    } else if is_unverified(&operation.task) {
+        print_answer(output, answer)?;
+        print_unverified(output)
+    } else {
+        print_answer(output, answer)
+    }
+}
+
+// Prints the name of the chip that was identified.
+#[tactic(auto, unfolding(nor_lines::specs::Lines::line))]
+fn print_name<O: Write>(output: &mut O, answer: Answer) -> io::Result<()>
+    ensures { OnOk result (Prints (AreNameLines answer) (O.contents output.old) (O.contents output.new)) }
+{
+    match answer {
+        Answer::Found(found) => {
+            let name = found.name.as_str();
+            writeln!(output, "{name}")?;
+            output.flush()
+        }
+        answer => print_answer(output, answer),
+    }
+}
+
+#[tactic(auto, unfolding(nor_lines::specs::Lines::line))]
+fn print_unverified<O: Write>(output: &mut O) -> io::Result<()>
+    ensures { OnOk result (Appends (O.contents output.old) (O.contents output.new) unverified_line) }
+{
+    writeln!(output, "Nothing was verified (-n).")?;
+    output.flush()
+}
+
+// True for a write or an erase with `-n`, after which nothing was verified.
+fn is_unverified(task: &Task<'_>) -> bool
+    ensures { result ≡ is_unverified task.now }
+{
+    match task {
+        Task::Change(change) => changes_bytes(change.wanted) && !change.verify,
+        _ => false,
+    }
+}

@@ -1,0 +1,113 @@
+"""Cases of --check-journal, which describes a journal without a programmer. The lines are those of the manual page."""
+import hashlib
+
+import reference
+from bench import check
+from chip import SECTOR
+from options import images
+
+SIZE = 65536
+UNIQUE = bytes.fromhex("d16288504b2f1a07")
+RESTORE = "To restore: flashnor-serprog -p serprog:dev=PATH --restore j"
+NEVER = ("If a run wrote it and ended early, that run never changed the chip. If it was copied, the copy lost its "
+         "end.")
+CHANGED = "Bytes of it have changed since it was sealed. Look for another copy."
+OTHER = "Is this the right file? If it is, look for another copy."
+
+
+def describe(bench, *words):
+    """Runs --check-journal without -p, and returns what it printed."""
+    bench.server.begin({})
+    got = bench.finish(bench.start_words([str(bench.program), "--check-journal", *words]))
+    bench.check_nothing_sent()
+    return got
+
+
+def describes_a_journal(start):
+    """A sealed journal is described: chip, unit, saved sectors, status bits, and the command that restores it."""
+    old, new = images("describes_a_journal")
+    bench = start(data=old)
+    bench.write("new", new)
+    bench.run("-w", "new", "--journal", "j")
+    before = bench.path("j").read_bytes()
+    bench.compare(describe(bench, "j"), [
+        "Journal of SFDP (fe1010), 65536 bytes.",
+        "Unit: unique ID 0000000000000000, so it fits any chip with this ID and size that has no unique ID.",
+        "Saves 4 of 16 sectors, from 0x001000 to 0x00ffff.", "Status: 00 00.", "Sealed and undamaged.", RESTORE], [])
+    bench.check_file("j", before)
+
+
+def describes_status_and_unit(start):
+    """The unique ID is printed, each bit that is set has its name, and a chip of the table has its name."""
+    large = bytes(1 << 23)
+    bench = start("W25Q64FV")
+    for status, bits in ((b"\x1c\x02", "1c 02 BP0 BP1 BP2 QE"), (b"\xe0\x79", "e0 79 TB SEC SRP0 SRP1 LB1 LB2 LB3 CMP"),
+                         (b"\0\0", "00 00")):
+        bench.write("j", reference.journal("W25Q64FV", large, (3, 9), status, UNIQUE))
+        bench.compare(describe(bench, "j"), [
+            "Journal of W25Q64FV (ef4017), 8388608 bytes.", "Unit: unique ID d16288504b2f1a07.",
+            "Saves 2 of 2048 sectors, from 0x003000 to 0x009fff.", f"Status: {bits}.", "Sealed and undamaged.",
+            RESTORE], [])
+
+
+def describes_old_and_empty_journals(start):
+    """A journal of format 1 has no unique ID, and a journal may save no sector."""
+    bench = start()
+    header = b"NORUNDO1\xfe\x10\x10" + b"\0\0" + SIZE.to_bytes(4, "little") + b"\xff" * 4
+    bench.write("j", header + hashlib.sha256(header).digest())
+    bench.compare(describe(bench, "j"), [
+        "Journal of SFDP (fe1010), 65536 bytes.",
+        "Unit: not recorded (format 1), so it fits any chip with this ID and size.", "Saves 0 of 16 sectors.",
+        "Status: 00 00.", "Sealed and undamaged.", RESTORE], [])
+
+
+def warns_of_blank_sectors(start):
+    """If more than half of the saved sectors hold only FFh, a warning says what that may mean."""
+    bench = start()
+    data = bytearray(SIZE)
+    data[3 * SECTOR :] = b"\xff" * (SIZE - 3 * SECTOR)
+    data[4 * SECTOR - 1] = 0xFE
+    for saved, blank in ((1, 2, 4, 5), None), ((1, 2, 4, 5, 6), 3), ((3, 4), None), ((3, 4, 5), 2), ((9,), 1):
+        bench.write("j", reference.journal("TINY64", bytes(data), saved))
+        lines = describe(bench, "j").out[5:-1]
+        check("the warning", lines, blank and [
+            f"Warning: {blank} of these sectors hold only ff. So does an erased chip, but also one that was",
+            "lost while it was saved: compare with another journal or image of the board."] or [])
+
+
+def explains_invalid_journals(start):
+    """A journal that isn't sealed or is damaged is told apart, and error 15 is the last line; nothing is changed."""
+    bench = start()
+    whole = reference.journal("TINY64", bytes(SIZE), (1, 2))
+    cut = "error: the journal was never sealed, or was cut off later"
+    for content, why, fault in (
+            (whole[:-1], [NEVER, cut], 1), (whole[:25], [NEVER, cut], 1), (b"", [NEVER, cut], 1),
+            (whole + b"\0", [CHANGED, "error: the journal is damaged"], 6),
+            (whole[:40] + b"\1" + whole[41:], [CHANGED, "error: the journal is damaged"], 7),
+            (whole[:21] + b"\1" + whole[22:], [CHANGED, "error: the journal is damaged"], 3),
+            (b"NORUNDO3" + whole[8:], [OTHER, "error: the file is no journal, or is damaged"], 2)):
+        bench.write("j", content)
+        bench.compare(describe(bench, "j"), [], [*why, f"Error 15: journal fault {fault}."])
+        bench.check_file("j", content)
+    bench.compare(describe(bench, "none"), [], ["File fault 1: none."])
+    bench.check_absent("none")
+
+
+def needs_no_programmer(start):
+    """--check-journal ignores -p, and is no second operation; options that it can't have are usage faults."""
+    bench = start()
+    bench.write("j", reference.journal("TINY64", bytes(SIZE), (1,)))
+    lines = describe(bench, "j").out
+    check("lines", len(lines), 6)
+    bench.compare(describe(bench, "j", "-p", "serprog:dev=none"), lines, [])
+    bench.compare(describe(bench, "j", "-r", "out"), [], [
+        "error: -r and --check-journal cannot be used together", "Usage fault 4."])
+    bench.compare(describe(bench, "j", "--journal", "k"), [], [
+        "error: --journal needs -w, -E or --wp-range", "Usage fault 6."])
+    bench.compare(describe(bench, "j", "--quick"), [], ["error: --quick needs --restore", "Usage fault 8."])
+    for name in "out", "k":
+        bench.check_absent(name)
+
+
+CASES = [describes_a_journal, describes_status_and_unit, describes_old_and_empty_journals, warns_of_blank_sectors,
+         explains_invalid_journals, needs_no_programmer]

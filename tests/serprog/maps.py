@@ -1,0 +1,120 @@
+"""Cases of --fmap-file and --ifd-file: regions from the FMAP or the flash descriptor of an image in a file.
+
+The formats are those of flashmap's fmap.h, and of the descriptors in the SPI programming guides of Intel's chipsets.
+"""
+import random
+import struct
+
+import reference
+from bench import check
+from options import FREE, SIZE
+
+MISSING = "error: the image has no FMAP, or does not begin with a flash descriptor"
+
+
+def fmap(areas, size=SIZE):
+    """Returns an FMAP with these areas: offset, size and name of each."""
+    found = struct.pack("<8sBBQI32sH", b"__FMAP__", 1, 1, 0, size, b"FLASH", len(areas))
+    return found + b"".join(struct.pack("<II32sH", *area, 0) for area in areas)
+
+
+def with_fmap(data, at, areas):
+    data = bytearray(data)
+    table = fmap(areas)
+    data[at : at + len(table)] = table
+    return bytes(data)
+
+
+def with_descriptor(data, entries):
+    """Returns the image with a flash descriptor that has these regions: base and limit of each, in units of 4 KiB."""
+    data = bytearray(data)
+    data[:0x1000] = b"\xff" * 0x1000
+    data[0x10:0x1C] = bytes.fromhex("5aa5f00f 03000400 08021045")
+    for index, (base, limit) in enumerate(entries):
+        data[0x40 + 4 * index : 0x44 + 4 * index] = struct.pack("<HH", base, limit)
+    return bytes(data)
+
+
+def random_image(seed):
+    return random.Random(seed).randbytes(SIZE)
+
+
+def reads_regions_of_an_fmap(start):
+    """-r reads exactly the bytes of an area of the FMAP, wherever that is in the image."""
+    old = with_fmap(random_image("fmap"), 0x7123, [(0, 0x1000, b"RO"), (0x1001, 0x2FFF, b"RW_A"), (0x4000, 1, b"ID")])
+    bench = start(data=old)
+    bench.write("before", old)
+    for names, first, last in ("RW_A", 0x1001, 0x3FFF), ("RW_A,ID", 0x1001, 0x4000), ("ID", 0x4000, 0x4000):
+        bench.expect("-r", "out", "--fmap-file", "before", "-i", names,
+                     out=[reference.found("TINY64"), "Read 65536 bytes."])
+        bench.check_file("out", b"\xff" * first + old[first : last + 1] + b"\xff" * (SIZE - 1 - last))
+
+
+def writes_regions_of_a_descriptor(start):
+    """-w changes exactly the region of the flash descriptor; base and limit count 4 KiB, and both belong to it."""
+    old = with_descriptor(random_image("old"), [(0, 0), (8, 15), (1, 7)])
+    new = random_image("new")
+    bench = start(data=old)
+    bench.write("before", old)
+    bench.write("new", new)
+    wanted = old[:0x8000] + new[0x8000:]
+    got = bench.run("-w", "new", "--journal", "j", "--ifd-file", "before", "-i", "bios")
+    check("the run", (got.out[0], got.err, got.status), (reference.found("TINY64"), [], 0))
+    bench.check_chip(wanted)
+    got = bench.run("-w", "new", "--journal", "k", "--ifd-file", "before", "-i", "fd,me")
+    check("the run", (got.err, got.status), ([], 0))
+    bench.check_chip(new)
+
+
+def refuses_wrong_maps(start):
+    """An image without a valid map is a map fault, in words, before anything is sent."""
+    bench = start(data=FREE)
+    whole = with_fmap(FREE, 0x100, [(0, SIZE, b"ALL")])
+    outside = "error: region 2 of the image does not lie in the image"
+    invalid = "error: the image has a region without a valid name"
+    for option, image, lines in (
+            ("--fmap-file", FREE, [MISSING, "Map fault 1."]), ("--fmap-file", b"", [MISSING, "Map fault 1."]),
+            ("--fmap-file", fmap([(0, 1, b"A"), (1, 1, b"B")])[:-1],
+             ["error: the image or its table of regions is cut off", "Map fault 2."]),
+            ("--fmap-file", with_fmap(FREE, 0, [(0, SIZE, b"A"), (1, SIZE, b"B")]), [outside, "Map fault 3."]),
+            ("--fmap-file", with_fmap(FREE, 0, [(0, 1, b"A,B")]), [invalid, "Map fault 4."]),
+            ("--fmap-file", with_fmap(FREE, 0, [(0, 1, b"A"), (1, 1, b"A")]),
+             ["error: the image has two regions with one name", "Map fault 5."]),
+            ("--fmap-file", with_fmap(FREE, 0, [(it, 1, b"A%d" % it) for it in range(65)]),
+             ["error: the image has more than 64 regions", "Map fault 6."]),
+            ("--fmap-file", whole, ["error: the layout has no region 'a'", "Layout fault 8."]),
+            ("--ifd-file", whole, [MISSING, "Map fault 1."]),
+            ("--ifd-file", whole[:4095], ["error: the image or its table of regions is cut off", "Map fault 2."]),
+            ("--ifd-file", with_descriptor(FREE, [(0, 0), (1, 1), (2, 16)]), [outside, "Map fault 3."])):
+        bench.write("before", image)
+        bench.expect("-r", "out", option, "before", "-i", "a", err=lines)
+        bench.check_nothing_sent()
+        bench.check_absent("out")
+
+
+def takes_one_layout(start):
+    """Exactly one of -l, --fmap-file and --ifd-file goes with -i; anything else is usage fault 7."""
+    bench = start(data=FREE)
+    for words, why in (
+            ("-r out -l a --fmap-file b -i c", "-l and --fmap-file cannot be used together"),
+            ("-r out -l a --ifd-file b -i c", "-l and --ifd-file cannot be used together"),
+            ("-r out --fmap-file a --ifd-file b", "--fmap-file and --ifd-file cannot be used together"),
+            ("-r out -l a --fmap-file b --ifd-file c -i d", "-l and --ifd-file cannot be used together"),
+            ("-r out --fmap-file a", "--fmap-file needs -i"), ("-r out --ifd-file a", "--ifd-file needs -i"),
+            ("--ifd-file a -i b", "--ifd-file and -i need -r, -v, -w or -E"), ("-r out -i b", "-i needs -l")):
+        bench.expect(*words.split(), err=[f"error: {why}", "Usage fault 7."])
+        bench.check_nothing_sent()
+
+
+def keeps_the_image_apart(start):
+    """The image with the map is a file of the run like a layout: it can't be the output or the journal."""
+    old = with_fmap(random_image("apart"), 0, [(0, SIZE, b"ALL")])
+    bench = start(data=old)
+    bench.write("before", old)
+    bench.expect("-r", "before", "--fmap-file", "before", "-i", "ALL", err=["File fault 5: before."])
+    bench.check_file("before", old)
+    bench.check_nothing_sent()
+
+
+CASES = [reads_regions_of_an_fmap, writes_regions_of_a_descriptor, refuses_wrong_maps, takes_one_layout,
+         keeps_the_image_apart]
