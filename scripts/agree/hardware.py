@@ -95,7 +95,7 @@ def take_names(page):
 def take_lines(page):
     """Compares the lines of errors, of programmer faults and of progress."""
     same("lines of all errors", sources=refusals(), manual={line_of(*row) for row in rows(page, "Errors").items()})
-    same("steps of a job", sources=set(re.findall(r'Step::\w+ => "(.*?)"', code("flashnor_serprog/src/progress.rt"))),
+    same("steps of a job", sources=set(re.findall(r'Step::\w+ => "(.*?)"', code("flashnor_serprog/src/steps.rt"))),
          manual={re.sub(r"(?: N(?: of N)?)$", "", text) for text in re.findall(
              r'"([a-z][a-z ]+(?:: [a-z ]+)? N(?: of N)?)"', " ".join("".join(
                  part.text for part in page if part.section == "OUTPUT").split()))})

@@ -131,11 +131,11 @@ class Bench:
     def expect_at_terminal(self, *words, lines):
         """Runs the program with standard error at a terminal, and checks that it succeeds and prints these lines.
 
-        The line on a programmer that never replies comes before them.
+        The progress is plain. The line on a programmer that never replies comes before it.
         """
         terminal, slave = os.openpty()
         self.server.begin({})
-        process = self.start(words, err=slave)
+        process = self.start((*words, "--progress", "plain"), err=slave)
         os.close(slave)
         with ThreadPoolExecutor(1) as pool:
             shown = pool.submit(read_all, terminal)

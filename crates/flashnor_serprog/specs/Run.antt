@@ -26,7 +26,7 @@ use Rattle.flashnor_serprog.specs.Jobs.{DoesTask, FailsPerform, changes_bytes}
 use Rattle.flashnor_serprog.specs.Sends.{SendsOnly}
 use Rattle.flashnor_serprog.specs.Setting.{IsDeviceOf}
 use Rattle.nor_jobs.specs.Sources.{AreSources}
-use Rattle.flashnor_serprog.specs.Sources.{HaveOneRole, IsOwnLog}
+use Rattle.flashnor_serprog.specs.Sources.{HaveOneRole}
 use Rattle.flashnor_serprog.specs.declared.chip_faults.JobFault.{JobFault}
 use Rattle.flashnor_serprog.specs.declared.chip_faults.JobFault.TheVariants as ended
 use Rattle.flashnor_serprog.specs.declared.connect.Connected.{Connected}
@@ -53,11 +53,10 @@ IsAskedByArguments words (asked.Description file) = IsHardwareJob program words 
 IsAskedByArguments words (asked.Chip setting operation) = IsAskedFor words setting.device operation
 
 -- Before the programmer is used: neither the device nor a file that the job writes has a second role (`HaveOneRole`),
--- nor has the log (`IsOwnLog`), and the job's ranges and bytes were read.
+-- and the job's ranges and bytes were read.
 pub record IsPrepared (view : View) (device : Bor Text) (operation : Operation) (ranges : Option (List Span))
     (bytes : List ℕ) : Type 0 where
   pub roles : HaveOneRole view.nature device operation.task
-  pub log : IsOwnLog view.nature device operation.log operation.task
   pub sources : AreSources view operation.task ranges bytes
 
 -- A job ends with the result of its call, or with a fault that occurred before the call or in the comparison after a

@@ -50,22 +50,6 @@ FailsRoles nature device job fault = FailsDevice nature device job fault
     ⊎ (FailsFiles nature job fault
     ⊎ (FailsUnprinted nature (named_by job).output fault ⊎ FailsUnprinted nature (named_by job).journal fault))
 
--- The name of the log is apart from that of the device, and from those of all files of the job.
-pub record IsOwnLog (nature : Nature) (device : Bor Text) (log : Option (Bor Text)) (job : Task) : Type 0 where
-  pub device_log : AreTwo nature (Some device) log
-  pub layout_log : AreTwo nature (named_by job).layout log
-  pub wanted_log : AreTwo nature (named_by job).wanted log
-  pub output_log : AreTwo nature (named_by job).output log
-  pub journal_log : AreTwo nature (named_by job).journal log
-
--- the faults of comparing the log with the device, the files of a job and those that the program prints to
-abbrev pub FailsLog : Nature → Bor Text → Option (Bor Text) → Task → Fault → Type 0
-FailsLog nature device log job fault = FailsApart nature (Some device) log fault
-    ⊎ (FailsApart nature (named_by job).layout log fault
-    ⊎ (FailsApart nature (named_by job).wanted log fault
-    ⊎ (FailsApart nature (named_by job).output log fault
-    ⊎ (FailsApart nature (named_by job).journal log fault ⊎ FailsUnprinted nature log fault))))
-
 -- ---- sources
 
 -- the fault is that the journal of a change already exists

@@ -45,6 +45,7 @@ pub struct Connected<'a> {
 /// that was misread as equal; with `-v` it stays unnoticed.
 pub fn connect<'a>(
     rt: &'a HostRuntime,
+    terminal: Terminal<'a>,
     device: String,
     hertz: Option<u32>,
     chip_select: Option<u8>,
@@ -55,7 +56,6 @@ pub fn connect<'a>(
     ensures expects { IfOk result (λ connected. expected_by connected ≡ option_map (λ image. image.items) image) }
 {
     let file = open_device(rt, device.as_str())?;
-    let terminal = Terminal::new(rt);
     terminal.print_waiting(device.as_str());
     let mut link = Link::new(DevicePort::new(file));
     let programmer = AnyProgrammer::identify(&mut link, hertz).map_err(ProgrammerFault::Handshake)?;

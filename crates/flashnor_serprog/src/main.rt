@@ -11,7 +11,11 @@
 //! - `roles.rt`: checks that neither the device nor a file that a job writes has a second role
 //! - `sources.rt`: reads the files that a job needs, before the programmer is used
 //! - `port.rt`: a port over the device of the programmer
-//! - `progress.rt`: a bus that prints the progress of a job to standard error
+//! - `progress.rt`: a bus that shows the progress of a job on standard error
+//! - `terminal.rt`: standard error: the line that is rewritten, and the lines with what a change will do
+//! - `steps.rt`: the steps of a job, and the line that shows one
+//! - `gauge.rt`: counts and times the operations of a job
+//! - `log.rt`: the lines of `-V`, one for each modifying transaction
 //! - `estimates.rt`: percent, rate and time left, and about how long a change takes
 //! - `connect.rt`: opens the device and identifies the programmer
 //! - `jobs.rt`: performs a job on the chip
@@ -31,9 +35,11 @@ mod connect;
 mod ending;
 mod estimates;
 mod following;
+mod gauge;
 mod help;
 mod jobs;
 mod journals;
+mod log;
 mod port;
 mod progress;
 mod rest;
@@ -43,20 +49,31 @@ mod run;
 mod setting;
 mod sources;
 mod status_line;
+mod steps;
+mod terminal;
 mod trouble;
 
 use nor_lines::{by_line, keep_streams};
 use run::{end_without_streams, run_words};
 use std::env;
 use std::process::ExitCode;
+use terminal::Screen;
 
 fn main(rt: HostRuntime) -> ExitCode {
     let streams = keep_streams(&rt);
     let mut output = by_line(rt.alloc(), rt.stdout());
     let mut errors = by_line(rt.alloc(), rt.stderr());
+    let screen = Screen::new();
     let mut used = None;
     let status = match &streams {
-        Ok(_) => run_words(&rt, env::args(&rt), &mut used, &mut output, &mut errors),
+        Ok(_) => run_words(
+            &rt,
+            &screen,
+            env::args(&rt),
+            &mut used,
+            &mut output,
+            &mut errors,
+        ),
         Err(_) => end_without_streams(&mut errors),
     };
     ExitCode::from(status)

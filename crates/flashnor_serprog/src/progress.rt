@@ -1,30 +1,17 @@
 //! The progress of a job on standard error: a bus that prints the steps, and the line with what a change will do.
-ghost use Rattle.std.specs.Prelude.{◌≡◌, ◌≤◌};
+ghost use Rattle.std.specs.Prelude.{◌≡◌};
 
-use crate::trouble::MODES;
+use crate::estimates::Minutes;
+use crate::gauge::{Gauge, micros_between};
+use crate::steps::{Phase, Step, Total, step_of};
+use crate::terminal::Look;
+pub use crate::terminal::Terminal;
 use nor_chip::{Bus, Stopped, is_changing};
-use nor_journal::journal_len;
-use nor_lines::Escaped;
 use nor_serprog::ReadAhead;
-use nor_session::Announcement;
-use std::fs;
-use std::os::unix::fs::FileTypeExt;
+use std::fmt;
+use std::time::Instant;
 
-// The steps of a job. A job may omit a step, and the order varies: `--unlock` sends a status write before the erases,
-// and some sectors are read again before they are programmed. After the first modifying command each read of a sector
-// counts as `ReadBack`, and in the comparison after a change as `Compare`.
-#[derive(Clone, Copy)]
-enum Step {
-    Identify,
-    Scan,
-    Erase,
-    Program,
-    Protect,
-    ReadBack,
-    Compare,
-}
-
-// The number of transactions sent so far for each step, if the progress is printed.
+// The number of transactions sent so far for each step, if the progress is shown.
 #[derive(Clone, Copy, Default)]
 struct Counts {
     identify: u64,
@@ -53,42 +40,6 @@ impl Counts {
     }
 }
 
-impl Step {
-    fn as_str(self) -> &'static str {
-        match self {
-            Step::Identify => "identify",
-            Step::Scan => "scan: sector",
-            Step::Erase => "erase: erases sent",
-            Step::Program => "program: pages sent",
-            Step::Protect => "protect: status writes sent",
-            Step::ReadBack => "read back: sectors read",
-            Step::Compare => "compare: sector",
-        }
-    }
-
-    // Returns the number of transactions from one printed line to the next. An erase takes longer than a read or a page
-    // program (a 64 KiB erase up to 2 seconds, W25Q64FV datasheet), so erases have more lines.
-    fn stride(self) -> u64
-        ensures { 1 ≤ result }
-    {
-        match self {
-            Step::Erase => 16,
-            _ => 256,
-        }
-    }
-}
-
-// The part of a job that a transaction belongs to.
-#[derive(Clone, Copy, PartialEq)]
-enum Phase {
-    // no modifying command was sent yet
-    Before,
-    // a modifying command was sent
-    Changing,
-    // the change ended, and the chip is compared with its target
-    After,
-}
-
 // A bit of status 1, and two of status 2 (W25Q64FV datasheet, Status Registers).
 const SRP0: u8 = 0x80;
 
@@ -109,62 +60,6 @@ const POWER_LOCKED: &str =
 const QUAD: &str =
     "Keep its power on: a status write that is cut off may clear QE, and a restore then ends with error 17.";
 
-// The line before the first exchange, without the command that sets up the port.
-const WAITING: &str =
-    "Waiting for the programmer. If no line follows in 10 seconds, press Ctrl-C and run:";
-
-/// Standard error, on which progress is printed if it is a character device.
-#[derive(Clone, Copy)]
-pub struct Terminal<'a> {
-    rt: &'a HostRuntime,
-    visible: bool,
-}
-
-impl<'a> Terminal<'a> {
-    /// Returns the terminal at standard error, visible only if standard error is a character device.
-    pub fn new(rt: &'a HostRuntime) -> Terminal<'a> {
-        Terminal {
-            rt,
-            visible: is_terminal(rt),
-        }
-    }
-
-    /// If standard error is a character device, prints what to do if the programmer at this device never replies. A
-    /// read from a port that isn't set up waits without a limit, and std has no call that ends it.
-    pub fn print_waiting(&self, device: &str) {
-        if self.visible {
-            let _ = eprintln!(self.rt; "{WAITING} stty -F {} {MODES}", Escaped(device));
-        }
-    }
-
-    /// If standard error is a character device, prints what a session will change, and the length of its journal.
-    pub fn print_session(&self, announcement: Announcement) {
-        if self.visible {
-            let Announcement { touched, erases } = announcement;
-            let len = journal_len(touched);
-            let _ = eprintln!(self.rt;
-                "Sectors to change: {touched}. Erases: {erases}. Bytes of journal: {len}."
-            );
-        }
-    }
-
-    /// If standard error is a character device, prints what a restore will change.
-    pub fn print_restore(&self, announcement: Announcement) {
-        if self.visible {
-            let Announcement { touched, erases } = announcement;
-            let _ = eprintln!(self.rt; "Sectors to change: {touched}. Erases: {erases}.");
-        }
-    }
-}
-
-// Returns whether standard error is a character device.
-fn is_terminal(rt: &HostRuntime) -> bool {
-    match fs::metadata(rt, "/proc/self/fd/2") {
-        Ok(metadata) => metadata.file_type().is_char_device(),
-        Err(_) => false,
-    }
-}
-
 /// A bus that shows the progress of a job.
 pub trait Progress: Bus {
     /// Records how many sectors the scan of the job will read, for its progress lines. The state of the bus, as
@@ -183,8 +78,13 @@ pub trait Progress: Bus {
         ensures { Self.state self.new ≡ Self.state self.old };
 }
 
-/// A bus that prints a line to standard error for the first transaction of each step, and then one for each
-/// `Step::stride` further transactions of that step. It prints nothing if standard error is not a character device.
+/// A bus that shows the progress of a job on a terminal.
+///
+/// On a terminal it is one line, which is rewritten at most ten times a second: the step, the operations that are done,
+/// the rate and, if their number is known, the percentage and the time that is left. The line of a step is ended if all
+/// its operations are done. Before any other line is printed it is ended or cleared. On another character device there
+/// is a line for the first transaction of each step, and then one for each `Step::stride` further transactions of that
+/// step. Otherwise nothing is shown.
 ///
 /// A step is recognized by the opcode of a transaction. Before the first modifying command a line says that the chip is
 /// changed from here on. In a session that line begins with `SEALED`, since a session sends no modifying command before
@@ -200,12 +100,15 @@ pub struct Shown<'a, B> {
     // number is known
     expected: Option<usize>,
     counts: Counts,
+    gauge: Gauge,
+    // when the first modifying command was sent
+    changed: Option<Instant>,
     // status 1 and 2 as last read before the first modifying command; 0 if they were not read
     status: [u8; 2],
 }
 
 impl<'a, B: Bus + Drop> Shown<'a, B> {
-    /// Returns a bus that prints the progress of the job on `bus` to `terminal`.
+    /// Returns a bus that shows the progress of the job on `bus` on `terminal`.
     pub fn new(bus: B, terminal: Terminal<'a>) -> Shown<'a, B>
         ensures { result.bus ≡ bus }
     {
@@ -216,6 +119,8 @@ impl<'a, B: Bus + Drop> Shown<'a, B> {
             phase: Phase::Before,
             expected: None,
             counts: Counts::default(),
+            gauge: Gauge::new(terminal.now()),
+            changed: None,
             status: [0, 0],
         }
     }
@@ -225,7 +130,7 @@ impl<'a, B: Bus + Drop> Shown<'a, B> {
         &self.bus
     }
 
-    /// Returns the terminal that the progress is printed to.
+    /// Returns the terminal that the progress is shown on.
     pub fn terminal(&self) -> Terminal<'a> {
         self.terminal
     }
@@ -236,34 +141,52 @@ impl<'a, B: Bus + Drop> Shown<'a, B> {
     {
         self.in_session = true;
     }
+
+    /// Ends the line of the progress, after the last transaction of the job and before any other line is printed. If a
+    /// change succeeded that is not compared, says how long it took.
+    pub fn end_progress(&self, succeeded: bool) {
+        if succeeded {
+            self.show_duration();
+        }
+        self.terminal.end_line();
+    }
 }
 
 impl<B> Shown<'_, B> {
-    // Prints nothing if the terminal is not visible. Otherwise prints a line if this transaction is the first modifying
-    // command, and another if it is number 1, 1 + `stride`, 1 + 2 * `stride`, .. of its step.
+    // Shows nothing if the terminal is hidden. Otherwise prints a line if this transaction is the first modifying
+    // command. On plain lines prints another if it is number 1, 1 + `stride`, 1 + 2 * `stride`, .. of its step.
     fn show(&mut self, out: &[u8])
         ensures { self.new.bus ≡ self.old.bus }
     {
-        if !self.terminal.visible {
+        if self.terminal.look() == Look::Hidden {
             return;
         }
         if is_changing(out) && self.phase == Phase::Before {
-            self.phase = Phase::Changing;
-            let what = if self.in_session { SEALED } else { CHANGED };
-            let _ = eprintln!(self.terminal.rt; "{what}");
-            if self.has_power_lock() {
-                let _ = eprintln!(self.terminal.rt; "{POWER_LOCKED}");
-            }
+            self.begin_change();
         }
         let Some(step) = step_of(out, self.phase) else {
             return;
         };
         let count = self.counts.count(step);
-        if count == 1 && matches!(step, Step::Protect) && self.status[1] & QE != 0 {
-            let _ = eprintln!(self.terminal.rt; "{QUAD}");
+        if count == 1 && step == Step::Protect && self.status[1] & QE != 0 {
+            self.terminal.print(&QUAD);
         }
-        if count % step.stride() == 1 {
+        if self.terminal.look() == Look::Plain && count % step.stride() == 1 {
             self.show_step(step, count);
+        }
+    }
+
+    // Prints the lines before the first modifying command.
+    fn begin_change(&mut self)
+        ensures { self.new.bus ≡ self.old.bus }
+    {
+        self.phase = Phase::Changing;
+        self.changed = self.terminal.now();
+        self.gauge.restart(self.changed);
+        let what = if self.in_session { SEALED } else { CHANGED };
+        self.terminal.print(&what);
+        if self.has_power_lock() {
+            self.terminal.print(&POWER_LOCKED);
         }
     }
 
@@ -283,32 +206,98 @@ impl<B> Shown<'_, B> {
         }
     }
 
-    // Prints the line of a step. `count` is the number of its transactions so far.
+    // Prints the plain line of a step. `count` is the number of its transactions so far.
     fn show_step(&self, step: Step, count: u64) {
-        let text = step.as_str();
-        let _ = match (step, self.expected) {
-            (Step::Scan | Step::Compare, Some(expected)) => {
-                eprintln!(self.terminal.rt; "{text} {count} of {expected}")
-            }
-            _ => eprintln!(self.terminal.rt; "{text} {count}"),
+        let text = step.plain_text();
+        match (step, self.expected) {
+            (Step::Scan | Step::Compare, Some(expected)) => self.terminal.print(&StepOf {
+                text,
+                count,
+                expected,
+            }),
+            _ => self.terminal.print(&StepCount { text, count }),
+        }
+    }
+
+    // Records a transaction that was carried out, and draws the line of its step if a tenth of a second passed, or if
+    // the step is complete.
+    fn measure(&mut self, out: &[u8], reply: &[u8])
+        ensures { self.new.bus ≡ self.old.bus }
+    {
+        if self.terminal.look() != Look::Line {
+            return;
+        }
+        let now = self.terminal.now();
+        let step = step_of(out, self.phase);
+        let Some(step) = self.gauge.record(step, out, reply, now) else {
+            return;
         };
+        self.terminal.record_reads(self.gauge.scanned());
+        let total = self.total_of(step);
+        let line = self.gauge.line(step, total, now);
+        if line.is_complete() {
+            self.terminal.draw(&line);
+            self.terminal.end_line();
+        } else if self.gauge.is_due(now) {
+            self.terminal.draw(&line);
+            self.gauge.record_drawing(now);
+        }
+    }
+
+    // Returns how many operations a step has. A touched sector has at most 16 pages to program.
+    fn total_of(&self, step: Step) -> Total {
+        match (step, self.expected, self.terminal.announced()) {
+            (Step::Scan | Step::Compare, Some(sectors), _) => Total::Exactly(sectors as u64),
+            (Step::Erase, _, Some(announced)) => Total::Exactly(u64::from(announced.erases)),
+            (Step::Program, _, Some(announced)) => Total::AtMost(16 * u64::from(announced.touched)),
+            _ => Total::Unknown,
+        }
+    }
+
+    // Says how long a change took, if one began and its comparison did not. Only a line that is rewritten says that.
+    fn show_duration(&self) {
+        if self.terminal.look() == Look::Line && self.phase == Phase::Changing {
+            let took = Minutes(micros_between(self.changed, self.terminal.now()));
+            self.terminal.clear_line();
+            self.terminal.print(&Took(took));
+        }
     }
 }
 
-// Returns the step that a transaction belongs to, or `None` for an opcode that no step counts: a poll, a write enable,
-// or a read of the SFDP, status 2 or the unique ID.
-fn step_of(out: &[u8], phase: Phase) -> Option<Step> {
-    match out {
-        [0x9F, ..] => Some(Step::Identify),
-        [0x03, ..] => Some(match phase {
-            Phase::Before => Step::Scan,
-            Phase::Changing => Step::ReadBack,
-            Phase::After => Step::Compare,
-        }),
-        [0x20 | 0x52 | 0xD8 | 0xC7, ..] => Some(Step::Erase),
-        [0x02, ..] => Some(Step::Program),
-        [0x01, ..] => Some(Step::Protect),
-        _ => None,
+// The plain line of a step whose number of transactions is known.
+#[derive(Clone, Copy, Drop)]
+struct StepOf {
+    text: &'static str,
+    count: u64,
+    expected: usize,
+}
+
+impl fmt::Display for StepOf {
+    fn fmt<W: fmt::Write>(&self, f: &mut fmt::Formatter<W>) -> fmt::Result {
+        write!(f, "{} {} of {}", self.text, self.count, self.expected)
+    }
+}
+
+// The plain line of another step.
+#[derive(Clone, Copy, Drop)]
+struct StepCount {
+    text: &'static str,
+    count: u64,
+}
+
+impl fmt::Display for StepCount {
+    fn fmt<W: fmt::Write>(&self, f: &mut fmt::Formatter<W>) -> fmt::Result {
+        write!(f, "{} {}", self.text, self.count)
+    }
+}
+
+// The line that says how long a change took.
+#[derive(Clone, Copy, Drop)]
+struct Took(Minutes);
+
+impl fmt::Display for Took {
+    fn fmt<W: fmt::Write>(&self, f: &mut fmt::Formatter<W>) -> fmt::Result {
+        write!(f, "The change took {}.", self.0)
     }
 }
 
@@ -319,20 +308,32 @@ impl<B: Bus> Bus for Shown<'_, B> {
 
     fn transfer(&mut self, out: &[u8], reply: &mut [u8]) -> Result<(), Stopped> {
         self.show(out);
-        self.bus.transfer(out, reply)?;
-        self.remember(out, reply);
-        Ok(())
+        self.terminal.log_command(out);
+        match self.bus.transfer(out, reply) {
+            Ok(()) => {
+                self.remember(out, reply);
+                self.measure(out, reply);
+                Ok(())
+            }
+            Err(Stopped) => {
+                self.terminal.log_stop();
+                Err(Stopped)
+            }
+        }
     }
 }
 
 impl<B: Bus + Drop> Progress for Shown<'_, ReadAhead<B>> {
     fn expect_reads(&mut self, sectors: usize) {
-        self.expected = Some(sectors);
+        // A job may name the same reads again after it did some of them, or only those that are left.
+        self.expected = Some(sectors.max(self.expected.unwrap_or(0)));
     }
 
     fn expect_comparison(&mut self, sectors: usize) {
+        self.show_duration();
         self.expected = Some(sectors);
         self.phase = Phase::After;
+        self.gauge.restart(self.terminal.now());
     }
 
     fn end_blocks_at(&mut self, address: u32) {

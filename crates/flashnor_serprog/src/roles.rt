@@ -1,10 +1,10 @@
 //! Checks that neither the device nor a file that a job writes has a second role in a run.
 ghost use Rattle.std.specs.Prelude.{IfErr, OnOk};
-ghost use Rattle.flashnor_serprog.specs.Sources.{FailsLog, FailsRoles, HaveOneRole, IsOwnLog};
+ghost use Rattle.flashnor_serprog.specs.Sources.{FailsRoles, HaveOneRole};
 
 use nor_files::Store;
 use nor_lines::{Fault, Named, apart, named_by, unprinted};
-use nor_words::{Operation, Task};
+use nor_words::Task;
 
 /// Checks that the device, and each file that the job writes, have no second role, and that the program does not print
 /// to the output file or to a journal. A layout and an image, which a job only reads, may be the same file.
@@ -35,33 +35,4 @@ pub fn have_one_role<'a, R: Store>(
     apart(rt, wanted, journal)?;
     unprinted(rt, output)?;
     unprinted(rt, journal)
-}
-
-/// Checks that the log of `-o`, if there is one, is neither the device nor a file of the task, and that the program does
-/// not print to it.
-///
-/// Returns file fault 5 with the name of the log if it is, or file fault 1 if a name can't be looked up.
-pub fn has_own_log<'a, R: Store>(
-    rt: &R,
-    device: &'a str,
-    operation: &Operation<'a>,
-) -> Result<(), Fault<'a>>
-    ensures ok { OnOk result
-        (IsOwnLog (R.state rt.now).view.nature device.entry operation.now.log operation.now.task) }
-    ensures err { IfErr result
-        (FailsLog (R.state rt.now).view.nature device.entry operation.now.log operation.now.task) }
-{
-    let Named {
-        layout,
-        wanted,
-        output,
-        journal,
-    } = named_by(&operation.task);
-    let log = operation.log;
-    apart(rt, Some(device), log)?;
-    apart(rt, layout, log)?;
-    apart(rt, wanted, log)?;
-    apart(rt, output, log)?;
-    apart(rt, journal, log)?;
-    unprinted(rt, log)
 }

@@ -17,9 +17,10 @@ use crate::help::HELP;
 use crate::jobs::perform;
 use crate::journals::check_journal;
 use crate::progress::{Progress, Terminal};
-use crate::roles::{has_own_log, have_one_role};
+use crate::roles::have_one_role;
 use crate::setting::Setting;
 use crate::sources::{image_of, prepare_sources};
+use crate::terminal::Screen;
 use crate::trouble::{Left, StopLine, Trouble};
 use clap::Error as WordsError;
 use nor_chip::Bus;
@@ -43,6 +44,7 @@ use std::io::Write;
 /// clauses `done` and `ran` are about this bus.
 pub fn run_words<'b, O: Write, E: Write>(
     rt: &'b HostRuntime,
+    screen: &'b Screen,
     given: io::Result<Args>,
     used: &mut Option<Connected<'b>>,
     output: &mut O,
@@ -64,6 +66,7 @@ pub fn run_words<'b, O: Write, E: Write>(
         Ok(args) => match arguments_after_name(rt.alloc(), args) {
             Ok(words) => run_over(
                 rt,
+                screen,
                 &mut Disk::new(rt),
                 used,
                 words.as_slice(),
@@ -87,6 +90,7 @@ pub fn end_without_streams<E: Write>(errors: &mut E) -> u8
 // Performs the job given by the arguments, without the program's name, over any store of files.
 fn run_over<'b, R: Store, O: Write, E: Write>(
     rt: &'b HostRuntime,
+    screen: &'b Screen,
     files: &mut R,
     used: &mut Option<Connected<'b>>,
     words: &[String],
@@ -105,7 +109,7 @@ fn run_over<'b, R: Store, O: Write, E: Write>(
     match read_words(rt.alloc(), words) {
         Ok(Asked::Description { file }) => check_journal(files, file, output, errors),
         Ok(Asked::Chip { setting, operation }) => {
-            run_on_chip(rt, files, used, &setting, &operation, output, errors)
+            run_on_chip(rt, screen, files, used, &setting, &operation, output, errors)
         }
         Err(trouble) => end_early(output, errors, &trouble),
     }
@@ -114,6 +118,7 @@ fn run_over<'b, R: Store, O: Write, E: Write>(
 // Performs an operation on the chip of a programmer.
 fn run_on_chip<'b, R: Store, O: Write, E: Write>(
     rt: &'b HostRuntime,
+    screen: &'b Screen,
     files: &mut R,
     used: &mut Option<Connected<'b>>,
     setting: &Setting<'_>,
@@ -129,7 +134,7 @@ fn run_on_chip<'b, R: Store, O: Write, E: Write>(
         setting.now.device operation.now (device_of connected) (⟦<ChipBus<'b> as Bus>⟧.state connected.bus)
         (O.contents output.old) (O.contents output.new) result) }
 {
-    match prepare(rt, files, setting, operation) {
+    match prepare(rt, screen, files, setting, operation) {
         Ok(
             Prepared {
                 sources,
@@ -184,6 +189,7 @@ struct Prepared<'b> {
 // Reads the files that the operation needs, and identifies the programmer.
 fn prepare<'a, 'b, R: Store>(
     rt: &'b HostRuntime,
+    screen: &'b Screen,
     files: &mut R,
     setting: &Setting<'a>,
     operation: &Operation<'a>,
@@ -197,12 +203,19 @@ fn prepare<'a, 'b, R: Store>(
         (expected_by prepared.connected)) }
 {
     have_one_role(files, setting.device, &operation.task)?;
-    has_own_log(files, setting.device, operation)?;
     check_new(files, operation)?;
     let sources = prepare_sources(files, &operation.task)?;
     let image = image_of(&sources, operation);
     let name = name_of(rt.alloc(), setting.device)?;
-    match connect(rt, name, setting.hertz, setting.chip_select, image) {
+    let terminal = Terminal::new(rt, screen, operation.progress, operation.is_verbose);
+    match connect(
+        rt,
+        terminal,
+        name,
+        setting.hertz,
+        setting.chip_select,
+        image,
+    ) {
         Ok(connected) => Ok(Prepared { sources, connected }),
         Err(fault) => Err(Trouble::Programmer {
             fault,
@@ -266,8 +279,12 @@ fn run_prepared<'b, R: Store, O: Write, E: Write>(
     mark_session(bus, &operation.task);
     let terminal = bus.terminal();
     match end_job(files, bus, terminal, operation, sources) {
-        Ok(answer) => end_well(output, errors, answer, operation),
+        Ok(answer) => {
+            bus.end_progress(true);
+            end_well(output, errors, answer, operation)
+        }
         Err(fault) => {
+            bus.end_progress(false);
             print_job_fault(errors, &fault, bus, &operation.task);
             1
         }

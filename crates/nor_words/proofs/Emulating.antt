@@ -28,8 +28,7 @@ given_text (Some text) is same = same
 
 -- an operation that the options ask for on an emulated chip is the one that they ask for
 pub operation-asked : (given : Texts) (on_chip : ChipJob) (backup : Bool)
-    (progress : ProgressMode) (log : Option (Bor Text))
-    → backup ≡ is_some given.backup → progress ≡ progress_mode given → option_map (λ file. file.now) log ≡ given.log
+    (progress : ProgressMode) → backup ≡ is_some given.backup → progress ≡ progress_mode given
     → (first_fault (usage_faults (emulated given)) ≡ None) × IsAsked (emulated given) (job.Chip on_chip)
     → IsOperation given (record {
       named = on_chip.named;
@@ -39,7 +38,6 @@ pub operation-asked : (given : Texts) (on_chip : ChipJob) (backup : Bool)
       is_flash_name = given.flash_name;
       progress = progress;
       is_verbose = given.verbose;
-      log = log;
       task = on_chip.task;
     })
-operation-asked given on_chip backup progress log same shown logged is = search task-same
+operation-asked given on_chip backup progress same shown is = search task-same

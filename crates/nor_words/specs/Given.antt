@@ -51,7 +51,6 @@ pub record Texts : Type 0 where
   -- `--progress MODE`, `-V`, `-o FILE`
   pub progress : Option Text
   pub verbose : Bool
-  pub log : Option Text
 
 -- true if the value is `true`, which `clap` gives a flag that is set
 abbrev pub is_flag_set : Option Text → Bool
@@ -95,7 +94,6 @@ given_in rows = record {
   unlock = is_set_in rows (codes "unlock");
   progress = None;
   verbose = false;
-  log = None;
 }
 
 -- the options that the arguments give, as `clap` parses them
@@ -117,7 +115,6 @@ hardware_given_in rows = record (given_in rows) {
   no_verify_all = is_set_in rows (codes "noverify-all");
   progress = text_in rows (codes "progress");
   verbose = is_set_in rows (codes "verbose");
-  log = text_in rows (codes "output");
 }
 
 -- the options that the arguments give a program for hardware with this name, as `clap` parses them
@@ -154,7 +151,6 @@ texts_of given = record {
   unlock = given.unlock;
   progress = option_map (λ text. text.now) given.progress;
   verbose = given.verbose;
-  log = option_map (λ text. text.now) given.log;
 }
 
 -- how many of these are true

@@ -95,7 +95,6 @@ pub record IsOperation (given : Texts) (operation : Operation) : Type 0 where
   pub is_flash_name : operation.is_flash_name ≡ given.flash_name
   pub progress : operation.progress ≡ progress_mode given
   pub is_verbose : operation.is_verbose ≡ given.verbose
-  pub log : option_map (λ file. file.now) operation.log ≡ given.log
   pub task : IsTask given operation.task
 
 -- Holds if the fault is the first of the faults 4 to 9 that the options have, and the reason is its reason.

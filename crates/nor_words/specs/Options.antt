@@ -113,7 +113,6 @@ own_rules =
     ∷ by_name (valued (codes "ifd-file"))
     ∷ by_name (valued (codes "progress"))
     ∷ by_letter (codes "V") (flag (codes "verbose"))
-    ∷ by_letter (codes "o") (valued (codes "output"))
     ∷ []
 
 -- the command of a program for hardware with this name, without options: it has a version, and `clap`'s own version

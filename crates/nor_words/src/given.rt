@@ -62,7 +62,6 @@ pub struct Given<'a> {
     rehearse: Option<&'a str>,
     progress: Option<&'a str>,
     verbose: bool,
-    log: Option<&'a str>,
 }
 
 impl<'a> Given<'a> {
@@ -101,7 +100,6 @@ impl<'a> Given<'a> {
             rehearse: matches.get_str("rehearse"),
             progress: None,
             verbose: false,
-            log: None,
         }
     }
 
@@ -122,7 +120,6 @@ impl<'a> Given<'a> {
             no_verify_all: is_set(matches, "noverify-all"),
             progress: matches.get_str("progress"),
             verbose: is_set(matches, "verbose"),
-            log: matches.get_str("output"),
             ..Given::of(matches)
         }
     }
@@ -184,7 +181,6 @@ impl<'a> Given<'a> {
                 is_flash_name: self.flash_name,
                 progress: self.progress_mode(),
                 is_verbose: self.verbose,
-                log: self.log,
                 task,
             }),
             Ok(Job::List) => Err(self.explained(UsageFault::TwoOperations)),

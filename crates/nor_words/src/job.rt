@@ -62,8 +62,6 @@ pub struct Operation<'a> {
     pub progress: ProgressMode,
     /// `-V`: print more about the run.
     pub is_verbose: bool,
-    /// `-o FILE`: the name of the file that receives a log of the run.
-    pub log: Option<&'a str>,
     pub task: Task<'a>,
 }
 

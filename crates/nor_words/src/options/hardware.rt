@@ -5,7 +5,7 @@ ghost use Rattle.nor_words.specs.Options.{chosen, own_rules};
 use crate::options::Choice;
 
 // In the order of the help, in which they follow those that both programs have.
-static HARDWARE_CHOICES: [Choice; 10] = [
+static HARDWARE_CHOICES: [Choice; 9] = [
     Choice {
         letter: None,
         name: "backup",
@@ -60,16 +60,10 @@ static HARDWARE_CHOICES: [Choice; 10] = [
         value: None,
         help: "Print more about the run",
     },
-    Choice {
-        letter: Some('o'),
-        name: "output",
-        value: Some("FILE"),
-        help: "Write a log of the run into this file",
-    },
 ];
 
 // Returns the table `HARDWARE_CHOICES`, whose options are `own_rules`.
-pub(super) fn hardware_choices() -> &'static [Choice; 10]
+pub(super) fn hardware_choices() -> &'static [Choice; 9]
     ensures { map chosen result.now ≡ own_rules }
 {
     &HARDWARE_CHOICES

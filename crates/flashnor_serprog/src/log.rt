@@ -1,0 +1,83 @@
+//! The lines of `-V`: one for each modifying transaction.
+ghost use Rattle.std.specs.Prelude.{◌≡◌, IfSome};
+ghost use Rattle.nor_serprog.specs.ReadsAs.{address_in};
+ghost use Rattle.flashnor_serprog.specs.Estimates.{millis_in, whole_seconds_in};
+
+use std::fmt;
+
+/// The line of a modifying transaction that sends `out`, with its name and the time since the start of the run.
+#[derive(Clone, Copy, Drop)]
+pub struct CommandText<'a> {
+    pub micros: u64,
+    pub name: &'static str,
+    pub out: &'a [u8],
+}
+
+/// Returns the name of a modifying transaction, or `None` for any other.
+pub fn command_name(out: &[u8]) -> Option<&'static str> {
+    match out {
+        [0x06, ..] => Some("write enable"),
+        [0x01, ..] => Some("write status"),
+        [0x02, ..] => Some("program"),
+        [0x20, ..] => Some("erase 4 KiB"),
+        [0x52, ..] => Some("erase 32 KiB"),
+        [0xD8, ..] => Some("erase 64 KiB"),
+        [0xC7, ..] => Some("erase chip"),
+        _ => None,
+    }
+}
+
+// Returns the address of a command, and the number of bytes that follow it.
+fn address_and_len(out: &[u8]) -> Option<(u32, usize)>
+    ensures { IfSome result (λ found. found.0 ≡ address_in out.now) }
+{
+    match out {
+        [_, high, middle, low, data @ ..] => {
+            Some((u32::from_be_bytes([0, *high, *middle, *low]), data.len()))
+        }
+        _ => None,
+    }
+}
+
+impl fmt::Display for CommandText<'_> {
+    fn fmt<W: fmt::Write>(&self, f: &mut fmt::Formatter<W>) -> fmt::Result {
+        write!(f, "{} {}", Seconds(self.micros), self.name)?;
+        match (self.out, address_and_len(self.out)) {
+            ([0x01, data @ ..], _) => write!(f, ", bytes {}", data.len()),
+            (_, Some((address, 0))) => write!(f, " at 0x{address:06x}"),
+            (_, Some((address, len))) => write!(f, " at 0x{address:06x}, bytes {len}"),
+            _ => Ok(()),
+        }
+    }
+}
+
+/// The line after the transaction at which the bus stopped, with the time since the start of the run.
+#[derive(Clone, Copy, Drop)]
+pub struct StopText {
+    pub micros: u64,
+}
+
+impl fmt::Display for StopText {
+    fn fmt<W: fmt::Write>(&self, f: &mut fmt::Formatter<W>) -> fmt::Result {
+        write!(f, "{} stopped", Seconds(self.micros))
+    }
+}
+
+// A time in microseconds, printed as seconds with three decimals, as `61.005`.
+#[derive(Clone, Copy, Drop)]
+struct Seconds(u64);
+
+impl fmt::Display for Seconds {
+    fn fmt<W: fmt::Write>(&self, f: &mut fmt::Formatter<W>) -> fmt::Result {
+        let (seconds, millis) = split_millis(self.0);
+        write!(f, "{seconds}.{millis:03}")
+    }
+}
+
+// Returns the whole seconds of a time in microseconds, and the whole milliseconds that are left.
+fn split_millis(micros: u64) -> (u64, u64)
+    ensures seconds { result.0 ≡ whole_seconds_in micros }
+    ensures millis { result.1 ≡ millis_in micros }
+{
+    (micros / 1_000_000, micros % 1_000_000 / 1000)
+}

@@ -1,0 +1,196 @@
+//! The steps of a job, and what is shown of them.
+ghost use Rattle.std.specs.Prelude.{◌≤◌};
+
+use crate::estimates::{Minutes, Rate, percent, tenths_of_kib, time_for};
+use std::fmt;
+
+/// The steps of a job. A job may omit a step, and the order varies: `--unlock` sends a status write before the erases,
+/// and some sectors are read again before they are programmed. After the first modifying command each read of a sector
+/// counts as `ReadBack`, and in the comparison after a change as `Compare`.
+#[derive(Clone, Copy, PartialEq)]
+pub enum Step {
+    Identify,
+    Scan,
+    Erase,
+    Program,
+    Protect,
+    ReadBack,
+    Compare,
+}
+
+/// The part of a job that a transaction belongs to.
+#[derive(Clone, Copy, PartialEq)]
+pub enum Phase {
+    /// No modifying command was sent yet.
+    Before,
+    /// A modifying command was sent.
+    Changing,
+    /// The change ended, and the chip is compared with its target.
+    After,
+}
+
+/// Returns the step that a transaction belongs to, or `None` for an opcode that no step counts: a poll, a write enable,
+/// or a read of the SFDP, status 2 or the unique ID.
+pub fn step_of(out: &[u8], phase: Phase) -> Option<Step> {
+    match out {
+        [0x9F, ..] => Some(Step::Identify),
+        [0x03, ..] => Some(match phase {
+            Phase::Before => Step::Scan,
+            Phase::Changing => Step::ReadBack,
+            Phase::After => Step::Compare,
+        }),
+        [0x20 | 0x52 | 0xD8 | 0xC7, ..] => Some(Step::Erase),
+        [0x02, ..] => Some(Step::Program),
+        [0x01, ..] => Some(Step::Protect),
+        _ => None,
+    }
+}
+
+impl Step {
+    /// Returns the beginning of the step's plain lines. Its count follows.
+    pub fn plain_text(self) -> &'static str {
+        match self {
+            Step::Identify => "identify",
+            Step::Scan => "scan: sector",
+            Step::Erase => "erase: erases sent",
+            Step::Program => "program: pages sent",
+            Step::Protect => "protect: status writes sent",
+            Step::ReadBack => "read back: sectors read",
+            Step::Compare => "compare: sector",
+        }
+    }
+
+    /// Returns the number of transactions from one plain line to the next. An erase takes longer than a read or a page
+    /// program (a 64 KiB erase up to 2 seconds, W25Q64FV datasheet), so erases have more lines.
+    pub fn stride(self) -> u64
+        ensures { 1 ≤ result }
+    {
+        match self {
+            Step::Erase => 16,
+            _ => 256,
+        }
+    }
+
+    // Returns the step's name, and what it counts.
+    fn names(self) -> (&'static str, &'static str) {
+        match self {
+            Step::Identify => ("identify", "IDs"),
+            Step::Scan => ("scan", "sectors"),
+            Step::Erase => ("erase", "erases"),
+            Step::Program => ("program", "pages"),
+            Step::Protect => ("protect", "status writes"),
+            Step::ReadBack => ("read back", "sectors"),
+            Step::Compare => ("compare", "sectors"),
+        }
+    }
+}
+
+/// How many operations of a step are done, of how many data bytes, and how long they took.
+#[derive(Clone, Copy, Default)]
+pub struct Tally {
+    pub done: u64,
+    pub bytes: u64,
+    pub micros: u64,
+}
+
+impl Tally {
+    /// Counts one more operation, of this number of bytes, which took this number of microseconds.
+    pub fn add(&mut self, bytes: u64, micros: u64) {
+        self.done = self.done.saturating_add(1);
+        self.bytes = self.bytes.saturating_add(bytes);
+        self.micros = self.micros.saturating_add(micros);
+    }
+}
+
+/// How many operations a step will have.
+#[derive(Clone, Copy, PartialEq)]
+pub enum Total {
+    Unknown,
+    AtMost(u64),
+    Exactly(u64),
+}
+
+impl Total {
+    /// Returns this total, or `Unknown` if more operations are done.
+    fn unless_exceeded(self, done: u64) -> Total {
+        match self {
+            Total::AtMost(total) | Total::Exactly(total) if done > total => Total::Unknown,
+            _ => self,
+        }
+    }
+}
+
+/// The line that shows a step.
+#[derive(Clone, Copy, Drop)]
+pub struct StepLine {
+    pub step: Step,
+    pub tally: Tally,
+    pub total: Total,
+}
+
+impl StepLine {
+    /// Returns whether all operations of the step are done, if their number is known.
+    pub fn is_complete(&self) -> bool {
+        self.total == Total::Exactly(self.tally.done)
+    }
+}
+
+impl fmt::Display for StepLine {
+    fn fmt<W: fmt::Write>(&self, f: &mut fmt::Formatter<W>) -> fmt::Result {
+        let (name, unit) = self.step.names();
+        let Tally {
+            done,
+            bytes,
+            micros,
+        } = self.tally;
+        let total = self.total.unless_exceeded(done);
+        match total {
+            Total::Unknown => write!(f, "{name}: {done} {unit}")?,
+            Total::AtMost(most) => write!(f, "{name}: {done} of at most {most} {unit}")?,
+            Total::Exactly(all) => {
+                let share = percent(done, all).unwrap_or(100);
+                write!(f, "{name}: {share} %, {done} of {all} {unit}")?;
+            }
+        }
+        if let Some(tenths) = tenths_of_kib(bytes, micros)
+            && bytes > 0
+        {
+            write!(f, ", {}", Rate(tenths))?;
+        }
+        write!(
+            f,
+            "{}",
+            TimeText {
+                done,
+                micros,
+                total
+            }
+        )
+    }
+}
+
+// The end of the line of a step: the time that is left or, if that isn't known, the time that passed.
+#[derive(Clone, Copy, Drop)]
+struct TimeText {
+    done: u64,
+    micros: u64,
+    total: Total,
+}
+
+impl fmt::Display for TimeText {
+    fn fmt<W: fmt::Write>(&self, f: &mut fmt::Formatter<W>) -> fmt::Result {
+        let left = match self.total {
+            Total::Unknown => None,
+            Total::AtMost(total) | Total::Exactly(total) => Some(total.saturating_sub(self.done)),
+        };
+        let time = left.and_then(|left| time_for(left, self.done, self.micros));
+        match (self.total, time) {
+            (Total::Exactly(_), Some(_)) if left == Some(0) => {
+                write!(f, ", took {}", Minutes(self.micros))
+            }
+            (Total::Exactly(_), Some(time)) => write!(f, ", {} left", Minutes(time)),
+            (Total::AtMost(_), Some(time)) => write!(f, ", at most {} left", Minutes(time)),
+            _ => write!(f, ", {} so far", Minutes(self.micros)),
+        }
+    }
+}

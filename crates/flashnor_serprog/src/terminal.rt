@@ -1,0 +1,312 @@
+//! Standard error, on which the progress of a job is shown.
+
+use crate::estimates::{Minutes, Rate, change_micros, tenths_of_kib, time_for};
+use crate::gauge::micros_between;
+use crate::log::{CommandText, StopText, command_name};
+use crate::trouble::MODES;
+use nor_journal::journal_len;
+use nor_lines::Escaped;
+use nor_session::Announcement;
+use nor_words::ProgressMode;
+use std::cell::Cell;
+use std::io::IsTerminal;
+use std::os::unix::fs::FileTypeExt;
+use std::time::Instant;
+use std::{fmt, fs};
+
+// The greatest number of columns of the line that is rewritten: a terminal has 80, and many wrap at the last one.
+const COLUMNS: usize = 79;
+
+// Erases from the cursor to the end of the line (ECMA-48, EL).
+const ERASE_TO_END: &str = "\x1b[K";
+
+// The line before the first exchange, without the command that sets up the port.
+const WAITING: &str =
+    "Waiting for the programmer. If no line follows in 10 seconds, press Ctrl-C and run:";
+
+/// What all copies of a `Terminal` know: whether a line that may be rewritten is on the screen, what was announced, and
+/// how fast data was read.
+#[derive(Drop)]
+pub struct Screen {
+    known: Cell<Known>,
+}
+
+#[derive(Clone, Copy)]
+struct Known {
+    is_line_open: bool,
+    announced: Option<Announcement>,
+    read: Transfer,
+}
+
+/// A number of bytes, and the time in microseconds in which they were transferred.
+#[derive(Clone, Copy, Default)]
+pub struct Transfer {
+    pub bytes: u64,
+    pub micros: u64,
+}
+
+impl Screen {
+    /// Returns a screen without a line that may be rewritten.
+    pub fn new() -> Screen {
+        Screen {
+            known: Cell::new(Known {
+                is_line_open: false,
+                announced: None,
+                read: Transfer::default(),
+            }),
+        }
+    }
+}
+
+/// How the progress is shown.
+#[derive(Clone, Copy, PartialEq)]
+pub enum Look {
+    /// Nothing is shown.
+    Hidden,
+    /// Lines below each other.
+    Plain,
+    /// One line, which is rewritten.
+    Line,
+}
+
+/// Standard error, on which progress is shown if it is a character device.
+#[derive(Clone, Copy)]
+pub struct Terminal<'a> {
+    rt: &'a HostRuntime,
+    screen: &'a Screen,
+    look: Look,
+    // true if each modifying transaction has a line
+    is_verbose: bool,
+    // when the terminal was made
+    started: Option<Instant>,
+}
+
+impl<'a> Terminal<'a> {
+    /// Returns the terminal at standard error. With `Auto`, the progress is one line that is rewritten, if standard
+    /// error is a terminal; if it is another character device, there are lines below each other, and otherwise nothing.
+    /// With `Plain` there are lines below each other in any case, and with `Hidden` nothing is shown. With
+    /// `is_verbose`, each modifying transaction has a line in any case.
+    pub fn new(
+        rt: &'a HostRuntime,
+        screen: &'a Screen,
+        mode: ProgressMode,
+        is_verbose: bool,
+    ) -> Terminal<'a> {
+        let look = match mode {
+            ProgressMode::Hidden => Look::Hidden,
+            ProgressMode::Plain => Look::Plain,
+            ProgressMode::Auto if rt.stderr().is_terminal() => Look::Line,
+            ProgressMode::Auto if is_device(rt) => Look::Plain,
+            ProgressMode::Auto => Look::Hidden,
+        };
+        Terminal {
+            rt,
+            screen,
+            look,
+            is_verbose,
+            started: Instant::now(rt).ok(),
+        }
+    }
+
+    /// Returns how the progress is shown.
+    pub fn look(&self) -> Look {
+        self.look
+    }
+
+    /// Returns the time, or `None` if the clock fails.
+    pub fn now(&self) -> Option<Instant> {
+        Instant::now(self.rt).ok()
+    }
+
+    /// Returns what was announced last, if anything was.
+    pub fn announced(&self) -> Option<Announcement> {
+        self.screen.known.get().announced
+    }
+
+    /// Records how fast data was read so far.
+    pub fn record_reads(&self, read: Transfer) {
+        let known = self.screen.known.get();
+        self.screen.known.set(Known { read, ..known });
+    }
+
+    /// Rewrites the line, with this text, of which at most 79 bytes are shown. Shows nothing if memory runs out. The
+    /// text must be ASCII.
+    pub fn draw<T: fmt::Display>(&self, text: &T) {
+        let Ok(text) = format!(in self.rt.alloc(); "{text}") else {
+            return;
+        };
+        let line = fit(text.as_str());
+        let _ = eprint!(self.rt; "\r{line}{ERASE_TO_END}");
+        self.set_open(true);
+    }
+
+    /// Ends the line that may be rewritten, if there is one. Then the next line begins at the start of a line.
+    pub fn end_line(&self) {
+        if self.screen.known.get().is_line_open {
+            let _ = eprintln!(self.rt);
+            self.set_open(false);
+        }
+    }
+
+    /// With `-V`, prints a line for this transaction if it is a modifying one. The line says that it was passed to the
+    /// programmer's bus, which sends it at the latest with the next poll.
+    pub fn log_command(&self, out: &[u8]) {
+        if self.is_verbose
+            && let Some(name) = command_name(out)
+        {
+            let micros = self.elapsed();
+            self.log(&CommandText { micros, name, out });
+        }
+    }
+
+    /// With `-V`, prints that the bus stopped.
+    pub fn log_stop(&self) {
+        if self.is_verbose {
+            let micros = self.elapsed();
+            self.log(&StopText { micros });
+        }
+    }
+
+    // Returns the number of microseconds since the terminal was made.
+    fn elapsed(&self) -> u64 {
+        micros_between(self.started, self.now())
+    }
+
+    // Prints a line, after the line that may be rewritten is cleared.
+    fn log<T: fmt::Display>(&self, text: &T) {
+        self.clear_line();
+        let _ = eprintln!(self.rt; "{text}");
+    }
+
+    /// Clears the line that may be rewritten, if there is one. Then the next line begins in its place.
+    pub fn clear_line(&self) {
+        if self.screen.known.get().is_line_open {
+            let _ = eprint!(self.rt; "\r{ERASE_TO_END}");
+            self.set_open(false);
+        }
+    }
+
+    fn set_open(&self, is_line_open: bool) {
+        let known = self.screen.known.get();
+        self.screen.known.set(Known {
+            is_line_open,
+            ..known
+        });
+    }
+
+    /// Prints a line, after the line that may be rewritten is ended. Prints nothing if no progress is shown.
+    pub fn print<T: fmt::Display>(&self, text: &T) {
+        if self.look != Look::Hidden {
+            self.end_line();
+            let _ = eprintln!(self.rt; "{text}");
+        }
+    }
+
+    /// If progress is shown, prints what to do if the programmer at this device never replies. A read from a port that
+    /// isn't set up waits without a limit, and std has no call that ends it.
+    pub fn print_waiting(&self, device: &str) {
+        if self.look != Look::Hidden {
+            let _ = eprintln!(self.rt; "{WAITING} stty -F {} {MODES}", Escaped(device));
+        }
+    }
+
+    /// If progress is shown, prints what a session will change, and the length of its journal; on a line that is
+    /// rewritten, also about how long the change takes.
+    pub fn print_session(&self, announcement: Announcement) {
+        self.print(&SessionText(announcement));
+        self.announce(announcement);
+    }
+
+    /// If progress is shown, prints what a restore will change; on a line that is rewritten, also about how long the
+    /// change takes.
+    pub fn print_restore(&self, announcement: Announcement) {
+        self.print(&RestoreText(announcement));
+        self.announce(announcement);
+    }
+
+    // Records what will change and, if the progress is a line that is rewritten, prints about how long that takes.
+    fn announce(&self, announcement: Announcement) {
+        let known = self.screen.known.get();
+        self.screen.known.set(Known {
+            announced: Some(announcement),
+            ..known
+        });
+        if self.look == Look::Line && announcement.touched > 0 {
+            self.print(&ExpectedTime {
+                announcement,
+                read: known.read,
+            });
+        }
+    }
+}
+
+// Returns the text, or its first 79 bytes if it is longer.
+fn fit(text: &str) -> &str {
+    match text.get(..COLUMNS) {
+        Some(head) => head,
+        None => text,
+    }
+}
+
+// Returns whether standard error is a character device.
+fn is_device(rt: &HostRuntime) -> bool {
+    match fs::metadata(rt, "/proc/self/fd/2") {
+        Ok(metadata) => metadata.file_type().is_char_device(),
+        Err(_) => false,
+    }
+}
+
+// The line with what a session will change.
+#[derive(Clone, Copy, Drop)]
+struct SessionText(Announcement);
+
+impl fmt::Display for SessionText {
+    fn fmt<W: fmt::Write>(&self, f: &mut fmt::Formatter<W>) -> fmt::Result {
+        let Announcement { touched, erases } = self.0;
+        let len = journal_len(touched);
+        write!(
+            f,
+            "Sectors to change: {touched}. Erases: {erases}. Bytes of journal: {len}."
+        )
+    }
+}
+
+// The line with what a restore will change.
+#[derive(Clone, Copy, Drop)]
+struct RestoreText(Announcement);
+
+impl fmt::Display for RestoreText {
+    fn fmt<W: fmt::Write>(&self, f: &mut fmt::Formatter<W>) -> fmt::Result {
+        let Announcement { touched, erases } = self.0;
+        write!(f, "Sectors to change: {touched}. Erases: {erases}.")
+    }
+}
+
+// The line with about how long a change takes: the typical time of its erases and programs and, if data was read, the
+// time in which the touched sectors are sent and read back at the rate of those reads.
+#[derive(Clone, Copy, Drop)]
+struct ExpectedTime {
+    announcement: Announcement,
+    read: Transfer,
+}
+
+// The bytes that are transferred for a touched sector: those programmed, and those read back.
+const SECTOR_TRANSFER: u64 = 2 * 4096;
+
+impl fmt::Display for ExpectedTime {
+    fn fmt<W: fmt::Write>(&self, f: &mut fmt::Formatter<W>) -> fmt::Result {
+        let Announcement { touched, erases } = self.announcement;
+        let Transfer { bytes, micros } = self.read;
+        let chip = change_micros(touched, erases);
+        let wire = time_for(u64::from(touched) * SECTOR_TRANSFER, bytes, micros);
+        let all = Minutes(chip.saturating_add(wire.unwrap_or(0)));
+        write!(
+            f,
+            "The change takes about {all} at the chip's typical times"
+        )?;
+        match tenths_of_kib(bytes, micros) {
+            Some(tenths) if bytes > 0 => write!(f, " and {}.", Rate(tenths)),
+            _ => f.write_str("."),
+        }
+    }
+}

@@ -1,0 +1,237 @@
+"""The progress on a terminal: one line that is rewritten, and the lines between."""
+import os
+import re
+import signal
+from concurrent.futures import ThreadPoolExecutor
+
+from bench import LONGEST, WAITING, Differs, check, read_all
+from options import SECTOR, images
+
+# What a run may print to a terminal: the line is drawn, cleared or ended, or there is a whole line of text.
+DRAWN = re.compile(rb"\r([ -~]+)\x1b\[K")
+CLEARED = re.compile(rb"\r\x1b\[K")
+ENDED = re.compile(rb"\r\n")
+WHOLE = re.compile(rb"([ -~]+)\r\n")
+
+# The line of a step. A step whose total is known has a percentage, and says at the end how long it took.
+STEP = re.compile(
+    r"(identify|scan|erase|program|protect|read back|compare): (?:(\d+) %, )?(\d+)(?: of (?:at most )?(\d+))? "
+    r"(?:IDs|sectors|erases|pages|status writes)(?:, \d+\.\d KiB/s)?"
+    r", (?:(?:at most )?\d+:[0-5]\d left|\d+:[0-5]\d so far|took \d+:[0-5]\d)")
+
+COLUMNS = 79
+
+
+class Screen:
+    """What was printed to a terminal: the texts of the line that is rewritten, and the lines that stay.
+
+    Raises `Differs` if a text is too long, if a line is glued to another, or if an empty line was printed.
+    """
+
+    def __init__(self, printed, is_cut=False):
+        self.drawn, self.lines, self.rest, at, is_open = [], [], b"", 0, False
+        while at < len(printed):
+            if found := DRAWN.match(printed, at):
+                self.drawn.append(found[1].decode())
+                is_open = True
+            elif is_open and (found := CLEARED.match(printed, at)):
+                is_open = False
+            elif is_open and (found := ENDED.match(printed, at)):
+                self.lines.append(self.drawn[-1])
+                is_open = False
+            elif not is_open and (found := WHOLE.match(printed, at)):
+                self.lines.append(found[1].decode())
+            else:
+                self.rest = printed[at:]
+                break
+            at = found.end()
+        if self.rest and not (is_cut and re.fullmatch(rb"\r?[ -~]*(\x1b\[?)?", self.rest)):
+            raise Differs("this is neither the line nor begins at the start of one:", repr(self.rest[:200]))
+        if is_open and not is_cut:
+            raise Differs("the line was not ended:", self.drawn[-1])
+        for text in self.drawn:
+            check(f"columns of {text!r}", len(text) <= COLUMNS, True)
+            check(f"the form of {text!r}", bool(STEP.fullmatch(text)), True)
+
+    def shares(self, name):
+        """Returns the percentages that were drawn for this step."""
+        return [int(found[2]) for found in map(STEP.fullmatch, self.drawn) if found[1] == name and found[2]]
+
+    def check_steps(self, *names):
+        """Checks that exactly these steps have percentages, which never fall and end at 100."""
+        known = {found[1] for found in map(STEP.fullmatch, self.drawn) if found[2]}
+        check("steps with a percentage", sorted(known), sorted(names))
+        for name in names:
+            shares = self.shares(name)
+            check(f"percentages of {name}, which don't fall", shares, sorted(shares))
+            check(f"the last percentage of {name}", shares[-1], 100)
+
+    def others(self):
+        """Returns the lines that stay, without those of the steps, and with `M:SS` and `R` for times and rates."""
+        lines = [it for it in self.lines if not STEP.fullmatch(it)]
+        return [re.sub(r"\d+\.\d KiB/s", "R", re.sub(r"\d+:[0-5]\d\b", "M:SS", it)) for it in lines]
+
+
+def run(bench, *words, events=None, both=False):
+    """Runs the program with standard error at a terminal. Returns the status, what was printed, and the other stream.
+
+    With `both` standard output is the same terminal.
+    """
+    terminal, slave = os.openpty()
+    bench.server.begin(events or {})
+    streams = {"err": slave, "out": slave} if both else {"err": slave}
+    process = bench.start(words, **streams)
+    os.close(slave)
+    with ThreadPoolExecutor(1) as pool:
+        shown = pool.submit(read_all, terminal)
+        out, _ = process.communicate(timeout=LONGEST)
+    return process.returncode, shown.result(), (out or b"").decode().splitlines()
+
+
+def lines_of_a_write(bench, sectors, erases, *rest):
+    journal = 25 + sectors * 4100 + 36
+    return [bench.device(WAITING), f"Sectors to change: {sectors}. Erases: {erases}. Bytes of journal: {journal}.",
+            "The change takes about M:SS at the chip's typical times and R.",
+            "SEALED: the chip is changed from here on.", *rest]
+
+
+def rewrites_a_line(start):
+    """On a terminal the progress is one line, which is rewritten. Its percentages rise to 100."""
+    old, new = images("rewrites_a_line")
+    bench = start(data=old)
+    bench.write("new", new)
+    status, printed, out = run(bench, "-w", "new", "--journal", "j")
+    check("status", (status, len(out)), (0, 2))
+    screen = Screen(printed)
+    check("the lines", screen.others(), lines_of_a_write(bench, 4, 3, "The change took M:SS."))
+    screen.check_steps("scan", "erase", "compare")
+    check("scans", screen.lines[1].startswith("scan: 100 %, 16 of 16 sectors, "), True)
+    bench.check_chip(new)
+    status, printed, _ = run(bench, "--restore", "j")
+    screen = Screen(printed)
+    check("status", status, 0)
+    check("the lines", screen.others(), [
+        bench.device(WAITING), "Sectors to change: 4. Erases: 4.",
+        "The change takes about M:SS at the chip's typical times and R.", "The chip is changed from here on.",
+        "The change took M:SS."])
+    screen.check_steps("scan", "erase", "compare")
+    bench.check_chip(old)
+    # Nothing is read before a restore that isn't compared, so no rate is known, and nothing says how long it took
+    # except the line at its end.
+    status, printed, _ = run(bench, "--restore", "j", "-N")
+    screen = Screen(printed)
+    check("the lines", screen.others(), [
+        bench.device(WAITING), "Sectors to change: 4. Erases: 4.",
+        "The change takes about M:SS at the chip's typical times.", "The chip is changed from here on.",
+        "The change took M:SS."])
+    screen.check_steps("erase")
+    status, printed, _ = run(bench, "--restore", "j", "--quick")
+    screen = Screen(printed)
+    check("the lines", screen.others(), [bench.device(WAITING), "Sectors to change: 0. Erases: 0."])
+    screen.check_steps("scan", "compare")
+
+
+def rewrites_it_ten_times_a_second(start):
+    """A long job draws the line in each step, but at most about ten times a second, also while the chip is busy."""
+    old = bytearray(b"\x5a" * (1 << 23))
+    bench = start("W25Q64FV", data=bytes(old), scale=1.0, rate=6_000_000)
+    for number in range(0, 34 * 32, 32):
+        old[number * SECTOR] = 0xA5
+    bench.write("new", bytes(old))
+    status, printed, _ = run(bench, "-w", "new", "--journal", "j")
+    screen = Screen(printed)
+    check("status", status, 0)
+    check("the lines", screen.others(), lines_of_a_write(bench, 34, 34, "The change took M:SS."))
+    screen.check_steps("scan", "erase", "compare")
+    # 34 erases of 45 ms take 1.5 seconds.
+    shares = screen.shares("erase")
+    check(f"drawings of the erases: {len(shares)} in {shares}", 8 <= len(shares) <= 40, True)
+    check("drawings of the scan", 5 <= len(screen.shares("scan")) <= 400, True)
+    check("programs are drawn", any(it.startswith("program: ") and " of at most 544 pages" in it
+                                    for it in screen.drawn), True)
+
+
+def keeps_messages_apart(start):
+    """A line that follows the progress begins at the start of a line, also if the run fails or is killed."""
+    old, new = images("keeps_messages_apart")
+    bench = start(data=old)
+    bench.write("new", new)
+    status, printed, _ = run(bench, "-v", "new")
+    check("status", status, 1)
+    check("the fault", Screen(printed).lines[-1].startswith("Error 14: "), True)
+    status, printed, _ = run(bench, "-v", "new", both=True)
+    check("the fault", Screen(printed).lines[-1].startswith("Error 14: "), True)
+    status, printed, _ = run(bench, "-r", "out", both=True)
+    check("the lines", Screen(printed).others(), [
+        bench.device(WAITING), "Found SFDP (fe1010), 65536 bytes.", "Read 65536 bytes."])
+    status, printed, _ = run(bench, "--flash-size", both=True)
+    check("the lines", Screen(printed).others(), [bench.device(WAITING), "65536"])
+    # The programmer refuses a transaction in the scan, and then one after the first erase.
+    for number in (12, 20, 30, 40):
+        bench.plug()
+        status, printed, _ = run(bench, "-r", f"out{number}", events={number: "nak"}, both=True)
+        if status:
+            check("the fault", "Error 12: stopped." in Screen(printed).lines, True)
+    for number in range(8, 60, 4):
+        bench.plug()
+        status, printed, _ = run(bench, "-w", "new", "--journal", f"j{number}", events={number: "kill"}, both=True)
+        if status == -signal.SIGKILL:
+            Screen(printed, is_cut=True)
+
+
+NAMES = {0x06: "write enable", 0x01: "write status", 0x02: "program", 0x20: "erase 4 KiB", 0x52: "erase 32 KiB",
+         0xD8: "erase 64 KiB", 0xC7: "erase chip"}
+
+
+def logged(log):
+    """Returns the lines of -V, without their times, for the transactions that the programmer carried out."""
+    lines = []
+    for out in (it[0] for it in log if it[0][0] in NAMES):
+        at = f" at 0x{int.from_bytes(out[1:4], 'big'):06x}" if len(out) >= 4 else ""
+        rest = out[1:] if out[0] == 0x01 else out[4:]
+        lines.append(NAMES[out[0]] + at + (f", bytes {len(rest)}" if rest else ""))
+    return lines
+
+
+def logs_commands(start):
+    """With -V each modifying transaction has a line on standard error, with its time; on a terminal, too."""
+    old, new = images("logs_commands")
+    bench = start(data=old)
+    bench.write("new", new)
+    got = bench.run("-w", "new", "--journal", "j", "-V")
+    times, lines = zip(*(it.split(" ", 1) for it in got.err))
+    check("status", got.status, 0)
+    check("the lines", list(lines), logged(bench.server.log))
+    check("the form of the times", all(re.fullmatch(r"\d+\.\d{3}", it) for it in times), True)
+    check("the times, which don't fall", list(times), sorted(times, key=float))
+    got = bench.run("--restore", "j", "-V", events={60: "nak"})
+    lines = [it.split(" ", 1)[-1] for it in got.err]
+    at = lines.index("stopped")
+    check("the first line after the stop", got.err[at + 1], "Error 12: stopped.")
+    bench.plug()
+    status, printed, _ = run(bench, "--restore", "j", "-V")
+    check("status", status, 0)
+    lines = [it.split(" ", 1)[-1] for it in Screen(printed).lines if re.match(r"\d+\.\d{3} ", it)]
+    check("the lines", lines, logged(bench.server.log))
+    bench = start("W25Q64FV", data=b"\xff" * (1 << 23))
+    got = bench.run("--wp-range", "0,0x800000", "--journal", "k", "-V")
+    check("the lines", [it.split(" ", 1)[1] for it in got.err], logged(bench.server.log))
+
+
+def shows_nothing_if_asked(start):
+    """With --progress none a terminal shows nothing but faults; with plain there is no line that is rewritten."""
+    old, new = images("shows_nothing_if_asked")
+    bench = start(data=old)
+    bench.write("new", new)
+    status, printed, _ = run(bench, "-w", "new", "--journal", "j", "--progress", "none")
+    check("status and lines", (status, printed), (0, b""))
+    bench.write("old", old)
+    _, printed, _ = run(bench, "-v", "old", "--progress", "none")
+    check("the fault", len(Screen(printed).lines), 1)
+    status, printed, _ = run(bench, "-r", "out", "--progress", "plain")
+    screen = Screen(printed)
+    check("lines that are rewritten", (status, screen.drawn), (0, []))
+    check("plain lines", screen.lines[1:], ["identify 1", "scan: sector 1 of 16"])
+
+
+CASES = [rewrites_a_line, rewrites_it_ten_times_a_second, keeps_messages_apart, logs_commands, shows_nothing_if_asked]
