@@ -1,8 +1,10 @@
 //! Changes of files in the model of files, interrupted after each call.
+use crate::held::assert_held;
 use nor_files::{Loss, Memory, Store};
 use nor_journal::Vault;
-use std::alloc::{AllocError, Global};
+use std::alloc::Global;
 use std::io;
+use std::process::Abort;
 
 // Saves the four bytes of `image` in a new journal, and closes the journal. If it is sealed, overwrites `image` in
 // place and syncs it.
@@ -20,14 +22,14 @@ fn change<S: Store>(files: &mut S) -> io::Result<()> {
 // Makes the change with files on which at most `left` calls succeed, as `Memory` counts them. Returns the files that
 // are left after `loss`. If `is_torn` is true and the last of these calls is `write_over`, it writes only the first
 // half of its bytes, and fails.
-fn left_of(alloc: Global, left: u64, is_torn: bool, loss: Loss) -> Result<Memory, AllocError> {
+fn left_of(rt: &impl Abort, alloc: Global, left: u64, is_torn: bool, loss: Loss) -> Memory {
     let mut files = Memory::new(alloc, left);
-    files.put("image", b"abcd")?;
+    files.put("image", b"abcd").expect(rt, "memory");
     if is_torn {
         files.tear();
     }
     let _ = change(&mut files);
-    Ok(files.lose(loss, 9))
+    files.lose(loss, 9)
 }
 
 fn has(files: &Memory, name: &str, bytes: &[u8]) -> bool {
@@ -35,65 +37,58 @@ fn has(files: &Memory, name: &str, bytes: &[u8]) -> bool {
 }
 
 #[test]
-fn changes_are_lost_until_they_are_synced(rt: HostRuntime) -> Result<(), AllocError> {
+fn changes_are_lost_until_they_are_synced(rt: HostRuntime) {
     for left in 0..5 {
-        let killed = left_of(rt.alloc(), left, false, Loss::Nothing)?;
-        let lost = left_of(rt.alloc(), left, false, Loss::Unsynced)?;
-        let torn = left_of(rt.alloc(), left, true, Loss::Nothing)?;
+        let killed = left_of(&rt, rt.alloc(), left, false, Loss::Nothing);
+        let lost = left_of(&rt, rt.alloc(), left, false, Loss::Unsynced);
+        let torn = left_of(&rt, rt.alloc(), left, true, Loss::Nothing);
         let image: &[u8] = if left < 2 { b"abcd" } else { b"wxyz" };
-        assert!(rt; has(&killed, "image", image), "killed at {left}");
+        assert_held(&rt, has(&killed, "image", image), left);
         let image: &[u8] = if left < 3 { b"abcd" } else { b"wxyz" };
-        assert!(rt; has(&lost, "image", image), "lost at {left}");
+        assert_held(&rt, has(&lost, "image", image), left);
         let image: &[u8] = match left {
             0 | 1 => b"abcd",
             2 => b"wxcd",
             _ => b"wxyz",
         };
-        assert!(rt; has(&torn, "image", image), "torn at {left}");
+        assert_held(&rt, has(&torn, "image", image), left);
         for files in [&killed, &lost, &torn] {
-            assert_eq!(rt;
-                has(files, "journal", b"abcd"),
-                left > 0,
-                "journal at {left}"
-            );
+            assert_held(&rt, has(files, "journal", b"abcd") == (left > 0), left);
         }
     }
-    Ok(())
 }
 
 // With a tear, the only write fails. Without a tear, the same write succeeds.
 #[test]
-fn a_torn_write_fails(rt: HostRuntime) -> Result<(), AllocError> {
+fn a_torn_write_fails(rt: HostRuntime) {
     for is_torn in [false, true] {
         let mut files = Memory::new(rt.alloc(), 1);
-        files.put("image", b"abcd")?;
+        files.put("image", b"abcd").expect(&rt, "memory");
         if is_torn {
             files.tear();
         }
         let written = files.write_over("image", b"wxyz");
-        assert_eq!(rt; written.is_err(), is_torn);
+        assert!(rt; written.is_err() == is_torn);
     }
-    Ok(())
 }
 
 // The host crash of this test loses all that wasn't synced. The bytes of a sealed vault in a file that existed remain.
 // The bytes of an unsealed vault are lost, and the file has its old bytes.
 #[test]
-fn a_sealed_vault_is_durable(rt: HostRuntime) -> Result<(), io::Error> {
+fn a_sealed_vault_is_durable(rt: HostRuntime) {
     for is_sealed in [false, true] {
         let mut files = Memory::new(rt.alloc(), 9);
-        files.put("copy", b"old")?;
-        let mut vault = files.vault_in("copy")?;
+        files.put("copy", b"old").expect(&rt, "memory");
+        let mut vault = files.vault_in("copy").expect(&rt, "a vault");
         let _ = vault.put(b"new");
         if is_sealed {
             let _ = vault.seal();
         }
-        assert_eq!(rt; files.return_vault(vault), is_sealed);
+        assert!(rt; files.return_vault(vault) == is_sealed);
         let files = files.lose(Loss::Unsynced, 0);
         let kept: &[u8] = if is_sealed { b"new" } else { b"old" };
         assert!(rt; has(&files, "copy", kept));
     }
-    Ok(())
 }
 
 // Creates the file `status`, makes its name durable, sets its length, writes two bytes and syncs them. Then opens the
@@ -109,7 +104,7 @@ fn fill<S: Store>(files: &mut S) -> io::Result<()> {
 }
 
 #[test]
-fn a_name_is_lost_until_its_folder_is_synced(rt: HostRuntime) -> Result<(), io::Error> {
+fn a_name_is_lost_until_its_folder_is_synced(rt: HostRuntime) {
     let steps: [(Option<&[u8]>, Option<&[u8]>); 7] = [
         (None, None),
         (Some(b""), None),
@@ -122,12 +117,11 @@ fn a_name_is_lost_until_its_folder_is_synced(rt: HostRuntime) -> Result<(), io::
     for (left, (seen, kept)) in steps.into_iter().enumerate() {
         for (loss, found) in [(Loss::Nothing, seen), (Loss::Unsynced, kept)] {
             let mut files = Memory::new(rt.alloc(), left as u64);
-            assert_eq!(rt; fill(&mut files).is_ok(), left == 6);
+            assert!(rt; fill(&mut files).is_ok() == (left == 6));
             let mut files = files.lose(loss, 1);
-            assert_eq!(rt; files.bytes_of("status"), found, "{loss:?} at {left}");
-            assert_eq!(rt; files.hold("status").ok(), Some(found.is_some()));
+            assert!(rt; files.bytes_of("status") == found);
+            assert!(rt; files.hold("status").ok() == Some(found.is_some()));
             assert!(rt; files.hold("status").is_err());
         }
     }
-    Ok(())
 }

@@ -4,7 +4,6 @@ use nor_chip::{Bus, Config, Delays, Meter, SimBus, Spoil, SpoiltBus, TraceBus};
 use nor_serprog::ReadTwice;
 use std::alloc::Global;
 use std::process::Abort;
-use std::test::Fail;
 
 // The bytes and the length of a read, the addresses at which the image differs from the chip, and the traced lines of
 // the transactions. The bus inside ignores the transaction `spoilt`, whose reply is then FFh in each byte.
@@ -31,20 +30,22 @@ const fn five_sectors(differing: &'static [usize], lines: &'static [u8]) -> Read
 }
 
 // Returns the bytes of a chip of 64 KiB. None is FFh, and no two sectors are equal.
-fn contents(alloc: Global) -> Result<Vec<u8>, Fail> {
-    let mut bytes = vec![in alloc; 0; 65536]?;
+fn contents(rt: &impl Abort, alloc: Global) -> Vec<u8> {
+    let mut bytes = vec![in alloc; 0; 65536].expect(rt, "memory");
     for (address, byte) in bytes.iter_mut().enumerate() {
         *byte = (address % 251) as u8;
     }
-    Ok(bytes)
+    bytes
 }
 
-// Returns a bus to a chip with these bytes that carries out every transaction.
-fn chip(bytes: Vec<u8>) -> Result<SimBus, Fail> {
+// Returns a bus to a chip with these contents that carries out every transaction.
+fn chip(rt: &impl Abort, alloc: Global) -> SimBus {
     let idle = Delays { now: 0, each: 0 };
-    let mut chip = SimBus::new(Config::tiny64(), bytes, [0x00, 0x00], idle)?;
+    let bytes = contents(rt, alloc);
+    let chip = SimBus::new(Config::tiny64(), bytes, [0x00, 0x00], idle);
+    let mut chip = chip.expect(rt, "a size");
     chip.allow(u64::MAX);
-    Ok(chip)
+    chip
 }
 
 // Carries out a transaction with an expected image, and traces those of the bus inside. Returns whether it succeeded,
@@ -62,34 +63,29 @@ fn transact(
 }
 
 // Carries out a reading, and compares its result, its reply and the lines of its transactions.
-fn check(rt: &impl Abort, alloc: Global, reading: Reading) -> Result<(), Fail> {
-    let mut image = contents(alloc)?;
+fn check(rt: &impl Abort, alloc: Global, reading: Reading) {
+    let mut image = contents(rt, alloc);
     for address in reading.differing {
         if let Some(byte) = image.get_mut(*address) {
             *byte ^= 0x80;
         }
     }
     let mut lines = Vec::new(alloc);
-    let mut reply = vec![in alloc; 0; reading.len]?;
-    let inside = SpoiltBus::new(chip(contents(alloc)?)?, Spoil::Drop(reading.spoilt));
+    let mut reply = vec![in alloc; 0; reading.len].expect(rt, "memory");
+    let inside = SpoiltBus::new(chip(rt, alloc), Spoil::Drop(reading.spoilt));
     let result = transact(inside, &mut lines, image, &reading.out, &mut reply);
     let expected = (reading.succeeds, !reading.succeeds);
-    assert_eq!(rt; result, expected, "{:?}", reading.differing);
+    assert!(rt; result == expected);
     let at = usize::from(reading.out[2]) * 256 + usize::from(reading.out[3]);
-    let bytes = contents(alloc)?;
+    let bytes = contents(rt, alloc);
     let read_bytes = bytes.get(at..).and_then(|rest| rest.get(..reading.len));
     assert!(rt; read_bytes == Some(&reply[..]));
-    assert!(rt;
-        lines.as_slice() == reading.lines,
-        "{:?}",
-        reading.differing
-    );
-    Ok(())
+    assert!(rt; lines.as_slice() == reading.lines);
 }
 
 // Only sectors in which a byte differs are read again. Neighbouring ones are read together.
 #[test]
-fn only_differing_sectors_are_read_again(rt: HostRuntime) -> Result<(), Fail> {
+fn only_differing_sectors_are_read_again(rt: HostRuntime) {
     for reading in [
         five_sectors(&[], b"03000000 > 20480 bytes\n"),
         five_sectors(&[0], b"03000000 > 20480 bytes\n03000000 > 4096 bytes\n"),
@@ -110,15 +106,14 @@ fn only_differing_sectors_are_read_again(rt: HostRuntime) -> Result<(), Fail> {
             b"03000000 > 20480 bytes\n03000000 > 20480 bytes\n",
         ),
     ] {
-        check(&rt, rt.alloc(), reading)?;
+        check(&rt, rt.alloc(), reading);
     }
-    Ok(())
 }
 
 // A read that begins and ends inside a sector: in the first and the last sector, too, only bytes of the read are read
 // again, and only if one of them differs.
 #[test]
-fn parts_of_sectors_are_read_again(rt: HostRuntime) -> Result<(), Fail> {
+fn parts_of_sectors_are_read_again(rt: HostRuntime) {
     let cases: [(&'static [usize], &'static [u8]); 3] = [
         (
             &[0xFFF, 0x2FEF],
@@ -133,15 +128,14 @@ fn parts_of_sectors_are_read_again(rt: HostRuntime) -> Result<(), Fail> {
             len: 8192,
             ..five_sectors(differing, lines)
         };
-        check(&rt, rt.alloc(), reading)?;
+        check(&rt, rt.alloc(), reading);
     }
-    Ok(())
 }
 
 // A second read that differs stops the bus, and nothing is sent after it. That is tried with the first of two second
 // reads, with the other one, and with that of a last sector of which the read has only one byte.
 #[test]
-fn a_sector_that_differs_stops_the_bus(rt: HostRuntime) -> Result<(), Fail> {
+fn a_sector_that_differs_stops_the_bus(rt: HostRuntime) {
     let cases: [(u64, usize, &'static [usize], &'static [u8]); 3] = [
         (
             2,
@@ -169,24 +163,22 @@ fn a_sector_that_differs_stops_the_bus(rt: HostRuntime) -> Result<(), Fail> {
             succeeds: false,
             ..five_sectors(differing, lines)
         };
-        check(&rt, rt.alloc(), reading)?;
+        check(&rt, rt.alloc(), reading);
     }
-    Ok(())
 }
 
 // A read of the ID is repeated, and so is a sector that the image does not have to its end.
 #[test]
-fn other_reads_are_repeated(rt: HostRuntime) -> Result<(), Fail> {
+fn other_reads_are_repeated(rt: HostRuntime) {
     let mut lines = Vec::new(rt.alloc());
-    let mut reply = vec![in rt.alloc(); 0; 4096]?;
+    let mut reply = vec![in rt.alloc(); 0; 4096].expect(&rt, "memory");
     for out in [&[0x9F_u8][..], &[0x03, 0x00, 0x10, 0x00]] {
-        let image = vec![in rt.alloc(); 0xFE; 5000]?;
-        let inside = SpoiltBus::new(chip(contents(rt.alloc())?)?, Spoil::Drop(0));
+        let image = vec![in rt.alloc(); 0xFE; 5000].expect(&rt, "memory");
+        let inside = SpoiltBus::new(chip(&rt, rt.alloc()), Spoil::Drop(0));
         let result = transact(inside, &mut lines, image, out, &mut reply);
-        assert_eq!(rt; result, (true, false));
+        assert!(rt; result == (true, false));
     }
-    assert!(rt; contents(rt.alloc())?.get(0x1000..0x2000) == Some(&reply[..]));
+    assert!(rt; contents(&rt, rt.alloc()).get(0x1000..0x2000) == Some(&reply[..]));
     let sent = b"9f > 4096 bytes\n9f > 4096 bytes\n03001000 > 4096 bytes\n03001000 > 4096 bytes\n";
     assert!(rt; lines.as_slice() == sent.as_slice());
-    Ok(())
 }

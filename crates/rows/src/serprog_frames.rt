@@ -29,8 +29,8 @@ fn frames_are_those_of_the_protocol(rt: HostRuntime) {
     ];
     for (command, want) in cases {
         let frame = command.encode().unwrap();
-        assert_eq!(rt; frame.as_slice(), want);
-        assert_eq!(rt; frame_len(&frame), Some(want.len()));
+        assert!(rt; frame.as_slice() == want);
+        assert!(rt; frame_len(&frame) == Some(want.len()));
     }
     let page = [0; 261];
     let too_long = Command::Operate {

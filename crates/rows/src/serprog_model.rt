@@ -7,7 +7,7 @@ use arrayvec::ArrayVec;
 use nor_chip::{Bus, Config, Delays, Meter, SimBus};
 use nor_serprog::{Port, frame_len};
 use std::alloc::Global;
-use std::test::Fail;
+use std::process::Abort;
 use std::{fmt, mem};
 
 // Capacities: for the bytes of an incomplete frame, and for the replies that weren't received yet. The second has room
@@ -75,12 +75,14 @@ pub struct Model {
 
 impl Model {
     /// Returns a programmer without faults, with an erased chip of 64 KiB. Its bus carries out `u64::MAX` transactions.
-    pub fn new(alloc: Global) -> Result<Model, Fail> {
+    pub fn new(rt: &impl Abort, alloc: Global) -> Model {
         let idle = Delays { now: 0, each: 0 };
-        let erased = vec![in alloc; 0xFF; 65536]?;
-        let mut chip = SimBus::new(Config::tiny64(), erased, [0x00, 0x00], idle)?;
+        let erased = vec![in alloc; 0xFF; 65536].expect(rt, "memory");
+        let mut chip = SimBus::new(Config::tiny64(), erased, [0x00, 0x00], idle).expect(
+            rt, "a size",
+        );
         chip.allow(u64::MAX);
-        Ok(Model {
+        Model {
             chip,
             version: 1,
             buses: 0x08,
@@ -94,7 +96,7 @@ impl Model {
             received: 0,
             begun: ArrayVec::new(),
             pending: ArrayVec::new(),
-        })
+        }
     }
 
     fn reply(&mut self, bytes: &[u8]) {

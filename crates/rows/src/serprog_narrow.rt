@@ -4,26 +4,29 @@ use crate::serprog_model::{Fault, Model};
 use nor_chip::{Bus, Config, Delays, Meter, SimBus};
 use nor_serprog::{AnyProgrammer, BatchingBus, Link, SplittingBus};
 use std::alloc::Global;
-use std::test::Fail;
+use std::process::Abort;
 
 // Returns a programmer whose transactions send and read at most `limit` bytes. Its chip holds `bytes`, and shows BUSY
 // in two polls after each operation.
-fn narrow(bytes: Vec<u8>, alloc: Global, limit: u16) -> Result<Model, Fail> {
+fn narrow(rt: &impl Abort, alloc: Global, bytes: Vec<u8>, limit: u16) -> Model {
     let delays = Delays { now: 0, each: 2 };
-    let mut model = Model::new(alloc)?;
-    model.chip = SimBus::new(Config::tiny64(), bytes, [0x00, 0x00], delays)?;
+    let mut model = Model::new(rt, alloc);
+    let chip = SimBus::new(Config::tiny64(), bytes, [0x00, 0x00], delays);
+    model.chip = chip.expect(rt, "a size");
     model.chip.allow(u64::MAX);
     let [low, high] = limit.to_le_bytes();
     model.longest_write = [low, high, 0];
     model.longest_read = [low, high, 0];
-    Ok(model)
+    model
 }
 
-fn open(model: Model) -> Result<SplittingBus<BatchingBus<Model>>, Fail> {
+fn open(rt: &impl Abort, model: Model) -> SplittingBus<BatchingBus<Model>> {
     let mut link = Link::new(model);
-    let programmer = AnyProgrammer::identify(&mut link, None).map_err(|_| "not identified")?;
+    let programmer = AnyProgrammer::identify(&mut link, None)
+        .ok()
+        .expect(rt, "a programmer");
     let (writes, reads) = (programmer.longest_part(), programmer.longest_read());
-    Ok(SplittingBus::new(BatchingBus::over(link, programmer), writes, reads))
+    SplittingBus::new(BatchingBus::over(link, programmer), writes, reads)
 }
 
 // Returns the program of 256 different bytes at address 001100h.
@@ -48,7 +51,7 @@ fn are_erased(bytes: Option<&[u8]>) -> bool {
 // polls and a write enable. The caller sends the first write enable, and three polls after the last part. So there are
 // five operations for each part.
 #[test]
-fn a_page_is_programmed_in_parts(rt: HostRuntime) -> Result<(), Fail> {
+fn a_page_is_programmed_in_parts(rt: HostRuntime) {
     for (limit, reads, operations) in [
         (5, 1, 1280_u32),
         (5, 5, 1280),
@@ -56,70 +59,73 @@ fn a_page_is_programmed_in_parts(rt: HostRuntime) -> Result<(), Fail> {
         (256, 2, 10),
         (259, 1, 10),
     ] {
-        let erased = vec![in rt.alloc(); 0xFF; 65536]?;
-        let mut model = narrow(erased, rt.alloc(), limit)?;
+        let erased = vec![in rt.alloc(); 0xFF; 65536].expect(&rt, "memory");
+        let mut model = narrow(&rt, rt.alloc(), erased, limit);
         model.longest_read = [reads, 0, 0];
-        let mut bus = open(model)?;
+        let mut bus = open(&rt, model);
         let program = page_program();
-        bus.transfer(&[0x06], &mut [])?;
-        bus.transfer(&program, &mut [])?;
+        assert!(rt; bus.transfer(&[0x06], &mut []).is_ok());
+        assert!(rt; bus.transfer(&program, &mut []).is_ok());
         for busy in [true, true, false] {
             let mut status = [0];
-            bus.transfer(&[0x05], &mut status)?;
-            assert_eq!(rt; status[0] % 2 != 0, busy, "limit {limit}");
+            assert!(rt; bus.transfer(&[0x05], &mut status).is_ok());
+            assert!(rt; (status[0] % 2 != 0) == busy);
         }
         let model = bus.inner().port();
-        assert_eq!(rt; model.operations, operations, "limit {limit}");
+        assert!(rt; model.operations == operations);
         let bytes = model.chip.bytes();
-        assert!(rt;
-            bytes.get(0x1100..0x1200) == Some(&program[4..]),
-            "limit {limit}"
-        );
-        assert!(rt; are_erased(bytes.get(..0x1100)), "limit {limit}");
-        assert!(rt; are_erased(bytes.get(0x1200..)), "limit {limit}");
+        assert!(rt; bytes.get(0x1100..0x1200) == Some(&program[4..]));
+        assert!(rt; are_erased(bytes.get(..0x1100)));
+        assert!(rt; are_erased(bytes.get(0x1200..)));
     }
-    Ok(())
 }
 
 // Returns the bytes of a chip that differ from their neighbours.
-fn pattern(alloc: Global) -> Result<Vec<u8>, Fail> {
-    let mut bytes = vec![in alloc; 0; 65536]?;
+fn pattern(rt: &impl Abort, alloc: Global) -> Vec<u8> {
+    let mut bytes = vec![in alloc; 0; 65536].expect(rt, "memory");
     for (address, byte) in bytes.iter_mut().enumerate() {
         *byte = (address % 251) as u8;
     }
-    Ok(bytes)
+    bytes
+}
+
+// Returns a bus to a chip of that pattern, over a programmer with this limit.
+fn over_pattern(rt: &impl Abort, alloc: Global, limit: u16) -> SplittingBus<BatchingBus<Model>> {
+    open(rt, narrow(rt, alloc, pattern(rt, alloc), limit))
 }
 
 // Reads of data, of SFDP bytes and of the status become reads of at most `limit` bytes.
 #[test]
-fn reads_are_split(rt: HostRuntime) -> Result<(), Fail> {
+fn reads_are_split(rt: HostRuntime) {
     for (limit, parts) in [(5, 820_u32), (64, 64), (256, 16), (259, 16), (4096, 1)] {
-        let mut bus = open(narrow(pattern(rt.alloc())?, rt.alloc(), limit)?)?;
+        let mut bus = over_pattern(&rt, rt.alloc(), limit);
         let mut sector = [0; 4096];
-        bus.transfer(&[0x03, 0x00, 0x20, 0x00], &mut sector)?;
+        assert!(rt; bus.transfer(&[0x03, 0x00, 0x20, 0x00], &mut sector).is_ok());
         let model = bus.inner().port();
-        assert_eq!(rt; model.operations, parts, "limit {limit}");
-        assert!(rt;
-            model.chip.bytes().get(0x2000..0x3000) == Some(&sector[..]),
-            "limit {limit}"
-        );
+        assert!(rt; model.operations == parts);
+        assert!(rt; model.chip.bytes().get(0x2000..0x3000) == Some(&sector[..]));
     }
-    let mut bus = open(narrow(pattern(rt.alloc())?, rt.alloc(), 7)?)?;
+    let mut bus = over_pattern(&rt, rt.alloc(), 7);
     let mut whole = [0; 16];
-    let mut wide = open(narrow(pattern(rt.alloc())?, rt.alloc(), 64)?)?;
-    wide.transfer(&[0x5A, 0x00, 0x00, 0x00, 0x00], &mut whole)?;
+    let mut wide = over_pattern(&rt, rt.alloc(), 64);
+    assert!(rt;
+        wide.transfer(&[0x5A, 0x00, 0x00, 0x00, 0x00], &mut whole)
+            .is_ok()
+    );
     let mut split = [0; 16];
-    bus.transfer(&[0x5A, 0x00, 0x00, 0x00, 0x00], &mut split)?;
-    assert_eq!(rt; split, whole);
-    assert_eq!(rt; &split[..4], b"SFDP".as_slice());
-    assert_eq!(rt; bus.inner().port().operations, 3);
-    Ok(())
+    assert!(rt;
+        bus.transfer(&[0x5A, 0x00, 0x00, 0x00, 0x00], &mut split)
+            .is_ok()
+    );
+    assert!(rt; split == whole);
+    assert!(rt; &split[..4] == b"SFDP".as_slice());
+    assert!(rt; bus.inner().port().operations == 3);
 }
 
 // Transactions that can't be split send nothing, and the bus works afterwards.
 #[test]
-fn what_cannot_be_split_is_rejected(rt: HostRuntime) -> Result<(), Fail> {
-    let mut bus = open(narrow(pattern(rt.alloc())?, rt.alloc(), 5)?)?;
+fn what_cannot_be_split_is_rejected(rt: HostRuntime) {
+    let mut bus = over_pattern(&rt, rt.alloc(), 5);
     let mut past = [0; 260];
     past[0] = 0x02;
     past[3] = 0x01;
@@ -130,69 +136,74 @@ fn what_cannot_be_split_is_rejected(rt: HostRuntime) -> Result<(), Fail> {
         bus.transfer(&[0x03, 0xFF, 0xFF, 0xFB], &mut [0; 6])
             .is_err()
     );
-    assert_eq!(rt; bus.inner().port().operations, 0);
+    assert!(rt; bus.inner().port().operations == 0);
     let mut id = [0; 3];
-    bus.transfer(&[0x9F], &mut id)?;
-    assert_eq!(rt; id, [0xFE, 0x10, 0x10]);
-    Ok(())
+    assert!(rt; bus.transfer(&[0x9F], &mut id).is_ok());
+    assert!(rt; id == [0xFE, 0x10, 0x10]);
 }
 
 // A programmer that reads one byte at a time gets a poll of two bytes as two polls.
 #[test]
-fn polls_are_split(rt: HostRuntime) -> Result<(), Fail> {
-    let mut model = Model::new(rt.alloc())?;
+fn polls_are_split(rt: HostRuntime) {
+    let mut model = Model::new(&rt, rt.alloc());
     model.longest_read = [1, 0, 0];
-    let mut bus = open(model)?;
-    bus.transfer(&[0x06], &mut [])?;
+    let mut bus = open(&rt, model);
+    assert!(rt; bus.transfer(&[0x06], &mut []).is_ok());
     let mut status = [0xFF; 2];
-    bus.transfer(&[0x05], &mut status)?;
-    assert_eq!(rt; status, [0x02, 0x02]);
-    assert_eq!(rt; bus.inner().port().operations, 3);
-    Ok(())
+    assert!(rt; bus.transfer(&[0x05], &mut status).is_ok());
+    assert!(rt; status == [0x02, 0x02]);
+    assert!(rt; bus.inner().port().operations == 3);
 }
 
 // If the programmer refuses a poll between two parts, the bus stops, and later parts are not programmed. The first part
 // has 60 bytes; the operations before the poll are a write enable and that part.
 #[test]
-fn a_program_stops_between_its_parts(rt: HostRuntime) -> Result<(), Fail> {
-    let erased = vec![in rt.alloc(); 0xFF; 65536]?;
-    let mut model = narrow(erased, rt.alloc(), 64)?;
+fn a_program_stops_between_its_parts(rt: HostRuntime) {
+    let erased = vec![in rt.alloc(); 0xFF; 65536].expect(&rt, "memory");
+    let mut model = narrow(&rt, rt.alloc(), erased, 64);
     model.fault = Some(Fault::Nak);
     model.fault_at = 2;
-    let mut bus = open(model)?;
+    let mut bus = open(&rt, model);
     let program = page_program();
-    bus.transfer(&[0x06], &mut [])?;
+    assert!(rt; bus.transfer(&[0x06], &mut []).is_ok());
     assert!(rt; bus.transfer(&program, &mut []).is_err());
     let bytes = bus.inner().port().chip.bytes();
     assert!(rt; bytes.get(0x1100..0x113C) == Some(&program[4..64]));
     assert!(rt; are_erased(bytes.get(0x113C..)));
-    Ok(())
 }
 
 // Returns the text of the error with which a programmer is refused, or its limit for parts.
-fn limit_or_fault(alloc: Global, model: Model) -> Result<String, Fail> {
+fn limit_or_fault(rt: &impl Abort, alloc: Global, model: Model) -> String {
     let mut link = Link::new(model);
-    match AnyProgrammer::identify(&mut link, None) {
-        Ok(programmer) => Ok(format!(in alloc; "{}", programmer.longest_part())?),
-        Err(fault) => Ok(format!(in alloc; "{fault}")?),
-    }
+    let text = match AnyProgrammer::identify(&mut link, None) {
+        Ok(programmer) => format!(in alloc; "{}", programmer.longest_part()),
+        Err(fault) => format!(in alloc; "{fault}"),
+    };
+    text.expect(rt, "memory")
+}
+
+fn assert_limit(rt: &impl Abort, alloc: Global, model: Model, wanted: &str) {
+    let limit = limit_or_fault(rt, alloc, model);
+    assert!(rt; limit.as_str() == wanted);
 }
 
 // Five bytes are enough: an opcode, an address and one data byte. A programmer without Q_WRNMAXLEN is limited by its
 // serial buffer, which has to hold 7 bytes more.
 #[test]
-fn a_programmer_with_small_limits_is_identified(rt: HostRuntime) -> Result<(), Fail> {
+fn a_programmer_with_small_limits_is_identified(rt: HostRuntime) {
     let alloc = rt.alloc();
-    let mut model = Model::new(alloc)?;
+    let mut model = Model::new(&rt, alloc);
     model.longest_write = [4, 0, 0];
-    assert_eq!(rt;
-        limit_or_fault(alloc, model)?.as_str(),
-        "the programmer sends at most 4 bytes in a transaction, too few for a page program"
+    assert_limit(
+        &rt,
+        alloc,
+        model,
+        "the programmer sends at most 4 bytes in a transaction, too few for a page program",
     );
-    let mut model = Model::new(alloc)?;
+    let mut model = Model::new(&rt, alloc);
     model.longest_write = [5, 0, 0];
     model.longest_read = [1, 0, 0];
-    assert_eq!(rt; limit_or_fault(alloc, model)?.as_str(), "5");
+    assert_limit(&rt, alloc, model, "5");
     for (buffer, wanted) in [
         (
             11,
@@ -201,10 +212,9 @@ fn a_programmer_with_small_limits_is_identified(rt: HostRuntime) -> Result<(), F
         (12, "5"),
         (64, "57"),
     ] {
-        let mut model = Model::new(alloc)?;
+        let mut model = Model::new(&rt, alloc);
         model.lacks = Some(0x08);
         model.buffer = [buffer, 0];
-        assert_eq!(rt; limit_or_fault(alloc, model)?.as_str(), wanted);
+        assert_limit(&rt, alloc, model, wanted);
     }
-    Ok(())
 }

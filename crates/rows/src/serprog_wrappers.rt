@@ -3,9 +3,10 @@
 use crate::serprog_model::{Fault, Model};
 use nor_chip::{Bus, Config, Delays, Meter, SimBus, Spoil, SpoiltBus};
 use nor_serprog::{Link, Paced, Programmer, ReadTwice, SerprogBus};
+use std::alloc::Global;
 use std::cell::Cell;
 use std::io;
-use std::test::Fail;
+use std::process::Abort;
 use std::time::{Clock, Duration};
 
 // A clock whose time advances only while it is asked to sleep, and when a test moves it. It has microseconds. It may
@@ -34,24 +35,26 @@ impl Clock for Timer<'_> {
     }
 }
 
-fn tiny64(rt: &HostRuntime, delays: Delays) -> Result<SimBus, Fail> {
-    let erased = vec![in rt.alloc(); 0xFF; 65536]?;
-    let mut chip = SimBus::new(Config::tiny64(), erased, [0x00, 0x00], delays)?;
+fn tiny64(rt: &impl Abort, alloc: Global, delays: Delays) -> SimBus {
+    let erased = vec![in alloc; 0xFF; 65536].expect(rt, "memory");
+    let chip = SimBus::new(Config::tiny64(), erased, [0x00, 0x00], delays);
+    let mut chip = chip.expect(rt, "a size");
     chip.allow(u64::MAX);
-    Ok(chip)
+    chip
 }
 
 // A paced bus whose transactions all succeed, and whose polls all show BUSY.
 fn always_busy<'a>(
-    rt: &HostRuntime,
+    rt: &impl Abort,
+    alloc: Global,
     now: &'a Cell<u64>,
     fails: bool,
-) -> Result<Paced<SpoiltBus<SimBus>, Timer<'a>>, Fail> {
-    let chip = tiny64(rt, Delays { now: 0, each: 0 })?;
-    Ok(Paced::new(
+) -> Paced<SpoiltBus<SimBus>, Timer<'a>> {
+    let chip = tiny64(rt, alloc, Delays { now: 0, each: 0 });
+    Paced::new(
         SpoiltBus::new(chip, Spoil::Fill(0xFF)),
         Timer { now, fails },
-    ))
+    )
 }
 
 // Commands, the typical time in microseconds of the operation that each one begins, and the pause before the third poll
@@ -70,90 +73,84 @@ const COMMANDS: [(&[u8], u64, u64); 7] = [
 // after 0.1 ms each. Then 16 polls each have pauses of 0.2, 0.4, 0.8, 1.6 and 3.2 ms, and polls 97 to 601 have 6.25 ms.
 // Poll 601 shows that the chip is ready, so the poll after it is sent without a pause.
 #[test]
-fn polls_of_a_busy_chip_are_paced(rt: HostRuntime) -> Result<(), Fail> {
+fn polls_of_a_busy_chip_are_paced(rt: HostRuntime) {
     let now = Cell::new(0);
     let clock = Timer {
         now: &now,
         fails: false,
     };
-    let mut bus = Paced::new(tiny64(&rt, Delays { now: 600, each: 0 })?, clock);
+    let mut bus = Paced::new(tiny64(&rt, rt.alloc(), Delays { now: 600, each: 0 }), clock);
     let mut polls = 0_u32;
     for _ in 0..1000 {
         let mut status = [0];
-        bus.transfer(&[0x05], &mut status)?;
+        assert!(rt; bus.transfer(&[0x05], &mut status).is_ok());
         polls = polls.saturating_add(1);
         if status[0] % 2 == 0 {
             break;
         }
     }
-    assert_eq!(rt; polls, 601);
-    assert_eq!(rt; now.get(), 14 * 100 + 16 * 6200 + 505 * 6250);
-    bus.transfer(&[0x05], &mut [0])?;
-    assert_eq!(rt; now.get(), 14 * 100 + 16 * 6200 + 505 * 6250);
-    Ok(())
+    assert!(rt; polls == 601);
+    assert!(rt; now.get() == 14 * 100 + 16 * 6200 + 505 * 6250);
+    assert!(rt; bus.transfer(&[0x05], &mut [0]).is_ok());
+    assert!(rt; now.get() == 14 * 100 + 16 * 6200 + 505 * 6250);
 }
 
 // The chip shows BUSY in each poll. The first poll after a command has no pause. The second one has the typical time of
 // the operation, less the time since the command, which may be longer; if the clock fails, the whole typical time. The
 // reply to a poll has one or two bytes.
 #[test]
-fn the_second_poll_comes_after_the_typical_time(rt: HostRuntime) -> Result<(), Fail> {
+fn the_second_poll_comes_after_the_typical_time(rt: HostRuntime) {
     for (command, typical, third) in COMMANDS {
         for (passed, fails) in [(0, false), (300, false), (1 << 40, false), (0, true)] {
             let now = Cell::new(1000);
-            let mut bus = always_busy(&rt, &now, fails)?;
-            bus.transfer(command, &mut [])?;
-            bus.transfer(&[0x05], &mut [0, 0])?;
-            assert_eq!(rt; now.get(), 1000, "{command:?}");
+            let mut bus = always_busy(&rt, rt.alloc(), &now, fails);
+            assert!(rt; bus.transfer(command, &mut []).is_ok());
+            assert!(rt; bus.transfer(&[0x05], &mut [0, 0]).is_ok());
+            assert!(rt; now.get() == 1000);
             now.set(1000_u64.saturating_add(passed));
-            bus.transfer(&[0x05], &mut [0])?;
+            assert!(rt; bus.transfer(&[0x05], &mut [0]).is_ok());
             let second = 1000_u64.saturating_add(typical.max(passed));
-            assert_eq!(rt; now.get(), second, "{command:?} after {passed}");
-            bus.transfer(&[0x05], &mut [0, 0])?;
-            assert_eq!(rt;
-                now.get(),
-                second.saturating_add(third),
-                "{command:?} after {passed}"
-            );
+            assert!(rt; now.get() == second);
+            assert!(rt; bus.transfer(&[0x05], &mut [0, 0]).is_ok());
+            assert!(rt; now.get() == second.saturating_add(third));
         }
     }
-    Ok(())
 }
 
 // If all 65,536 polls of a wait show BUSY, its pauses add up to 400 s at least and 410 s at most, after each command.
 #[test]
-fn a_wait_without_end_takes_400_seconds(rt: HostRuntime) -> Result<(), Fail> {
+fn a_wait_without_end_takes_400_seconds(rt: HostRuntime) {
     for (command, _, _) in COMMANDS {
         let now = Cell::new(0);
-        let mut bus = always_busy(&rt, &now, false)?;
-        bus.transfer(command, &mut [])?;
+        let mut bus = always_busy(&rt, rt.alloc(), &now, false);
+        assert!(rt; bus.transfer(command, &mut []).is_ok());
         for _ in 0..65_536 {
-            bus.transfer(&[0x05], &mut [0])?;
+            assert!(rt; bus.transfer(&[0x05], &mut [0]).is_ok());
         }
         let waited = now.get();
-        assert!(rt; waited >= 400_000_000, "{command:?}: {waited}");
-        assert!(rt; waited <= 410_000_000, "{command:?}: {waited}");
+        assert!(rt; waited >= 400_000_000);
+        assert!(rt; waited <= 410_000_000);
     }
-    Ok(())
 }
 
 #[test]
-fn readings_that_differ_stop_the_bus(rt: HostRuntime) -> Result<(), Fail> {
+fn readings_that_differ_stop_the_bus(rt: HostRuntime) {
     for fault_at in 0..4 {
-        let mut model = Model::new(rt.alloc())?;
+        let mut model = Model::new(&rt, rt.alloc());
         model.fault = Some(Fault::Flip);
         model.fault_at = fault_at;
         let mut link = Link::new(model);
-        let programmer = Programmer::identify(&mut link, None).map_err(|_| "not identified")?;
+        let programmer = Programmer::identify(&mut link, None)
+            .ok()
+            .expect(&rt, "a programmer");
         let mut bus = ReadTwice::new(SerprogBus::new(link, programmer));
         let mut status = [0];
-        bus.transfer(&[0x05], &mut status)?;
+        assert!(rt; bus.transfer(&[0x05], &mut status).is_ok());
         let mut sector = [0; 4096];
         let read = bus.transfer(&[0x03, 0x00, 0x00, 0x00], &mut sector);
         let flipped = fault_at == 1 || fault_at == 2;
-        assert_eq!(rt; read.is_err(), flipped, "at operation {fault_at}");
-        assert_eq!(rt; bus.differed(), flipped, "at operation {fault_at}");
-        assert_eq!(rt; bus.inner().port().operations, 3, "at operation {fault_at}");
+        assert!(rt; read.is_err() == flipped);
+        assert!(rt; bus.differed() == flipped);
+        assert!(rt; bus.inner().port().operations == 3);
     }
-    Ok(())
 }
