@@ -7,3 +7,4 @@ pub mod Restored
 pub mod Rates
 pub mod Estimated
 pub mod Described
+pub mod Named

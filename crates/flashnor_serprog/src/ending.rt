@@ -1,11 +1,13 @@
 //! The end of a run: prints its answer or its fault, and returns the exit status.
 ghost use Rattle.std.specs.Prelude.{◌≡◌, ◌≤◌, IsOk, OnOk};
 ghost use Rattle.std.specs.Io.KnownBytes.{Appends};
+ghost use Rattle.nor_lines.specs.AnswerLines.{name_line};
 ghost use Rattle.nor_lines.specs.Printing.{Prints};
 ghost use Rattle.flashnor_serprog.specs.Run.{AreJobLines, AreNameLines, is_unverified, unverified_line};
 
 use crate::jobs::changes_bytes;
 use nor_lines::{Answer, Fault, lost_output, print_answer, print_fault};
+use nor_probe::ChipName;
 use nor_words::{Operation, Task};
 use std::io;
 use std::io::Write;
@@ -66,18 +68,23 @@ fn print_lines<O: Write>(
 }
 
 // Prints the name of the chip that was identified.
-#[tactic(auto, unfolding(nor_lines::specs::Lines::line))]
+#[tactic(auto, using(crate::proofs::Named::name_printed))]
 fn print_name<O: Write>(output: &mut O, answer: Answer) -> io::Result<()>
     ensures { OnOk result (Prints (AreNameLines answer) (O.contents output.old) (O.contents output.new)) }
 {
     match answer {
-        Answer::Found(found) => {
-            let name = found.name.as_str();
-            writeln!(output, "{name}")?;
-            output.flush()
-        }
+        Answer::Found(found) => print_name_line(output, found.name),
         answer => print_answer(output, answer),
     }
+}
+
+#[tactic(auto, unfolding(nor_lines::specs::Lines::line))]
+fn print_name_line<O: Write>(output: &mut O, name: ChipName) -> io::Result<()>
+    ensures { OnOk result (Appends (O.contents output.old) (O.contents output.new) (name_line name)) }
+{
+    let name = name.as_str();
+    writeln!(output, "{name}")?;
+    output.flush()
 }
 
 #[tactic(auto, unfolding(nor_lines::specs::Lines::line))]

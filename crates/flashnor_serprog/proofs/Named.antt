@@ -1,0 +1,13 @@
+-- The line of `--flash-name`.
+use Rattle.std.proofs.Common.{ℕ, List, Option, refl}
+use Rattle.std.specs.Io.KnownBytes.{Appends}
+use Rattle.nor_probe.specs.declared.probes.Found.{Found}
+use Rattle.nor_lines.specs.AnswerLines.{name_line}
+use Rattle.nor_lines.specs.Printing.{Prints}
+use Rattle.nor_lines.specs.declared.answers.Answer.TheVariants as answer
+use Rattle.flashnor_serprog.specs.Run.{AreNameLines}
+
+-- If the line with the name of the chip that was found was printed, the lines of `--flash-name` were printed.
+pub name_printed : (found : Found) (a b : Option (List ℕ)) → Appends a b (name_line found.name)
+    → Prints (AreNameLines (answer.Found found)) a b
+name_printed found a b appended = (name_line found.name, refl, appended)
