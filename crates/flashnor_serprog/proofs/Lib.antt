@@ -8,3 +8,4 @@ pub mod Rates
 pub mod Estimated
 pub mod Described
 pub mod Named
+pub mod Ran

@@ -1,9 +1,9 @@
 //! The end of a run: prints its answer or its fault, and returns the exit status.
-ghost use Rattle.std.specs.Prelude.{◌≡◌, ◌≤◌, IsOk, OnOk};
+ghost use Rattle.std.specs.Prelude.{◌≡◌, ◌≤◌, IsOk, OnOk, false};
 ghost use Rattle.std.specs.Io.KnownBytes.{Appends};
 ghost use Rattle.nor_lines.specs.AnswerLines.{name_line};
 ghost use Rattle.nor_lines.specs.Printing.{Prints};
-ghost use Rattle.flashnor_serprog.specs.Run.{AreJobLines, AreNameLines, is_unverified, unverified_line};
+ghost use Rattle.flashnor_serprog.specs.Run.{AreJobLines, AreLinesBy, AreNameLines, is_unverified, unverified_line};
 
 use crate::jobs::changes_bytes;
 use nor_lines::{Answer, Fault, lost_output, print_answer, print_fault};
@@ -47,8 +47,7 @@ pub fn end_well<O: Write, E: Write>(
     status_of(print_lines(output, answer, operation), errors)
 }
 
-// Prints the lines of an answer and, if nothing was verified, the line that says so; with `--flash-name` only the name
-// of the chip.
+// Prints the lines of an answer; with `--flash-name` only the name of the chip.
 fn print_lines<O: Write>(
     output: &mut O,
     answer: Answer,
@@ -59,7 +58,17 @@ fn print_lines<O: Write>(
 {
     if operation.is_flash_name {
         print_name(output, answer)
-    } else if is_unverified(&operation.task) {
+    } else {
+        print_verdict(output, answer, is_unverified(&operation.task))
+    }
+}
+
+// Prints the lines of an answer and, if nothing was verified, the line that says so.
+fn print_verdict<O: Write>(output: &mut O, answer: Answer, unverified: bool) -> io::Result<()>
+    ensures { OnOk result
+        (Prints (AreLinesBy false unverified answer) (O.contents output.old) (O.contents output.new)) }
+{
+    if unverified {
         print_answer(output, answer)?;
         print_unverified(output)
     } else {

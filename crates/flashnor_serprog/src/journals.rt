@@ -225,11 +225,9 @@ impl fmt::Display for Unit {
                 "Unit: not recorded (format 1), so it fits any chip with this ID and size.",
             );
         };
-        f.write_str("Unit: unique ID ")?;
-        for byte in &unique {
-            write!(f, "{byte:02x}")?;
-        }
-        if unique.iter().all(|byte| *byte == 0) {
+        let id = u64::from_be_bytes(unique);
+        write!(f, "Unit: unique ID {id:016x}")?;
+        if id == 0 {
             f.write_str(", so it fits any chip with this ID and size that has no unique ID")?;
         }
         f.write_str(".")

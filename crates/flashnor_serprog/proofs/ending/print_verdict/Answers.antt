@@ -6,7 +6,7 @@ use Rattle.nor_lines.specs.AnswerLines.{AreLines}
 use Rattle.nor_lines.specs.Printing.{Prints}
 use Rattle.nor_lines.specs.declared.answers.Answer.{Answer}
 use Rattle.flashnor_serprog.specs.Run.{AreLinesBy, unverified_line}
-use Rattle.flashnor_serprog.proofs.ending.print_lines.Goals as goal
+use Rattle.flashnor_serprog.proofs.ending.print_verdict.Goals as goal
 
 one-more : (found : Answer) (a b c : Option (List ℕ)) → Prints (AreLines found) a b → Appends b c unverified_line
     → Prints (AreLinesBy false true found) a c
@@ -17,4 +17,5 @@ one-more found a b c printed appended = (
 )
 
 pub returns-in_ok-print_answer : goal.returns-in_ok-print_answer
-returns-in_ok-print_answer g c = search one-more
+returns-in_ok-print_answer g c = rw c.if-unverified.true (on_ok_weaker c.print_unverified.result
+    (one-more c.args.answer _ _ _ c.in_ok-print_answer.ensures) c.print_unverified.ensures)

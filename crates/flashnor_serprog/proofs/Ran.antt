@@ -1,0 +1,29 @@
+-- The run of the operation that the arguments ask for.
+use Rattle.std.proofs.Common.{◌≡◌, ℕ, IfSome, List, None, Option, Some, is_some, true}
+use Rattle.std.specs.Prelude.{IsSomeAnd}
+use Rattle.std.proofs.lemmas.Bool.{false≢true}
+use Rattle.std.specs.Borrow.{Bor}
+use Rattle.nor_model.specs.Bus.{BusState}
+use Rattle.nor_files.specs.Files.{FilesState}
+use Rattle.nor_words.specs.Text.{Text}
+use Rattle.nor_words.specs.declared.job.Operation.{Operation}
+use Rattle.flashnor_serprog.specs.Connected.{device_of}
+use Rattle.flashnor_serprog.specs.Run.{HasRunJob, HasRunOperation, IsAskedFor}
+use Rattle.flashnor_serprog.specs.declared.connect.Connected.{Connected}
+
+module _ (state : Connected → BusState) (files after : FilesState) (words : List Text) (name : Bor Text)
+    (operation : Operation) (asked : IsAskedFor words name operation) (out out' : Option (List ℕ)) (status : ℕ) where
+  -- If the operation was run that the arguments ask for, their job was run.
+  pub job_ran : (used : Option Connected)
+      → IfSome used (λ connected. HasRunOperation state files after name operation (device_of connected)
+      (state connected) out out' status)
+      → IfSome used (λ connected. HasRunJob state files after words (device_of connected) (state connected) out out'
+      status)
+  job_ran None ran = ran
+  job_ran (Some connected) ran = record { name = name; operation = operation; asked = asked; run = ran }
+
+-- If there is a bus, a clause about each bus is one about it.
+pub is_used : (P : Connected → Type 0) (used : Option Connected) → is_some used ≡ true → IfSome used P
+    → IsSomeAnd used P
+is_used P None none holds = absurd (false≢true none)
+is_used P (Some connected) some holds = holds

@@ -1,0 +1,15 @@
+use Rattle.std.proofs.Common.{refl}
+use Rattle.flashnor_serprog.proofs.run.run_on_chip.Goals as goal
+
+pub returns-in-Ok-clause-ran : goal.returns-in-Ok-clause-ran
+returns-in-Ok-clause-ran g c = record {
+  start = c.in-Ok.field-0.connected;
+  same_device = refl;
+  named = c.in-Ok.ensures.named;
+  fresh = c.in-Ok.ensures.fresh;
+  ranges = c.in-Ok.field-0.sources.included;
+  bytes = c.in-Ok.field-0.sources.bytes.items;
+  expected = c.in-Ok.ensures.expected;
+  prepared = c.in-Ok.ensures.ok;
+  ran = rw c.prepare.ensures.same.view at c.run_prepared-status.ensures;
+}
