@@ -23,9 +23,9 @@ PLANTS = {
     "an option of the table that the program lacks": (
         "crates/nor_words/src/options.rt", r'name != "rehearse"', 'name != "unlock"', "sources has '--rehearse"),
     "an option that the completion lacks": (
-        COMPLETION, r" --noverify-all --quick -h", " --quick -h", "sources has '--noverify-all', completion hasn't"),
+        COMPLETION, r" --noverify-all --quick --p", " --quick --p", "sources has '--noverify-all', completion hasn't"),
     "an option of flashnor in the completion": (
-        COMPLETION, r"-N --noverify-all", "-N -L --noverify-all", "completion has '-L', sources hasn't"),
+        COMPLETION, r"--quick --progress", "-L --quick --progress", "completion has '-L', sources hasn't"),
     "a file that the completion doesn't offer": (
         COMPLETION, r"-r \| --journal \| --backup\)", "-r | --journal)", "sources has '--backup', completion hasn't"),
     "a key that the completion lacks": (
@@ -44,7 +44,7 @@ PLANTS = {
     "an error less": (PAGE, r"(?m)^13\t.*\n", "", "sources has 'Error 13: timeout at _.', manual hasn't"),
     "another text of an error": (PAGE, r"8\trange not", "8\trange never", "manual has 'Error 8: range never offered.'"),
     "another step": (
-        "crates/flashnor_serprog/src/progress.rt", '"scan: sector"', '"scan: block"', "sources has 'scan: block'"),
+        "crates/flashnor_serprog/src/steps.rt", '"scan: sector"', '"scan: block"', "sources has 'scan: block'"),
     "another text of a programmer fault": (
         "crates/nor_serprog/src/programmer.rt", "types of bus are", "buses are", "sources has 'the programmer"),
     "a text of a programmer fault less": (

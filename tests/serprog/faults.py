@@ -79,7 +79,9 @@ def locks_the_device(start):
 def opens_only_its_device(start):
     """A run opens the device that dev= names, and no other: a second programmer receives no byte, even if one fails."""
     old, new = images("opens_only_its_device")
-    for events in {}, {40: "nak"}:
+    wire = session_wire(old, new)
+    last = max(at for at, (out, _) in enumerate(wire, 1) if out[0] in reference.CHANGING)
+    for events in {}, {last: "nak"}:
         bench, other = start(data=old), start(data=old)
         bench.write("new", new)
         bench.path("other").symlink_to(other.path("dev"))
@@ -233,7 +235,9 @@ def reports_the_port(start):
     old, new = images("reports_the_port")
     bench = start(data=old)
     bench.write("new", new)
-    got = bench.run("-w", "new", "--journal", "j", events={50: "unplug"})
+    wire = session_wire(old, new)
+    last = max(at for at, (out, _) in enumerate(wire, 1) if out[0] in reference.CHANGING)
+    got = bench.run("-w", "new", "--journal", "j", events={last: "unplug"})
     check("the lines", (got.out, got.err[:1], len(got.err), got.status), ([], ["Error 12: stopped."], 2, 1))
     begins, ends = "Cause: the ", f". {UNPLUG} {RESTORE}"
     check("the cause", (got.err[1][: len(begins)], got.err[1][-len(ends) :]), (begins, ends))

@@ -143,15 +143,18 @@ def restores_after_chip_fault_4(start):
 
 
 def compares_journals(start):
-    """The block that compares a journal with a backup recognizes the board, and a chip with another unique ID."""
+    """The first two lines for a journal are those for the board's backup, and differ for a chip with another unique ID."""
     old, new = images("compares_journals")
     for unique, is_this in (bytes(range(8)), True), (bytes(8), False):
         bench = start(data=old, unique=bytes(range(8)))
         bench.write("new.bin", new)
         check("the session", bench.run("-w", "new.bin", "--journal", "j1").status, 0)
         bench.write("whole.journal", reference.journal("TINY64", old, ALL, unique=unique))
-        lines = run_in_shell(bench, block_with("cmp -n 19"))
-        check("the board", lines[-1] == "this board", is_this)
+        lines = run_in_shell(bench, block_with("--check-journal whole.journal"))
+        chips = [at for at, line in enumerate(lines) if line.startswith("Journal of ")]
+        check("descriptions", len(chips), 2)
+        first, second = (lines[at : at + 2] for at in chips)
+        check("the board", first == second, is_this)
 
 
 CASES = [plays_the_examples, makes_the_first_write, rescues_in_four_lines, restores_after_chip_fault_4,

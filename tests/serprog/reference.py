@@ -29,17 +29,23 @@ def command(opcode, address=None, dummies=0):
     return bytes([opcode]) + (b"" if address is None else address.to_bytes(3, "big")) + bytes(dummies)
 
 
+class Limited(tuple):
+    """A read of a plan, as (bytes sent, bytes replied). A block that is read ahead for it ends at `limit` at the latest."""
+    limit = 1 << 24
+
+
 def carried(plan, longest=BLOCK, chip=None, image=None):
     """Returns the transactions over the wire of a plan, for a programmer that reads at most `longest` bytes in one.
 
     First the chip is woken. Data is read ahead: a read that goes on where the last block ended reads a block of twice
-    the length, up to the limit and the next multiple of 64 KiB. A block is forgotten at each other transaction. It is
-    read twice. If an image is expected, only the sectors that differ from it are read again; `chip` is a model of the
+    the length, up to the limit, the next multiple of 64 KiB and the limit of the read. A block is forgotten at each
+    other transaction. It is read twice. If an image is expected, only the sectors that differ from it are read again; `chip` is a model of the
     chip before the plan, which is changed. Other replies are compared as `compared` says. After each of these reads the
     ID is read.
     """
     found, begin, end, step, last = [WAKES], 0, 0, 0, 0
-    for out, replies in plan:
+    for item in plan:
+        out, replies = item
         if out[0] != READ_DATA:
             end = begin
             found += compared(out, replies, last)
@@ -50,7 +56,8 @@ def carried(plan, longest=BLOCK, chip=None, image=None):
         at = int.from_bytes(out[1:], "big")
         if at < begin or at + replies > end:
             step = min(2 * step, longest // SECTOR * SECTOR) if at == end > begin else replies
-            begin, end = at, at + max(replies, min(step, BLOCK - at % BLOCK))
+            limit = getattr(item, "limit", Limited.limit)
+            begin, end = at, at + max(replies, min(step, BLOCK - at % BLOCK, limit - at))
             again = [(begin, end)] if image is None else differing(chip.read_data(begin, end - begin), image, begin)
             for start, stop in [(begin, end), *again]:
                 found += [(command(READ_DATA, start), stop - start), CONFIRM]
@@ -223,8 +230,12 @@ def restore(part, old, saved):
 
 
 def read_rest(part, saved):
-    """Returns the plan that reads each sector that a journal doesn't save, from the last one down."""
-    return [read_sector(it) for it in reversed(range(PARTS[part].size // SECTOR)) if it not in saved]
+    """Returns the plan that reads each sector that a journal doesn't save. No block reaches a saved one."""
+    count, plan = PARTS[part].size // SECTOR, []
+    for number in sorted({*range(count)} - {*saved}):
+        plan.append(Limited(read_sector(number)))
+        plan[-1].limit = SECTOR * min([it for it in saved if it > number], default=count)
+    return plan
 
 
 def whole_restore(part, plan, saved):

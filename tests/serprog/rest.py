@@ -24,6 +24,11 @@ def restore_wire(old, numbers):
     return wire, [at for at, (out, _) in enumerate(wire, 1) if out[0] in reference.CHANGING]
 
 
+def rest_count(numbers):
+    """Returns the number of transactions over the wire that read the sectors which a journal doesn't save once."""
+    return len(reference.carried(reference.read_rest("TINY64", numbers))) - 1
+
+
 def compares_the_rest_of_a_restore(start):
     """If an address bit is wrong for the whole restore, its sectors verify, and the comparison is chip fault 4.
 
@@ -33,7 +38,7 @@ def compares_the_rest_of_a_restore(start):
     old, new, journal = restored("compares_the_rest_of_a_restore")
     wire, changing = restore_wire(old, numbers)
     # The last reads before the comparison are those of the sectors that the restore changed.
-    rest = 2 * (16 - len(numbers))
+    rest = rest_count(numbers)
     wrong = bytearray(new)
     for number in numbers:
         wrong[(number ^ 4) * SECTOR : ((number ^ 4) + 1) * SECTOR] = reference.sector_of(old, number)
@@ -77,9 +82,9 @@ def compares_after_error_14(start):
         for words in (), ("-N",):
             bench = start(data=new)
             bench.write("j", journal)
-            # With -N the 13 sectors that aren't saved are not read (twice, each time with the ID after it), nor is the
-            # chip identified before.
-            number = at - (len(reference.carried(reference.probe("TINY64"))) - 1 + 4 * 13) * bool(words)
+            # With -N the 13 sectors that aren't saved are not read, nor is the chip identified before.
+            before = len(reference.carried(reference.probe("TINY64"))) - 1 + rest_count(numbers)
+            number = at - before * bool(words)
             bench.server.traits.wrong_address = (number, number, 14)
             got = bench.run("--restore", "j", *words)
             check("the wrong frame", bench.server.log[number - 1][0], wire[at - 1][0])

@@ -63,6 +63,7 @@ MISTAKES = {
     "hides the error of a restore": "compares_after_error_14",
     "compares a restore with -N": "restores_quickly",
     "reads saved sectors": "restores_marginal_bytes",
+    "reads ahead into saved sectors": "restores",
     "changes any chip": "refuses_unknown_protection",
     "always restores": "reads_twice",
     "calls each chip unchanged": "reports_causes",

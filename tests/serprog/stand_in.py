@@ -236,8 +236,8 @@ class Job:
         self.check_kind(whole)
         saved = [] if MISTAKE == "reads saved sectors" else [
             int.from_bytes(whole[at : at + 4], "little") for at in range(25, len(whole) - 36, SECTOR + 4)]
-        rest = [out for out, _ in reference.read_rest(self.part, saved)]
-        before = [self.link.transfer(out, SECTOR) for out in rest]
+        rest = reference.read_rest(self.part, saved)
+        before = self.read_rest(rest)
         failed = ()
         try:
             lines = self.restore_saved(whole)
@@ -253,13 +253,22 @@ class Job:
             raise Fault(*failed)
         return lines
 
+    def read_rest(self, rest):
+        """Reads these sectors. No block that is read ahead reaches another one."""
+        found = []
+        for read in rest:
+            self.link.limit = reference.Limited.limit if MISTAKE == "reads ahead into saved sectors" else read.limit
+            found.append(self.link.transfer(read[0], SECTOR))
+        self.link.limit = reference.Limited.limit
+        return found
+
     def compare_rest(self, rest, before):
         """Reads sectors again after a restore, and compares them with those before it."""
         if MISTAKE == "compares no rest":
             return
-        after = [self.link.transfer(out, SECTOR) for out in rest]
+        after = self.read_rest(rest)
         differ = [int.from_bytes(out[1:], "big") + next(at for at in range(SECTOR) if was[at] != now[at])
-                  for out, was, now in zip(rest, before, after) if was != now]
+                  for (out, _), was, now in zip(rest, before, after) if was != now]
         if differ:
             raise Fault(f"Chip fault 4: the chip differs at 0x{min(differ):06x} from what was read before this restore.")
 

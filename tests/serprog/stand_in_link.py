@@ -164,6 +164,7 @@ class Link:
 
     def forget(self):
         self.begin, self.block, self.step = 0, b"", 0
+        self.limit = reference.Limited.limit
 
     def send(self, content):
         try:
@@ -383,7 +384,7 @@ class Link:
         if at < self.begin or at + length > end:
             self.step = min(2 * self.step, self.longest) if self.block and at == end else length
             border = BLOCK if MISTAKE == "reads past the end" else BLOCK - at % BLOCK
-            self.block = self.read_twice(at, max(length, min(self.step, border)))
+            self.block = self.read_twice(at, max(length, min(self.step, border, self.limit - at)))
             self.begin = at
         return self.block[at - self.begin :][:length]
 
