@@ -109,7 +109,9 @@ fn run_over<'b, R: Store, O: Write, E: Write>(
     match read_words(rt.alloc(), words) {
         Ok(Asked::Description { file }) => check_journal(files, file, output, errors),
         Ok(Asked::Chip { setting, operation }) => {
-            run_on_chip(rt, screen, files, used, &setting, &operation, output, errors)
+            run_on_chip(
+                rt, screen, files, used, &setting, &operation, output, errors,
+            )
         }
         Err(trouble) => end_early(output, errors, &trouble),
     }

@@ -13,7 +13,7 @@ returns-in_err-file-clause-help c =
 pub returns-in_err-operation-in-Chip-clause-help : goal.returns-in_err-operation-in-Chip-clause-help
 returns-in_err-operation-in-Chip-clause-help c =
     let p = err_from_is_err_and c.from_residual-in_err-operation-in-Chip.result
-        c.from_residual-in_err-operation-in-Chip.ensures.1 in
+    c.from_residual-in_err-operation-in-Chip.ensures.1 in
     let job = rw c.in-Chip.is at c.in_ok-file.ensures in
     rw (p.1, p.2) (λ is. absurd (options-ask (hardware_given_by program (map string_bytes c.args.words.now)) _
     (rw c.in_err-operation-in-Chip.was at job.asked.operation) is))
