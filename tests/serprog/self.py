@@ -80,7 +80,9 @@ RIGHT = sorted(set(MISTAKES.values()))
 def run(mistake, names):
     """Runs cases with a mistake of the program, and returns the exit status and the lines."""
     words = [sys.executable, HERE / "run.py", HERE / "stand_in.py", *names]
-    done = subprocess.run(words, env=dict(os.environ, MISTAKE=mistake), stdout=subprocess.PIPE, text=True, check=False)
+    # The right program tries each third loss of contact; a mistake is found at one of the first.
+    env = dict(os.environ, MISTAKE=mistake, STRIDE="1" if mistake else "3")
+    done = subprocess.run(words, env=env, stdout=subprocess.PIPE, text=True, check=False)
     return done.returncode, done.stdout.splitlines()
 
 
