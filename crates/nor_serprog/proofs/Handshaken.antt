@@ -1,4 +1,4 @@
--- The steps of a handshake over an honest port.
+-- Lemmas for the steps of a handshake over a well-behaved port.
 use Rattle.std.proofs.Common.{◌≡◌, ◌∙◌, ◌+◌, ◌<◌, ◌≤◌, ◌≢◌, ◌⊎◌, inl, inr, drop, true, false, ℕ, Bool, List, [], refl, sym, subst, ap, arith}
 use Rattle.std.specs.Prelude.{nat_lt, ◌==◌, IfSome, unwrap_or, slice_index, if◌then◌else◌, Option, None, Some, Result, Ok, Err, IsErrAnd, ⊤}
 use Rattle.std.specs.Option.{option_or}
@@ -25,14 +25,16 @@ use Rattle.nor_serprog.specs.Identify.{Concludes, Asked, IsInStepWith, refused, 
 
 -- ---- one step
 
--- The calls of a step that succeeded.
+-- If a call in a step succeeded (`Concludes`), and the firmware causes no error of the step, the step succeeded with
+-- the effect of this call. `value'` is the value that the step returns.
 pub goes_on : {T T' C : Type 0} {calls : ℕ} {fault fault' : Option (HandshakeFault C)} {IsValue : T → Type 0}
     {IsValue' : T' → Type 0} {value : T} {value' : T'} {old new : PortState}
     → Concludes calls fault IsValue (Ok value) old new → fault' ≡ None → IsValue' value'
     → Concludes calls fault' IsValue' (Ok value') old new
 goes_on done usable is = record { usable = usable; value = is; asks = done.asks; fails = tt; power = tt }
 
--- A step that failed after calls that succeeded.
+-- If a call in a step succeeded, and then the step returned the error that the firmware causes, the step ends as
+-- `Concludes` requires.
 pub stops_after : {T T' C : Type 0} {calls : ℕ} {fault fault' : Option (HandshakeFault C)} {IsValue : T → Type 0}
     {IsValue' : T' → Type 0} {value : T} {error : HandshakeFault C} {old new : PortState}
     → Concludes calls fault IsValue (Ok value) old new → fault' ≡ Some error
@@ -45,7 +47,8 @@ stops_after done found = record {
   power = record { chip = inl done.asks.chip; worn = λ s. ap (λ (w : ℕ → Bool). w s) done.asks.worn };
 }
 
--- If a call in a step failed, the step failed with that error. `Concludes` states no settings after an error.
+-- If a call in a step failed, and the error that the firmware causes in this call is also that of the step, the step
+-- may return the error of the call. The settings don't matter, because `Concludes` states none after an error.
 pub fails_as : {T T' C : Type 0} {calls : ℕ} {fault fault' : Option (HandshakeFault C)} {IsValue : T → Type 0}
     {IsValue' : T' → Type 0} {error : HandshakeFault C} {old new : PortState} (settings : ProgrammerSettings)
     → Concludes calls fault IsValue (Err error) old new → (fault ≡ Some error → fault' ≡ Some error)
@@ -58,7 +61,7 @@ fails_as settings failed same = record {
   power = record { chip = failed.power.chip; worn = failed.power.worn };
 }
 
--- `Concludes` holds for a result that is the error of a failed call.
+-- If `Concludes` holds for an error, it holds for a result that is this error.
 pub returns_error : {T C : Type 0} {calls : ℕ} {fault : Option (HandshakeFault C)} {IsValue : T → Type 0}
     {error : HandshakeFault C} {old new : PortState} (result : Result T (HandshakeFault C))
     → IsErrAnd result (λ found. found ≡ error) → Concludes calls fault IsValue (Err error) old new
@@ -66,7 +69,8 @@ pub returns_error : {T C : Type 0} {calls : ℕ} {fault : Option (HandshakeFault
 returns_error (Ok value) is concludes = absurd is
 returns_error (Err found) is concludes = rw is concludes
 
--- A call for which the firmware causes no error failed because the port did, and its error is returned.
+-- If the firmware causes no error in a call, and the call failed, the port failed. `Concludes` holds for a step that
+-- returns this error.
 pub port_failed : {T T' C : Type 0} {calls : ℕ} {fault : Option (HandshakeFault C)} {IsValue : T → Type 0}
     {IsValue' : T' → Type 0} {error : HandshakeFault C} {old new : PortState} (result : Result T' (HandshakeFault C))
     → IsErrAnd result (λ found. found ≡ error) → Concludes calls None IsValue (Err error) old new
@@ -75,7 +79,7 @@ port_failed {old = old} result is failed =
     returns_error result is
     (fails_as old.device.settings failed (λ found. let never : ⊥ = cc in absurd never))
 
--- `Concludes` stays true for an equal `fault`, and for a fact about the value that follows from `IsValue`.
+-- `Concludes` stays true if `fault` is replaced by an equal one, and `IsValue` by a condition that follows from it.
 pub concludes_as : {T C : Type 0} {calls : ℕ} {fault fault' : Option (HandshakeFault C)} {IsValue IsValue' : T → Type 0}
     {old new : PortState} (result : Result T (HandshakeFault C)) → fault' ≡ fault
     → ((value : T) → IsValue value → IsValue' value) → Concludes calls fault IsValue result old new
@@ -85,7 +89,7 @@ concludes_as {old = old} (Err error) same weaker c = fails_as old.device.setting
 
 -- ---- queries
 
--- If the map has a command, so does the firmware; if the map lacks it, so does the firmware.
+-- If `commands` is the map of the firmware, the firmware has the command `opcode` if and only if the map has it.
 pub offered : (firmware : Firmware) (commands : List ℕ) (opcode : ℕ) (found value : Bool)
     → found ≡ is_in_map commands opcode → commands ≡ firmware.commands → found ≡ value → has_command firmware opcode ≡ value
 offered firmware commands opcode found value is same known =
@@ -96,7 +100,7 @@ pub lacks_query : (has_it : Bool) (bytes : List ℕ) (reply : Option (List ℕ))
 lacks_query true bytes reply none is = let e : None ≡ Some bytes = sym none ∙ is in let never : ⊥ = cc in absurd never
 lacks_query false bytes reply none is = refl
 
--- The reply to a query that the programmer has.
+-- Holds if the programmer has a query, and its reply is `bytes`.
 pub record Replied (has_it : Bool) (bytes reply : List ℕ) : Type 0 where
   pub has_query : has_it ≡ true
   pub bytes_are : reply ≡ bytes
@@ -125,7 +129,7 @@ not_below m n more = not_true (nat_lt m n) (λ is. let less = (Decides-ltb m n).
 
 -- ---- numbers
 
--- A number that was read from the two bytes of a reply.
+-- If two bytes of a reply encode `n`, little-endian, the number that is read from them is `n`.
 pub two_read : (n value : ℕ) (reply : List ℕ) → value ≡ from_le_bytes w16 reply → reply ≡ two_of n → n < 65536
     → value ≡ n
 two_read n value reply is same fits =
@@ -174,7 +178,8 @@ set_result false firmware setting reply opcode (Ok value) old new replies first 
 set_result false firmware setting reply opcode (Err error) old new replies first a =
     fails_as _ (a.naked replies) (λ found. ap (λ (n : ℕ). Some (Faults.Failure (Refused n))) (sym first) ∙ found)
 
--- S_BUSTYPE selects SPI, if the programmer doesn't refuse the command.
+-- If the programmer lacks S_BUSTYPE or accepts it, the settings after it have SPI selected if the programmer has the
+-- command, and are as they were otherwise.
 bus_selected : {C : Type 0} (has_it takes : Bool) (settings : ProgrammerSettings)
     → refused {C = C} 0x12 has_it takes ≡ None
     → (if has_it then (if takes then record settings { bus_type = Some 8 } else settings) else settings)
@@ -183,7 +188,8 @@ bus_selected true true settings none = refl
 bus_selected true false settings none = let never : ⊥ = cc in absurd never
 bus_selected false takes settings none = refl
 
--- S_PIN_STATE switches the pin drivers on, if the programmer doesn't refuse the command.
+-- If the programmer lacks S_PIN_STATE or accepts it, the settings after it have the pin drivers on if the programmer
+-- has the command, and are as they were otherwise.
 pins_switched : {C : Type 0} (has_it takes : Bool) (settings : ProgrammerSettings)
     → refused {C = C} 0x15 has_it takes ≡ None
     → (if has_it then (if takes then record settings { pins_on = true } else settings) else settings)
@@ -192,7 +198,8 @@ pins_switched true true settings none = refl
 pins_switched true false settings none = let never : ⊥ = cc in absurd never
 pins_switched false takes settings none = refl
 
--- Both commands make the settings of a programmer that was prepared for SPI, if the programmer refuses neither.
+-- If the programmer refuses neither S_BUSTYPE nor S_PIN_STATE, the settings after both are those of a programmer that
+-- was prepared for SPI.
 pub is_prepared : {C : Type 0} (firmware : Firmware) (settings : ProgrammerSettings)
     → refused {C = C} 0x12 (has_command firmware 0x12) (firmware.takes_buses 8) ≡ None
     → refused {C = C} 0x15 (has_command firmware 0x15) (firmware.takes_pins true) ≡ None
@@ -205,29 +212,29 @@ is_prepared firmware settings bus pins =
 
 -- ---- steps one after another
 
--- the settings after a step that makes none
+-- The settings after a step that makes no settings.
 abbrev pub unchanged : Firmware → ProgrammerSettings → ProgrammerSettings
 unchanged firmware settings = settings
 
--- the settings after the step that selects SPI
+-- The settings after the step that selects SPI.
 abbrev pub after_bus_type : Firmware → ProgrammerSettings → ProgrammerSettings
 after_bus_type firmware settings = settings_if_offered firmware 0x12 (SetBuses 8) settings
 
--- the settings after the step that switches the pin drivers on
+-- The settings after the step that switches the pin drivers on.
 abbrev pub after_pins : Firmware → ProgrammerSettings → ProgrammerSettings
 after_pins firmware settings = settings_if_offered firmware 0x15 (SetPins true) settings
 
--- The first error of `identify_faults` after the first `done` entries of that list.
+-- The first error of the list `identify_faults` without its first `done` entries.
 abbrev pub faults_from : {C : Type 0} → Least → (done : ℕ) → Firmware → Option ℕ → Option (HandshakeFault C)
 faults_from least done firmware hertz = first_handshake_fault (drop done (identify_faults least firmware hertz))
 
--- The link is not cut, and the programmer is idle over an honest port.
+-- Holds if no frame on the link may have been sent only in part, the port is well-behaved and its programmer is idle.
 abbrev pub Starts : {P C : Type 0} → (P → PortState) → Link P C → Type 0
 Starts port link = AwaitsCommand (port link.port) × (is_cut link ≡ false)
 
--- Holds after steps of a handshake that began at the link `start`. The steps made at most `calls` calls, and found none
--- of the first `done` errors of `identify_faults`. The link is in step and the programmer is idle, with the settings
--- that `after` makes of those at the start. `commands` is the programmer's map.
+-- Holds after some steps of a handshake that began with the link `start`. The steps made at most `calls` calls, and
+-- found none of the first `done` errors of `identify_faults`. The link is in step and the programmer is idle. Its
+-- settings are those at the start, changed by `after`. `commands` is the programmer's map.
 pub record HasReached {P C : Type 0} (port : P → PortState) (start : Link P C) (hertz : Option ℕ) (least : Least)
     (calls done : ℕ) (after : Firmware → ProgrammerSettings → ProgrammerSettings) (commands : List ℕ) (link : Link P C) : Type 0 where
   pub asks : OnlyAsks calls
@@ -238,7 +245,7 @@ pub record HasReached {P C : Type 0} (port : P → PortState) (start : Link P C)
       ≡ faults_from least done (port start.port).device.firmware hertz
   pub map : commands ≡ (port start.port).device.firmware.commands
 
--- The link was synchronized.
+-- `HasReached` holds after the link was synchronized.
 pub begins : {P C T : Type 0} {port : P → PortState} {start : Link P C} {IsValue : T → Type 0} {value : T}
     (hertz : Option ℕ) (least : Least) (link : Link P C)
     → Concludes {C = C} 29 None IsValue (Ok value) (port start.port) (port link.port) → is_in_step link ≡ true
@@ -250,7 +257,8 @@ begins hertz least link done in_step = record {
   map = refl;
 }
 
--- `HasReached` holds after one more step that succeeded. `sets` is the effect of the step on the settings.
+-- If `HasReached` holds and one more step succeeds, `HasReached` holds again. `sets` is the effect of the step on the
+-- settings.
 pub goes : {P C T : Type 0} {port : P → PortState} {start link : Link P C} {hertz : Option ℕ} {least : Least}
     {calls done : ℕ}
     {after : Firmware → ProgrammerSettings → ProgrammerSettings} {commands commands' : List ℕ}
@@ -283,7 +291,7 @@ goes {port = port} {start = start} {hertz = hertz} {least = least} sets done' li
   map = map;
 }
 
--- If one more step failed, the handshake ends with the error of that step (`Concludes`).
+-- If `HasReached` holds and one more step fails, the handshake ends with the error of that step (`Concludes`).
 pub fails_at : {P C T T' : Type 0} {port : P → PortState} {start link : Link P C} {hertz : Option ℕ} {least : Least}
     {calls done : ℕ}
     {after : Firmware → ProgrammerSettings → ProgrammerSettings} {commands : List ℕ}
@@ -312,7 +320,8 @@ fails_at {port = port} {start = start} {hertz = hertz} {least = least} {new = ne
   };
 }
 
--- The handshake found a programmer whose limits suffice for whole transactions.
+-- If the handshake succeeded with `any`, and `programmer` was made from it, the handshake of `Programmer::identify`
+-- succeeded with `programmer`.
 pub is_whole : {C : Type 0} {fault : Option (HandshakeFault C)} {firmware : Firmware} {hertz : Option ℕ}
     {any : AnyProgrammer} {old new : PortState} (programmer : Programmer)
     → Concludes 59 fault (IsAnyProgrammerOf firmware hertz) (Ok any) old new → programmer.reported ≡ any
@@ -327,7 +336,8 @@ is_whole {firmware = firmware} {hertz = hertz} programmer found same =
       power = tt;
     }
 
--- An error of a part of the handshake is one of the handshake.
+-- `Concludes` for an error does not depend on the type of the value, so an error of a part of the handshake is an error
+-- of the handshake.
 pub same_error : {C T T' : Type 0} {fault : Option (HandshakeFault C)} {IsValue : T → Type 0} {IsValue' : T' → Type 0}
     {error : HandshakeFault C} {calls : ℕ} {old new : PortState}
     → Concludes calls fault IsValue (Err error) old new → Concludes calls fault IsValue' (Err error) old new

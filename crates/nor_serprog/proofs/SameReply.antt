@@ -1,4 +1,4 @@
--- A chip returns the same reply if a transaction that reads an ID, SFDP or data is sent twice in a row.
+-- Lemmas: a chip returns the same reply if a read of an ID, of SFDP or of data is sent twice in a row.
 use Rattle.std.proofs.Common.{◌≡◌, ◌∙◌, ◌<◌, ◌+◌, ◌%◌, ℕ, Bool, true, false, List, [], ◌∷◌, length, refl, sym, subst, ap, inl, inr}
 use Rattle.std.specs.Prelude.{◌==◌, ◌||◌, if◌then◌else◌, slice_index_or}
 use Rattle.std.proofs.lemmas.Bool.{eqb-true, false≢true}
@@ -12,14 +12,14 @@ use Rattle.nor_model.specs.Step.{Step, Does, reply_byte}
 use Rattle.nor_model.specs.Bus.{BusState, SameNature, IsHonestFor}
 use Rattle.nor_serprog.specs.Twice.{begins_read}
 
--- Configuration, bytes and `busy` of the chip are as they were. The reply to a read of an ID, of SFDP or of data
--- depends on nothing else of the chip.
+-- Holds if configuration, bytes and `busy` of the chip are as they were. The reply to a read of an ID, of SFDP or of
+-- data depends on nothing else in the state of the chip.
 pub record Still (old new : Chip) : Type 0 where
   pub config : new.config ≡ old.config
   pub bytes : (a : ℕ) → new.bytes a ≡ old.bytes a
   pub busy : new.busy ≡ old.busy
 
--- The command reads an ID, SFDP or data, or is ignored.
+-- Holds if the command reads an ID, SFDP or data, or if the chip ignores it.
 abbrev pub IsReading : Command → Type 0
 IsReading (ReadData at) = Unit {0}
 IsReading ReadId = Unit {0}
@@ -28,7 +28,8 @@ IsReading ReadUnique = Unit {0}
 IsReading Ignored = Unit {0}
 IsReading _ = ⊥
 
--- The command of a read: a busy chip ignores it.
+-- The command that a chip carries out when it receives a read: the read itself if the chip is idle, and otherwise
+-- `Ignored`.
 abbrev pub read_of : (idle : Bool) → Command → Command
 read_of idle command = if idle then command else Ignored
 
@@ -41,7 +42,7 @@ still_after_reading ReadUnique sent old mid first is one = record { config = one
 still_after_reading Ignored sent old mid first is one = record { config = one.config; bytes = one.bytes; busy = one.busy }
 still_after_reading _ sent old mid first is one = absurd is
 
--- The reply to a read is the same byte for byte.
+-- If a chip did not change in configuration, bytes and `busy` (`Still`), each byte of its reply to a read is the same.
 same_byte : (command : Command) (old mid : Chip) → IsReading command → Still old mid → (i : ℕ)
     → reply_byte mid command i ≡ reply_byte old command i
 same_byte (ReadData at) old mid is s i =
@@ -56,7 +57,8 @@ pub reading_or_none : (idle : Bool) (command : Command) → IsReading command �
 reading_or_none true command is = is
 reading_or_none false command is = tt
 
--- If two transactions have the same reply byte at each index, and replies of equal length, the replies are equal.
+-- If two commands have the same reply byte at each index, and their replies `first` and `again` have the same length,
+-- these replies are equal.
 pub alike : (command other : Command) (sent : List ℕ) (old mid new : Chip) (first again : List ℕ)
     → Does command sent old first mid → Does other sent mid again new → length again ≡ length first
     → ((i : ℕ) → reply_byte mid other i ≡ reply_byte old command i) → again ≡ first
@@ -65,7 +67,8 @@ alike command other sent old mid new first again one two len same =
     (λ (i : ℕ) (below : i < length again).
     two.replies i below ∙ same i ∙ sym (one.replies i (let P : ℕ → Type 0 = λ n. i < n in subst P len below)))
 
--- The same read, made twice in a row, has the same reply. `make` is the command by the configuration of the chip.
+-- If the same read is sent twice in a row, both replies are equal. `make` returns the command of the read for the
+-- configuration of the chip.
 pub reading_alike : (make : Config → Command) (sent : List ℕ) (old mid new : Chip) (first again : List ℕ)
     → ((c : Config) → IsReading (make c)) → Does (read_of (old.busy == 0) (make old.config)) sent old first mid
     → Does (read_of (mid.busy == 0) (make mid.config)) sent mid again new → length again ≡ length first
@@ -81,13 +84,13 @@ reading_alike make sent old mid new first again is one two len =
     (λ i. ap (λ (k : Command). reply_byte mid k i) command
     ∙ same_byte (read_of (old.busy == 0) (make old.config)) old mid reads s i)
 
--- A transaction that the chip ignores has the same reply, made twice in a row.
+-- If a transaction that the chip ignores is sent twice in a row, both replies are equal.
 ignored_alike : (sent : List ℕ) (old mid new : Chip) (first again : List ℕ) → Does Ignored sent old first mid
     → Does Ignored sent mid again new → length again ≡ length first → again ≡ first
 ignored_alike sent old mid new first again one two len =
     alike Ignored Ignored sent old mid new first again one two len (λ i. refl)
 
--- `same_reply` for transactions whose first byte is 03h.
+-- The lemma `same_reply` for transactions whose first byte is 03h.
 same_reply_03 : (rest : List ℕ) (old mid new : Chip) (first again : List ℕ)
     → Step old (0x03 ∷ rest) first mid → Step mid (0x03 ∷ rest) again new → length again ≡ length first → again ≡ first
 same_reply_03 [] old mid new first again one two len = ignored_alike [] old mid new first again one two len
@@ -100,7 +103,7 @@ same_reply_03 (x ∷ y ∷ z ∷ b ∷ []) old mid new first again one two len =
 same_reply_03 (x ∷ y ∷ z ∷ b ∷ d ∷ rest) old mid new first again one two len =
     ignored_alike (b ∷ d ∷ rest) old mid new first again one two len
 
--- `same_reply` for transactions whose first byte is 9Fh.
+-- The lemma `same_reply` for transactions whose first byte is 9Fh.
 same_reply_9F : (rest : List ℕ) (old mid new : Chip) (first again : List ℕ)
     → Step old (0x9F ∷ rest) first mid → Step mid (0x9F ∷ rest) again new → length again ≡ length first → again ≡ first
 same_reply_9F [] old mid new first again one two len =
@@ -114,7 +117,7 @@ same_reply_9F (x ∷ y ∷ z ∷ b ∷ []) old mid new first again one two len =
 same_reply_9F (x ∷ y ∷ z ∷ b ∷ d ∷ rest) old mid new first again one two len =
     ignored_alike (b ∷ d ∷ rest) old mid new first again one two len
 
--- `same_reply` for transactions whose first byte is 5Ah.
+-- The lemma `same_reply` for transactions whose first byte is 5Ah.
 same_reply_5A : (rest : List ℕ) (old mid new : Chip) (first again : List ℕ)
     → Step old (0x5A ∷ rest) first mid → Step mid (0x5A ∷ rest) again new → length again ≡ length first → again ≡ first
 same_reply_5A [] old mid new first again one two len = ignored_alike [] old mid new first again one two len
@@ -127,7 +130,7 @@ same_reply_5A (x ∷ y ∷ z ∷ b ∷ []) old mid new first again one two len =
 same_reply_5A (x ∷ y ∷ z ∷ b ∷ d ∷ rest) old mid new first again one two len =
     ignored_alike (b ∷ d ∷ rest) old mid new first again one two len
 
--- `same_reply` for transactions whose first byte is 4Bh.
+-- The lemma `same_reply` for transactions whose first byte is 4Bh.
 same_reply_4B : (rest : List ℕ) (old mid new : Chip) (first again : List ℕ)
     → Step old (0x4B ∷ rest) first mid → Step mid (0x4B ∷ rest) again new → length again ≡ length first → again ≡ first
 same_reply_4B [] old mid new first again one two len = ignored_alike [] old mid new first again one two len
@@ -140,13 +143,13 @@ same_reply_4B (x ∷ y ∷ z ∷ b ∷ []) old mid new first again one two len =
 same_reply_4B (x ∷ y ∷ z ∷ b ∷ d ∷ rest) old mid new first again one two len =
     ignored_alike (b ∷ d ∷ rest) old mid new first again one two len
 
--- The opcode `a` is the number `n` if their comparison is true.
+-- If the comparison of `a` and `n` is true, a step for a transaction with the opcode `a` is one with the opcode `n`.
 moved : (a n : ℕ) (rest : List ℕ) (old new : Chip) (answer : List ℕ) → (a == n) ≡ true → Step old (a ∷ rest) answer new
     → Step old (n ∷ rest) answer new
 moved a n rest old new answer same step =
     let P : ℕ → Type 0 = λ k. Step old (k ∷ rest) answer new in subst P (eqb-true a n same) step
 
--- `same_reply`, by the comparisons of the opcode with 03h, 9Fh and 5Ah.
+-- The lemma `same_reply`, for given results of the comparisons of the opcode with 03h, 9Fh and 5Ah.
 same_by : (a : ℕ) (rest : List ℕ) (old mid new : Chip) (first again : List ℕ) (data_read id_read sfdp_read : Bool)
     → (a == 0x03) ≡ data_read → (a == 0x9F) ≡ id_read → (a == 0x5A) ≡ sfdp_read
     → (data_read || id_read || sfdp_read || a == 0x4B) ≡ true → Step old (a ∷ rest) first mid
@@ -164,16 +167,16 @@ same_by a rest old mid new first again false false false e e' e'' reads one two 
     same_reply_4B rest old mid new first again (moved a 0x4B rest old mid first reads one)
     (moved a 0x4B rest mid new again reads two) len
 
--- A transaction that reads an ID, SFDP or data is sent twice in a row: if the replies have the same length, they are
--- equal.
+-- If a transaction that reads an ID, SFDP or data is sent twice in a row, and both replies have the same length, they
+-- are equal.
 pub same_reply : (out : List ℕ) (old mid new : Chip) (first again : List ℕ) → begins_read out ≡ true
     → Step old out first mid → Step mid out again new → length again ≡ length first → again ≡ first
 same_reply [] old mid new first again reads one two len = absurd (false≢true reads)
 same_reply (a ∷ rest) old mid new first again reads one two len =
     same_by a rest old mid new first again (a == 0x03) (a == 0x9F) (a == 0x5A) refl refl refl reads one two len
 
--- If an honest bus takes a transaction, then after a call that keeps the nature of the bus (`SameNature`) it takes a
--- transaction with the same bytes and a reply of the same length.
+-- If a well-behaved bus accepts a transaction, it accepts one with the same bytes and a reply of the same length after
+-- a call that keeps the nature of the bus (`SameNature`).
 pub fits_again : (out : List ℕ) (m n : ℕ) (old new : BusState) → SameNature old new → n ≡ m → IsHonestFor out m old
     → IsHonestFor out n new
 fits_again out m n old new nature same fits = record {

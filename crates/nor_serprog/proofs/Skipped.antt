@@ -1,4 +1,5 @@
--- A link skips the bytes up to the ones that it wants. If these are all that is pending, they are received, and no more.
+-- Lemmas: a link skips the bytes up to the ones that it wants. If exactly the wanted bytes are pending, it receives all
+-- of them, and no more.
 use Rattle.std.proofs.Common.{◌≡◌, ◌≢◌, ◌∙◌, ◌+◌, ◌-◌, ◌<◌, ◌≤◌, inl, inr, true, ◌++◌, ℕ, suc, Bool, eqb, List, [], ◌∷◌, length, get_or, take, drop, refl, sym, ap, arith, append_assoc, length-append, length-drop, length-take-le}
 use Rattle.std.specs.Prelude.{slice_index, replicate}
 use Rattle.std.specs.Cmp.Lexicographic.{pointwise}
@@ -14,11 +15,12 @@ use Rattle.nor_serprog.proofs.Replied.{power_then}
 use Rattle.nor_serprog.specs.Replies.{AsksUnlessFew, IsPortFailure, OnlyAsks, IsPending}
 use Rattle.nor_serprog.proofs.Exchanges.{UsesCalls, uses_none}
 
--- The last 25 bytes that were received, after zeros, if `received` were received.
+-- The last 25 bytes received, if the bytes `received` were received. If they are fewer than 25, zeros precede them.
 abbrev pub window : (received : List ℕ) → List ℕ
 window received = drop (length received) (replicate 25 0 ++ received)
 
--- `count` of the pending bytes were received. Nothing else of the device changed.
+-- Holds if the first `count` bytes of `wanted`, which were pending, were received. `last` are the last 25 bytes
+-- received (`window`). Nothing else of the device changed.
 pub record HasSkipped (wanted last : List ℕ) (count : ℕ) (old now : PortState) : Type 0 where
   pub shows : last ≡ window (take count wanted)
   pub pending : now.device.pending ≡ drop count wanted
@@ -53,7 +55,7 @@ skips_none wanted state = record {
   );
 }
 
--- One more byte in the window.
+-- If one more byte is received, the window loses its first byte and gains this byte at its end.
 more : (zeros received : List ℕ) (byte : ℕ) → 0 < length zeros
     → drop 1 (drop (length received) (zeros ++ received)) ++ byte ∷ []
     ≡ drop (length (received ++ byte ∷ [])) (zeros ++ (received ++ byte ∷ []))
@@ -64,7 +66,8 @@ more zeros received byte some =
     ∙ ap (λ (l : List ℕ). drop (length received + 1) l) (simp append_assoc)
     ∙ ap (λ (n : ℕ). drop n (zeros ++ (received ++ byte ∷ []))) (sym (length-append received (byte ∷ [])))
 
--- A window does not end with bytes of which only the first ones were received, if the first is not 0.
+-- If only some of the bytes `wanted` were received, and the first of these bytes is not 0, the window does not end with
+-- `wanted`.
 too_early : (zeros received wanted front : List ℕ) → ((i : ℕ) → i < length zeros → get_or zeros i 0 ≡ 0)
     → length received < length wanted → length wanted ≤ length zeros → slice_index wanted 0 ≢ 0
     → drop (length received) (zeros ++ received) ≡ front ++ wanted → ⊥
@@ -86,7 +89,8 @@ too_early zeros received wanted front are_zero some_left few first ends =
     ∙ ap (λ (n : ℕ). get_or wanted n 0) (omega arith) in
     first (sym there ∙ sym (ap (λ (l : List ℕ). get_or l (length front) 0) ends) ∙ at)
 
--- A byte was received that is pending.
+-- If fewer than all bytes of `wanted` were received, and one more byte is received, it is the next byte of `wanted`
+-- (`HasSkipped`).
 pub received_more : (wanted last last' : List ℕ) (count byte : ℕ) (old now new : PortState)
     → count < length wanted → HasSkipped wanted last count old now → IsReceived (byte ∷ []) now new
     → new.honest ≡ now.honest → last' ≡ drop 1 last ++ byte ∷ [] → HasSkipped wanted last' (count + 1) old new
@@ -115,7 +119,7 @@ received_more wanted last last' count byte old now new some_left s r honest shif
 zeros_are_zero : (i : ℕ) → i < length (replicate {A = ℕ} 25 0) → get_or (replicate {A = ℕ} 25 0) i 0 ≡ 0
 zeros_are_zero i within = get_or-replicate 25 i 0 0 (omega arith)
 
--- If the window ends with the wanted bytes, all of them were received.
+-- If the window ends with the bytes `wanted`, all of them were received.
 pub all_received : (wanted last : List ℕ) (count : ℕ) (old now : PortState) (ends : Bool) → IsPending wanted old
     → count ≤ length wanted → HasSkipped wanted last count old now
     → ends ≡ pointwise eqb wanted (drop (length last - length wanted) last) → ends ≡ true → count ≡ length wanted
@@ -130,7 +134,7 @@ all_received wanted last count old now ends p within s value is_true =
           (omega (arith, p.few)) p.first (sym s.shows ∙ front))
     ]
 
--- If all of the wanted bytes were received, the window ends with them.
+-- If all of the bytes `wanted` were received, the window ends with them.
 pub ends_if_all : (wanted last : List ℕ) (count : ℕ) (old now : PortState) (ends : Bool) → IsPending wanted old
     → HasSkipped wanted last count old now → count ≡ length wanted
     → ends ≡ pointwise eqb wanted (drop (length last - length wanted) last) → ends ≡ true
@@ -139,7 +143,7 @@ ends_if_all wanted last count old now ends p s all value =
     (s.shows ∙ ap window (ap (λ (n : ℕ). take n wanted) all ∙ take-length wanted)
     ∙ drop-append-le (length wanted) (replicate 25 0) wanted (omega (arith, p.few)))
 
--- After the last byte the programmer waits for a command.
+-- If all of the bytes `wanted` were received, the programmer is idle.
 pub skipped : (wanted last : List ℕ) (count : ℕ) (old now : PortState)
     → HasSkipped wanted last count old now → count ≡ length wanted → OnlyAsks (length wanted) old now
 skipped wanted last count old now s all = record {
@@ -157,7 +161,7 @@ skipped wanted last count old now s all = record {
   settings = s.settings;
 }
 
--- The port failed before the last byte was received.
+-- If the port failed before the last byte of `wanted` was received, fewer calls were left than `wanted` has bytes.
 pub skips_err : {C : Type 0} (wanted last : List ℕ) (count : ℕ) (failure : Failure C) (old now new : PortState)
     → count < length wanted → HasSkipped wanted last count old now → IsSilent 1 now new → IsPortFailure failure
     → AsksUnlessFew (length wanted) (Err failure) old new

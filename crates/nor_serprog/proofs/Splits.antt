@@ -1,4 +1,5 @@
--- Transactions in parts: the transactions after one more part, and after a stop.
+-- Lemmas for reads and programs that are carried out in parts: the transactions so far after one more part, and after a
+-- stop.
 use Rattle.std.proofs.Common.{◌≡◌, ◌∙◌, ◌<◌, ◌≤◌, ◌+◌, ◌++◌, ◌⊎◌, ℕ, List, [], ◌∷◌, length, refl, sym, ap, subst, arith, inl, inr, length-take-le, length-drop, append_assoc}
 use Rattle.std.specs.Prelude.{Result, Ok, Err, OnOk, take, drop}
 use Rattle.std.proofs.lemmas.Slice.{take-put_mid}
@@ -10,31 +11,32 @@ use Rattle.nor_serprog.specs.ReadsAs.{part}
 use Rattle.nor_serprog.specs.Parts.{address_bytes, further, bytes_of_replies, IsReadPart, AreReadParts, SplitsRead}
 use Rattle.nor_serprog.specs.Parts.{program_part, bytes_programmed, EndsReady, EndsEnabled, AreProgramSteps, SplitsProgram, ArePolls, WaitsReady, PollsOnce}
 
--- A call that failed did not succeed.
+-- If a call failed, any fact holds on its success.
 never : (P : Type 0) (result : Result Unit Stopped) → OnOk result ⊥ → OnOk result P
 never P (Ok done) fails = absurd fails
 never P (Err stop) fails = tt
 
--- A fact holds if a call succeeded, if it holds anyway.
+-- If `P` holds, it also holds on success.
 always : (P : Type 0) (result : Result Unit Stopped) → P → OnOk result P
 always P (Ok done) fact = fact
 always P (Err stop) fact = tt
 
 -- ---- reads
 
--- Since `old` only parts of the read `out` were sent, in order and without a gap, and their replies, one after another,
--- are `answer`.
+-- Holds if since `old` only parts of the read `out` were sent, in order and without a gap, and `answer` consists of
+-- their replies.
 pub record ReadsInParts (most : ℕ) (out answer : List ℕ) (old new : List Exchange) : Type 0 where
   pub later : List Exchange
   pub is : new ≡ later ++ old
   pub parts : AreReadParts most out later
   pub whole : answer ≡ bytes_of_replies later
 
--- If nothing was sent, no part was read.
+-- If nothing was sent, `ReadsInParts` holds for the empty reply.
 pub none_read : (most : ℕ) (out : List ℕ) (old : List Exchange) → ReadsInParts most out [] old old
 none_read most out old = record { later = []; is = refl; parts = tt; whole = refl }
 
--- One more part was read, after the first `from` bytes of `reply`.
+-- If `ReadsInParts` holds for the first `from` bytes of `reply`, and one more part with the reply `answer` succeeded,
+-- it holds for the first `n` bytes, to which `answer` was added.
 pub read_more : (most from k n : ℕ) (out reply answer : List ℕ) (old mid new : List Exchange)
     → ReadsInParts most out (take from reply) old mid → from ≤ length reply → n ≡ from + length answer
     → length answer ≤ most → new ≡ replied (further out from) answer ∷ mid
@@ -51,7 +53,7 @@ read_more most from k n out reply answer old mid new was within next few e =
           ∙ ap (λ (xs : List ℕ). xs ++ answer) was.whole;
     }
 
--- A part was not read: the bus stopped at it, or nothing was sent.
+-- If the bus stopped at a part, or sent nothing, the read in parts ends as `SplitsRead` requires.
 pub read_stopped : (most from : ℕ) (out reply answer : List ℕ) (result : Result Unit Stopped)
     (old mid new : List Exchange) → ReadsInParts most out (take from reply) old mid → from ≤ length reply
     → OnOk result ⊥ → (new ≡ mid) ⊎ (new ≡ stopped (further out from) ∷ mid)
@@ -75,26 +77,26 @@ read_stopped most from out reply answer result old mid new was within fails (inr
 
 -- ---- programs
 
--- Since `old` only parts of the program of `bytes` at this address were sent, in order and without a gap, and before
--- each part but the first polls and a write enable. The parts have `n` bytes in total.
+-- Holds if since `old` only parts of the program of `bytes` at `address` were sent, in order and without a gap, with
+-- polls and a write enable before each part except the first. The parts have `n` bytes in total.
 pub record ProgramsInParts (most address : ℕ) (bytes : List ℕ) (n : ℕ) (old new : List Exchange) : Type 0 where
   pub later : List Exchange
   pub is : new ≡ later ++ old
   pub steps : AreProgramSteps most address bytes later
   pub count : bytes_programmed later ≡ n
 
--- Since `old` only polls were sent.
+-- Holds if since `old` only polls were sent.
 pub record OnlyPolls (old new : List Exchange) : Type 0 where
   pub later : List Exchange
   pub is : new ≡ later ++ old
   pub polls : ArePolls later
 
--- A transaction sends its bytes, whether it succeeds or not.
+-- The history records the bytes `out` of a transaction whether it succeeds or not.
 pub sends_out : (out answer : List ℕ) (result : Result Unit Stopped) → (exchange_of out answer result).out ≡ out
 sends_out out answer (Ok done) = refl
 sends_out out answer (Err stop) = refl
 
--- A poll, if the bus added it to the history.
+-- If the bus added a poll to its history, one poll was sent (`PollsOnce`).
 pub polls_once : (answer : List ℕ) (result : Result Unit Stopped) (old new : List Exchange)
     → new ≡ exchange_of (5 ∷ []) answer result ∷ old → PollsOnce old new
 polls_once answer result old new e = record {
@@ -103,7 +105,7 @@ polls_once answer result old new e = record {
   is = e;
 }
 
--- One more poll was sent.
+-- If only polls were sent, and then one more poll, only polls were sent.
 pub one_more : (old mid new : List Exchange) → OnlyPolls old mid → PollsOnce mid new → OnlyPolls old new
 one_more old mid new was once = record {
   later = once.exchange ∷ was.later;
@@ -111,7 +113,7 @@ one_more old mid new was once = record {
   polls = (once.poll, was.polls);
 }
 
--- A wait that failed after these polls.
+-- If only polls were sent and the wait failed, `WaitsReady` holds.
 pub waits_not : (result : Result Unit Stopped) (old new : List Exchange) → OnlyPolls old new → OnOk result ⊥
     → WaitsReady result old new
 waits_not result old new was fails = record {
@@ -121,7 +123,7 @@ waits_not result old new was fails = record {
   ready = never _ result fails;
 }
 
--- A wait whose last poll showed that the chip is ready.
+-- If only polls were sent, and one more poll showed that the chip is ready, `WaitsReady` holds.
 pub waits_ready : (result : Result Unit Stopped) (old mid new : List Exchange) → OnlyPolls old mid → PollsOnce mid new
     → EndsReady new → WaitsReady result old new
 unfolding one_more
@@ -141,21 +143,21 @@ waits_ready result old mid new was once ends =
       ready = always _ result ready;
     }
 
--- Polls program nothing.
+-- Polls add nothing to the number of bytes programmed.
 count_polls : (polls later : List Exchange) → ArePolls polls → bytes_programmed (polls ++ later) ≡ bytes_programmed later
 count_polls [] later all = refl
 count_polls (poll ∷ polls) later all =
     let rest = count_polls polls later all.1 in
     let len : length poll.out ≡ 1 = ap (λ (xs : List ℕ). length xs) all.0.sends in omega (arith, rest, len)
 
--- Polls after steps of a program are steps of the program.
+-- If polls follow steps of a program, all of these transactions are steps of the program.
 steps_polls : (most address : ℕ) (bytes : List ℕ) (polls later : List Exchange) → ArePolls polls
     → AreProgramSteps most address bytes later → AreProgramSteps most address bytes (polls ++ later)
 steps_polls most address bytes [] later all steps = steps
 steps_polls most address bytes (poll ∷ polls) later all steps =
     (inl all.0, steps_polls most address bytes polls later all.1 steps)
 
--- If polls end with one that showed that the chip is ready, so do these polls after other transactions.
+-- If the last of some polls showed that the chip is ready, the same holds for these polls after other transactions.
 ready_after : (polls later : List Exchange) → EndsReady polls → EndsReady (polls ++ later)
 ready_after polls later ends = record {
   answer = ends.answer;
@@ -165,7 +167,7 @@ ready_after polls later ends = record {
   ready = ends.ready;
 }
 
--- A wait after parts of a program.
+-- If a wait follows parts of a program, `ProgramsInParts` still holds with the same number of bytes.
 pub then_waits : (most address : ℕ) (bytes : List ℕ) (n : ℕ) (result : Result Unit Stopped)
     (old mid new : List Exchange) → ProgramsInParts most address bytes n old mid → WaitsReady result mid new
     → ProgramsInParts most address bytes n old new
@@ -176,7 +178,8 @@ then_waits most address bytes n result old mid new was waits = record {
   count = count_polls waits.later was.later waits.polls ∙ was.count;
 }
 
--- A write enable after parts of a program and a wait.
+-- If a successful wait and a write enable follow parts of a program, `ProgramsInParts` still holds with the same number
+-- of bytes.
 pub then_enables : (most address : ℕ) (bytes : List ℕ) (n : ℕ) (answer : List ℕ) (result : Result Unit Stopped)
     (done : Unit) (old mid waited new : List Exchange) → ProgramsInParts most address bytes n old mid
     → WaitsReady (Ok done) mid waited → new ≡ exchange_of (6 ∷ []) answer result ∷ waited
@@ -199,7 +202,8 @@ then_enables most address bytes n answer result done old mid waited new was wait
       count = omega (arith, after.count, len);
     }
 
--- If a history ends with a write enable, so do its last transactions, if there are any.
+-- If a history ends with a write enable, and `later` are its last transactions, `later` is empty or ends with this
+-- write enable.
 enabled_later : (later old before : List Exchange) → later ++ old ≡ replied (6 ∷ []) [] ∷ before
     → (later ≡ []) ⊎ EndsEnabled later
 enabled_later [] old before e = inl refl
@@ -207,16 +211,17 @@ enabled_later (exchange ∷ later) old before e =
     let first : exchange ≡ replied (6 ∷ []) [] = cc in
     inr (record { before = later; is = ap (λ (x : Exchange). x ∷ later) first })
 
--- A list without elements is empty.
+-- A list of length 0 is empty.
 no_bytes : (bytes : List ℕ) → length bytes ≡ 0 → bytes ≡ []
 no_bytes [] none = refl
 no_bytes (byte ∷ rest) none = absurd (omega (arith, none))
 
--- The length of a part of a list.
+-- If a part lies within `bytes`, its length is `len`.
 part_len : (bytes : List ℕ) (n len : ℕ) → n + len ≤ length bytes → length (part bytes n len) ≡ len
 part_len bytes n len within = length-take-le len (drop n bytes) (omega (arith, within, length-drop n bytes))
 
--- The next part of a program, after a write enable or as the first part.
+-- If `ProgramsInParts` holds for `n` bytes, and the next part of `len` bytes is sent, either as the first transaction
+-- or after a write enable, it holds for `n + len` bytes.
 pub then_programs : (most address : ℕ) (bytes : List ℕ) (n len : ℕ) (piece : List ℕ) (result : Result Unit Stopped)
     (old mid new : List Exchange) (was : ProgramsInParts most address bytes n old mid)
     → (was.later ≡ []) ⊎ EndsEnabled was.later → piece ≡ part bytes n len → 0 < len → 4 + len ≤ most
@@ -251,7 +256,7 @@ then_programs most address bytes n len piece result old mid new was enabled is s
       count = omega (arith, count, long);
     }
 
--- The first part of a program.
+-- `ProgramsInParts` holds after the first part of a program.
 pub programs_first : (most address : ℕ) (bytes : List ℕ) (len : ℕ) (piece : List ℕ) (result : Result Unit Stopped)
     (old new : List Exchange) → piece ≡ part bytes 0 len → 0 < len → 4 + len ≤ most → len ≤ length bytes
     → new ≡ exchange_of (2 ∷ address_bytes address ++ piece) [] result ∷ old
@@ -271,7 +276,8 @@ programs_first most address bytes len piece result old new is some few within e 
     (then_programs most address bytes 0 len piece result old old new start (inl refl) is some few
     (omega (arith, within)) (subst Q from e))
 
--- The next part of a program, after a write enable.
+-- If `ProgramsInParts` holds for `n` bytes, and the next part of `len` bytes is sent after a write enable, it holds for
+-- `n + len` bytes.
 pub programs_next : (most address : ℕ) (bytes : List ℕ) (n len : ℕ) (piece : List ℕ) (result : Result Unit Stopped)
     (answer : List ℕ) (old mid enabled new : List Exchange) → ProgramsInParts most address bytes n old enabled
     → enabled ≡ replied (6 ∷ []) answer ∷ mid → length answer ≡ 0 → piece ≡ part bytes n len → 0 < len → 4 + len ≤ most
@@ -283,7 +289,7 @@ programs_next most address bytes n len piece result answer old mid enabled new w
     then_programs most address bytes n len piece result old enabled new was
     (enabled_later was.later old mid (sym was.is ∙ ends ∙ bare)) is some few within e
 
--- A program that stopped after these parts.
+-- If a program stopped after some of its parts, it ends as `SplitsProgram` requires.
 pub programs_not : (most address : ℕ) (bytes : List ℕ) (n : ℕ) (result : Result Unit Stopped) (old new : List Exchange)
     → ProgramsInParts most address bytes n old new → OnOk result ⊥
     → SplitsProgram most address bytes result old new
@@ -294,7 +300,7 @@ programs_not most address bytes n result old new was fails = record {
   all = never _ result fails;
 }
 
--- A program whose parts have all of its bytes.
+-- If the parts that were sent have all bytes of a program, it ends as `SplitsProgram` requires.
 pub programs_all : (most address : ℕ) (bytes : List ℕ) (n : ℕ) (result : Result Unit Stopped) (old new : List Exchange)
     → ProgramsInParts most address bytes n old new → n ≡ length bytes → SplitsProgram most address bytes result old new
 programs_all most address bytes n result old new was whole = record {

@@ -1,4 +1,4 @@
--- Status registers that were read twice stay so when a history grows.
+-- Lemmas: a status register that was read twice stays so when the history grows.
 use Rattle.std.proofs.Common.{◌≡◌, ◌∙◌, ℕ, Bool, true, false, List, [], ◌∷◌, Option, None, Some, refl, ap, sym, eq-eqb}
 use Rattle.std.specs.Prelude.{◌||◌, ◌&&◌, ◌==◌}
 use Rattle.std.specs.Option.{ForSome}
@@ -20,31 +20,32 @@ read_grown opcode byte more (d ∷ c ∷ b ∷ earlier) read =
     ap (λ (x : Bool). (has_read_id more && has_read opcode byte d && has_read_id c && has_read opcode byte b) || x) read
     ∙ or_true _
 
--- `read_grown` for a byte that may be known.
+-- The lemma `read_grown` for a status byte that is known or not.
 pub still_read : (known : Option ℕ) (opcode : ℕ) (more : Exchange) (old new : List Exchange) → new ≡ more ∷ old
     → ForSome known (λ byte. was_read_twice opcode byte old ≡ true)
     → ForSome known (λ byte. was_read_twice opcode byte new ≡ true)
 still_read known opcode more old new grows read =
     λ byte is. ap (λ (h : List Exchange). was_read_twice opcode byte h) grows ∙ read_grown opcode byte more old (read byte is)
 
--- After two equal replies to a poll with two bytes, and after two equal replies to 35h, the register was read twice, if
--- the ID was read after each of them.
+-- The comparison of a byte with itself is true.
 byte_is : (byte : ℕ) → (byte == byte) ≡ true
 byte_is byte = eq-eqb byte byte refl
 
+-- If `IsReadTwice` holds for a poll whose two reply bytes are `byte`, status 1 was read twice as `byte`.
 pub pair_read : (byte : ℕ) (known : Option (List ℕ)) (old new : List Exchange) → IsReadTwice (pair byte) known old new
     → was_read_twice 5 byte new ≡ true
 pair_read byte None old new twice = absurd (false≢true twice.knows)
 pair_read byte (Some id) old new twice =
     ap (λ (h : List Exchange). was_read_twice 5 byte h) twice.is ∙ rw byte_is refl
 
+-- If `IsReadTwice` holds for a read of status 2 whose reply is `byte`, status 2 was read twice as `byte`.
 pub second_read : (byte : ℕ) (known : Option (List ℕ)) (old new : List Exchange)
     → IsReadTwice (second byte) known old new → was_read_twice 53 byte new ≡ true
 second_read byte None old new twice = absurd (false≢true twice.knows)
 second_read byte (Some id) old new twice =
     ap (λ (h : List Exchange). was_read_twice 53 byte h) twice.is ∙ rw byte_is refl
 
--- The ID that is known after two reads is still known later.
+-- If an ID was known after two reads (`IsReadTwice`), it is still the known ID later.
 pub still_known : (read : Exchange) (known later : Option (List ℕ)) (old new : List Exchange)
     → IsReadTwice read known old new → KeepsId known later → IsReadTwice read later old new
 still_known read known later old new twice keeps =

@@ -1,4 +1,4 @@
--- A link is synchronized over an honest port to an idle programmer.
+-- Lemmas for the synchronization of a link over a well-behaved port to an idle programmer.
 use Rattle.std.proofs.Common.{◌≡◌, ◌≢◌, ◌∙◌, ◌+◌, ◌<◌, ◌≤◌, ◌++◌, ℕ, List, [], ◌∷◌, length, refl, ap, arith}
 use Rattle.std.specs.Prelude.{slice_index, Ok, Err}
 use Rattle.nor_serprog.specs.declared.command.Command.{Command}
@@ -15,8 +15,9 @@ row =
     SyncNop ∷ SyncNop ∷ Nop ∷ SyncNop ∷ Nop ∷ Nop ∷ SyncNop ∷ SyncNop ∷ SyncNop ∷ Nop ∷ Nop ∷ Nop ∷ SyncNop ∷ Nop
     ∷ SyncNop ∷ SyncNop ∷ []
 
--- These bytes are the frames of commands that each programmer has, and these are the replies to them, which a link can
--- search for.
+-- Holds if `bytes` are the frames of `commands`, which each programmer has and which make no settings, and `answers`
+-- are the replies to them. There are at most 260 bytes of frames, and 1 to 25 bytes of replies, the first of which is
+-- not 0.
 pub record IsRow (commands : List Command) (bytes answers : List ℕ) : Type 0 where
   pub frames : bytes ≡ frames_of commands
   pub has : (firmware : Firmware) → HaveReplies firmware commands
@@ -63,7 +64,7 @@ asks_row commands bytes answers old is awaits = record {
   replies = is.has old.device.firmware;
 }
 
--- A row was sent, and the replies to it are pending.
+-- If the frames of a row (`IsRow`) were sent to an idle programmer, exactly the replies to the row are pending.
 pending_row : (commands : List Command) (bytes answers : List ℕ) (old new : PortState)
     → IsRow commands bytes answers → AwaitsCommand old → new.honest ≡ old.honest → IsSent bytes old new
     → IsPending answers new
@@ -80,7 +81,8 @@ pending_row commands bytes answers old new is awaits nature s =
       first = is.first;
     }
 
--- The replies to a row that was sent were received.
+-- If the frames of a row were sent to an idle programmer, and then the replies to it were received with at most `calls`
+-- calls, the programmer is idle again after at most `calls + 1` calls.
 pub row_done : {C : Type 0} (commands : List Command) (bytes answers : List ℕ) (calls : ℕ) (old sent new : PortState)
     → IsRow commands bytes answers → AwaitsCommand old → sent.honest ≡ old.honest → IsSent bytes old sent
     → (IsPending answers sent → AsksUnlessFew {C = C} calls (Ok tt) sent new) → OnlyAsks (calls + 1) old new
@@ -96,7 +98,8 @@ row_done commands bytes answers calls old sent new is awaits nature s skips =
       settings = asks.settings ∙ r.settings ∙ is.keeps old.device.firmware old.device.settings;
     }
 
--- Calls that left the chip as it was, and further ones.
+-- If one call of a link made at most `first` calls of the port, and the next one at most `second`, both together made
+-- at most `first + second` (`OnlyAsks`).
 pub asks_then : (first second : ℕ) (old mid new : PortState) → OnlyAsks first old mid → OnlyAsks second mid new
     → OnlyAsks (first + second) old new
 asks_then first second old mid new asks more = record {
@@ -108,7 +111,7 @@ asks_then first second old mid new asks more = record {
   settings = more.settings ∙ asks.settings;
 }
 
--- The port failed when a row was to be sent.
+-- If the port failed while it sent the frames of a row to an idle programmer, no call was left (`AsksUnlessFew`).
 pub row_cut : {C : Type 0} (commands : List Command) (bytes answers : List ℕ) (calls : ℕ) (failure : Failure C)
     (old new : PortState) → IsRow commands bytes answers → AwaitsCommand old → IsCutOff bytes old new
     → IsPortFailure failure → 0 < calls → AsksUnlessFew calls (Err failure) old new
@@ -125,7 +128,8 @@ row_cut commands bytes answers calls failure old new is awaits cut failed some =
       power = cut.power commands asks;
     }
 
--- The port failed when the replies to a row were to be received.
+-- If the frames of a row were sent and the port failed while the replies to it were received, fewer than `calls + 1`
+-- calls were left at the start.
 pub row_missed : {C : Type 0} (commands : List Command) (bytes answers : List ℕ) (calls : ℕ) (failure : Failure C)
     (old sent new : PortState) → IsRow commands bytes answers → AwaitsCommand old → sent.honest ≡ old.honest
     → IsSent bytes old sent → (IsPending answers sent → AsksUnlessFew calls (Err failure) sent new)
@@ -139,7 +143,8 @@ row_missed commands bytes answers calls failure old sent new is awaits nature s 
       power = power_then old.device sent.device new.device r.chip r.worn missed.power;
     }
 
--- A failure after calls that left the chip as it was.
+-- If a call of a link succeeded and the next one failed because fewer than `second` calls of the port were left, fewer
+-- than `first + second` calls were left at the start.
 pub few_then : {C : Type 0} (first second : ℕ) (failure : Failure C) (old mid new : PortState) → OnlyAsks first old mid
     → AsksUnlessFew second (Err failure) mid new → AsksUnlessFew (first + second) (Err failure) old new
 few_then first second failure old mid new asks few = record {
@@ -148,7 +153,8 @@ few_then first second failure old mid new asks few = record {
   power = power_then old.device mid.device new.device asks.chip asks.worn few.power;
 }
 
--- More calls are too few, too.
+-- If a call failed because fewer than `calls` calls of the port were left, fewer than `more` were left for any `more`
+-- that is at least `calls`.
 pub few_of_more : {C : Type 0} (calls more : ℕ) (failure : Failure C) (old new : PortState) → calls ≤ more
     → AsksUnlessFew calls (Err failure) old new → AsksUnlessFew more (Err failure) old new
 few_of_more calls more failure old new within few = record {

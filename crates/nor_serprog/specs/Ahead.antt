@@ -10,16 +10,16 @@ use Rattle.nor_serprog.specs.declared.ahead.ReadAhead.{ReadAhead}
 abbrev pub ahead_of : {B : Type 0} {over : Ghosts B} → ReadAhead B over → B
 ahead_of ahead = ahead.bus
 
--- The address of the first byte that is held in memory, if any is.
+-- The address of the first byte of the block that the bus holds in memory. It means nothing if the block is empty.
 abbrev pub begin : {B : Type 0} {over : Ghosts B} → ReadAhead B over → ℕ
 begin ahead = ahead.start
 
--- The number of bytes that are held in memory.
+-- The number of bytes of the block that the bus holds in memory.
 abbrev pub held : {B : Type 0} {over : Ghosts B} → ReadAhead B over → ℕ
 held ahead = ahead.len
 
--- The transactions that the bus was asked to carry out, each with its reply, the last one first. A read that was
--- answered from memory is one of them.
+-- The transactions that the bus was asked to carry out, each with its reply, the last one first. Reads whose bytes came
+-- from memory are among them.
 abbrev pub history_of : {B : Type 0} {over : Ghosts B} → ReadAhead B over → List Exchange
 history_of ahead = ahead.history.exchanges
 
@@ -27,6 +27,6 @@ history_of ahead = ahead.history.exchanges
 abbrev pub inside_of : {B : Type 0} {over : Ghosts B} → ReadAhead B over → BusState
 inside_of {over = over} ahead = over.state (ahead_of ahead)
 
--- The state of the bus, computed from its history and from the state of the bus inside (`view_of`).
+-- The state of the bus: its own history, with the state of the bus inside as `view_of` shows it.
 abbrev pub ahead_state : {B : Type 0} {over : Ghosts B} → ReadAhead B over → BusState
 ahead_state ahead = view_of (inside_of ahead) (history_of ahead)

@@ -8,10 +8,10 @@ use Rattle.nor_serprog.specs.declared.port.Port.{Ghosts}
 abbrev pub batch_link : {P C : Type 0} {over : Ghosts P C} → Batch P C over → Link P C
 batch_link batch = batch.link
 
--- The bytes of the frames that wait.
+-- The bytes of the frames that wait to be sent.
 abbrev pub waiting_in : {P C : Type 0} {over : Ghosts P C} → Batch P C over → List ℕ
 waiting_in batch = batch.waiting.items
 
--- The greatest number of bytes that may wait.
+-- The greatest number of bytes that may wait to be sent.
 abbrev pub most_in : {P C : Type 0} {over : Ghosts P C} → Batch P C over → ℕ
 most_in batch = batch.most

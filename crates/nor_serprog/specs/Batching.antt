@@ -1,4 +1,4 @@
--- The bus that sends commands together, as contracts see it.
+-- The bus that sends several commands together, as contracts see it.
 use Rattle.std.specs.Prelude.{ℕ, List, Bool, Option}
 use Rattle.nor_model.specs.Bus.{BusState, unknown_bus}
 use Rattle.nor_model.specs.Exchange.{Exchange}
@@ -26,24 +26,25 @@ waiting_of batching = batching.batch.waiting.items
 abbrev pub history_of : {P C : Type 0} {over : Ghosts P C} → BatchingBus P C over → List Exchange
 history_of batching = batching.history.exchanges
 
--- The transactions that may modify the chip and that were sent, or that the bus was asked to send.
+-- The transactions in the history that may modify the chip, whether they succeeded or not. The last one is first.
 abbrev pub sent_of : {P C : Type 0} {over : Ghosts P C} → BatchingBus P C over → Sent
 sent_of batching = sent_in (history_of batching)
 
--- True if the last poll that received at least one reply byte showed that the chip is ready. False without such a poll.
+-- True if the last poll in the history that received at least one reply byte showed that the chip is ready. False if
+-- there is no such poll.
 abbrev pub polled_ready_of : {P C : Type 0} {over : Ghosts P C} → BatchingBus P C over → Bool
 polled_ready_of batching = polled_ready_in (history_of batching)
 
--- The cause of the last transaction or `flush` that failed, except for transactions that were rejected because an
--- earlier one failed.
+-- The cause of the last transaction or `flush` that failed. Transactions that were rejected because an earlier one
+-- failed don't count.
 abbrev pub cause_of : {P C : Type 0} {over : Ghosts P C} → BatchingBus P C over → Option (Failure C)
 cause_of batching = batching.cause
 
--- True if the programmer is in step. Otherwise a transaction sends nothing.
+-- True if the link is in step. Otherwise a transaction sends nothing.
 abbrev pub is_ready : {P C : Type 0} {over : Ghosts P C} → BatchingBus P C over → Bool
 is_ready batching = is_in_step batching.batch.link
 
--- The state of the bus: only its history is known. A command that waits is already in the history, with an empty reply,
+-- The state of the bus. Only its history is known. A command that waits is already in the history, with an empty reply,
 -- and stays there even if it is dropped.
 abbrev pub serprog_state : {P C : Type 0} {over : Ghosts P C} → BatchingBus P C over → BusState
 serprog_state batching = unknown_bus (history_of batching)

@@ -11,10 +11,10 @@ use Rattle.nor_serprog.specs.declared.port.Port.{Ghosts}
 use Rattle.nor_serprog.specs.Device.{PortState}
 use Rattle.nor_serprog.specs.Link.{is_in_step}
 
--- The state of a bus with this history over a port in this state. Its chip is the programmer's. A transaction takes
--- three calls of the port: one sends the frame, one receives ACK, and one receives the reply. The bus is not steady,
--- since a port can fail inside a transaction, and not unlimited, since a frame sends at most 260 bytes. It takes no
--- allowances.
+-- The state of a bus that has this history over a port in this state. The chip of the bus is the programmer's. A
+-- transaction takes three calls of the port: one sends the frame, one receives ACK, and one receives the reply. The bus
+-- is not steady, since a port can fail inside a transaction, and not unlimited, since a frame sends at most 260 bytes.
+-- The bus has no allowances.
 abbrev pub over_port : PortState → (history : List Exchange) → BusState
 over_port port history = record {
   chip = port.device.chip;
@@ -41,19 +41,21 @@ port_in bus = bus.link.port
 abbrev pub history_of : {P C : Type 0} {over : Ghosts P C} → SerprogBus P C over → List Exchange
 history_of bus = bus.history.exchanges
 
--- The transactions that may modify the chip and that were sent, or that the bus was asked to send.
+-- The transactions in the history that may modify the chip, whether they succeeded or not. The last one is first.
 abbrev pub sent_of : {P C : Type 0} {over : Ghosts P C} → SerprogBus P C over → Sent
 sent_of bus = sent_in (history_of bus)
 
--- True if the last poll that received at least one reply byte showed that the chip is ready. False without such a poll.
+-- True if the last poll in the history that received at least one reply byte showed that the chip is ready. False if
+-- there is no such poll.
 abbrev pub polled_ready_of : {P C : Type 0} {over : Ghosts P C} → SerprogBus P C over → Bool
 polled_ready_of bus = polled_ready_in (history_of bus)
 
--- The cause of the last transaction that failed, except for those that were rejected because an earlier one failed.
+-- The cause of the last transaction that failed. Transactions that were rejected because an earlier one failed don't
+-- count.
 abbrev pub cause_of : {P C : Type 0} {over : Ghosts P C} → SerprogBus P C over → Option (Failure C)
 cause_of bus = bus.cause
 
--- True if the programmer is in step. Otherwise a transaction sends nothing.
+-- True if the link is in step. Otherwise a transaction sends nothing.
 abbrev pub is_ready : {P C : Type 0} {over : Ghosts P C} → SerprogBus P C over → Bool
 is_ready bus = is_in_step bus.link
 

@@ -14,15 +14,15 @@ bus_of checked = checked.bus
 abbrev pub inner_state : {B : Type 0} {over : Ghosts B} → CheckedStatus B over → BusState
 inner_state {over = over} checked = over.state (bus_of checked)
 
--- What is known about the chip: its status registers and its ID.
+-- What the bus knows about the chip: its status registers, its ID, and the modifying commands so far.
 abbrev pub known_of : {B : Type 0} {over : Ghosts B} → CheckedStatus B over → Known
 known_of checked = checked.known
 
--- True if a modifying command was passed on.
+-- True if a modifying command was passed on to the bus inside.
 abbrev pub has_begun : {B : Type 0} {over : Ghosts B} → CheckedStatus B over → Bool
 has_begun checked = checked.known.is_changing
 
--- The bytes of a status write that was passed on and is not yet read back, if there is one.
+-- The bytes of a status write that was passed on and is not read back yet, if there is one.
 abbrev pub written_of : {B : Type 0} {over : Ghosts B} → CheckedStatus B over → Option (List ℕ)
 written_of checked = checked.known.written
 
@@ -30,6 +30,6 @@ written_of checked = checked.known.written
 abbrev pub history_of : {B : Type 0} {over : Ghosts B} → CheckedStatus B over → List Exchange
 history_of checked = checked.history.exchanges
 
--- The state of the bus: only its history is known.
+-- The state of the bus. Only its history is known.
 abbrev pub checked_state : {B : Type 0} {over : Ghosts B} → CheckedStatus B over → BusState
 checked_state checked = unknown_bus (history_of checked)

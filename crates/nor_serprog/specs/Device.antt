@@ -1,5 +1,5 @@
--- A programmer and its chip, and an honest port to the programmer: the effect of whole frames. Firmware.antt has the
--- replies to the commands other than O_SPIOP. (serprog protocol version 1, flashrom's
+-- The states of a programmer with its chip and of a port, and the effects of the calls of a well-behaved port.
+-- Firmware.antt has the replies to the commands other than O_SPIOP. (serprog protocol version 1, flashrom's
 -- Documentation/serprog-protocol.txt: "Command And Answer Sequence", and the note on O_SPIOP.)
 use Rattle.std.specs.Prelude.{◌≡◌, ◌<◌, ◌≤◌, ◌+◌, ◌++◌, ◌⊎◌, ◌||◌, ℕ, Bool, false, List, [], ◌∷◌, None, length, take, slice_index, ⊤}
 use Rattle.nor_model.specs.Chip.{Chip}
@@ -14,19 +14,20 @@ use Rattle.nor_serprog.specs.Firmware.{Firmware, ProgrammerSettings, HaveReplies
 -- The state of a programmer and its chip.
 pub record Device : Type 0 where
   pub chip : Chip
-  -- the sectors that the chip erased
+  -- the sectors that the chip has erased
   pub worn : ℕ → Bool
-  -- what the programmer replies to queries and settings
+  -- the firmware, which determines the replies to queries and settings
   pub firmware : Firmware
-  -- the type of bus that is selected, and the state of the pin drivers; no clause states them after a failure of the
-  -- port, or after bytes whose effect is not specified (`IsSent`)
+  -- the type of bus that is selected, and the state of the pin drivers; no clause says what they are after a failure of
+  -- the port, or after bytes whose effect is not specified (`IsSent`)
   pub settings : ProgrammerSettings
   -- the bytes that the programmer received of a command that is not complete yet
   pub begun : List ℕ
   -- the bytes of replies that the host has not received yet
   pub pending : List ℕ
 
--- No command is begun, and each reply was received.
+-- Holds if the programmer is idle: it has received no part of an incomplete command, and the host has received all
+-- replies.
 pub record IsIdle (device : Device) : Type 0 where
   pub begun : device.begun ≡ []
   pub pending : device.pending ≡ []
@@ -34,27 +35,28 @@ pub record IsIdle (device : Device) : Type 0 where
 -- The state of a port, as contracts see it.
 pub record PortState : Type 0 where
   pub device : Device
-  -- if the port is honest: the greatest number of further calls that will succeed, which no program can read
+  -- if the port is well-behaved: the greatest number of further calls that will succeed, which no program can read
   pub left : ℕ
-  -- the port keeps the contract of an honest port
+  -- true if the port is well-behaved, so that it obeys the contract of `Port`
   pub honest : Bool
 
--- The state of a port, with these settings of the programmer in place of its own.
+-- The state of a port that differs from `port` only in the settings of its programmer, which are `settings`.
 abbrev pub with_settings : ProgrammerSettings → PortState → PortState
 with_settings settings port = record port { device = record port.device { settings = settings } }
 
--- The chip made one step, and the sectors of an erase that it carried out are recorded.
+-- Holds if the chip made one step: it received the bytes `out` and returned the bytes `answer`. If it carried out an
+-- erase, `worn` records the erased sectors.
 pub record StepsOnce (out answer : List ℕ) (old new : Device) : Type 0 where
   pub step : Step old.chip out answer new.chip
   pub worn : (s : ℕ) → new.worn s ≡ (old.worn s || wears (done_of old.chip out (length answer)) s)
 
--- The chip may have lost its power. No sector was erased.
+-- Holds if the chip is as it was, or lost its power. It erased no sector.
 pub record MayLoseDevicePower (old new : Device) : Type 0 where
   pub chip : (new.chip ≡ old.chip) ⊎ PowerLost old.chip new.chip
   pub worn : (s : ℕ) → new.worn s ≡ old.worn s
 
--- A transaction was cut: the programmer sent its first `count` bytes to the chip (none, some or all) and read the bytes
--- `read`. Then the chip lost its power, or did not.
+-- Holds if the transaction `out` was cut. The programmer sent its first `count` bytes to the chip (none, some or all)
+-- and read the bytes `read`. Then the chip lost its power, or did not.
 pub record IsCut (out : List ℕ) (old new : Device) : Type 0 where
   pub count : ℕ
   pub read : List ℕ
@@ -62,8 +64,8 @@ pub record IsCut (out : List ℕ) (old new : Device) : Type 0 where
   pub steps : StepsOnce (take count out) read old reached
   pub then : MayLoseDevicePower reached new
 
--- A whole frame of O_SPIOP is carried out: the chip makes one step, and the reply is ACK and the bytes that the chip
--- returned. The settings are as they were.
+-- Holds if the programmer carried out a whole frame of O_SPIOP: the chip made one step, and the reply is ACK and the
+-- bytes that the chip returned. The settings are as they were.
 pub record OperatesFrame (frame : List ℕ) (old new : Device) : Type 0 where
   pub answer : List ℕ
   pub len : length answer ≡ replies_in frame
@@ -72,19 +74,20 @@ pub record OperatesFrame (frame : List ℕ) (old new : Device) : Type 0 where
   pub pending : new.pending ≡ old.pending ++ 0x06 ∷ answer
   pub settings : new.settings ≡ old.settings
 
--- The bytes complete a frame of O_SPIOP.
+-- Holds if `bytes`, together with the bytes of the incomplete command before them, are one whole frame of O_SPIOP.
 pub record CompletesOperation (bytes : List ℕ) (old : Device) : Type 0 where
   pub whole : IsFrame (old.begun ++ bytes)
   pub opcode : slice_index (old.begun ++ bytes) 0 ≡ 0x13
 
--- No command is begun, the bytes are the frames of these commands one after another, and the reply to each is
--- specified.
+-- Holds if no command is incomplete, `bytes` are the frames of `commands` one after another, and the reply to each of
+-- these commands is specified.
 pub record AsksFor (commands : List Command) (bytes : List ℕ) (old : Device) : Type 0 where
   pub begun : old.begun ≡ []
   pub frames : bytes ≡ frames_of commands
   pub replies : HaveReplies old.firmware commands
 
--- The programmer replied to these commands, and made the settings that it acknowledged. The chip was not selected.
+-- Holds if the programmer replied to each of `commands`, and made the settings that it acknowledged. The chip was not
+-- selected.
 pub record RepliesTo (commands : List Command) (old new : Device) : Type 0 where
   pub pending : new.pending ≡ old.pending ++ replies_of old.firmware commands
   pub begun : new.begun ≡ []
@@ -92,9 +95,9 @@ pub record RepliesTo (commands : List Command) (old new : Device) : Type 0 where
   pub chip : new.chip ≡ old.chip
   pub worn : new.worn ≡ old.worn
 
--- All bytes were sent, with one call. If they complete a frame of O_SPIOP, it is carried out. If no command is begun
--- and they are whole frames of other commands whose replies are specified (`AsksFor`), the programmer replies. The
--- effect of other bytes is not specified here.
+-- Holds if one call sent all of `bytes`. If they complete a frame of O_SPIOP, the programmer carried it out. If no
+-- command was incomplete and they are whole frames of other commands whose replies are specified (`AsksFor`), the
+-- programmer replied to them. The effect of other bytes is not specified here.
 pub record IsSent (bytes : List ℕ) (old new : PortState) : Type 0 where
   pub left : old.left ≡ new.left + 1
   pub firmware : new.device.firmware ≡ old.device.firmware
@@ -102,25 +105,25 @@ pub record IsSent (bytes : List ℕ) (old new : PortState) : Type 0 where
   pub replies : (commands : List Command) → AsksFor commands bytes old.device
       → RepliesTo commands old.device new.device
 
--- This frame of O_SPIOP is within the limits of every honest port: no reply is pending, and the frame sends at most 260
--- bytes (a page program) and requests at most 4,096 (a sector).
+-- Holds if `frame`, a frame of O_SPIOP, is within the limits of every well-behaved port: no reply is pending, and the
+-- frame sends at most 260 bytes (a page program) and requests at most 4,096 bytes (a sector).
 pub record IsWithinLimits (frame : List ℕ) (device : Device) : Type 0 where
   pub none_pending : device.pending ≡ []
   pub sends : length (out_in frame) ≤ 260
   pub reads : replies_in frame ≤ 4096
 
--- These commands are within the limits of every honest port: no reply is pending, and their frames have at most 260
--- bytes, and the replies to them at most 4,096.
+-- Holds if `commands` are within the limits of every well-behaved port: no reply is pending, their frames have at most
+-- 260 bytes in total, and the replies to them at most 4,096.
 pub record AreWithinLimits (commands : List Command) (device : Device) : Type 0 where
   pub none_pending : device.pending ≡ []
   pub sends : length (frames_of commands) ≤ 260
   pub reads : length (replies_of device.firmware commands) ≤ 4096
 
--- The port failed while these bytes were sent, after any number of them, and no further call succeeds. If they would
--- complete a frame of O_SPIOP within the limits, no call was left. If they would complete any frame of O_SPIOP, its
--- transaction was cut (`IsCut`): a programmer may begin it before the frame is complete. If no command is begun and
--- they are whole frames of other commands whose replies are specified (`AsksFor`), the chip was not selected, but may
--- have lost its power; if these frames are within the limits, no call was left.
+-- Holds if the port failed while it sent `bytes`, after any number of them. No further call succeeds. If `bytes` would
+-- complete a frame of O_SPIOP, its transaction was cut (`IsCut`), since a programmer may begin it before the frame is
+-- complete. If this frame is within the limits, the port failed because no call was left. If no command was incomplete
+-- and `bytes` are whole frames of other commands whose replies are specified (`AsksFor`), the chip was not selected,
+-- but may have lost its power. If these commands are within the limits, the port failed because no call was left.
 pub record IsCutOff (bytes : List ℕ) (old new : PortState) : Type 0 where
   pub firmware : new.device.firmware ≡ old.device.firmware
   pub none_left_for_commands : (commands : List Command) → AsksFor commands bytes old.device
@@ -132,7 +135,7 @@ pub record IsCutOff (bytes : List ℕ) (old new : PortState) : Type 0 where
   pub left : new.left ≡ 0
   pub cut : CompletesOperation bytes old.device → IsCut (out_in (old.device.begun ++ bytes)) old.device new.device
 
--- The first pending bytes were received, with one call. Nothing else of the device changed.
+-- Holds if one call received `bytes`, the first pending bytes. Nothing else of the device changed.
 pub record IsReceived (bytes : List ℕ) (old new : PortState) : Type 0 where
   pub left : old.left ≡ new.left + 1
   pub pending : old.device.pending ≡ bytes ++ new.device.pending
@@ -142,15 +145,15 @@ pub record IsReceived (bytes : List ℕ) (old new : PortState) : Type 0 where
   pub firmware : new.device.firmware ≡ old.device.firmware
   pub settings : new.device.settings ≡ old.device.settings
 
--- The port failed while this number of bytes was to be received, and no further call succeeds. If at least this number
--- was pending, no call was left. The chip may have lost its power.
+-- Holds if the port failed while `count` bytes were to be received. No further call succeeds. If at least `count` bytes
+-- were pending, the port failed because no call was left. The chip may have lost its power.
 pub record IsSilent (count : ℕ) (old new : PortState) : Type 0 where
   pub firmware : new.device.firmware ≡ old.device.firmware
   pub none_left : count ≤ length old.device.pending → old.left ≡ 0
   pub left : new.left ≡ 0
   pub power : MayLoseDevicePower old.device new.device
 
--- ACK and these reply bytes were received, with two calls. Nothing else of the device changed.
+-- Holds if two calls received ACK and then the bytes `reply`. Nothing else of the device changed.
 pub record TakesAnswer (reply : List ℕ) (old new : PortState) : Type 0 where
   pub left : old.left ≡ new.left + 2
   pub pending : old.device.pending ≡ 0x06 ∷ (reply ++ new.device.pending)
@@ -160,41 +163,42 @@ pub record TakesAnswer (reply : List ℕ) (old new : PortState) : Type 0 where
   pub firmware : new.device.firmware ≡ old.device.firmware
   pub settings : new.device.settings ≡ old.device.settings
 
--- The pending bytes begin with ACK.
+-- Holds if the pending bytes begin with ACK.
 pub record AnswerBegins (port : PortState) : Type 0 where
   pub some : 0 < length port.device.pending
   pub ack : slice_index port.device.pending 0 ≡ 0x06
 
--- A call failed while ACK and this number of reply bytes were to be received. If all of these were pending, fewer than
--- two calls were left before. Fewer than three are left afterwards, and the chip may have lost its power.
+-- Holds if a call failed while ACK and `count` reply bytes were to be received. If all of these were pending, fewer
+-- than two calls were left before. Fewer than three calls are left afterwards, and the chip may have lost its power.
 pub record MissesAnswer (count : ℕ) (old new : PortState) : Type 0 where
   pub few_left : count < length old.device.pending → old.left < 2
   pub few : new.left < 3
   pub power : MayLoseDevicePower old.device new.device
 
--- A transaction was carried out with three calls, and the reply was received: the chip made one step, and the
--- programmer is idle, with the settings that it had.
+-- Holds if three calls carried out the transaction `out` and received its reply `answer`: the chip made one step, and
+-- the programmer is idle and has the settings that it had before.
 pub record Exchanged (out answer : List ℕ) (old new : PortState) : Type 0 where
   pub left : old.left ≡ new.left + 3
   pub idle : IsIdle new.device
   pub settings : new.device.settings ≡ old.device.settings
   pub steps : StepsOnce out answer old.device new.device
 
--- A transaction that requests this number of reply bytes was cut, and too few calls are left for another one. If it is
--- within the limits of every honest port, and no more bytes were `wanted` than it requests, fewer than three
--- calls were left before it.
+-- Holds if the transaction `out`, which requests `replies` bytes, was cut, and too few calls are left for another
+-- transaction. If the transaction is within the limits of every well-behaved port, and the caller wanted at most
+-- `replies` bytes (`wanted`), fewer than three calls were left before it.
 pub record Interrupted (out : List ℕ) (replies wanted : ℕ) (old new : PortState) : Type 0 where
   pub few_left : length out ≤ 260 → replies ≤ 4096 → wanted ≤ replies → old.left < 3
   pub few : new.left < 3
   pub cut : IsCut out old.device new.device
 
--- The fact `P` holds for the bytes and the number of reply bytes of the command, if the command is O_SPIOP.
+-- Holds if the command is not O_SPIOP, or if `P` holds for the bytes that it sends and the number of bytes that it
+-- reads.
 abbrev pub IfOperates : Command → (List ℕ → ℕ → Type 0) → Type 0
 IfOperates (Operate out replies) P = P out.now replies
 IfOperates _ P = ⊤
 
--- The state of a port about which nothing is known. It is not honest, so nothing is promised about its device, and the
--- device given here is arbitrary.
+-- The state of a port about which nothing is known. The port is not well-behaved, so nothing is promised about its
+-- device, and the device given here is arbitrary.
 abbrev pub unknown_port : PortState
 unknown_port = record {
   device = record {

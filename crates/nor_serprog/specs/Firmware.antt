@@ -6,7 +6,7 @@ use Rattle.nor_serprog.specs.declared.command.Command.{Command}
 use Rattle.nor_serprog.specs.declared.command.Command.TheVariants.{Nop, QueryInterface, QueryCommands, QueryName, QuerySerialBuffer, QueryBuses, QueryLongestWrite, SyncNop, QueryLongestRead, SetBuses, Operate, SetFrequency, SetPins, SelectChip}
 use Rattle.nor_serprog.specs.Frame.{frame_of, three_of, four_of}
 
--- The replies of a programmer to the queries, and the settings that it accepts. Nothing that is sent changes them.
+-- The firmware of a programmer: its replies to the queries, and the settings that it accepts. No command changes them.
 pub record Firmware : Type 0 where
   -- the version of the protocol (Q_IFACE)
   pub version : ℕ
@@ -26,9 +26,10 @@ pub record Firmware : Type 0 where
   pub takes_buses : (flags : ℕ) → Bool
   pub takes_pins : (enabled : Bool) → Bool
   pub takes_select : (number : ℕ) → Bool
-  -- the clock in hertz that the programmer sets if this one is requested, or `None` if it refuses (S_SPI_FREQ)
+  -- the clock in hertz that the programmer sets if a clock of `hertz` is requested, or `None` if it refuses
+  -- (S_SPI_FREQ)
   pub clock : (hertz : ℕ) → Option ℕ
-  -- the size of each of these in the protocol
+  -- each value fits in its field of the protocol
   pub version_fits : version < 65536
   pub commands_len : length commands ≡ 32
   pub name_len : length name ≡ 16
@@ -38,15 +39,15 @@ pub record Firmware : Type 0 where
   pub read_fits : longest_read < 16777216
   pub clock_fits : (hertz : ℕ) → IfSome (clock hertz) (λ set. set < 4294967296)
 
--- True if this map has the command with this opcode: command `n` is bit `n % 8` of byte `n / 8`.
+-- True if the map `commands` has the command `opcode`: command `n` is bit `n % 8` of byte `n / 8`.
 abbrev pub is_in_map : (commands : List ℕ) → (opcode : ℕ) → Bool
 is_in_map commands opcode = slice_index commands (opcode / 8) / 2 ^ (opcode % 8) % 2 == 1
 
--- True if the programmer has the command with this opcode.
+-- True if the programmer has the command `opcode`.
 abbrev pub has_command : Firmware → (opcode : ℕ) → Bool
 has_command firmware opcode = is_in_map firmware.commands opcode
 
--- A 16-bit number as two bytes, the lowest first.
+-- The 16-bit number `n` as two bytes, the lowest first.
 abbrev pub two_of : ℕ → List ℕ
 two_of n = n % 256 ∷ n / 256 % 256 ∷ []
 
@@ -54,11 +55,11 @@ two_of n = n % 256 ∷ n / 256 % 256 ∷ []
 abbrev pub nak : List ℕ
 nak = 0x15 ∷ []
 
--- The reply to a query with this opcode: ACK and these bytes, or NAK if the programmer lacks the query.
+-- The reply to the query `opcode`: ACK and `bytes`, or NAK if the programmer lacks the query.
 abbrev pub queried : Firmware → (opcode : ℕ) → (bytes : List ℕ) → List ℕ
 queried firmware opcode bytes = if has_command firmware opcode then 0x06 ∷ bytes else nak
 
--- The reply to a setting: ACK or NAK.
+-- The reply to a setting: ACK if the programmer accepts it, or NAK.
 abbrev pub taken : Bool → List ℕ
 taken accepts = if accepts then 0x06 ∷ [] else nak
 
@@ -67,8 +68,8 @@ abbrev pub clocked : Option ℕ → List ℕ
 clocked (Some set) = 0x06 ∷ four_of set
 clocked None = nak
 
--- The reply of the programmer to a whole frame of a command. Each programmer has NOP, Q_IFACE, Q_CMDMAP and SYNCNOP.
--- For O_SPIOP the list is empty; `OperatesFrame` in Device.antt has its reply.
+-- The reply of a programmer with this firmware to a whole frame of a command. Each programmer has NOP, Q_IFACE,
+-- Q_CMDMAP and SYNCNOP. For O_SPIOP the list is empty; `OperatesFrame` in Device.antt has its reply.
 abbrev pub reply_of : Firmware → Command → List ℕ
 reply_of firmware Nop = 0x06 ∷ []
 reply_of firmware QueryInterface = 0x06 ∷ two_of firmware.version
@@ -85,8 +86,8 @@ reply_of firmware (SetPins enabled) = taken (firmware.takes_pins enabled)
 reply_of firmware (SelectChip number) = taken (firmware.takes_select number)
 reply_of firmware (Operate out replies) = []
 
--- Holds if `reply_of` specifies the reply to this command: it is not O_SPIOP, and if it has arguments, it is in the
--- map. A programmer that lacks a command takes the argument bytes after the opcode for commands.
+-- Holds if `reply_of` specifies the reply to this command: the command is not O_SPIOP, and if it has arguments, it is
+-- in the map. A programmer that lacks a command treats the argument bytes after the opcode as commands.
 abbrev pub HasReply : Firmware → Command → Type 0
 HasReply firmware (SetBuses flags) = has_command firmware 0x12 ≡ true
 HasReply firmware (SetFrequency hertz) = has_command firmware 0x14 ≡ true
@@ -101,7 +102,7 @@ pub record ProgrammerSettings : Type 0 where
   -- the flags of the last S_BUSTYPE that the programmer acknowledged; `None` if it acknowledged none
   pub bus_type : Option ℕ
   -- true if the last S_PIN_STATE that the programmer acknowledged switched the pin drivers on; false if it switched
-  -- them off, or if no S_PIN_STATE was acknowledged (a programmer that lacks the command may drive its pins always)
+  -- them off, or if none was acknowledged (a programmer that lacks the command may always drive its pins)
   pub pins_on : Bool
 
 -- The settings after a whole frame of a command. Only S_BUSTYPE and S_PIN_STATE change them, and only if the programmer
@@ -113,7 +114,7 @@ settings_after firmware (SetPins enabled) settings =
     if firmware.takes_pins enabled then record settings { pins_on = enabled } else settings
 settings_after firmware _ settings = settings
 
--- The settings after whole frames of these commands, one after another.
+-- The settings after whole frames of all these commands, one after another.
 abbrev pub settings_after_all : Firmware → List Command → ProgrammerSettings → ProgrammerSettings
 settings_after_all firmware [] settings = settings
 settings_after_all firmware (command ∷ rest) settings =
@@ -134,7 +135,7 @@ abbrev pub HaveReplies : Firmware → List Command → Type 0
 HaveReplies firmware [] = ⊤
 HaveReplies firmware (command ∷ rest) = HasReply firmware command × HaveReplies firmware rest
 
--- The firmware of a programmer about which nothing is known. It is arbitrary.
+-- An arbitrary firmware, for a programmer about which nothing is known.
 abbrev pub unknown_firmware : Firmware
 unknown_firmware = record {
   version = 0;

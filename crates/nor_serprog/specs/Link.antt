@@ -9,21 +9,21 @@ use Rattle.nor_serprog.specs.Device.{PortState, IsIdle}
 abbrev pub port_of : {P C : Type 0} → Link P C → P
 port_of link = link.port
 
--- The state of a link: whether the replies can be matched to the frames.
+-- The synchronization of a link, which says whether each reply can be matched to its frame.
 abbrev pub sync_of : {P C : Type 0} → Link P C → Sync
 sync_of link = link.sync
 
--- True if the link is in step: since it was synchronized, each call that sent frames received ACK for each of them, and
--- as many reply bytes as its caller requested.
+-- True if the link is in step. Since it was synchronized, each call that sent frames received an ACK for each of them
+-- and the number of reply bytes that its caller requested.
 abbrev pub is_in_step : {P C : Type 0} → Link P C → Bool
 is_in_step link = elim link.sync [ InStep ↦ true | Lost ↦ false | Cut ↦ false ]
 
--- True if a frame may have been sent in part.
+-- True if a frame may have been sent only in part.
 abbrev pub is_cut : {P C : Type 0} → Link P C → Bool
 is_cut link = elim link.sync [ InStep ↦ false | Lost ↦ false | Cut ↦ true ]
 
--- Over an honest port: if the link is in step, the programmer is idle; otherwise too few calls are left for a
--- transaction.
+-- Over a well-behaved port there are two cases. If the link is in step, the programmer is idle. Otherwise too few calls
+-- are left for a transaction.
 pub record IsSettled {P C : Type 0} (port : P → PortState) (link : Link P C) : Type 0 where
   pub idle : (port link.port).honest ≡ true → is_in_step link ≡ true → IsIdle (port link.port).device
   pub spent : (port link.port).honest ≡ true → is_in_step link ≡ false → (port link.port).left < 3

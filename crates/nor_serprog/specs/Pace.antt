@@ -1,14 +1,15 @@
--- How polls that show BUSY are paced. Durations and pauses are in microseconds.
+-- The pauses between polls that show BUSY. Durations and pauses are in microseconds.
 use Rattle.std.specs.Prelude.{◌+◌, ◌-◌, ◌*◌, ◌/◌, ◌^◌, ◌==◌, ◌||◌, ℕ, zero, suc, true, List, [], ◌∷◌, Option, None, Some, min, max, if◌then◌else◌}
 use Rattle.nor_model.specs.PolledReady.{polled_ready_after}
 
--- The number of BUSY polls in a row after a transaction that sent `out` and read `answer`, at most 2^64 - 1. Only a
--- poll that shows BUSY continues the row.
+-- The number of polls in a row that showed BUSY, after one more transaction that sent `out` and read `answer`. Before
+-- it the number was `before`. Any transaction except a poll that shows BUSY sets the number to 0. It is at most 2^64 -
+-- 1.
 abbrev pub busy_row_after : (out answer : List ℕ) → (before : ℕ) → ℕ
 busy_row_after out answer before = if polled_ready_after out answer true then 0 else min (before + 1) (2 ^ 64 - 1)
 
--- The typical duration of the operation that a transaction begins which sends `out`, by its opcode. An erase of the
--- whole chip counts as an erase of 64 KiB. (W25Q64FV datasheet, AC characteristics.)
+-- The typical duration of the operation that a transaction which sends `out` begins; `None` if it begins none. An erase
+-- of the whole chip counts as an erase of 64 KiB. (W25Q64FV datasheet, AC characteristics.)
 abbrev pub typical_of : (out : List ℕ) → Option ℕ
 typical_of [] = None
 typical_of (opcode ∷ rest) =
@@ -19,7 +20,8 @@ typical_of (opcode ∷ rest) =
     else if opcode == 0xD8 || opcode == 0xC7 then Some 150000
     else None
 
--- The typical duration of the operation that the last command began, after a transaction that sent `out`.
+-- The typical duration of the operation that the last command began, after one more transaction that sent `out`. Before
+-- it the duration was `before`.
 abbrev pub typical_after : (out : List ℕ) → (before : ℕ) → ℕ
 typical_after out before = elim (typical_of out) [ None ↦ before | Some typical ↦ typical ]
 
@@ -27,8 +29,9 @@ typical_after out before = elim (typical_of out) [ None ↦ before | Some typica
 abbrev pub third_pause : (typical : ℕ) → ℕ
 third_pause typical = min 6250 (max 100 (typical / 16))
 
--- The pause before a transaction that follows this many polls in a row which showed BUSY, if the operation typically
--- takes `typical`, and its command was sent `elapsed` ago. The pause of the third poll is doubled after every 16 polls.
+-- The pause before a transaction that follows `busy_polls` polls in a row which showed BUSY. The operation typically
+-- takes `typical`, and its command was sent `elapsed` ago. From the third poll on, the pause doubles after every 16
+-- polls.
 abbrev pub pause_before : (typical elapsed busy_polls : ℕ) → ℕ
 pause_before typical elapsed busy_polls =
     if busy_polls == 0 then 0

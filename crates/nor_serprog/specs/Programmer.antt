@@ -1,4 +1,4 @@
--- The limits of a programmer and what it has, as it reported them when it was identified.
+-- The limits, settings and features that a programmer reported when it was identified.
 use Rattle.std.specs.Prelude.{ℕ, Bool, List, Option}
 use Rattle.nor_serprog.specs.declared.programmer.Programmer.{Programmer}
 
@@ -14,14 +14,14 @@ reads_most programmer = programmer.reported.longest_read
 abbrev pub has_chip_selects : Programmer → Bool
 has_chip_selects programmer = programmer.reported.selects
 
--- The name of the programmer.
+-- The name of the programmer: 16 bytes.
 abbrev pub programmer_name : Programmer → List ℕ
 programmer_name programmer = programmer.reported.name
 
--- The size of the serial buffer.
+-- The size of the serial buffer in bytes, or 0 if the programmer lacks Q_SERBUF.
 abbrev pub buffer_of : Programmer → ℕ
 buffer_of programmer = programmer.reported.serial_buffer
 
--- The clock in hertz that the programmer set, if one was requested.
+-- The clock in hertz that the programmer set; `None` if no clock was requested.
 abbrev pub frequency_of : Programmer → Option ℕ
 frequency_of programmer = programmer.reported.frequency

@@ -1,4 +1,4 @@
--- Transactions that only read, and the state of a bus that replaces them by other reads.
+-- Reads of data, and the state of a bus that replaces them by other reads of the bus inside.
 use Rattle.std.specs.Prelude.{◌≡◌, ◌<◌, ◌≤◌, ◌==◌, ◌+◌, ◌-◌, ◌*◌, ℕ, Bool, true, false, List, [], ◌∷◌, length, take, drop}
 use Rattle.nor_model.specs.Bus.{BusState, unknown_bus}
 use Rattle.nor_model.specs.Exchange.{Exchange}
@@ -9,38 +9,39 @@ abbrev pub reads_data : (out : List ℕ) → Bool
 reads_data (opcode ∷ x ∷ y ∷ z ∷ []) = opcode == 0x03
 reads_data _ = false
 
--- The address after the opcode of a transaction that sends `out`, high byte first; 0 if it has no whole address.
+-- The address in the bytes `out`: the three bytes after the opcode, high byte first. 0 if `out` has no whole address.
 abbrev pub address_in : (out : List ℕ) → ℕ
 address_in (opcode ∷ x ∷ y ∷ z ∷ rest) = 65536 * x + 256 * y + z
 address_in _ = 0
 
--- The `n` bytes of `bytes` that follow the first `at`, or all that follow these, if there are fewer than `n`.
+-- The `n` bytes of `bytes` that follow the first `at` ones. If fewer than `n` bytes follow, all of those.
 abbrev pub part : (bytes : List ℕ) → (at n : ℕ) → List ℕ
 part bytes at n = take n (drop at bytes)
 
--- The state of a bus that has this history and replaces reads of data by other reads of the bus inside. What was sent
--- and the result of the last poll are those of the bus inside. Nothing else is known.
+-- The state of a bus that has its own history and replaces reads of data by other reads of the bus inside. The
+-- modifying commands that were sent and the result of the last poll are those of the bus inside. Nothing else is known.
 abbrev pub view_of : (inside : BusState) → (history : List Exchange) → BusState
 view_of inside history = record (unknown_bus history) { sent = inside.sent; polled_ready = inside.polled_ready }
 
--- No transaction that may modify the chip was recorded, and the result of the last poll is as it was.
+-- Holds if no transaction that may modify the chip was recorded, and the result of the last poll is as it was.
 pub record KeepsRecord (old new : BusState) : Type 0 where
   pub sent : new.sent ≡ old.sent
   pub polled_ready : new.polled_ready ≡ old.polled_ready
 
--- The bytes that the last transaction of a history sent; no bytes if there is none.
+-- The bytes that the last transaction of a history sent. The list is empty if the history has no transaction.
 abbrev pub last_out : List Exchange → List ℕ
 last_out [] = []
 last_out (exchange ∷ earlier) = exchange.out
 
--- The last transaction of the history is a read of data from the address `start` on, which succeeded with this reply.
+-- Holds if the last transaction of the history is a read of data from the address `start` on, which succeeded with the
+-- reply `answer`.
 pub record EndsWithRead (start : ℕ) (answer : List ℕ) (history : List Exchange) : Type 0 where
   pub reads : reads_data (last_out history) ≡ true
   pub address : address_in (last_out history) ≡ start
   pub is : history ≡ replied (last_out history) answer ∷ drop 1 history
 
--- The last transaction of the history is a read of data that succeeded, and `bytes` is the part of its reply that
--- begins with the byte of the address `at`.
+-- Holds if the last transaction of the history is a read of data that succeeded, and `bytes` are the bytes of its reply
+-- from the address `at` on.
 pub record EndsWithData (at : ℕ) (bytes : List ℕ) (history : List Exchange) : Type 0 where
   pub start : ℕ
   pub answer : List ℕ
@@ -48,7 +49,7 @@ pub record EndsWithData (at : ℕ) (bytes : List ℕ) (history : List Exchange) 
   pub begins : start ≤ at
   pub same : bytes ≡ part answer (at - start) (length bytes)
 
--- If `len` isn't 0, the first `len` bytes of a block are the whole reply to the last transaction of the history, a read
--- of data from the address `start` on that succeeded.
+-- Holds if `len` is 0, or if the first `len` bytes of `block` are the whole reply to the last transaction of the
+-- history. This transaction is a read of data from the address `start` on that succeeded.
 pub record HoldsReply (block : List ℕ) (start len : ℕ) (history : List Exchange) : Type 0 where
   pub reply : 0 < len → EndsWithRead start (take len block) history

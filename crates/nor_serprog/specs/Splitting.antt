@@ -1,4 +1,4 @@
--- A bus that splits transactions to the limits of a programmer, as contracts see it.
+-- A bus that splits transactions that exceed the limits of a programmer, as contracts see it.
 use Rattle.std.specs.Prelude.{ℕ, List}
 use Rattle.nor_model.specs.Bus.{BusState, unknown_bus}
 use Rattle.nor_model.specs.Exchange.{Exchange}
@@ -8,7 +8,8 @@ use Rattle.nor_serprog.specs.declared.splitting.SplittingBus.{SplittingBus}
 abbrev pub split_of : {B : Type 0} → SplittingBus B → B
 split_of splitting = splitting.bus
 
--- The greatest numbers of bytes that a transaction over the bus inside sends, and reads.
+-- The greatest number of bytes that a transaction over the bus inside sends (`sends_most`), and that it reads
+-- (`receives_most`).
 abbrev pub sends_most : {B : Type 0} → SplittingBus B → ℕ
 sends_most splitting = splitting.longest_write
 
@@ -16,10 +17,10 @@ abbrev pub receives_most : {B : Type 0} → SplittingBus B → ℕ
 receives_most splitting = splitting.longest_read
 
 -- The transactions that the bus was asked to carry out, each with its reply, the last one first. A transaction that was
--- split is in the history once.
+-- split is listed once.
 abbrev pub history_of : {B : Type 0} → SplittingBus B → List Exchange
 history_of splitting = splitting.history.exchanges
 
--- The state of the bus: only its history is known.
+-- The state of the bus. Only its history is known.
 abbrev pub splitting_state : {B : Type 0} → SplittingBus B → BusState
 splitting_state splitting = unknown_bus (history_of splitting)

@@ -1,17 +1,18 @@
--- Replies after which the ID was read, status registers that were read twice, and status writes that fit what was read.
+-- Replies after which the ID was read, status registers that were read twice, and status writes that keep the bits that
+-- were read.
 use Rattle.std.specs.Prelude.{◌≡◌, ◌/◌, ◌%◌, ◌&&◌, ◌||◌, ◌==◌, ℕ, Bool, true, false, List, [], ◌∷◌, Option, None, Some, slice_index}
 use Rattle.nor_model.specs.Exchange.{Exchange}
 use Rattle.nor_model.specs.History.{begins_with, bytes_or_none, replied}
 
--- A poll whose two reply bytes are this byte.
+-- A poll whose two reply bytes are both `status`.
 abbrev pub pair : (status : ℕ) → Exchange
 pair status = replied (0x05 ∷ []) (status ∷ status ∷ [])
 
--- A read of status 2 whose reply is this byte.
+-- A read of status 2 (35h) whose reply is the byte `status`.
 abbrev pub second : (status : ℕ) → Exchange
 second status = replied (0x35 ∷ []) (status ∷ [])
 
--- A read of the ID whose reply is these bytes.
+-- A read of the ID (9Fh) whose reply is `id`.
 abbrev pub read_id : (id : List ℕ) → Exchange
 read_id id = replied (0x9F ∷ []) id
 
@@ -20,49 +21,50 @@ abbrev pub begins_confirmed : (out : List ℕ) → Bool
 begins_confirmed [] = false
 begins_confirmed (opcode ∷ rest) = opcode == 0x03 || opcode == 0x5A || opcode == 0x4B
 
--- True if an ID is known.
+-- True if an ID is known, so the option isn't `None`.
 abbrev pub is_known : Option (List ℕ) → Bool
 is_known None = false
 is_known (Some id) = true
 
--- The history after the ID was read, and the reply was the known ID.
+-- The history after one more read of the ID, whose reply is the known ID. If no ID is known, the history as it was.
 abbrev pub confirmed : (known : Option (List ℕ)) → List Exchange → List Exchange
 confirmed None history = history
 confirmed (Some id) history = read_id id ∷ history
 
--- An ID that was known is still the known one.
+-- Holds if the known ID did not change. If no ID was known before, `new` may be any ID.
 pub record KeepsId (old new : Option (List ℕ)) : Type 0 where
   pub same : is_known old ≡ true → new ≡ old
 
--- Since `old` the bus inside made the transaction `read`, and then read the ID. The reply was the ID that is known
--- afterwards.
+-- Holds if since `old` the bus inside made the transaction `read`, and then a read of the ID. The reply to the latter
+-- is `known`, the ID that is known afterwards.
 pub record IsConfirmed (read : Exchange) (known : Option (List ℕ)) (old new : List Exchange) : Type 0 where
   pub knows : is_known known ≡ true
   pub is : new ≡ confirmed known (read ∷ old)
 
--- Since `old` the bus inside made the transaction `read` twice, with the same reply, and each time read the ID after it.
--- Both replies to that were the ID that is known afterwards.
+-- Holds if since `old` the bus inside made the transaction `read` twice, with the same reply, and read the ID after
+-- each of the two. Both IDs are `known`, the ID that is known afterwards.
 pub record IsReadTwice (read : Exchange) (known : Option (List ℕ)) (old new : List Exchange) : Type 0 where
   pub knows : is_known known ≡ true
   pub is : new ≡ confirmed known (read ∷ confirmed known (read ∷ old))
 
--- After a status write of the bytes `sent`, and after status 1 was read as `one`, status 2 was read twice with the same
--- reply (`IsReadTwice`). All non-volatile bits are those that were sent: in status 1 all except BUSY and WEL, in status 2
--- all except SUS.
+-- Holds if after a status write of the bytes `sent`, and after status 1 was read as `one`, status 2 was read twice with
+-- the same reply (`IsReadTwice`). All non-volatile bits are those that were sent: all of status 1 except BUSY and WEL,
+-- and all of status 2 except SUS.
 pub record HasStored (sent : List ℕ) (one : ℕ) (known : Option (List ℕ)) (old new : List Exchange) : Type 0 where
   pub two : ℕ
   pub twice : IsReadTwice (second two) known old new
   pub first : one / 4 ≡ slice_index sent 0 / 4
   pub last : two % 128 ≡ slice_index sent 1 % 128
 
--- Status 1 was read twice as `status` (`IsReadTwice`), and then the status that was sent was read back (`HasStored`).
+-- Holds if status 1 was read twice as `status` (`IsReadTwice`), and then status 2 was read and both agree with the
+-- bytes `sent` of the status write (`HasStored`).
 pub record AgreesWithSent (sent : List ℕ) (status : ℕ) (known : Option (List ℕ)) (old new : List Exchange)
     : Type 0 where
   pub between : List Exchange
   pub twice : IsReadTwice (pair status) known old between
   pub stored : HasStored sent status known between new
 
--- True if the transaction begins with this opcode, and its reply begins with this byte.
+-- True if the transaction begins with the byte `opcode`, and its reply begins with the byte `byte`.
 abbrev pub has_read : (opcode byte : ℕ) → Exchange → Bool
 has_read opcode byte exchange = begins_with opcode exchange.out && begins_with byte (bytes_or_none exchange.reply)
 
@@ -70,8 +72,8 @@ has_read opcode byte exchange = begins_with opcode exchange.out && begins_with b
 abbrev pub has_read_id : Exchange → Bool
 has_read_id exchange = begins_with 0x9F exchange.out
 
--- True if somewhere in the history four transactions followed each other: one that began with this opcode and whose reply
--- began with this byte, a read of the ID, and the same two again.
+-- True if the history has four transactions in a row, of which the first and third begin with `opcode` and have replies
+-- that begin with `byte`, and the second and fourth are reads of the ID.
 abbrev pub was_read_twice : (opcode byte : ℕ) → List Exchange → Bool
 was_read_twice opcode byte [] = false
 was_read_twice opcode byte (d ∷ []) = false
@@ -81,14 +83,14 @@ was_read_twice opcode byte (d ∷ c ∷ b ∷ a ∷ earlier) =
     (has_read_id d && has_read opcode byte c && has_read_id b && has_read opcode byte a)
     || was_read_twice opcode byte (c ∷ b ∷ a ∷ earlier)
 
--- A transaction that sends `out` is a status write, and outside the protection bits it has the bits of status registers
--- that were read twice with equal replies, each before the ID (`was_read_twice`).
+-- Holds if a transaction that sends `out` is a status write that keeps the bits outside the protection bits. Both
+-- status registers were read twice with equal replies before, and the ID was read after each read (`was_read_twice`).
 pub record IsStatusKept (out : List ℕ) (history : List Exchange) : Type 0 where
-  -- the bytes that the status write sends
+  -- the two bytes that the status write sends
   pub one : ℕ
   pub two : ℕ
   pub is : out ≡ 0x01 ∷ one ∷ two ∷ []
-  -- the status registers that were read
+  -- the values of the status registers, as they were read
   pub one_read : ℕ
   pub two_read : ℕ
   pub first : was_read_twice 0x05 one_read history ≡ true
@@ -99,6 +101,6 @@ pub record IsStatusKept (out : List ℕ) (history : List Exchange) : Type 0 wher
   pub locks : two / 8 % 8 ≡ two_read / 8 % 8
   -- SRP1, QE and the reserved bit (bits 0 to 2 of status 2) are as they were read
   pub low : two % 8 ≡ two_read % 8
-  -- BUSY and WEL are clear, and so is SUS
+  -- BUSY and WEL (bits 0 and 1 of status 1) are clear, and so is SUS (bit 7 of status 2)
   pub idle : one % 4 ≡ 0
   pub awake : two / 128 ≡ 0

@@ -1,4 +1,4 @@
-//! Reads a reply again: the whole reply, or the sectors of it that differ from an image.
+//! Repeats a read and compares the replies: the whole read, or only the sectors whose bytes differ from an image.
 ghost use Rattle.std.specs.Prelude.{◌≡◌, ◌≢◌, ◌<◌, ◌≤◌, ◌+◌, ◌/◌, ◌∷◌, true, false, ℕ, length, OnErr, IfOk};
 ghost use Rattle.nor_model.specs.Bus.{IsHonestFor, SameNature, Carries};
 ghost use Rattle.nor_model.specs.History.{replied};
@@ -12,16 +12,16 @@ use nor_model::{Bus, Stopped};
 
 const READ_DATA: u8 = 0x03;
 
-// Neighbouring sectors of a reply that all equal the image, or that all differ from it.
+// A run of neighbouring sectors of a reply that all equal the image, or that all differ from it.
 #[derive(Clone, Copy)]
 struct Run {
-    // The index of the first byte after them.
+    // The index in the reply of the first byte after the run.
     end: usize,
     is_expected: bool,
 }
 
-// Carries out the read `out` again, whose reply was `reply`. Returns whether the reply is the same. `again` is
-// overwritten.
+// Repeats the read `out`, whose first reply was `reply`. Returns whether the second reply is the same. Overwrites
+// `again` with the second reply.
 pub(crate) fn is_repeated<B: Bus>(
     bus: &mut B,
     out: &[u8],
@@ -45,8 +45,9 @@ pub(crate) fn is_repeated<B: Bus>(
     Ok(are_same(reply, second))
 }
 
-// Reads those sectors of `reply` again that differ from the image. `reply` was read from `address` on. Returns whether
-// all replies are the same. Neighbouring sectors are read with one transaction. `again` is overwritten.
+// Compares `reply`, which was read from `address` on, with the image, and reads each sector that differs again. Returns
+// whether each second reply is the same as the first. Neighbouring sectors are read with one transaction. Overwrites
+// `again` with the second replies.
 pub(crate) fn is_repeated_or_expected<B: Bus>(
     bus: &mut B,
     image: &[u8],
@@ -79,7 +80,7 @@ pub(crate) fn is_repeated_or_expected<B: Bus>(
     Ok(true)
 }
 
-// Returns the longest run of sectors that begins with the byte with the index `from` of a reply.
+// Returns the longest run of sectors of a reply that begins at the index `from`. The reply was read from `address` on.
 fn run_from(image: &[u8], address: u32, reply: &[u8], from: usize) -> Run
     requires fits { address + length reply.now ≤ 16777216 }
     requires some { from < length reply.now }
@@ -102,8 +103,8 @@ fn run_from(image: &[u8], address: u32, reply: &[u8], from: usize) -> Run
     Run { end, is_expected }
 }
 
-// Returns the index of the first byte after the sector of the byte with the index `from`, or `len` if the reply ends
-// before.
+// Returns the index of the first byte after the sector that contains the byte with the index `from`. The reply has
+// `len` bytes and was read from `address` on. Returns `len` if the reply ends inside this sector.
 fn sector_end(address: u32, from: usize, len: usize) -> usize
     requires fits { address + len ≤ 16777216 }
     requires some { from < len }
@@ -115,7 +116,7 @@ fn sector_end(address: u32, from: usize, len: usize) -> usize
     len.min(from + left)
 }
 
-// Returns whether the bytes with the indices from `from` up to `to`, but not `to`, of a reply equal the image.
+// Returns whether the bytes of the reply with the indices `from` to `to - 1` equal the image at their addresses.
 fn is_at(image: &[u8], address: u32, reply: &[u8], from: usize, to: usize) -> bool
     requires some { from < to }
     requires within { to ≤ length reply.now }
@@ -130,7 +131,7 @@ fn is_at(image: &[u8], address: u32, reply: &[u8], from: usize, to: usize) -> bo
     }
 }
 
-// Returns the bytes that a read of data from this address on sends.
+// Returns the bytes that a read of data (03h) from this address on sends.
 fn data_read(address: u32) -> [u8; 4]
     requires { address ≤ 16777215 }
     ensures { result ≡ data_read address }

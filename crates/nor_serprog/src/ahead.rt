@@ -9,29 +9,31 @@ ghost use Rattle.nor_serprog.specs.ReadsAs.{HoldsReply, EndsWithRead, EndsWithDa
 use nor_geometry::SECTOR_LEN;
 use nor_model::{Bus, History, Stopped};
 
-// The greatest length of a block. The size of a chip is a power of two from 64 KiB, and so a multiple of this length.
-// Therefore a block that lies between two multiples of this length does not reach past the end of a chip.
+// The greatest length of a block. The size of a chip is a power of two and at least 64 KiB, so it is a multiple of this
+// length. Therefore a block that lies between two multiples of this length does not reach past the end of a chip.
 const LONGEST_BLOCK: u32 = 1 << 16;
 
 const READ_DATA: u8 = 0x03;
 
-/// A bus that reads data (03h) ahead, if reads follow each other. Reads inside the last block are answered from memory.
-/// A read that begins where the last block ended doubles the length of a block, up to 64 KiB; any other read sets it to
-/// its own length. A block is longer if the read needs more bytes, and shorter if it would pass a multiple of 64 KiB.
+/// A bus that reads data (03h) ahead, if reads follow each other. It returns the bytes of a read inside the last block
+/// from memory. A read that begins where the last block ended doubles the length of a block, up to 64 KiB; any other
+/// read sets it to its own length. A block is longer if the read needs more bytes, and shorter if it would pass a
+/// multiple of 64 KiB.
 ///
-/// The block is forgotten at each transaction that is passed on as it is, and if the bus inside stops. A block ends at
-/// a multiple of 64 KiB at the latest, so it never reaches past the end of a chip. It is never longer than the bus
-/// inside can read, and `end_blocks_at` ends it earlier. A transaction is passed on as it is if it is no read of data,
+/// The bus forgets the block at each transaction that it passes on unchanged, and if the bus inside stops. A block ends
+/// at a multiple of 64 KiB at the latest, so it never reaches past the end of a chip. It is never longer than the bus
+/// inside can read, and `end_blocks_at` ends it earlier. A transaction is passed on unchanged if it is no read of data,
 /// reads more than the longest block, or reaches past a multiple of 64 KiB.
 ///
 /// If a read of data of at least one byte returns `Ok`, the last transaction over the bus inside is a read of data, and
 /// the bytes returned are those that its reply has for the same addresses.
 ///
-/// A read over this bus may be no transaction over the bus inside, or a longer one, so this bus is not honest as `Bus`
-/// defines it, even if the bus inside is. Nobody else may modify the chip meanwhile.
+/// A read over this bus may be no transaction over the bus inside, or a longer one, so this bus is not well-behaved as
+/// `Bus` defines it, even if the bus inside is. Nobody else may modify the chip meanwhile.
 ///
-/// The history has each transaction over this bus with its reply, even a read that was answered from memory; one that
-/// failed has none. In contracts, what was sent and the result of the last poll are those of the bus inside.
+/// The history lists each transaction over this bus with its reply, even a read whose bytes came from memory; a
+/// transaction that failed is listed without a reply. In contracts, the modifying commands that were sent and the
+/// result of the last poll are those of the bus inside.
 #[derive(Drop)]
 pub struct ReadAhead<B: Bus + Drop> {
     bus: B,
@@ -56,8 +58,8 @@ pub struct ReadAhead<B: Bus + Drop> {
 impl<B: Bus + Drop> ReadAhead<B> {
     ghost use Rattle.nor_serprog.specs.Ahead.{ahead_of, held, history_of};
 
-    /// Returns a bus that reads ahead over `bus`, which can read `longest_read` bytes in a transaction. If that is less
-    /// than 4,096, nothing is read ahead.
+    /// Returns a bus that reads ahead over `bus`. A transaction over `bus` can read `longest_read` bytes. If that is
+    /// less than 4,096, nothing is read ahead.
     pub fn new(bus: B, longest_read: u32) -> ReadAhead<B>
         ensures bus { ahead_of result ≡ bus }
         ensures empty { held result ≡ 0 }
@@ -76,8 +78,8 @@ impl<B: Bus + Drop> ReadAhead<B> {
         }
     }
 
-    /// Ends each further block at this address at the latest, unless the read itself needs more bytes. `u32::MAX` lifts
-    /// this limit.
+    /// Sets the address at which each further block ends at the latest, unless the read itself needs more bytes.
+    /// `u32::MAX` removes this limit.
     pub fn end_blocks_at(&mut self, address: u32)
         ensures bus { ahead_of self.new ≡ ahead_of self.old }
         ensures history { history_of self.new ≡ history_of self.old }
@@ -96,8 +98,8 @@ impl<B: Bus + Drop> ReadAhead<B> {
 impl<B: Bus + Drop> ReadAhead<B> {
     ghost use Rattle.nor_serprog.specs.Ahead.{begin, held, history_of, inside_of, ahead_state};
 
-    // Makes one transaction, and does not add it to the history. The clause `records` is about the state after the
-    // caller has added it.
+    // Makes one transaction, and does not add it to the history. The clause `records` describes the state after the
+    // caller has added the transaction.
     fn carry(&mut self, out: &[u8], reply: &mut [u8]) -> Result<(), Stopped>
         ensures records { Records out.now reply.new result (ahead_state self.old)
             (view_of (inside_of self.new) (exchange_of out.now reply.new result ∷ history_of self.old)) }
@@ -117,7 +119,7 @@ impl<B: Bus + Drop> ReadAhead<B> {
         }
     }
 
-    // Reads `reply` out of the block, which is read first if it does not hold all of these bytes.
+    // Fills `reply` with bytes of the block, and reads a new block before that if the block does not hold all of them.
     fn read(&mut self, address: u32, reply: &mut [u8]) -> Result<(), Stopped>
         requires address { address ≤ 16777215 }
         requires len { length reply.old ≤ 65536 }
@@ -132,7 +134,8 @@ impl<B: Bus + Drop> ReadAhead<B> {
         Ok(())
     }
 
-    // Reads a block that begins with the `len` bytes from `address` on, unless the block holds all of these.
+    // Makes the block hold the `len` bytes from `address` on. If it does not hold them already, reads a new block that
+    // begins at `address`.
     fn hold(&mut self, address: u32, len: u32) -> Result<(), Stopped>
         requires address { address ≤ 16777215 }
         requires len { len ≤ 65536 }
@@ -207,7 +210,7 @@ impl<B: Bus + Drop> Bus for ReadAhead<B> {
     }
 }
 
-// Reads `len` bytes of the chip into the beginning of `block`, with one transaction.
+// Reads `len` bytes of the chip from `address` on into the first bytes of `block`, with one transaction.
 fn read_block<B: Bus>(bus: &mut B, address: u32, len: u32, block: &mut [u8]) -> Result<(), Stopped>
     requires address { address ≤ 16777215 }
     requires len { len ≤ length block.old }
@@ -219,7 +222,7 @@ fn read_block<B: Bus>(bus: &mut B, address: u32, len: u32, block: &mut [u8]) -> 
     bus.transfer(&out, &mut block[..len as usize])
 }
 
-// Returns the address of a transaction that reads data, or `None` for any other.
+// Returns the address of a read of data (03h and three address bytes), or `None` for any other transaction.
 pub(crate) fn data_address(out: &[u8]) -> Option<u32>
     ensures reads { IfSome result (λ address. reads_data out.now ≡ true) }
     ensures fits { IfSome result (λ address. address ≤ 16777215) }
@@ -231,8 +234,8 @@ pub(crate) fn data_address(out: &[u8]) -> Option<u32>
     }
 }
 
-// Returns whether `len` bytes from `address` on fit into a block of at most `longest` bytes that ends at a multiple of
-// 64 KiB at the latest.
+// Returns whether `len` bytes from `address` on fit into a block. A block has at most `longest` bytes, and ends at the
+// next multiple of 64 KiB at the latest.
 fn is_in_block(address: u32, len: usize, longest: u32) -> bool
     requires { longest ≤ 65536 }
     ensures { result ≡ true → len ≤ 65536 }

@@ -1,4 +1,4 @@
-//! Frames that wait to be sent over a link, so that several of them need one round trip.
+//! Frames that wait to be sent over a link. Several of them are sent together, which saves round trips.
 ghost use Rattle.std.specs.Prelude.{◌≡◌, ◌<◌, ◌≤◌, ◌⊎◌, ◌+◌, ◌++◌, [], true, false, length, OnOk, OnErr};
 ghost use Rattle.nor_model.specs.Command.{begins_change};
 ghost use Rattle.nor_serprog.specs.Link.{is_in_step};
@@ -7,13 +7,14 @@ use crate::{AnyProgrammer, Command, Failure, Frame, Link, Port, Sync};
 use arrayvec::ArrayVec;
 use nor_model::is_changing;
 
-// Write enable, a full page program and a poll have 283 bytes together.
+// The greatest number of bytes in a batch. A write enable, a full page program and a poll have 283 bytes together.
 const LONGEST_BATCH: usize = 512;
 
-/// A link, and the frames that wait to be sent over it. All of them are O_SPIOP that request no reply bytes.
+/// A link, and the frames that wait to be sent over it. Each of these frames is an O_SPIOP that requests no reply
+/// bytes.
 ///
-/// The frames of a batch are sent in one write to the port, and fit into the programmer's serial buffer together. A
-/// frame that does not fit into the buffer by itself is sent alone.
+/// The frames of a batch are sent in one write to the port, and together fit into the programmer's serial buffer. A
+/// frame that does not fit into the buffer by itself is sent at once, alone.
 #[derive(Drop)]
 pub(crate) struct Batch<P: Port + Drop> {
     link: Link<P>,
@@ -49,15 +50,16 @@ impl<P: Port + Drop> Batch<P> {
         &self.link
     }
 
-    /// Makes one transaction. A modifying command without a reply waits for the next one instead, if its frame fits
-    /// into the serial buffer.
+    /// Makes one transaction. A modifying command that requests no reply bytes waits for the next transaction instead,
+    /// if its frame fits into the serial buffer.
     ///
-    /// Frames that wait are sent before a transaction that is sent, in the same write if all of them fit into the
-    /// buffer and have at most 512 bytes. They are also sent if one more frame that is to wait would exceed a limit.
+    /// If the transaction is sent, the frames that wait are sent before it. Both are sent in the same write if they fit
+    /// into the buffer together and have at most 512 bytes. The frames that wait are also sent if one more frame that
+    /// is to wait would exceed a limit.
     ///
     /// Returns `OutOfStep` or `CutFrame` if the link was out of step. Otherwise returns `TooLong` if the transaction
-    /// does not fit into one frame, or reads more than the programmer can; nothing was sent then, and what waited still
-    /// waits. After any other error nothing waits.
+    /// does not fit into one frame, or reads more than the programmer can; then nothing was sent, and the waiting
+    /// frames still wait. After any other error no frame waits.
     pub(crate) fn transact(&mut self, out: &[u8], reply: &mut [u8]) -> Result<(), Failure<P::Cause>>
         ensures silent { is_in_step (batch_link self.old) ≡ false → self.new ≡ self.old }
         ensures was_in_step { OnOk result (is_in_step (batch_link self.old) ≡ true) }
@@ -82,7 +84,7 @@ impl<P: Port + Drop> Batch<P> {
         self.send(reply)
     }
 
-    /// Sends the frames that wait, and reads their acknowledgements. Nothing waits afterwards, even after an error.
+    /// Sends the frames that wait, and reads their ACKs. No frame waits afterwards, even after an error.
     pub(crate) fn flush(&mut self) -> Result<(), Failure<P::Cause>>
         ensures most { most_in self.new ≡ most_in self.old }
         ensures silent { is_in_step (batch_link self.old) ≡ false → batch_link self.new ≡ batch_link self.old }
@@ -96,8 +98,8 @@ impl<P: Port + Drop> Batch<P> {
         self.send(&mut [])
     }
 
-    /// Synchronizes the programmer, as `Link::synchronize` does. Nothing waits afterwards, and nothing that waited is
-    /// sent.
+    /// Synchronizes the programmer, as `Link::synchronize` does. The frames that waited are dropped, so no frame waits
+    /// afterwards.
     pub(crate) fn synchronize(&mut self) -> Result<(), Failure<P::Cause>>
         ensures ok { OnOk result (is_in_step (batch_link self.new) ≡ true) }
         ensures err { OnErr result (is_in_step (batch_link self.new) ≡ false) }
@@ -108,8 +110,8 @@ impl<P: Port + Drop> Batch<P> {
         self.link.synchronize()
     }
 
-    // Sends the frames that wait, if they and a frame of the given length have more than `most` bytes together: more
-    // than fit into the serial buffer, or more than 512.
+    // Makes room for a frame of `len` bytes: sends the frames that wait if the batch would exceed `most` bytes with
+    // this frame. `most` is the size of the serial buffer, or 512 if that is less.
     fn make_room(&mut self, len: usize) -> Result<(), Failure<P::Cause>>
         requires in_step { is_in_step (batch_link self.old) ≡ true }
         requires len { len ≤ 267 }
@@ -125,7 +127,7 @@ impl<P: Port + Drop> Batch<P> {
         self.flush()
     }
 
-    // Adds a frame to those that wait.
+    // Adds `frame` to the frames that wait.
     fn push(&mut self, frame: &Frame)
         requires room { length (waiting_in self.old) + length frame.now.items ≤ most_in self.old }
         ensures link { batch_link self.new ≡ batch_link self.old }
@@ -136,7 +138,8 @@ impl<P: Port + Drop> Batch<P> {
         self.frames = self.frames.saturating_add(1);
     }
 
-    // Sends what waits, and reads the replies: to the last frame as many bytes as `reply` holds.
+    // Sends the frames that wait, and reads their replies. The reply to the last frame has as many bytes as `reply`
+    // holds.
     fn send(&mut self, reply: &mut [u8]) -> Result<(), Failure<P::Cause>>
         ensures most { most_in self.new ≡ most_in self.old }
         ensures silent { is_in_step (batch_link self.old) ≡ false → batch_link self.new ≡ batch_link self.old }

@@ -8,27 +8,30 @@ use crate::batch::Batch;
 use crate::{AnyProgrammer, Failure, Link, Port, Programmer, Sync};
 use nor_model::{Bus, History, Stopped};
 
-/// A bus to the chip at a serial programmer, over any port. It needs fewer round trips than `SerprogBus`: a modifying
-/// command without a reply is sent together with the next transaction of another kind, if the programmer's serial
-/// buffer holds both. After a modifying command the engine polls, so write enable, page program and the first poll are
-/// one write to the port, if the buffer holds all three.
+/// A bus to the chip at a serial programmer, over any port. It needs fewer round trips than `SerprogBus`, because it
+/// sends a modifying command that requests no reply together with the next transaction of another kind, if the
+/// programmer's serial buffer holds both. After a modifying command the engine polls, so write enable, page program and
+/// the first poll are one write to the port, if the buffer holds all three.
 ///
 /// - `transfer` of a modifying command (06h, 01h, 02h, 20h, 52h, D8h, C7h) that reads no reply may return `Ok` before
-///   the command is sent. If it fails later, the transaction or `flush` that sends it returns `Stopped`.
-/// - Every other transaction that isn't rejected first sends what waits, in order. If it returns `Ok`, nothing waits.
-/// - `flush` sends what waits. Without `flush` or a later transaction a command is never sent. A session or restore
-///   that returns `Ok` has polled after its last modifying command, so nothing waits then.
-/// - What waits fits into the programmer's serial buffer together with what is sent with it. Nothing waits if the
-///   programmer does not report the size of that buffer.
+///   the command is sent. If the command fails later, the transaction or `flush` that sends it returns `Stopped`.
+/// - Every other transaction that isn't rejected first sends the commands that wait, in order. If it returns `Ok`, no
+///   command waits.
+/// - `flush` sends the commands that wait. Without `flush` or a later transaction they are never sent. A session or
+///   restore that returns `Ok` has polled after its last modifying command, so no command waits then.
+/// - The frames that are sent together fit into the programmer's serial buffer. No command waits if the programmer does
+///   not report the size of that buffer.
 ///
-/// Over any port the history has each transaction with its reply; a transaction that failed or was rejected has none. A
-/// modifying command that waits is already in the history, with an empty reply, and stays there even if it is dropped.
+/// Over any port the history lists each transaction with its reply; a transaction that failed or was rejected is listed
+/// without a reply. A modifying command that waits is already in the history, with an empty reply, and stays there even
+/// if it is dropped.
 ///
 /// A transaction that sends more than 260 bytes, or reads more than the programmer can, is rejected: nothing is sent,
-/// and what waits still waits. After any other transaction that failed, nothing waits, and no transaction is sent until
-/// `synchronize` returns `Ok`. The programmer may have carried out any part of what waited.
+/// and the commands that wait still wait. After any other transaction that failed, no command waits, and no transaction
+/// is sent until `synchronize` returns `Ok`. The programmer may have carried out any part of the commands that waited.
 ///
-/// The bus is not honest as `Bus` defines it, even over an honest port: a command that waits has not reached the chip.
+/// The bus is not well-behaved as `Bus` defines it, even over a well-behaved port, because a command that waits has not
+/// reached the chip.
 #[derive(Drop)]
 pub struct BatchingBus<P: Port + Drop> {
     batch: Batch<P>,
@@ -52,9 +55,9 @@ impl<P: Port + Drop> BatchingBus<P> {
         BatchingBus::over(link, *programmer.reported())
     }
 
-    /// Returns a bus over a link whose programmer was identified (`AnyProgrammer::identify`). It rejects each
-    /// transaction that reads more than the programmer can, but sends up to 260 bytes. A `SplittingBus` around it
-    /// splits programs.
+    /// Returns a bus over a link whose programmer was identified (`AnyProgrammer::identify`). The bus rejects each
+    /// transaction that reads more than the programmer can, but sends up to 260 bytes, even if the programmer's limit
+    /// is lower. Wrap it in a `SplittingBus`, which splits longer transactions.
     pub fn over(link: Link<P>, programmer: AnyProgrammer) -> BatchingBus<P>
         ensures link { link_of result ≡ link }
         ensures empty { waiting_of result ≡ [] }
@@ -83,16 +86,16 @@ impl<P: Port + Drop> BatchingBus<P> {
         self.batch.link().port()
     }
 
-    /// Returns the cause of the last transaction or `flush` that failed. A transaction that is rejected because an
-    /// earlier one failed does not replace the earlier cause.
+    /// Returns the cause of the last transaction or `flush` that failed. If a transaction is rejected because an
+    /// earlier one failed, the cause of the earlier one stays.
     pub fn cause(&self) -> Option<&Failure<P::Cause>>
         ensures { option_copied result ≡ cause_of self.now }
     {
         self.cause.as_ref()
     }
 
-    /// Sends what waits, and reads its acknowledgements. Adds nothing to the history, even if an exchange failed; then
-    /// returns `Stopped`.
+    /// Sends the commands that wait, and reads their ACKs. Returns `Stopped` if an exchange failed. The history does
+    /// not change, even then.
     pub fn flush(&mut self) -> Result<(), Stopped>
         ensures history { history_of self.new ≡ history_of self.old }
         ensures sent { sent_of self.new ≡ sent_of self.old }
@@ -109,8 +112,8 @@ impl<P: Port + Drop> BatchingBus<P> {
         }
     }
 
-    /// Synchronizes the programmer after a transaction failed, as `Link::synchronize` does. A programmer that is in
-    /// step is left alone; otherwise nothing waits afterwards. The history of the bus is kept.
+    /// Synchronizes the programmer after a transaction failed, as `Link::synchronize` does. If the link is in step
+    /// already, nothing is sent; otherwise no command waits afterwards. The history of the bus does not change.
     pub fn synchronize(&mut self) -> Result<(), Failure<P::Cause>>
         ensures history { history_of self.new ≡ history_of self.old }
         ensures sent { sent_of self.new ≡ sent_of self.old }

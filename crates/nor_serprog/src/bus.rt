@@ -7,33 +7,34 @@ ghost use Rattle.nor_serprog.specs.Link.{port_of, is_in_step, IsSettled};
 use crate::{Command, Failure, Link, Port, Programmer, Sync};
 use nor_model::{Bus, History, Stopped};
 
-/// A bus to the chip at a serial programmer, over any port. One transaction is one O_SPIOP (serprog protocol,
-/// flashrom's Documentation/serprog-protocol.txt).
+/// A bus to the chip at a serial programmer, over any port. Each transaction is carried out with one O_SPIOP (serprog
+/// protocol, flashrom's Documentation/serprog-protocol.txt).
 ///
-/// Over an honest port this bus is honest, and its chip is the programmer's. A transaction that sends at most 260 bytes
-/// and reads at most 4,096 is one step of the chip if it succeeds, and fails only if fewer than three calls of the port
-/// are left. After such a failure the chip may have carried out any part of the transaction, and may have lost its
-/// power.
+/// Over a well-behaved port this bus is well-behaved, and its chip is the programmer's. A transaction that sends at
+/// most 260 bytes and reads at most 4,096 is one step of the chip if it succeeds, and fails only if fewer than three
+/// calls of the port are left. After such a failure the chip may have carried out any part of the transaction, and may
+/// have lost its power.
 ///
-/// Over any port the history has each transaction with its reply; a transaction that failed or was rejected has none. A
-/// transaction that sends more than 260 bytes, or reads more than the programmer can, is rejected, and nothing is sent.
-/// After any other transaction that failed, no transaction is sent until `synchronize` returns `Ok`.
+/// Over any port the history lists each transaction with its reply. A transaction that failed or was rejected is listed
+/// without a reply. A transaction that sends more than 260 bytes, or reads more than the programmer can, is rejected,
+/// and nothing is sent. After any other transaction that failed, no transaction is sent until `synchronize` returns
+/// `Ok`.
 #[derive(Drop)]
 pub struct SerprogBus<P: Port + Drop> {
     link: Link<P>,
     programmer: Programmer,
     cause: Option<Failure<P::Cause>>,
     history: History,
-    // Over an honest port: if the link is in step, the programmer waits for a frame and no reply is pending; otherwise
-    // the port has too few calls left for a transaction.
+    // Over a well-behaved port there are two cases. If the link is in step, the programmer waits for a frame and no
+    // reply is pending. Otherwise the port has too few calls left for a transaction.
     ghost idle: { IsSettled P.state link },
 }
 
 impl<P: Port + Drop> SerprogBus<P> {
     ghost use Rattle.nor_serprog.specs.Bus.{link_of, port_in, history_of, sent_of, polled_ready_of, cause_of, is_ready};
 
-    /// Returns a bus over a link whose programmer was identified (`Programmer::identify`). The link must be in step.
-    /// Over an honest port the programmer must be idle.
+    /// Returns a bus over a link whose programmer was identified (`Programmer::identify`). The link must be in step. If
+    /// the port is well-behaved, the programmer must be idle.
     pub fn new(link: Link<P>, programmer: Programmer) -> SerprogBus<P>
         requires in_step { is_in_step link ≡ true }
         requires idle { (P.state (port_of link)).honest ≡ true → IsIdle (P.state (port_of link)).device }
@@ -62,16 +63,16 @@ impl<P: Port + Drop> SerprogBus<P> {
         self.link.port()
     }
 
-    /// Returns the cause of the last transaction that failed, or `None` if none failed yet. A transaction that is
-    /// rejected because an earlier one failed does not replace the cause of the earlier one.
+    /// Returns the cause of the last transaction that failed, or `None` if none failed yet. If a transaction is
+    /// rejected because an earlier one failed, the cause of the earlier one stays.
     pub fn cause(&self) -> Option<&Failure<P::Cause>>
         ensures { option_copied result ≡ cause_of self.now }
     {
         self.cause.as_ref()
     }
 
-    /// Synchronizes the programmer after a transaction failed, as `Link::synchronize` does. A programmer that is in
-    /// step is left alone. The history of the bus is kept.
+    /// Synchronizes the programmer after a transaction failed, as `Link::synchronize` does. If the link is in step
+    /// already, nothing is sent. The history of the bus does not change.
     ///
     /// The chip may have carried out the transaction that failed, or not.
     pub fn synchronize(&mut self) -> Result<(), Failure<P::Cause>>
@@ -129,7 +130,7 @@ impl<P: Port + Drop> Bus for SerprogBus<P> {
     }
 }
 
-// Makes one transaction, as one O_SPIOP.
+// Carries out one transaction with one O_SPIOP.
 fn carry<P: Port + Drop>(
     link: &mut Link<P>,
     longest_read: u32,

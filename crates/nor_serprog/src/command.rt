@@ -1,4 +1,4 @@
-//! The commands of serprog as bytes, and the first byte of each reply.
+//! The commands of serprog as bytes, and the meaning of the first byte of a reply.
 
 ghost use Rattle.std.specs.Prelude.{◌≡◌, ◌<◌, ◌≤◌, ◌↔◌, [], ◌++◌, ℕ, List, length, IfOk, IsOk, IsSome, if◌then◌else◌, ◌==◌};
 ghost use Rattle.nor_serprog.specs.Frame.{frame_of, operation_frame, argument_count, FitsFrame, IsFrame, ReadsAs, frame_len as frame_len_of};
@@ -11,15 +11,15 @@ use thiserror::Error;
 /// page of 256 bytes.
 pub const LONGEST_OUT: usize = 260;
 
-// The length of the opcode of O_SPIOP and its two 24-bit lengths.
+// The length of the header of an O_SPIOP frame: its opcode and two 24-bit lengths.
 const HEADER_LEN: usize = 7;
 
 const LONGEST_FRAME: usize = HEADER_LEN + LONGEST_OUT;
 
-// The first number of reply bytes that 24 bits can't represent.
+// The least number of reply bytes that doesn't fit in 24 bits.
 const REPLIES_END: u32 = 1 << 24;
 
-/// The bytes of one command.
+/// The bytes of one command: its opcode and its arguments.
 pub type Frame = ArrayVec<u8, LONGEST_FRAME>;
 
 /// A command of the serprog protocol, version 1 (flashrom's Documentation/serprog-protocol.txt). The commands for
@@ -64,7 +64,7 @@ pub struct TooLong;
 impl Command<'_> {
     /// Returns the frame of the command, or `TooLong`. Only `Operate` can be too long.
     ///
-    /// A frame is always whole, a programmer reads exactly this command from it, and no longer frame begins with it
+    /// The frame is complete: a programmer reads exactly this command from it, and no longer frame begins with it
     /// (serprog protocol, flashrom's Documentation/serprog-protocol.txt).
     pub fn encode(self) -> Result<Frame, TooLong>
         ensures fits { IsOk result ↔ FitsFrame self.entry }
@@ -95,7 +95,7 @@ impl Command<'_> {
     }
 }
 
-// Returns the frame that has these bytes.
+// Returns `bytes` as a frame.
 fn short(bytes: &[u8]) -> Result<Frame, TooLong>
     requires { length bytes.now ≤ 267 }
     ensures fits { IsOk result }
@@ -106,7 +106,7 @@ fn short(bytes: &[u8]) -> Result<Frame, TooLong>
     Ok(frame)
 }
 
-// Returns the frame of O_SPIOP, or `TooLong`.
+// Returns the frame of an O_SPIOP that sends `out` and reads `replies` bytes, or `TooLong`.
 fn operation(out: &[u8], replies: u32) -> Result<Frame, TooLong>
     ensures fits { IsOk result ↔ (length out.now ≤ 260) × (replies < 16777216) }
     ensures exact { IfOk result (λ frame. frame.items ≡ operation_frame out.now replies) }
@@ -129,10 +129,11 @@ fn operation(out: &[u8], replies: u32) -> Result<Frame, TooLong>
     Ok(frame)
 }
 
-/// Returns the length of the frame that begins with these bytes, as a programmer reads it, or `None` until the bytes
-/// determine it. Bytes that follow never change a length that is known, so no frame is a prefix of another.
+/// Returns the length of the frame that begins with the bytes `begun`, as a programmer computes it, or `None` if more
+/// bytes are needed to determine it. Further bytes never change a length that is known, so no frame is a prefix of
+/// another.
 ///
-/// The function knows the commands 00h to 16h, including those for parallel chips. It takes any other opcode for a
+/// The function knows the commands 00h to 16h, including those for parallel chips. It treats any other opcode as a
 /// command without arguments.
 pub fn frame_len(begun: &[u8]) -> Option<usize>
     ensures value { result ≡ frame_len_of begun.now }
@@ -149,7 +150,8 @@ pub fn frame_len(begun: &[u8]) -> Option<usize>
     }
 }
 
-// Returns the number of argument bytes after an opcode that has a fixed number of them, and 0 for opcodes after 16h.
+// Returns the number of argument bytes after an opcode that has a fixed number of them. The number is 0 for all opcodes
+// after 16h.
 fn arguments_len(opcode: u8) -> usize
     ensures { result ≡ argument_count opcode }
 {
@@ -174,7 +176,7 @@ pub enum Answer {
 }
 
 impl Answer {
-    /// Returns the meaning of the first byte of a reply.
+    /// Returns the meaning of `byte` as the first byte of a reply.
     pub fn of(byte: u8) -> Answer
         ensures { result
             ≡ (if byte == 0x06 then Answers.Ack else if byte == 0x15 then Answers.Nak else Answers.Other byte) }

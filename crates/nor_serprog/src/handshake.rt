@@ -14,15 +14,15 @@ ghost use Rattle.nor_serprog.specs.Identify.{buffer_fault, clock_fault, refused,
 
 use crate::{Command, HandshakeFault, Link, Port};
 
-// The flag of SPI in the reply to Q_BUSTYPE and in S_BUSTYPE.
+// The flag for SPI in the reply to Q_BUSTYPE and in the argument of S_BUSTYPE.
 pub(crate) const SPI: u8 = 0x08;
 
-// The limit that 0 means, and that is assumed if the programmer lacks the query.
+// The limit of a programmer that lacks the query for the limit, or replies 0 to the query.
 const NO_LIMIT: u32 = 1 << 24;
 
 const O_SPIOP: u8 = 0x13;
 
-/// The commands that a programmer has: command `n` is bit `n % 8` of byte `n / 8`.
+/// The map of the commands that a programmer has: command `n` is bit `n % 8` of byte `n / 8`.
 pub(crate) type Map = [u8; 32];
 
 // Returns whether the map has the command with this opcode.
@@ -46,7 +46,7 @@ pub(crate) fn synchronize<P: Port + Drop>(
     }
 }
 
-// Makes one exchange of the handshake.
+// Makes one exchange, and returns its failure as an error of the handshake.
 pub(crate) fn ask<P: Port + Drop>(
     link: &mut Link<P>,
     command: Command<'_>,
@@ -63,7 +63,8 @@ pub(crate) fn ask<P: Port + Drop>(
     }
 }
 
-// Returns the reply to a query, or `None` if the programmer lacks the query, which has this opcode.
+// Sends `query`, whose opcode is `opcode`, and returns the bytes of the reply after ACK. If the programmer lacks the
+// query, sends nothing and returns `None`.
 fn query<P: Port + Drop, const LEN: usize>(
     link: &mut Link<P>,
     commands: &Map,
@@ -86,7 +87,7 @@ fn query<P: Port + Drop, const LEN: usize>(
     Ok(Some(reply))
 }
 
-// Makes a setting. Sends nothing if the programmer lacks the command of the setting, which has this opcode.
+// Sends `setting`, whose opcode is `opcode`. If the programmer lacks this command, sends nothing and returns `Ok`.
 pub(crate) fn set<P: Port + Drop>(
     link: &mut Link<P>,
     commands: &Map,
@@ -107,7 +108,7 @@ pub(crate) fn set<P: Port + Drop>(
     ask(link, setting, &mut [])
 }
 
-// Returns `Version` if the programmer doesn't speak version 1.
+// Queries the version of the protocol, and returns `Version` if it isn't 1.
 pub(crate) fn require_version<P: Port + Drop>(
     link: &mut Link<P>,
 ) -> Result<(), HandshakeFault<P::Cause>>
@@ -125,7 +126,7 @@ pub(crate) fn require_version<P: Port + Drop>(
     Ok(())
 }
 
-// Returns the map of commands, or `Lacks` if the programmer lacks O_SPIOP.
+// Returns the map of the programmer's commands, or the error `Lacks` if the map lacks O_SPIOP.
 pub(crate) fn query_commands<P: Port + Drop>(
     link: &mut Link<P>,
 ) -> Result<Map, HandshakeFault<P::Cause>>
@@ -159,7 +160,7 @@ pub(crate) fn require_spi<P: Port + Drop>(
     Ok(())
 }
 
-// Returns the flags of the types of bus, or SPI if the programmer lacks the query.
+// Returns the flags of the types of bus that the programmer supports, or the flag for SPI if it lacks Q_BUSTYPE.
 fn query_buses<P: Port + Drop>(
     link: &mut Link<P>,
     commands: &Map,
@@ -176,7 +177,8 @@ fn query_buses<P: Port + Drop>(
     }
 }
 
-// Returns whether a programmer with these types of bus can be set to SPI. `selects`: it has S_BUSTYPE.
+// Returns whether a programmer that supports the types of bus `buses` can be set to SPI. `selects` is true if it has
+// S_BUSTYPE.
 fn can_select_spi(buses: u8, selects: bool) -> bool
     ensures { result ≡ (not (bit_and buses 8 == 0) && (buses == 8 || selects)) }
 {
@@ -221,7 +223,8 @@ pub(crate) fn query_read_limit<P: Port + Drop>(
     Ok(limit)
 }
 
-// Returns a limit from the reply to its query. The limit is 2^24 if the programmer lacks the query, or returned 0.
+// Returns the limit that the reply to a query reported. The limit is 2^24 if the programmer replied 0, or lacks the
+// query (`None`).
 fn limit_of(reply: Option<[u8; 3]>) -> u32
     ensures { (offered : Bool) (limit : ℕ) → limit < 16777216
         → reply ≡ (if offered then Some (three_of limit) else None) → result ≡ limit_in offered limit }
@@ -237,9 +240,9 @@ fn limit_of(reply: Option<[u8; 3]>) -> u32
     }
 }
 
-// Returns the size of the serial buffer, or 0 if the programmer lacks the query. Returns `SmallBuffer` if the
-// programmer lacks Q_WRNMAXLEN, and a frame of `least` bytes does not fit into the buffer. A programmer that has
-// Q_WRNMAXLEN accepts frames of the length that it allows, regardless of its buffer.
+// Returns the size of the serial buffer, or 0 if the programmer lacks Q_SERBUF. Returns the error `SmallBuffer` if the
+// programmer has Q_SERBUF but lacks Q_WRNMAXLEN, and a frame of `least` bytes does not fit into the buffer. A
+// programmer that has Q_WRNMAXLEN accepts frames of the length that it allows, regardless of its buffer.
 pub(crate) fn query_buffer<P: Port + Drop>(
     link: &mut Link<P>,
     commands: &Map,

@@ -1,4 +1,4 @@
-//! The handshake that precedes the first transaction: identifies a programmer, and prepares it for SPI.
+//! The handshake that precedes the first transaction. It identifies a programmer, and prepares it for SPI.
 ghost use Rattle.std.specs.Prelude.{◌≡◌, ◌≤◌, true, false, OnOk, IfOk, IsErr, ⊤};
 ghost use Rattle.nor_serprog.specs.Firmware.{Firmware, has_command};
 ghost use Rattle.nor_serprog.specs.Link.{port_of, is_in_step, is_cut};
@@ -23,16 +23,17 @@ const S_PIN_STATE: u8 = 0x15;
 
 const S_SPI_CS: u8 = 0x16;
 
-// The length of a frame of O_SPIOP without the bytes that it sends to the chip.
+// The length of a frame of O_SPIOP without the bytes that are sent to the chip.
 const HEADER_LEN: u32 = 7;
 
-// An opcode, an address and one data byte.
+// The number of bytes that the shortest part of a program sends: an opcode, three address bytes and one data byte.
 const SHORTEST_PART: u32 = 5;
 
 impl AnyProgrammer {
-    /// Identifies the programmer on a new link, and prepares it for SPI transactions, as `Programmer::identify` does.
-    /// It requires only that a transaction may send 5 bytes and read 1 byte, and without Q_WRNMAXLEN that 12 bytes fit
-    /// into the serial buffer. The errors are those of `narrow_fault`.
+    /// Identifies the programmer on a new link, and prepares it for SPI transactions, with the steps of
+    /// `Programmer::identify`. This function accepts lower limits: a transaction must be able to send 5 bytes and read
+    /// 1 byte. If the programmer has Q_SERBUF but lacks Q_WRNMAXLEN, 12 bytes must fit into its serial buffer. Under
+    /// the premises that `Programmer::identify` states, the errors are those of `narrow_fault`.
     pub fn identify<P: Port + Drop>(
         link: &mut Link<P>,
         hertz: Option<u32>,
@@ -54,10 +55,10 @@ impl AnyProgrammer {
     /// Makes the programmer use the chip select with this number (S_SPI_CS, 16h) for all transactions from now on.
     /// `link` must be the one to this programmer.
     ///
-    /// Returns `Lacks` if the programmer lacks the command. Nothing is sent then: the programmer would take the number
-    /// for a command. Returns a `Failure` if the exchange failed: `Refused` if the programmer has no chip select with
-    /// this number. If the link is in step, the port is honest and the programmer is idle, the only errors are `Lacks`,
-    /// `Refused`, and a failure of the port because fewer than three calls were left.
+    /// Returns `Lacks` if the programmer lacks the command. Then nothing is sent, because the programmer would treat
+    /// the number as a command. Returns a `Failure` if the exchange failed; this is `Refused` if the programmer has no
+    /// chip select with this number. If the link is in step, the port is well-behaved and the programmer is idle, the
+    /// only errors are `Lacks`, `Refused`, and a failure of the port because fewer than three calls were left.
     pub fn select_chip<P: Port + Drop>(
         &self,
         link: &mut Link<P>,
@@ -81,10 +82,10 @@ impl AnyProgrammer {
 impl Programmer {
     ghost use Rattle.nor_serprog.specs.Programmer.{has_chip_selects};
 
-    /// Identifies the programmer on a new link, and prepares it for SPI transactions. It sends no transaction, so the
+    /// Identifies the programmer on a new link, and prepares it for SPI transactions. No transaction is sent, so the
     /// chip is not selected.
     ///
-    /// The steps:
+    /// The function carries out these steps:
     ///
     /// - synchronize
     /// - require version 1 of the protocol (Q_IFACE), and the command O_SPIOP (Q_CMDMAP)
@@ -96,12 +97,12 @@ impl Programmer {
     /// - if `hertz` is given, request a clock of at most that frequency (S_SPI_FREQ)
     /// - switch the pin drivers on (S_PIN_STATE)
     ///
-    /// A step whose command the programmer's map lacks is skipped. It is an error, however, if `hertz` is given and the
-    /// map lacks S_SPI_FREQ. (serprog protocol, flashrom's Documentation/serprog-protocol.txt.)
+    /// A step whose command is not in the programmer's map is skipped. However, it is an error if `hertz` is given and
+    /// the map lacks S_SPI_FREQ. (serprog protocol, flashrom's Documentation/serprog-protocol.txt.)
     ///
-    /// If the port is honest, the programmer is idle, and no frame may have been cut off on the link, the firmware
-    /// determines the result, unless the port fails because fewer than 59 calls were left. The errors are those of
-    /// `identify_fault`, in the order of the steps. Under these premises, after `Ok`:
+    /// If the port is well-behaved, the programmer is idle, and no frame on the link may have been sent only in part,
+    /// the firmware determines the result, unless the port fails because fewer than 59 calls were left. The errors are
+    /// those of `identify_fault`, in the order of the steps. Under these premises, after `Ok`:
     ///
     /// - The programmer is idle again, and its chip is as it was.
     /// - SPI is selected if the programmer has S_BUSTYPE; otherwise the type of bus is as it was.
@@ -128,10 +129,10 @@ impl Programmer {
     /// Makes the programmer use the chip select with this number (S_SPI_CS, 16h) for all transactions from now on.
     /// `link` must be the one to this programmer.
     ///
-    /// Returns `Lacks` if the programmer lacks the command. Nothing is sent then: the programmer would take the number
-    /// for a command. Returns a `Failure` if the exchange failed: `Refused` if the programmer has no chip select with
-    /// this number. If the link is in step, the port is honest and the programmer is idle, the only errors are `Lacks`,
-    /// `Refused`, and a failure of the port because fewer than three calls were left.
+    /// Returns `Lacks` if the programmer lacks the command. Then nothing is sent, because the programmer would treat
+    /// the number as a command. Returns a `Failure` if the exchange failed; this is `Refused` if the programmer has no
+    /// chip select with this number. If the link is in step, the port is well-behaved and the programmer is idle, the
+    /// only errors are `Lacks`, `Refused`, and a failure of the port because fewer than three calls were left.
     pub fn select_chip<P: Port + Drop>(
         &self,
         link: &mut Link<P>,
@@ -149,7 +150,7 @@ impl Programmer {
     }
 }
 
-// Identifies the programmer, and requires that its limits are at least these.
+// Identifies the programmer, and returns an error if one of its limits is lower than in `least`.
 fn identify_for<P: Port + Drop>(
     link: &mut Link<P>,
     hertz: Option<u32>,
@@ -187,8 +188,8 @@ fn identify_for<P: Port + Drop>(
     })
 }
 
-// Returns the greatest number of bytes that a transaction may send. Without Q_WRNMAXLEN the serial buffer limits the
-// length of its frame.
+// Returns the greatest number of bytes that a transaction may send, which is at least 5. If the programmer has Q_SERBUF
+// but lacks Q_WRNMAXLEN, the frame of such a transaction must also fit into the serial buffer.
 fn part_limit(commands: &Map, longest_write: u32, serial_buffer: u16) -> u32
     requires { 5 ≤ longest_write }
     ensures value { result ≡ part_limit_of commands.now longest_write serial_buffer }

@@ -7,37 +7,39 @@ use nor_model::Status;
 
 const WRITE_STATUS: u8 = 0x01;
 
-/// The reason why a `CheckedStatus` stopped, if the bus inside did not.
+/// The reason why a `CheckedStatus` stopped although the bus inside did not.
 #[derive(Clone, Copy, Debug, PartialEq, Eq)]
 pub enum CheckFault {
-    /// Two replies to 05h, or two replies to 35h, differed.
+    /// Two reads of the same status register (05h or 35h) had different replies.
     Differs,
-    /// A status write was not sent. Status 1 or status 2 was not read yet, or the write has other bits than those that
-    /// were read, outside the protection bits, or BUSY, WEL or SUS. Such a write could set a one-time bit.
+    /// A status write was not sent, because it could set a one-time bit. Status 1 or status 2 was not read yet, or a
+    /// bit that is not a protection bit differs from the one that was read, or BUSY, WEL or SUS is set.
     Refused,
-    /// After a status write of `sent`, the chip's status is `found`: a non-volatile bit differs.
+    /// The status write of `sent` was not stored: afterwards the status registers are `found`, which differs in a
+    /// non-volatile bit.
     NotStored { sent: [u8; 2], found: [u8; 2] },
-    /// The chip replied the ID `id`, and later `found`. If contact or supply fails, all replies are FFh or 00h, and so is
-    /// this ID.
+    /// The chip first replied the ID `id`, and later `found`. If contact or supply fails, all replies are FFh or 00h,
+    /// and so are the bytes of `found`.
     Lost { id: [u8; 3], found: [u8; 3] },
 }
 
 // What is known about the chip.
 #[derive(Clone, Copy)]
 pub(crate) struct Known {
-    // Status 1 and status 2, as two equal replies had them, each before an ID that was the known one.
+    // Status 1 and status 2. Each is known if the register was read twice with the same value, and the known ID was
+    // read after each of these reads.
     pub(crate) one: Option<u8>,
     pub(crate) two: Option<u8>,
     // True if a modifying command was passed on.
     pub(crate) is_changing: bool,
-    // The bytes of a status write that was passed on and is not yet read back.
+    // The bytes of a status write that was passed on and is not read back yet.
     pub(crate) written: Option<[u8; 2]>,
-    // The ID, as the first reply to 9Fh had it.
+    // The ID of the chip: the first reply to 9Fh.
     pub(crate) id: Option<[u8; 3]>,
 }
 
-// Returns the two bytes of a status write that keeps the bits which are known, outside the protection bits, and has
-// BUSY, WEL and SUS clear. Returns `None` for any other transaction, and if a status register is not known.
+// Returns the two bytes of the status write `out`, if both status registers are known and `out` keeps all their bits
+// except the protection bits, with BUSY, WEL and SUS clear. Returns `None` for any other transaction.
 pub(crate) fn kept_status(known: &Known, out: &[u8]) -> Option<[u8; 2]>
     ensures { IfSome result (KeepsKnown known.now out.now) }
 {

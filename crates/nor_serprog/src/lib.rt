@@ -6,19 +6,20 @@
 //! - `link.rt`: exchanges of a frame and its reply, and synchronization
 //! - `handshake.rt`: the steps of the handshake
 //! - `identification.rt`: identifies a programmer and prepares it for SPI
-//! - `programmer.rt`: what a programmer replied when it was identified, or why it cannot be used
-//! - `bus.rt`: the bus; one transaction is one O_SPIOP
+//! - `programmer.rt`: the replies of a programmer to its identification, and the reasons why a programmer cannot be
+//!   used
+//! - `bus.rt`: a bus that carries out each transaction with one O_SPIOP
 //! - `batch.rt`: frames that are sent together
 //! - `batching.rt`: a bus that sends modifying commands together with the next transaction
 //! - `ahead.rt`: a bus that reads ahead
-//! - `again.rt`: reads a reply again, or the sectors of it that differ from an image
+//! - `again.rt`: repeats a read, as a whole or only for the sectors whose bytes differ from an image
 //! - `paced.rt`: a bus that pauses between polls of a busy chip
 //! - `parts.rt`: reads and programs that are carried out in parts
-//! - `splitting.rt`: a bus that splits transactions to the limits of a programmer
+//! - `splitting.rt`: a bus that splits transactions that exceed the limits of a programmer
 //! - `twice.rt`: a bus that reads IDs, SFDP and data twice and compares the replies
 //! - `status.rt`: a bus that notices a lost chip, reads the status registers twice, and checks status writes
-//! - `status/reads.rt`: what that bus reads: IDs and status registers
-//! - `known.rt`: what that bus knows about the chip, and why it stops
+//! - `status/reads.rt`: how the bus of `status.rt` reads IDs and status registers
+//! - `known.rt`: what the bus of `status.rt` knows about the chip, and why it stops
 #![tactic(auto)]
 
 mod again;

@@ -1,4 +1,4 @@
-//! Exchanges with a programmer: a frame, and the reply to it.
+//! Exchanges with a programmer. An exchange sends the frame of a command, and receives the reply.
 ghost use Rattle.std.specs.Prelude.{◌≡◌, ◌≤◌, ◌+◌, ◌++◌, ◌⊎◌, ◌∷◌, [], true, false, length, drop, ◌↔◌, IsOk, IfOk, OnOk, OnErr, IfErr};
 ghost use Rattle.nor_serprog.specs.Device.{IsIdle, IsSent, IsCutOff, IsReceived, IsSilent, IfOperates, Exchanged, Interrupted};
 ghost use Rattle.nor_serprog.specs.Device.{AnswerBegins, TakesAnswer, MissesAnswer, MayLoseDevicePower};
@@ -10,7 +10,7 @@ ghost use Rattle.nor_serprog.specs.Replies.{AwaitsCommand, EndsExchange, IsPortF
 use crate::{Answer, Command, Frame, Port};
 use thiserror::Error;
 
-/// Why an exchange with a programmer failed. `C` is the cause of the port.
+/// Why an exchange with a programmer failed. `C` is the cause of a failure of the port.
 #[derive(Debug, Drop, Error)]
 #[error_bound(C: std::fmt::Display)]
 pub enum Failure<C> {
@@ -30,10 +30,11 @@ pub enum Failure<C> {
     /// Nothing was sent, because the link isn't synchronized: it is new, or an exchange or `synchronize` failed.
     #[error("an earlier exchange with the programmer failed, and it was not synchronized since")]
     OutOfStep,
-    /// Nothing was sent, because a frame may have been cut off: any further byte could complete it.
+    /// Nothing was sent, because a frame may have been sent only in part: any further byte could complete it.
     #[error("a frame may have been cut off: disconnect the programmer from power before it is used again")]
     CutFrame,
-    /// The expected reply to SYNCNOP, or to the row of SYNCNOP and NOP, was not among 65,536 bytes received.
+    /// 65,536 bytes were received without the expected reply: the reply to SYNCNOP, or the replies to the sequence of
+    /// SYNCNOP and NOP that follows.
     #[error("the programmer did not reply to SYNCNOP as it must")]
     NoSync,
 }
@@ -47,11 +48,11 @@ pub enum Sync {
     /// The link isn't synchronized: it is new, `synchronize` failed, or an exchange failed after its whole frame was
     /// sent, so that bytes of the reply may still arrive.
     Lost,
-    /// A frame may have been sent in part, so the programmer may take the next bytes as the rest of it.
+    /// A frame may have been sent only in part, so the programmer may treat the next bytes as the rest of it.
     Cut,
 }
 
-/// A programmer at a port, and whether its replies can be matched to the frames.
+/// A programmer at a port, with the state of their synchronization.
 #[derive(Drop)]
 pub struct Link<P: Port + Drop> {
     port: P,
@@ -60,7 +61,8 @@ pub struct Link<P: Port + Drop> {
 
 const O_SPIOP: u8 = 0x13;
 
-// Commands of one byte each, which have no effect (10h SYNCNOP, 00h NOP).
+// The sequence of SYNCNOP (10h) and NOP (00h) that `synchronize` sends. These commands have no effect, and
+// `synchronize` recognizes their replies.
 const ROW: [u8; 16] = [
     0x10, 0x10, 0x00, 0x10, 0x00, 0x00, 0x10, 0x10, 0x10, 0x00, 0x00, 0x00, 0x10, 0x00, 0x10, 0x10,
 ];
@@ -73,8 +75,8 @@ const ROW_ANSWERS: [u8; ROW_ANSWERS_LEN] = [
     0x06, 0x06, 0x15, 0x06, 0x06, 0x15, 0x06, 0x15, 0x06,
 ];
 
-// The greatest number of bytes that are received in each of two searches: first for the reply to SYNCNOP, then for the
-// replies to `ROW`.
+// The greatest number of bytes that each of the two searches of `synchronize` receives. The first search is for the
+// reply to SYNCNOP, the second for the replies to `ROW`.
 const MOST_STALE: u32 = 1 << 16;
 
 impl<P: Port + Drop> Link<P> {
@@ -104,17 +106,17 @@ impl<P: Port + Drop> Link<P> {
         self.sync
     }
 
-    /// Sends the frame of a command, and reads the reply: ACK, and as many bytes as `reply` holds.
+    /// Sends the frame of a command, and reads the reply: ACK, and then exactly as many bytes as `reply` holds.
     ///
-    /// Returns `TooLong` if the command does not fit into one frame; nothing was sent then, and the link is as it was.
+    /// Returns `TooLong` if the command does not fit into one frame; then nothing was sent, and the link is as it was.
     /// After any other error no exchange sends anything until `synchronize` returns `Ok`. If the link was out of step,
     /// the call returns `OutOfStep` or `CutFrame` and does not use the port.
     ///
-    /// Over an honest port, if the link is in step and the programmer is idle, the firmware determines the reply to
-    /// each command except O_SPIOP and SYNCNOP. A command with arguments must be in the programmer's map. If the
-    /// firmware replies ACK and as many bytes as `reply` holds, `reply` receives these bytes. If it replies NAK, the
-    /// call returns `Refused`. The only other error is a failure of the port with fewer than three calls left
-    /// (`EndsExchange`).
+    /// If the port is well-behaved, the link is in step and the programmer is idle, the firmware determines the reply
+    /// to each command except O_SPIOP and SYNCNOP. A command with arguments must be in the programmer's map. If the
+    /// firmware replies ACK and as many bytes as `reply` holds, the call fills `reply` with these bytes. If the
+    /// firmware replies NAK, the call returns `Refused`. The only other error is a failure of the port because fewer
+    /// than three calls were left (`EndsExchange`).
     pub fn exchange(
         &mut self,
         command: Command<'_>,
@@ -144,8 +146,8 @@ impl<P: Port + Drop> Link<P> {
         }
     }
 
-    /// Returns why a command that is too long is not sent: `TooLong`, or `OutOfStep` or `CutFrame` if the link is out
-    /// of step.
+    /// Returns the error for a command that is too long to be sent: `TooLong`, or `OutOfStep` or `CutFrame` if the link
+    /// is out of step.
     pub(crate) fn rejection(&self) -> Failure<P::Cause> {
         match self.sync {
             Sync::InStep => Failure::TooLong,
@@ -185,7 +187,7 @@ impl<P: Port + Drop> Link<P> {
     }
 
     /// Sends frames of O_SPIOP together, and then reads their replies: an ACK for each frame, and after the last ACK as
-    /// many bytes as `reply` holds. Before the last frame there are `earlier` frames, which request no reply bytes.
+    /// many bytes as `reply` holds. `frames` has `earlier` frames that request no reply bytes, and then one more frame.
     ///
     /// After an error no exchange sends anything until `synchronize` returns `Ok`; the programmer may have carried out
     /// any of the frames. If the link was out of step, the call returns `OutOfStep` or `CutFrame` and does not use the
@@ -213,18 +215,20 @@ impl<P: Port + Drop> Link<P> {
         Ok(())
     }
 
-    /// Matches the replies to the frames again: sends SYNCNOP, and then a row of SYNCNOP and NOP, and skips all bytes
-    /// before the replies to that row (serprog protocol, flashrom's Documentation/serprog-protocol.txt, 10h).
+    /// Synchronizes the link, so that each later reply is matched to the frame that it belongs to. Sends SYNCNOP, and
+    /// skips all received bytes up to its reply, NAK and ACK. Then sends a fixed sequence of SYNCNOP and NOP, and skips
+    /// all bytes up to the replies to this sequence (serprog protocol, flashrom's Documentation/serprog-protocol.txt,
+    /// 10h).
     ///
-    /// Returns `CutFrame`, and does not use the port, if a frame may have been cut off: further bytes could complete
-    /// the frame, and the chip would carry out a command that was never intended. A frame that another run cut off
-    /// isn't known here, so disconnect the programmer from power after a run that was killed.
+    /// Returns `CutFrame`, and does not use the port, if a frame may have been sent only in part: further bytes could
+    /// complete the frame, and the chip would carry out a command that was never intended. The link can't know about a
+    /// frame that another run sent in part, so disconnect the programmer from power after a run that was killed.
     ///
-    /// If no frame may have been cut off, the port is honest and the programmer is idle, the call fails only if fewer
-    /// than 29 calls of the port were left. The chip is not selected.
+    /// If no frame may have been sent in part, the port is well-behaved and the programmer is idle, the call fails only
+    /// if fewer than 29 calls of the port were left. The chip is not selected.
     ///
     /// Returns `Port` if the port fails. Returns `NoSync` if the reply to the first SYNCNOP isn't among the next 65,536
-    /// bytes, or the replies to the row aren't among the 65,536 bytes after it.
+    /// bytes, or the replies to the sequence aren't among the 65,536 bytes after it.
     pub fn synchronize(&mut self) -> Result<(), Failure<P::Cause>>
         ensures nature { (P.state (port_of self.new)).honest ≡ (P.state (port_of self.old)).honest }
         ensures fewer { (P.state (port_of self.old)).honest ≡ true
@@ -243,7 +247,7 @@ impl<P: Port + Drop> Link<P> {
         }
         self.sync = Sync::Lost;
         // Only this byte is sent before a reply is received. If the programmer is waiting for the rest of a frame, it
-        // takes the byte as part of that frame.
+        // treats the byte as part of that frame.
         send_all(&mut self.port, &[0x10])?;
         skip_past(&mut self.port, &[0x15, 0x06])?;
         send_all(&mut self.port, &ROW)?;
@@ -273,7 +277,7 @@ fn send<P: Port>(port: &mut P, frame: &Frame) -> Result<(), Failure<P::Cause>>
     port.send(frame).map_err(Failure::Port)
 }
 
-// Sends bytes that are no transaction.
+// Sends `bytes`, which contain no O_SPIOP.
 fn send_all<P: Port>(port: &mut P, bytes: &[u8]) -> Result<(), Failure<P::Cause>>
     ensures nature { (P.state port.new).honest ≡ (P.state port.old).honest }
     ensures fewer { (P.state port.old).honest ≡ true → (P.state port.new).left ≤ (P.state port.old).left }
@@ -288,7 +292,8 @@ fn send_all<P: Port>(port: &mut P, bytes: &[u8]) -> Result<(), Failure<P::Cause>
     port.send(bytes).map_err(Failure::Port)
 }
 
-// Receives the reply to the command with this opcode.
+// Receives the reply to the command with the opcode `opcode`: ACK, and then as many bytes as `reply` holds. Returns
+// `Refused` after NAK, and `Strange` after any other first byte.
 fn receive_answer<P: Port>(
     port: &mut P,
     opcode: u8,
@@ -315,7 +320,7 @@ fn receive_answer<P: Port>(
     }
 }
 
-// Receives the replies to this number of O_SPIOP that request no reply bytes.
+// Receives the replies to `count` frames of O_SPIOP that request no reply bytes.
 fn receive_acks<P: Port>(port: &mut P, count: u32) -> Result<(), Failure<P::Cause>> {
     for _ in 0..count {
         receive_answer(port, O_SPIOP, &mut [])?;
@@ -323,7 +328,7 @@ fn receive_acks<P: Port>(port: &mut P, count: u32) -> Result<(), Failure<P::Caus
     Ok(())
 }
 
-// Receives bytes until the last ones are `wanted`. Returns `NoSync` after 65,536 bytes.
+// Receives bytes until the last ones are `wanted`. Returns `NoSync` if they aren't after 65,536 bytes.
 fn skip_past<P: Port>(port: &mut P, wanted: &[u8]) -> Result<(), Failure<P::Cause>>
     requires { length wanted.now ≤ 25 }
     ensures nature { (P.state port.new).honest ≡ (P.state port.old).honest }
@@ -344,7 +349,7 @@ fn skip_past<P: Port>(port: &mut P, wanted: &[u8]) -> Result<(), Failure<P::Caus
     Err(Failure::NoSync)
 }
 
-// Drops the first byte, and appends this one.
+// Removes the first byte of `last`, and appends `byte`.
 fn shift_in(last: &mut [u8; ROW_ANSWERS_LEN], byte: u8)
     ensures { last.new ≡ drop 1 last.old ++ byte ∷ [] }
 {

@@ -8,38 +8,40 @@ use nor_model::{Bus, Stopped};
 use std::thread;
 use std::time::{Clock, Duration, Instant};
 
-// The shortest pause after the second poll of a wait, in microseconds: a seventh of a page program.
+// The shortest pause before the third poll of a wait, in microseconds: a seventh of the time of a page program.
 const SHORTEST: u64 = 100;
 
-// The longest pause after the second poll of a wait, in microseconds.
+// The longest pause before the third and each later poll of a wait, in microseconds.
 const LONGEST: u64 = 6250;
 
-/// A bus that pauses between polls that show BUSY. Polls that can't show that the chip is ready cost time on the wire,
-/// and without pauses a fast bus may use up the 65,536 polls of a wait before an erase ends.
+/// A bus that pauses between polls that show BUSY. A poll of a chip that is certainly still busy costs time on the
+/// wire, and without pauses a fast bus may use up the 65,536 polls of a wait before an erase ends.
 ///
 /// The pause before a transaction depends on how many polls in a row showed BUSY before it:
 ///
 /// - none: no pause. The first poll after a command may be sent together with it (`BatchingBus`).
-/// - one: the typical duration of the operation that the last command began, less the time that passed since this
-///   command was passed to the bus. A page program typically takes 0.7 ms, a status write 10 ms, an erase of 4 KiB 45
-///   ms, of 32 KiB 120 ms, of 64 KiB 150 ms (W25Q64FV datasheet, AC characteristics). An erase of the whole chip, whose
-///   duration depends on the chip, counts as one of 64 KiB. If the clock fails, the pause has the whole duration. If no
-///   command began an operation, there is no pause.
-/// - more: a sixteenth of the typical duration, but at least 0.1 ms; doubled after every 16 polls; at most 6.25 ms.
+/// - one: the typical duration of the operation that the last command began, minus the time since this command was
+///   passed to the bus. A page program typically takes 0.7 ms, a status write 10 ms, an erase of 4 KiB 45 ms, of 32 KiB
+///   120 ms, of 64 KiB 150 ms (W25Q64FV datasheet, AC characteristics). An erase of the whole chip, whose duration
+///   depends on the chip, counts as one of 64 KiB. If the clock fails, the pause has the whole duration. If no command
+///   began an operation, there is no pause.
+/// - two or more: a sixteenth of the typical duration, but at least 0.1 ms. This pause doubles after every 16 polls, up
+///   to 6.25 ms.
 ///
 /// No pause is longer than 150 ms. The pauses of a wait whose 65,536 polls all show BUSY add up to at least 400 s, and
-/// to at most 410 s. The longest operation of the known chips is the erase of a whole W25Q128FV, at most 200 s
-/// (datasheet, AC characteristics). It is not proved that `Clock::sleep` is called, or that it waits for the requested
-/// time.
+/// to at most 410 s. The longest operation of the known chips is the erase of a whole W25Q128FV, which takes at most
+/// 200 s (datasheet, AC characteristics). It is not proved that `Clock::sleep` is called, or that it waits for the
+/// requested time.
 ///
-/// The bus has the state of the bus inside, so it is honest if and only if the bus inside is.
+/// The bus has the state of the bus inside, so it is well-behaved if and only if the bus inside is.
 #[derive(Drop)]
 pub struct Paced<B, C> {
     bus: B,
     clock: C,
-    // The typical duration in microseconds of the operation that the last command began; 0 if there was none.
+    // The typical duration in microseconds of the operation that the last command began; 0 if no command began one.
     typical: u64,
-    // When that command was passed to the bus. `None` if there was none, or if the clock failed.
+    // When the last command that began an operation was passed to the bus; `None` if there was none, or if the clock
+    // failed.
     sent: Option<Instant>,
     busy_polls: u64,
     ghost typical_is_short: { typical ≤ 150000 },
@@ -88,7 +90,7 @@ impl<B: Bus + Drop, C: Clock + Drop> Paced<B, C> {
 }
 
 impl<B, C: Clock> Paced<B, C> {
-    // Pauses before the next transaction.
+    // Pauses for the time that the polls so far require before the next transaction.
     fn pause(&self) {
         let micros = pause_micros(self.typical, self.elapsed(), self.busy_polls);
         if micros > 0 {
@@ -96,7 +98,8 @@ impl<B, C: Clock> Paced<B, C> {
         }
     }
 
-    // Returns the time in microseconds since the last command was passed to the bus, or 0 if that isn't known.
+    // Returns the time in microseconds since the last command that began an operation was passed to the bus, or 0 if
+    // that time isn't known.
     fn elapsed(&self) -> u64 {
         let Some(sent) = self.sent else {
             return 0;
@@ -150,8 +153,8 @@ impl<B: Bus, C: Clock> Bus for Paced<B, C> {
     }
 }
 
-// Returns whether a transaction that sent `out` and received `reply` is a poll that shows BUSY: 05h, with BUSY, bit 0,
-// set in the last byte of the reply. (W25Q64FV datasheet, Read Status Register-1.)
+// Returns whether a transaction that sent `out` and received `reply` is a poll that shows BUSY: it sends only 05h, and
+// the last byte of its reply has bit 0 set. (W25Q64FV datasheet, Read Status Register-1.)
 fn shows_busy(out: &[u8], reply: &[u8]) -> bool
     ensures { result ≡ not (polled_ready_after out.now reply.now true) }
 {
@@ -161,8 +164,8 @@ fn shows_busy(out: &[u8], reply: &[u8]) -> bool
     }
 }
 
-// Returns the typical duration in microseconds of the operation that a transaction which sends `out` begins. (W25Q64FV
-// datasheet, AC characteristics.)
+// Returns the typical duration in microseconds of the operation that a transaction which sends `out` begins, or `None`
+// if it begins none. (W25Q64FV datasheet, AC characteristics.)
 fn typical_micros(out: &[u8]) -> Option<u64>
     ensures typical { result ≡ typical_of out.now }
     ensures short { IfSome result (λ typical. typical ≤ 150000) }
@@ -177,8 +180,8 @@ fn typical_micros(out: &[u8]) -> Option<u64>
     }
 }
 
-// Returns the pause in microseconds before a transaction that follows this many polls in a row which showed BUSY, if
-// the operation typically takes `typical` microseconds, and its command was sent `elapsed` microseconds ago.
+// Returns the pause in microseconds before a transaction that follows `busy_polls` polls in a row which showed BUSY.
+// The operation typically takes `typical` microseconds, and its command was sent `elapsed` microseconds ago.
 fn pause_micros(typical: u64, elapsed: u64, busy_polls: u64) -> u64
     ensures { result ≡ pause_before typical elapsed busy_polls }
 {

@@ -24,16 +24,17 @@ const READ_STATUS2: u8 = 0x35;
 
 const PAGE_LEN: usize = 256;
 
-// The length of the opcode and the address of a program.
+// The number of bytes that a program sends before its data: an opcode and three address bytes.
 const HEADER_LEN: usize = 4;
 
-// The first address that three bytes can't represent.
+// The least address that doesn't fit in three bytes.
 const ADDRESSES_END: usize = 1 << 24;
 
-// The greatest number of polls after a part of a program.
+// The greatest number of polls that wait for the end of a part of a program.
 const MOST_POLLS: u32 = 65536;
 
-// Reads `reply` in parts of at most `longest` bytes. Sends nothing if the read can't be split.
+// Carries out the read `out` in parts of at most `longest` bytes each, and fills `reply`. Returns `Stopped` and sends
+// nothing if `out` is no read that can be split, or passes address FFFFFFh.
 pub(crate) fn split_read<B: Bus>(
     bus: &mut B,
     longest: u32,
@@ -53,8 +54,8 @@ pub(crate) fn split_read<B: Bus>(
     }
 }
 
-// Returns the address of a read that can be split, or 0 if that read has no address. Returns `None` for any other
-// transaction.
+// Returns the address of a read that can be split, or 0 if the read has no address (05h, 35h). Returns `None` for any
+// other transaction.
 fn first_address(out: &[u8]) -> Option<u32>
     ensures address { IfSome result (λ address. address ≡ address_in out.now) }
     ensures fits { IfSome result (λ address. address ≤ 16777215) }
@@ -68,7 +69,8 @@ fn first_address(out: &[u8]) -> Option<u32>
     }
 }
 
-// Reads `reply` in parts of at most `longest` bytes. Returns `Stopped` and sends nothing if the read can't be split.
+// Fills `reply` by reads of at most `longest` bytes each. Returns `Stopped` and sends nothing if `out` is no read that
+// can be split and `reply` isn't empty.
 fn read_parts<B: Bus>(
     bus: &mut B,
     longest: usize,
@@ -88,8 +90,8 @@ fn read_parts<B: Bus>(
     Ok(())
 }
 
-// Reads the part of a read that begins with the byte of index `from`. Returns `Stopped` and sends nothing if the read
-// can't be split.
+// Reads one part of the reply to `out`: the bytes from the index `from` on, as many as `part` holds. Returns `Stopped`
+// and sends nothing if `out` is no read that can be split.
 fn read_part<B: Bus>(bus: &mut B, out: &[u8], from: u32, part: &mut [u8]) -> Result<(), Stopped>
     requires { address_in out.now + from ≤ 16777215 }
     ensures read { OnOk result
@@ -111,7 +113,8 @@ fn read_part<B: Bus>(bus: &mut B, out: &[u8], from: u32, part: &mut [u8]) -> Res
     }
 }
 
-// Returns the address that is `from` after the address of three bytes, as three bytes, high byte first.
+// Adds `from` to the address with the bytes `high`, `middle` and `low`, and returns the sum as three bytes, high byte
+// first.
 fn address_from(high: u8, middle: u8, low: u8, from: u32) -> [u8; 3]
     requires { 65536 * high + 256 * middle + low + from ≤ 16777215 }
     ensures { result ≡ address_bytes (65536 * high + 256 * middle + low + from) }
@@ -120,8 +123,9 @@ fn address_from(high: u8, middle: u8, low: u8, from: u32) -> [u8; 3]
     [high, middle, low]
 }
 
-// Programs in parts that send at most `longest` bytes. Returns `Stopped` and sends nothing if the transaction is no
-// program within one page. `polled` is the greatest number of bytes that a poll may read.
+// Carries out the program `out` in parts that send at most `longest` bytes each. Returns `Stopped` and sends nothing if
+// `out` is no program within one page, or if `reply` isn't empty. `polled` is the greatest number of bytes that a poll
+// may read.
 pub(crate) fn split_program<B: Bus>(
     bus: &mut B,
     longest: u32,
@@ -153,14 +157,15 @@ pub(crate) fn split_program<B: Bus>(
     }
 }
 
-// Returns whether a program of these bytes ends in the page in which it begins. `low` is the low byte of its address.
+// Returns whether a program of `bytes` ends in the page in which it begins. `low` is the low byte of its address.
 fn fits_page(low: u8, bytes: &[u8]) -> bool
     ensures { result ≡ true → low + length bytes.now ≤ 256 }
 {
     bytes.len() <= PAGE_LEN - usize::from(low)
 }
 
-// Programs bytes within one page, in parts that send at most `longest` bytes. A poll reads `polled` bytes.
+// Programs `bytes`, which lie in one page, in parts that send at most `longest` bytes each. Each poll reads `polled`
+// bytes.
 fn program_parts<B: Bus>(
     bus: &mut B,
     longest: usize,
@@ -190,7 +195,7 @@ fn program_parts<B: Bus>(
     Ok(())
 }
 
-// Programs one part.
+// Programs the bytes of one part at `address`, with one transaction.
 fn program_part<B: Bus>(bus: &mut B, address: u32, part: &[u8]) -> Result<(), Stopped>
     requires address { address ≤ 16777215 }
     requires len { length part.now ≤ 256 }
@@ -207,7 +212,7 @@ fn program_part<B: Bus>(bus: &mut B, address: u32, part: &[u8]) -> Result<(), St
     bus.transfer(&out, &mut [])
 }
 
-// Polls until the chip is ready, at most 65,536 times. Returns `Stopped` if no poll shows that.
+// Polls until the chip is ready, at most 65,536 times. Returns `Stopped` if it isn't ready then.
 fn wait<B: Bus>(bus: &mut B, polled: usize) -> Result<(), Stopped>
     requires polled { 1 ≤ polled }
     requires few { polled ≤ 2 }
@@ -221,7 +226,7 @@ fn wait<B: Bus>(bus: &mut B, polled: usize) -> Result<(), Stopped>
     Err(Stopped)
 }
 
-// Reads status 1 with one poll that reads `polled` bytes. Returns whether all of them show that the chip is ready.
+// Polls once: reads `polled` bytes of status 1. Returns whether all of them show that the chip is ready.
 fn poll<B: Bus>(bus: &mut B, polled: usize) -> Result<bool, Stopped>
     requires polled { 1 ≤ polled }
     requires few { polled ≤ 2 }
@@ -234,7 +239,7 @@ fn poll<B: Bus>(bus: &mut B, polled: usize) -> Result<bool, Stopped>
     Ok(show_ready(shown))
 }
 
-// Returns whether BUSY, bit 0, is clear in each of these bytes.
+// Returns whether BUSY (bit 0) is clear in each of these status bytes.
 fn show_ready(status: &[u8]) -> bool
     ensures { result ≡ true → All (λ (byte : ℕ). byte % 2 ≡ 0) status.now }
 {

@@ -5,20 +5,22 @@ ghost use Rattle.nor_serprog.specs.Device.{PortState, IsSent, IsCutOff, IsReceiv
 
 /// A port to a serial programmer: a terminal device, a socket, or a model in tests.
 ///
-/// Contracts see a port as a `PortState`. An *honest* port passes what is sent to a programmer that carries out O_SPIOP
-/// as the protocol says, and replies to whole frames of other commands as its `Firmware` says. The port returns the
-/// programmer's replies in order. As long as calls are left, these succeed:
+/// Contracts see a port as a `PortState`. A *well-behaved* port (its field `honest` is true) passes what is sent to a
+/// programmer that carries out O_SPIOP as the protocol says, and replies to whole frames of other commands as its
+/// `Firmware` says. The port returns the programmer's replies in order. While calls are left, each of these calls
+/// succeeds:
 ///
 /// - a call that sends an O_SPIOP of at most 260 bytes and 4,096 reply bytes, while no reply is pending
-/// - a call that sends whole frames of other commands, in total at most 260 bytes and 4,096 reply bytes (with each
-///   ACK), while no command is begun and no reply is pending; commands that have arguments must be in the programmer's
-///   map
+/// - a call that sends whole frames of other commands, in total at most 260 bytes, with replies of at most 4,096 bytes
+///   in total (including each ACK), while no command is incomplete and no reply is pending; commands that have
+///   arguments must be in the programmer's map
 /// - a call that requests no more bytes than are pending
 ///
 /// Any other call may fail, for example by a timeout or because a buffer is full. After a failure no further call
 /// succeeds. Any number of bytes may have been sent, the programmer may have carried out any part of the transaction,
-/// and the chip may then have lost its power. Nothing is assumed about a port that isn't honest, and no call changes
-/// whether a port is honest. The state of a port of an operating system is `unknown_port`, which isn't honest.
+/// and the chip may then have lost its power. Nothing is assumed about a port that isn't well-behaved. No call changes
+/// whether a port is well-behaved. The state of a port of an operating system is `unknown_port`, which isn't
+/// well-behaved.
 ///
 /// Each call must return, so an implementation that can block forever needs a timeout.
 pub trait Port {
@@ -27,7 +29,7 @@ pub trait Port {
 
     ghost state: { Self → PortState };
 
-    /// Sends all of these bytes. After an error, any number of them may have been sent.
+    /// Sends all of `bytes`. After an error, any number of them may have been sent.
     fn send(&mut self, bytes: &[u8]) -> Result<(), Self::Cause>
         ensures nature { (state self.new).honest ≡ (state self.old).honest }
         ensures sent { (state self.old).honest ≡ true
@@ -35,8 +37,8 @@ pub trait Port {
         ensures cut_off { (state self.old).honest ≡ true
             → OnErr result (IsCutOff bytes.now (state self.old) (state self.new)) };
 
-    /// Fills `bytes` with what the programmer sent. After an error, any number of bytes may have been received, and an
-    /// honest port leaves `bytes` as it was.
+    /// Fills `bytes` with the next bytes that the programmer sent. After an error, any number of bytes may have been
+    /// received, and a well-behaved port leaves `bytes` as it was.
     fn receive(&mut self, bytes: &mut [u8]) -> Result<(), Self::Cause>
         ensures nature { (state self.new).honest ≡ (state self.old).honest }
         ensures received { (state self.old).honest ≡ true
@@ -45,6 +47,6 @@ pub trait Port {
             → OnErr result (IsSilent (length bytes.old) (state self.old) (state self.new)) }
         ensures unread { (state self.old).honest ≡ true → OnErr result (bytes.new ≡ bytes.old) };
 
-    /// Proves that an honest port reaches a chip whose status bits, bytes and polls are in range (`IsChip`).
+    /// Proves that the status bits, bytes and polls of a chip at a well-behaved port are in range (`IsChip`).
     ghost reaches: { (port : Self) → (state port).honest ≡ true → IsChip (state port).device.chip };
 }

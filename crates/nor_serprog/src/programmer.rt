@@ -1,53 +1,57 @@
-//! A programmer that was identified, and why one cannot be used.
+//! The replies of a programmer to its identification, and the reasons why a programmer cannot be used.
 ghost use Rattle.std.specs.Prelude.{◌≡◌, ◌≤◌};
 
 use crate::Failure;
 use thiserror::Error;
 
-/// Why a programmer cannot be used. `C` is the cause of the port.
+/// Why a programmer cannot be used. `C` is the cause of a failure of the port.
 #[derive(Debug, Drop, Error)]
 #[error_bound(C: std::fmt::Display)]
 pub enum HandshakeFault<C> {
-    /// An exchange failed.
+    /// An exchange with the programmer failed.
     #[error("{0}")]
     Failure(Failure<C>),
-    /// The programmer speaks another version of the protocol.
+    /// The programmer speaks another version of the protocol than 1. The value is its version.
     #[error("the programmer speaks version {0} of serprog, and only version 1 is known")]
     Version(u16),
-    /// The programmer lacks the command with this opcode. For `identify` that is O_SPIOP (13h), or S_SPI_FREQ (14h) if
-    /// a clock was requested; for `select_chip` it is S_SPI_CS (16h).
+    /// The programmer lacks the command with this opcode. If `identify` returns this error, the opcode is that of
+    /// O_SPIOP (13h), or of S_SPI_FREQ (14h) if a clock was requested. If `select_chip` returns it, the opcode is that
+    /// of S_SPI_CS (16h).
     #[error("the programmer lacks command {0:02X}h, which is needed here")]
     Lacks(u8),
-    /// The programmer doesn't support SPI, or supports other types of bus too and has no command that selects one. The
-    /// value is the flags that it returned: 1 parallel, 2 LPC, 4 FWH, 8 SPI.
+    /// The programmer doesn't support SPI; or it supports other types of bus, too, and has no command that selects one
+    /// (S_BUSTYPE). The value has the flags that it returned: 1 parallel, 2 LPC, 4 FWH, 8 SPI.
     #[error("the programmer cannot be set to SPI: its types of bus are {0:02X}h")]
     NotSpi(u8),
-    /// An O_SPIOP may send at most this many bytes. A page program in one transaction needs 260, its shortest part 5.
+    /// An O_SPIOP may send at most this many bytes, which is too few. A page program in one transaction sends 260
+    /// bytes, and its shortest part sends 5.
     #[error("the programmer sends at most {0} bytes in a transaction, too few for a page program")]
     WriteLimit(u32),
-    /// An O_SPIOP may read at most this many bytes, and reading a sector needs 4,096.
+    /// An O_SPIOP may read at most this many bytes, which is too few for the 4,096 bytes of a sector.
     #[error("the programmer reads at most {0} bytes in a transaction, and a sector needs 4096")]
     ReadLimit(u32),
-    /// The programmer lacks Q_WRNMAXLEN, so its serial buffer limits the length of a frame. The buffer has this many
-    /// bytes. The frame of a page program has 267 bytes, and that of its shortest part 12.
+    /// The serial buffer of the programmer has this many bytes, which is too few. The buffer limits the length of a
+    /// frame, because the programmer lacks Q_WRNMAXLEN. The frame of a page program has 267 bytes, and that of its
+    /// shortest part 12.
     #[error("the serial buffer of the programmer has {0} bytes, too few for a page program")]
     SmallBuffer(u16),
 }
 
-/// The replies of a programmer to its identification. Its limits may be small: if a transaction can't send a page
-/// program or read a sector, use a `SplittingBus`.
+/// The replies of a programmer to its identification, whatever its limits. If one transaction can't send a page program
+/// or read a sector, use a `SplittingBus`.
 #[derive(Clone, Copy, Debug, PartialEq, Eq)]
 pub struct AnyProgrammer {
     pub(crate) name: [u8; 16],
     pub(crate) longest_write: u32,
     pub(crate) longest_read: u32,
-    // `longest_write`, or fewer bytes if only a shorter frame fits into the serial buffer.
+    // The greatest number of bytes that a part of a program may send. It is `longest_write`, or less if the serial
+    // buffer of a programmer without Q_WRNMAXLEN is too small for the frame of such a transaction.
     pub(crate) longest_part: u32,
     pub(crate) serial_buffer: u16,
     pub(crate) frequency: Option<u32>,
-    // The programmer has the command S_SPI_CS.
+    // True if the programmer has the command S_SPI_CS.
     pub(crate) selects: bool,
-    // A part of a program sends an opcode, an address and at least one data byte.
+    // The shortest part of a program sends an opcode, three address bytes and one data byte.
     ghost parts: { 5 ≤ longest_part },
     ghost reads: { 1 ≤ longest_read },
 }
@@ -60,8 +64,8 @@ pub struct Programmer {
     ghost reads: { 4096 ≤ reported.longest_read },
 }
 
-// The limits that a programmer must have at least: the numbers of bytes that a transaction sends and reads, and the
-// number of bytes in the frame of a program.
+// The least limits with which a programmer is accepted: the numbers of bytes that a transaction can send and read, and
+// the length of the frame that the serial buffer must hold.
 #[derive(Clone, Copy)]
 pub(crate) struct Least {
     pub(crate) write: u32,
@@ -77,7 +81,8 @@ impl AnyProgrammer {
         self.name
     }
 
-    /// Returns the greatest number of bytes that a transaction may send, if the serial buffer does not matter.
+    /// Returns the greatest number of bytes that a transaction may send according to Q_WRNMAXLEN, or 2^24 if the
+    /// programmer sets no limit. The serial buffer may limit it further (`longest_part`).
     pub fn longest_write(&self) -> u32
         ensures { result ≡ self.now.longest_write }
     {
@@ -93,7 +98,8 @@ impl AnyProgrammer {
         self.longest_part
     }
 
-    /// Returns the greatest number of bytes that a transaction may read, which is at least 1.
+    /// Returns the greatest number of bytes that a transaction may read, which is at least 1, or 2^24 if the programmer
+    /// sets no limit.
     pub fn longest_read(&self) -> u32
         ensures value { result ≡ self.now.longest_read }
         ensures enough { 1 ≤ result }
@@ -101,8 +107,8 @@ impl AnyProgrammer {
         self.longest_read
     }
 
-    /// Returns the size of the serial buffer in bytes, or 0 if the programmer lacks the query (Q_SERBUF). That number
-    /// of bytes may be sent before their replies are read.
+    /// Returns the size of the serial buffer in bytes, or 0 if the programmer lacks the query (Q_SERBUF). At most this
+    /// many bytes may be sent before the replies to them are read.
     pub fn serial_buffer(&self) -> u16
         ensures { result ≡ self.now.serial_buffer }
     {
@@ -127,14 +133,15 @@ impl Programmer {
         self.reported.name
     }
 
-    /// Returns the replies of the programmer, as those of a programmer with any limits.
+    /// Returns the same replies as an `AnyProgrammer`, which promises nothing about the limits.
     pub fn reported(&self) -> &AnyProgrammer
         ensures { result.now ≡ self.now.reported }
     {
         &self.reported
     }
 
-    /// Returns the greatest number of bytes that a transaction may send, which is at least 260.
+    /// Returns the greatest number of bytes that a transaction may send, which is at least 260, or 2^24 if the
+    /// programmer sets no limit.
     pub fn longest_write(&self) -> u32
         ensures value { result ≡ writes_most self.now }
         ensures enough { 260 ≤ result }
@@ -142,7 +149,8 @@ impl Programmer {
         self.reported.longest_write
     }
 
-    /// Returns the greatest number of bytes that a transaction may read, which is at least 4,096.
+    /// Returns the greatest number of bytes that a transaction may read, which is at least 4,096, or 2^24 if the
+    /// programmer sets no limit.
     pub fn longest_read(&self) -> u32
         ensures value { result ≡ reads_most self.now }
         ensures enough { 4096 ≤ result }
@@ -150,8 +158,8 @@ impl Programmer {
         self.reported.longest_read
     }
 
-    /// Returns the size of the serial buffer in bytes, or 0 if the programmer lacks the query (Q_SERBUF). That number
-    /// of bytes may be sent before their replies are read.
+    /// Returns the size of the serial buffer in bytes, or 0 if the programmer lacks the query (Q_SERBUF). At most this
+    /// many bytes may be sent before the replies to them are read.
     pub fn serial_buffer(&self) -> u16
         ensures { result ≡ buffer_of self.now }
     {

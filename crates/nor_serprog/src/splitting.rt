@@ -1,4 +1,4 @@
-//! A bus that splits transactions to the limits of a programmer.
+//! A bus that splits transactions that exceed the limits of a programmer.
 ghost use Rattle.std.specs.Prelude.{◌≡◌, ◌<◌, ◌≤◌, [], true, false, length, drop, OnOk, OnErr};
 ghost use Rattle.std.proofs.lemmas.Bool.{false≢true};
 ghost use Rattle.nor_model.specs.Bus.{IsHonestFor, SameNature, Stops, Carries, Records};
@@ -10,25 +10,25 @@ use crate::parts::{split_program, split_read};
 use nor_model::{Bus, History, Stopped};
 
 /// A bus that splits transactions which are too long for the bus inside, so that a programmer with small limits can
-/// carry them out. A transaction within both limits is passed on as it is.
+/// carry them out. A transaction within both limits is passed on unchanged.
 ///
 /// - A read of data (03h) or of SFDP bytes (5Ah) becomes several reads of consecutive addresses. A read of status 1
 ///   (05h) or status 2 (35h) that requests several bytes becomes several reads.
 /// - A program (02h) becomes several programs of the same page, in ascending order of addresses. The caller's write
-///   enable comes before the first part. Each further part follows polls (05h), of which the last one shows that the
-///   chip is ready, and a write enable (06h) of its own. The polls after the last part are the caller's.
+///   enable enables the first part. Before each further part this bus polls (05h) until the chip is ready, and sends a
+///   write enable (06h). The caller polls after the last part.
 ///
-/// Any other transaction that exceeds a limit is rejected, and nothing is sent: an ID (9Fh, 4Bh) can't be read in
-/// parts. A read that passes address FFFFFFh, or a program that passes the end of its page, is also rejected if it is
-/// too long for the bus inside.
+/// Any other transaction that exceeds a limit is rejected, and nothing is sent: for example, an ID (9Fh, 4Bh) can't be
+/// read in parts. A read that passes address FFFFFFh, or a program that passes the end of its page, is also rejected if
+/// it is too long for the bus inside.
 ///
-/// A program in parts stops if the bus inside stops, or after 65,536 polls in a row that show BUSY. The first parts are
-/// then programmed, the others are not. To a restore that is a program that was interrupted: the bytes lie in a sector
-/// that the journal saves.
+/// A program in parts stops if the bus inside stops, or after 65,536 polls in a row that show BUSY. Then only the first
+/// parts are programmed. A restore treats this like an interrupted program: the bytes lie in a sector that the journal
+/// saves.
 ///
-/// The history has each transaction over this bus with its reply; one that failed or was rejected has none. A
-/// transaction that was split is in the history once. One transaction over this bus may be many over the bus inside, so
-/// this bus is not honest as `Bus` defines it, even if the bus inside is.
+/// The history lists each transaction over this bus with its reply. A transaction that failed or was rejected is listed
+/// without a reply, and a transaction that was split is listed once. One transaction over this bus may be many over the
+/// bus inside, so this bus is not well-behaved as `Bus` defines it, even if the bus inside is.
 #[derive(Drop)]
 pub struct SplittingBus<B> {
     bus: B,
@@ -43,7 +43,7 @@ pub struct SplittingBus<B> {
 impl<B: Bus + Drop> SplittingBus<B> {
     ghost use Rattle.nor_serprog.specs.Splitting.{split_of, sends_most, receives_most, history_of};
 
-    /// Returns a bus over `bus`, which can send `longest_write` bytes and read `longest_read` bytes in a transaction.
+    /// Returns a bus over `bus`. A transaction over `bus` can send `longest_write` bytes and read `longest_read` bytes.
     pub fn new(bus: B, longest_write: u32, longest_read: u32) -> SplittingBus<B>
         requires writes { 5 ≤ longest_write }
         requires reads { 1 ≤ longest_read }

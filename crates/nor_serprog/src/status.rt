@@ -1,4 +1,4 @@
-//! A bus that believes no status byte that it received once, notices a lost chip, and checks each status write.
+//! A bus that notices a lost chip, reads status registers twice, and checks each status write.
 ghost use Rattle.std.specs.Prelude.{◌≡◌, ◌⊎◌, ◌%◌, ◌||◌, ◌∷◌, [], true, false, length, ℕ, List, None, Some, OnOk, OnErr, IfOk};
 ghost use Rattle.std.specs.Option.{ForSome};
 ghost use Rattle.std.proofs.lemmas.Bool.{false≢true};
@@ -31,43 +31,45 @@ const READ_ID: u8 = 0x9F;
 
 const BUSY: u8 = 0x01;
 
-/// A bus that notices a lost chip, reads status registers twice, refuses status writes that would change other bits than
-/// the protection bits, and reads each status write back.
+/// A bus that notices a lost chip, reads status registers twice, refuses status writes that would change other bits
+/// than the protection bits, and reads each status write back.
 ///
 /// - If contact or supply fails, each reply is FFh or 00h, however often it is read. Therefore the ID is read (9Fh with
-///   three reply bytes) after each reply on which a decision depends. Each ID must be the first one that was read, also
-///   if the caller reads it; otherwise the call returns `Stopped`. A wrong reply is believed only if the chip is lost for
-///   each of its reads, and has contact for the IDs before and after each of them.
+///   three reply bytes) after each reply on which a decision depends, except for polls that are believed at once (see
+///   below). Each ID must equal the first one, even if the caller requested it; otherwise the call returns `Stopped`. A
+///   wrong reply that is checked in this way is believed only if the chip loses contact for each read of the reply, and
+///   has contact again for the ID after each of them.
 /// - The ID is read after each transaction that begins with the opcode of a read of data (03h), of SFDP (5Ah) or of the
 ///   unique ID (4Bh).
 /// - A poll (05h with one reply byte) is carried out with two reply bytes, since a chip repeats its status (W25Q64FV
 ///   datasheet, Read Status Register). If one of them shows BUSY, that byte is returned. If both show that the chip is
-///   ready, they must be equal. Until the first modifying command, and after a status write, the ID is then read, and the
-///   poll is carried out a second time, with the same reply, and the ID after it. Other polls are believed at once.
-/// - Status 2 (35h with one reply byte) is read twice, with the same reply, each time with the ID after it.
+///   ready, they must be equal. Before the first modifying command, and until a status write is read back, the poll is
+///   then repeated with the same reply, and the ID is read after each of the two polls. Other polls are believed at
+///   once.
+/// - Status 2 (35h with one reply byte) is read twice, and the ID is read after each read. Both replies must be equal.
 /// - A status write (01h) is passed on only if both status registers were read in this way before, and if outside the
 ///   protection bits it has the bits that were read: SRP0, SRP1, QE, the reserved bit, and the one-time bits LB1, LB2
 ///   and LB3. BUSY, WEL and SUS must be clear. Otherwise nothing is sent.
 /// - After a status write, the first poll that shows that the chip is ready also reads status 2, twice. If a
 ///   non-volatile bit isn't as it was sent, the poll returns `Stopped`.
 ///
-/// `fault` says why the bus stopped if the bus inside did not.
+/// `fault` returns why this bus stopped, if the bus inside did not.
 ///
 /// A busy chip ignores a read of its ID (W25Q64FV datasheet, Instructions), so it would count as lost. Therefore the ID
 /// is read only after a poll that shows that the chip is ready, and data, SFDP, the unique ID and status 2 must be read
-/// only while the chip is ready. The engine does so: a probe waits first, and each operation waits at its end (`wait` of
-/// nor_driver).
+/// only while the chip is ready. The engine does so: a probe waits first, and each operation waits at its end (`wait`
+/// of nor_driver).
 ///
-/// A transaction over this bus may be several over the bus inside, so this bus is not honest as `Bus` defines it, even
-/// if the bus inside is. The history has each transaction over this bus with its reply; one that failed or was refused
-/// has none.
+/// A transaction over this bus may be several over the bus inside, so this bus is not well-behaved as `Bus` defines it,
+/// even if the bus inside is. The history lists each transaction over this bus with its reply; a transaction that
+/// failed or was refused is listed without a reply.
 #[derive(Drop)]
 pub struct CheckedStatus<B: Bus + Drop> {
     bus: B,
     known: Known,
     fault: Option<CheckFault>,
     history: History,
-    // The bytes that are known were the replies of the bus inside.
+    // Each status byte that is known was read twice over the bus inside, with an ID after each read.
     ghost one_read: { ForSome known.one (λ byte. was_read_twice 0x05 byte (B.state bus).history ≡ true) },
     ghost two_read: { ForSome known.two (λ byte. was_read_twice 0x35 byte (B.state bus).history ≡ true) },
 }
@@ -75,7 +77,7 @@ pub struct CheckedStatus<B: Bus + Drop> {
 impl<B: Bus + Drop> CheckedStatus<B> {
     ghost use Rattle.nor_serprog.specs.Checked.{bus_of, history_of, has_begun, written_of};
 
-    /// Returns a bus that checks the status registers over `bus`.
+    /// Returns a bus over `bus` that checks the status registers.
     pub fn new(bus: B) -> CheckedStatus<B>
         ensures bus { bus_of result ≡ bus }
         ensures begun { has_begun result ≡ false }
@@ -103,7 +105,7 @@ impl<B: Bus + Drop> CheckedStatus<B> {
         &self.bus
     }
 
-    /// Returns the reason of the last stop, if the bus inside did not stop there.
+    /// Returns the reason of the last stop that the bus inside did not cause, or `None` if there was none.
     pub fn fault(&self) -> Option<CheckFault> {
         self.fault
     }
@@ -119,7 +121,7 @@ impl<B: Bus + Drop> CheckedStatus<B> {
 impl<B: Bus + Drop> CheckedStatus<B> {
     ghost use Rattle.nor_serprog.specs.Checked.{has_begun, history_of, inner_state, known_of, written_of};
 
-    // Reads status 2, and believes it if it was the same twice.
+    // Reads status 2 twice. If both replies are equal, the byte is known from now on.
     #[tactic(auto, using(crate::proofs::StatusRead::second_read))]
     fn read_second(&mut self) -> Result<u8, Stopped>
         ensures history { history_of self.new ≡ history_of self.old }
@@ -134,8 +136,8 @@ impl<B: Bus + Drop> CheckedStatus<B> {
         Ok(status)
     }
 
-    // Polls, twice if the caller needs to believe the status of a ready chip. Then reads a status write back. Returns
-    // status 1.
+    // Polls, and returns status 1. Polls twice before the first modifying command and after a status write, otherwise
+    // once. If a status write is not read back yet, and the chip is ready, reads it back.
     #[tactic(auto, using(crate::proofs::StatusRead::pair_read, crate::proofs::StatusRead::still_known))]
     fn poll(&mut self) -> Result<u8, Stopped>
         ensures history { history_of self.new ≡ history_of self.old }
@@ -158,8 +160,8 @@ impl<B: Bus + Drop> CheckedStatus<B> {
         Ok(status)
     }
 
-    // If a status write is to be read back, reads status 2, and compares it and `one`, which is status 1, with what was
-    // sent.
+    // If a status write is not read back yet, reads status 2, and compares it and `one`, the value of status 1, with
+    // the bytes of the status write.
     fn read_back(&mut self, one: u8) -> Result<(), Stopped>
         ensures history { history_of self.new ≡ history_of self.old }
         ensures begun { has_begun self.new ≡ has_begun self.old }
@@ -181,7 +183,8 @@ impl<B: Bus + Drop> CheckedStatus<B> {
         Ok(())
     }
 
-    // Passes a status write on, if both status registers were read and it keeps the bits that are not protection bits.
+    // Passes a status write on if both status registers are known and the write keeps all their bits except the
+    // protection bits. Otherwise stops.
     fn write(&mut self, out: &[u8], reply: &mut [u8]) -> Result<(), Stopped>
         ensures history { history_of self.new ≡ history_of self.old }
         ensures kept { (inner_state self.new ≡ inner_state self.old)
@@ -252,7 +255,8 @@ impl<B: Bus + Drop> CheckedStatus<B> {
         }
     }
 
-    // Makes a transaction that is not checked in itself. Reads the ID after a read of data, of SFDP or of the unique ID.
+    // Makes a transaction whose own reply is not checked. Reads the ID after a read of data, of SFDP or of the unique
+    // ID.
     fn pass_confirmed(&mut self, out: &[u8], reply: &mut [u8]) -> Result<(), Stopped>
         ensures history { history_of self.new ≡ history_of self.old }
         ensures sent { (inner_state self.new).sent ≡ with_sent out.now (inner_state self.old).sent }
@@ -310,7 +314,8 @@ impl<B: Bus + Drop> Bus for CheckedStatus<B> {
     }
 }
 
-// Returns whether a transaction begins with the opcode of a read of data, of SFDP or of the unique ID.
+// Returns whether a transaction begins with the opcode of a read of data (03h), of SFDP (5Ah) or of the unique ID
+// (4Bh).
 fn is_confirmed(out: &[u8]) -> bool
     ensures { result ≡ begins_confirmed out.now }
 {

@@ -12,10 +12,10 @@ use crate::again::{is_repeated, is_repeated_or_expected};
 use crate::ahead::data_address;
 use nor_model::{Bus, History, Stopped};
 
-// The greatest length of a read: a block of `ReadAhead`.
+// The greatest length of a read, which is the greatest length of a block of `ReadAhead`.
 const LONGEST_READ: usize = 65536;
 
-// The first address that three bytes can't represent.
+// The least address that doesn't fit in three bytes.
 const ADDRESSES_END: usize = 1 << 24;
 
 const READ_DATA: u8 = 0x03;
@@ -27,25 +27,25 @@ const READ_SFDP: u8 = 0x5A;
 const READ_ID: u8 = 0x9F;
 
 /// A bus that carries out each read of data (03h), of the ID (9Fh), of SFDP (5Ah) and of the unique ID (4Bh) twice, and
-/// stops if the replies differ. A poor contact flips bits in some reads. Without a second read a flipped bit gets into
-/// the journal, and a restore writes it to the chip; or the wrong chip is found. A read of more than 65,536 bytes is
-/// rejected: nothing is sent.
+/// stops if the replies differ. A poor contact flips bits in some reads. Without a second read a flipped bit could get
+/// into the journal, and a restore would write it to the chip; or a wrong ID could be read. Such a read of more than
+/// 65,536 bytes is rejected: nothing is sent.
 ///
 /// If an image is expected (`expecting`), a read of data that sends four bytes is carried out once. After that only the
-/// sectors of its reply that differ from the image at the same addresses are read again, neighbouring ones together. A
-/// sector of which the reply has only a part counts by that part. If that is the image of a session, each sector that
-/// its journal saves was read twice: a session saves only sectors that differ from its image, and reads each one with a
-/// single transaction.
+/// sectors of its reply that differ from the image at the same addresses are read again, neighbouring ones together. If
+/// the reply has only a part of a sector, only this part is compared. If the expected image is the image of a session,
+/// each sector that the session's journal saves was read twice: a session saves only sectors that differ from its
+/// image, and reads each one with a single transaction.
 ///
 /// An error that is the same in both reads is not detected. A read over this bus may be several transactions over the
-/// bus inside, so this bus is not honest as `Bus` defines it, even if the bus inside is. On any bus, each byte that a
-/// successful read returned is the expected one, or a later transaction returned the same byte for the same address. If
-/// the bus inside is honest and takes a read of this length, a read of at most 65,536 bytes fails only if no
+/// bus inside, so this bus is not well-behaved as `Bus` defines it, even if the bus inside is. On any bus, each byte
+/// that a successful read returned is the expected one, or a later transaction returned the same byte again. If the bus
+/// inside is well-behaved and accepts a read of this length, a read of at most 65,536 bytes fails only if no
 /// transaction is left afterwards.
 ///
-/// The history has each transaction over this bus with its reply; one that failed or was rejected has none. A read of
-/// which the bus inside carried out all or a part twice is in the history once. In contracts, what was sent and the
-/// result of the last poll are those of the bus inside.
+/// The history lists each transaction over this bus with its reply; a transaction that failed is listed without a
+/// reply. A read that the bus inside repeated, as a whole or in part, is listed once. In contracts, the modifying
+/// commands that were sent and the result of the last poll are those of the bus inside.
 #[derive(Drop)]
 pub struct ReadTwice<B> {
     bus: B,
@@ -56,7 +56,7 @@ pub struct ReadTwice<B> {
 }
 
 impl<B: Bus + Drop> ReadTwice<B> {
-    /// Returns a bus that reads data twice over `bus`.
+    /// Returns a bus over `bus` that carries out each read twice.
     pub fn new(bus: B) -> ReadTwice<B>
         ensures bus { twice_of result ≡ bus }
         ensures differed { has_differed result ≡ false }
@@ -72,7 +72,7 @@ impl<B: Bus + Drop> ReadTwice<B> {
         }
     }
 
-    /// Returns a bus that reads data twice over `bus`, except for sectors that equal `image` at their address. The
+    /// Returns a bus over `bus` that reads data twice, except for sectors that equal `image` at their addresses. The
     /// first byte of `image` is the one at address 0.
     pub fn expecting(bus: B, image: Vec<u8>) -> ReadTwice<B>
         ensures bus { twice_of result ≡ bus }
@@ -105,8 +105,8 @@ impl<B: Bus + Drop> ReadTwice<B> {
 }
 
 impl<B: Bus> ReadTwice<B> {
-    // Makes one transaction, and does not add it to the history. The clause `records` is about the state after the
-    // caller has added it.
+    // Makes one transaction, and does not add it to the history. The clause `records` describes the state after the
+    // caller has added the transaction.
     fn carry(&mut self, out: &[u8], reply: &mut [u8]) -> Result<(), Stopped>
         ensures once { IsHonestFor out.now (length reply.old) (B.state (twice_of self.old))
             → begins_read out.now ≡ false
@@ -141,8 +141,9 @@ impl<B: Bus> ReadTwice<B> {
         Ok(())
     }
 
-    // Carries out a read again whose reply was `reply`, or reads only the sectors again that differ from the image.
-    // Returns whether all replies are the same. The clauses with `before` are about the first read, before this call.
+    // Repeats the read `out`, whose first reply was `reply`. If an image is expected, repeats only the sectors that
+    // differ from the image. Returns whether all second replies are the same. In the clauses, `before` is the state
+    // before the first read.
     fn is_confirmed(&mut self, out: &[u8], reply: &[u8]) -> Result<bool, Stopped>
         requires reads { begins_read out.now ≡ true }
         requires len { length reply.now ≤ 65536 }
@@ -220,8 +221,8 @@ impl<B: Bus> Bus for ReadTwice<B> {
     }
 }
 
-// Returns whether a transaction begins with the opcode of a read of data, of an ID or of SFDP. No other byte is looked
-// at, so a transaction without a whole address counts, too.
+// Returns whether a transaction begins with the opcode of a read of data, of the ID, of the unique ID or of SFDP. Only
+// the first byte counts, even if the address is incomplete.
 fn is_read(out: &[u8]) -> bool
     ensures { result ≡ begins_read out.now }
 {

@@ -1,4 +1,5 @@
-//! What a `CheckedStatus` reads: IDs, each of which must be the first one, and status registers before an ID.
+//! How a `CheckedStatus` reads IDs and status registers. Each ID must equal the first one, and an ID is read after each
+//! read of a status register that must be confirmed.
 ghost use Rattle.std.specs.Prelude.{◌≡◌, ◌%◌, ◌∷◌, Some, OnOk, IfOk};
 ghost use Rattle.nor_model.specs.History.{exchange_of};
 ghost use Rattle.nor_model.specs.Sent.{with_sent};
@@ -20,7 +21,7 @@ const BUSY: u8 = 0x01;
 impl<B: Bus + Drop> CheckedStatus<B> {
     ghost use Rattle.nor_serprog.specs.Checked.{history_of, inner_state, known_of};
 
-    // Makes one transaction over the bus inside. What is known stays.
+    // Passes one transaction on to the bus inside. The knowledge about the chip does not change.
     pub(super) fn pass(&mut self, out: &[u8], reply: &mut [u8]) -> Result<(), Stopped>
         ensures history { history_of self.new ≡ history_of self.old }
         ensures known { known_of self.new ≡ known_of self.old }
@@ -31,7 +32,7 @@ impl<B: Bus + Drop> CheckedStatus<B> {
         self.bus.transfer(out, reply)
     }
 
-    // Records why the bus stops.
+    // Records `fault` as the reason why the bus stops, and returns `Stopped`.
     pub(super) fn stop(&mut self, fault: CheckFault) -> Stopped
         ensures history { history_of self.new ≡ history_of self.old }
         ensures known { known_of self.new ≡ known_of self.old }
@@ -41,7 +42,8 @@ impl<B: Bus + Drop> CheckedStatus<B> {
         Stopped
     }
 
-    // Reads the ID, and stops if it is another one than the known ID. If none is known, this one is known from now on.
+    // Reads the ID, and stops if it differs from the known ID. If no ID is known yet, the one that was read is known
+    // from now on.
     pub(super) fn read_id(&mut self) -> Result<[u8; 3], Stopped>
         ensures history { history_of self.new ≡ history_of self.old }
         ensures status { KeepsStatus (known_of self.old) (known_of self.new) }
@@ -62,7 +64,8 @@ impl<B: Bus + Drop> CheckedStatus<B> {
         Ok(found)
     }
 
-    // Stops after two replies that differ. If the chip does not reply its ID, that is the reason.
+    // Stops because two replies differ. Reads the ID first: if it is not the known one, the recorded reason is that the
+    // chip is lost.
     fn differ(&mut self) -> Stopped
         ensures history { history_of self.new ≡ history_of self.old }
         ensures status { KeepsStatus (known_of self.old) (known_of self.new) }
@@ -75,7 +78,8 @@ impl<B: Bus + Drop> CheckedStatus<B> {
         }
     }
 
-    // Polls once, with two reply bytes. Returns one of them that shows BUSY, or else the byte that both of them are.
+    // Polls once, with two reply bytes. Returns one that shows BUSY, if there is one. Otherwise both must be equal, and
+    // the function returns their value.
     pub(super) fn poll_once(&mut self) -> Result<u8, Stopped>
         ensures history { history_of self.new ≡ history_of self.old }
         ensures status { KeepsStatus (known_of self.old) (known_of self.new) }
@@ -100,7 +104,8 @@ impl<B: Bus + Drop> CheckedStatus<B> {
         Ok(first)
     }
 
-    // Polls twice, each time with the ID after it. Returns a byte that shows BUSY, or else the byte that all replies had.
+    // Polls twice, and reads the ID after each poll. If a byte of the first poll shows BUSY, returns it at once.
+    // Otherwise all reply bytes must be equal, and the function returns their value.
     pub(super) fn poll_twice(&mut self) -> Result<u8, Stopped>
         ensures history { history_of self.new ≡ history_of self.old }
         ensures status { KeepsStatus (known_of self.old) (known_of self.new) }
@@ -122,7 +127,8 @@ impl<B: Bus + Drop> CheckedStatus<B> {
         Ok(status)
     }
 
-    // Reads status 2 twice, each time with the ID after it. Returns the byte, which both replies had.
+    // Reads status 2 twice, and reads the ID after each read. Both replies must be equal, and the function returns
+    // their value.
     pub(super) fn second_twice(&mut self) -> Result<u8, Stopped>
         ensures history { history_of self.new ≡ history_of self.old }
         ensures status { KeepsStatus (known_of self.old) (known_of self.new) }

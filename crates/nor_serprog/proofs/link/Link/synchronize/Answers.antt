@@ -23,7 +23,8 @@ returns-in_err-skip_past-clause-synchronized g c awaits whole =
     (row_missed (SyncNop ∷ []) _ _ 2 _ old (g.P.Port.state c.send_all.new.port) new sync_row awaits
     c.send_all.ensures.nature (c.in_ok-send_all.ensures.sent awaits.honest) c.in_err-skip_past.ensures.skips))
 
--- The reply to SYNCNOP was received.
+-- If the first SYNCNOP was sent to an idle programmer and its reply was received, the programmer is idle again after at
+-- most three calls.
 first : (g : _) (c : After-send_all-2 g) → AwaitsCommand (g.P.Port.state c.args.self.now.port)
     → OnlyAsks 3 (g.P.Port.state c.args.self.now.port) (g.P.Port.state c.skip_past.new.port)
 first g c awaits =
