@@ -1,4 +1,4 @@
--- The promises of nor_session over a bus to a programmer, as promises for the programmer's chip.
+-- Lemmas: the promises of nor_session for a bus over a port are promises for the programmer's chip.
 use Rattle.std.proofs.Common.{◌≡◌, ◌∙◌, ◌/◌, ℕ, false, List, [], length, refl, sym, ap, subst, arith, inl, inr}
 use Rattle.std.specs.Prelude.{Result, Ok, Err}
 use Rattle.std.proofs.lemmas.List.{append-nil}
@@ -29,11 +29,11 @@ use Rattle.nor_serprog.specs.Device.{PortState}
 use Rattle.nor_serprog.specs.Bus.{over_port}
 use Rattle.nor_wire.specs.Headline.{ReachesGenuine, CanRestoreChip, CanRestoreChipFrom, HadFewCalls, SessionFails, KeepsOriginalChip, SessionResults, RestoreFails, RefusesUnsent, RestoresOriginalChip}
 
--- A bus over an honest port to a genuine chip is modelled.
+-- A bus over a well-behaved port to a genuine chip is modelled.
 pub modelled : (port : PortState) (history : List Exchange) → ReachesGenuine port → IsModelled (over_port port history)
 modelled port history reaches = record { honest = reaches.honest; genuine = reaches.genuine }
 
--- If a journal can restore the original chip (`first`) on a bus that isn't steady, it can do so on every bus to the
+-- If a journal can restore the original chip `first` on a bus that isn't steady, it can restore it on every bus to the
 -- same chip.
 pub on_every_bus : (journal : Content) (first : Chip) (state : BusState) → state.steady ≡ false
     → CanRestore journal first state → CanRestoreChip journal first state.chip
@@ -52,7 +52,7 @@ on_every_bus journal first state unsteady can = λ other same. record {
   };
 }
 
--- The proof of the law `read_restores_chip`: each content has its own encoding, so the journal that is read is the one
+-- The proof of the law `read_restores_chip`. Each content has its own encoding, so the journal that is read is the one
 -- that the bytes encode.
 pub read_from : (bytes : List ℕ) (first chip : Chip) (journal : Content) → CanRestoreChipFrom bytes first chip
     → IsContent journal → bytes ≡ text journal → CanRestoreChip journal first chip
@@ -63,8 +63,8 @@ read_from bytes first chip journal from is read =
     let P : Content → Type 0 = λ j. CanRestoreChip j first chip in
     subst P same from.back
 
--- The proof of the law `disconnected_restores_chip`. `CanRestoreChip` holds for every bus to the chip, so also for one
--- that isn't steady, and on that bus `lost_can_restore` covers a busy chip.
+-- The proof of the law `disconnected_restores_chip`. `CanRestoreChip` holds for every bus to the chip, and so for one
+-- that isn't steady. For such a bus `lost_can_restore` also covers a busy chip.
 pub lost_from_chip : (journal : Content) (first old new : Chip) → CanRestoreChip journal first old
     → PowerLost old new → CanRestoreChip journal first new
 lost_from_chip journal first old new can lost = λ state same.
@@ -130,8 +130,8 @@ results request image old new history history' vault vault' (Err refusal) always
 
 -- ---- a restore
 
--- On every bus an error of a restore other than 12, 13 and 14 is one that it checks first, so nothing modifying was
--- sent.
+-- If a restore on any bus returns an error other than 12, 13 and 14, it checked that error first, so it sent no
+-- modifying command.
 pub refuses : (journal : Content) (old new : BusState) (result : Result Report Refusal)
     → RestoreAlways journal old new result → IfErr result (RefusesUnsent old.sent new.sent)
 refuses journal old new (Ok report) always = tt

@@ -1,4 +1,4 @@
--- The simulated programmer replies to frames one after another, as its firmware says.
+-- Lemmas: the simulated programmer replies to frames one after another, as its firmware says.
 use Rattle.std.proofs.Common.{◌≡◌, ◌∙◌, ◌+◌, ◌<◌, ◌≤◌, true, ◌++◌, ℕ, Bool, true, false, List, [], ◌∷◌, length, take, drop, refl, sym, ap, arith, append_assoc, length-append}
 use Rattle.std.specs.Prelude.{◌==◌, ◌||◌, if◌then◌else◌, slice_index, Option, Some, unwrap_or, Result, Ok, Err, OnOk, IsOk}
 use Rattle.std.specs.Result.{is_err}
@@ -12,7 +12,8 @@ use Rattle.nor_serprog.specs.Frame.{frame_of, frame_len, long_len, argument_coun
 use Rattle.nor_serprog.specs.Firmware.{ProgrammerSettings, HasReply, HaveReplies, reply_of, replies_of, settings_after, settings_after_all, frames_of}
 use Rattle.nor_wire.specs.SimPort.{simulated_firmware, simulated_reply, simulated_settings, bus_type_after}
 
--- The reply to a frame is the one of the firmware.
+-- If the firmware specifies the reply to a command, the simulated programmer gives this reply to the frame of the
+-- command.
 reply_is : (command : Command) → HasReply simulated_firmware command
     → simulated_reply (slice_index (frame_of command) 0) ≡ reply_of simulated_firmware command
 reply_is (Operate out replies) has = absurd has
@@ -22,7 +23,8 @@ reply_is (SelectChip number) has = absurd (false≢true has)
 reply_is (SetBuses flags) has = refl
 reply_is _ has = refl
 
--- The type of bus after a frame is the one of the settings.
+-- If the firmware specifies the reply to a command, the type of bus after its frame is the one in the settings after
+-- the command.
 selects_as : (command : Command) → HasReply simulated_firmware command → (bus_type : Option ℕ)
     → simulated_settings (bus_type_after (frame_of command) bus_type)
     ≡ settings_after simulated_firmware command (simulated_settings bus_type)
@@ -59,7 +61,7 @@ first_is (SelectChip number) has more first = absurd (false≢true has)
 first_is (SetBuses flags) has more first = omega (arith, first)
 first_is _ has more first = omega (arith, first)
 
--- Frames of these commands do not begin with O_SPIOP.
+-- If the firmware specifies the replies to some commands, their frames do not begin with the opcode of O_SPIOP.
 pub no_operation : (commands : List Command) (frames : List ℕ) → frames ≡ frames_of commands
     → HaveReplies simulated_firmware commands → slice_index frames 0 ≡ 0x13 → ⊥
 no_operation [] frames same have first =
@@ -67,7 +69,8 @@ no_operation [] frames same have first =
 no_operation (command ∷ rest) frames same have first =
     first_is command have.0 (frames_of rest) (sym (ap (λ (f : List ℕ). slice_index f 0) same) ∙ first)
 
--- A frame has at least one byte.
+-- A frame has at least one byte, also if its length isn't known yet and counts as 2^64 - 1. `long_some` proves this for
+-- O_SPIOP and "write n", `len_some` for all commands.
 long_some : (rest : List ℕ) → 0 < unwrap_or (long_len rest) 18446744073709551615
 long_some (a ∷ b ∷ c ∷ rest) = omega arith
 long_some _ = omega arith
@@ -84,8 +87,9 @@ len_some (opcode ∷ rest) =
     either_some (opcode == 0x13 || opcode == 0x0D) (long_len rest) (Some (1 + argument_count opcode)) (long_some rest)
     (omega arith)
 
--- The frames of `later` are left, and `now` has the replies to the earlier commands. From `bus'` the later commands
--- lead to the same type of bus as all commands do from `bus`.
+-- Holds while the frames of some of `commands` are still to be answered. `rest` has the frames of the commands `later`,
+-- and `now` has `before` and the replies to the commands before them. The commands `later` change the type of bus
+-- `bus'` to the one to which all commands change `bus`.
 pub record Remains (rest before now : List ℕ) (bus bus' : Option ℕ) (commands : List Command) : Type 0 where
   pub later : List Command
   pub frames : rest ≡ frames_of later
@@ -105,7 +109,7 @@ answers_none frames before bus = record {
   remains = λ commands same have. record { later = commands; frames = same; have = have; replies = refl; settings = refl };
 }
 
--- The next frame is that of the next command.
+-- Holds if `frame` is the frame of `command`, and the bytes `rest'` after it are the frames of the commands `later`.
 pub record IsNext (rest frame rest' : List ℕ) (command : Command) (later : List Command) : Type 0 where
   pub frame_is : frame ≡ frame_of command
   pub rest_is : rest' ≡ frames_of later
@@ -132,7 +136,7 @@ nothing_left rest frame rest' len same is split =
     is ∙ ap (λ (r : List ℕ). unwrap_or (frame_len r) 18446744073709551615) same in
     omega (arith, huge, split.0, ap length same)
 
--- One more frame was answered.
+-- If `Remains` holds and the programmer answers one more frame, `Remains` holds again.
 pub remains_then : (rest frame rest' before now now' : List ℕ) (bus mid bus' : Option ℕ) (len : ℕ) (commands later : List Command)
     → len ≡ unwrap_or (frame_len rest) 18446744073709551615 → IsSplitAt rest len frame rest'
     → now' ≡ now ++ simulated_reply (slice_index frame 0) → bus' ≡ bus_type_after frame mid → rest ≡ frames_of later
@@ -171,7 +175,7 @@ answers_then frames rest frame rest' before now now' bus mid bus' len done is sp
       r.replies r.settings;
 }
 
--- Nothing is left: all commands were answered.
+-- If no bytes are left, no command is left to be answered.
 ended : (rest : List ℕ) (later : List Command) → length rest ≤ 0 → rest ≡ frames_of later
     → HaveReplies simulated_firmware later → later ≡ []
 ended rest [] none frames have = refl
@@ -184,7 +188,7 @@ ended rest (command ∷ later) none frames have =
       frame_some command have.0,
     ))
 
--- No whole frame is left: all commands were answered.
+-- If the bytes left are no whole frame, no command is left to be answered.
 no_frame : (rest : List ℕ) (len : ℕ) (later : List Command)
     → len ≡ unwrap_or (frame_len rest) 18446744073709551615 → length rest < len → rest ≡ frames_of later
     → HaveReplies simulated_firmware later → later ≡ []
@@ -196,7 +200,7 @@ no_frame rest len (command ∷ later) is short frames have =
     is ∙ ap (λ (o : Option ℕ). unwrap_or o 18446744073709551615) known in
     absurd (omega (arith, short, len_of, ap length frames, length-append (frame_of command) (frames_of later)))
 
--- `now` is `before` and then the replies to these commands, which change the type of bus from `bus` to `bus'`.
+-- Holds if `now` is `before` followed by the replies to `commands`, which change the type of bus from `bus` to `bus'`.
 pub record AreAnswered (before now : List ℕ) (bus bus' : Option ℕ) (commands : List Command) : Type 0 where
   pub replies : now ≡ before ++ replies_of simulated_firmware commands
   pub settings : simulated_settings bus' ≡ settings_after_all simulated_firmware commands (simulated_settings bus)
@@ -225,7 +229,7 @@ none_whole frames rest before now bus bus' len done commands is short a same hav
     let r = a.remains commands same have in
     are_answered rest before now bus bus' commands r (no_frame rest len r.later is short r.frames r.have)
 
--- If the replies to all commands fit, so does the next one.
+-- If the replies to all commands fit into 4,097 bytes, the replies so far and the reply to the next frame fit, too.
 next_fits : (rest frame rest' before now : List ℕ) (len : ℕ) (commands later : List Command)
     → len ≡ unwrap_or (frame_len rest) 18446744073709551615 → IsSplitAt rest len frame rest'
     → length before + length (replies_of simulated_firmware commands) ≤ 4097 → rest ≡ frames_of later
@@ -254,7 +258,7 @@ reply_fits frames rest frame rest' before now bus bus' len done commands is spli
     let r = a.remains commands same have in
     next_fits rest frame rest' before now len commands r.later is split fits r.frames r.have r.replies
 
--- A result that is Ok passes no test for an error.
+-- If a result is Ok, the test whether it is an error is not true.
 pub err_not_ok : {T E : Type 0} (result : Result T E) → IsOk result → true ≡ is_err result → ⊥
 err_not_ok (Ok value) ok is = false≢true (sym is)
 err_not_ok (Err error) ok is = false≢true ok

@@ -1,4 +1,4 @@
--- The main promises over serprog: on an honest port to a genuine chip, the original chip can be restored from the
+-- The main promises over serprog: on a well-behaved port to a genuine chip, the original chip can be restored from the
 -- journal in a sealed faithful vault, wherever the port fails.
 use Rattle.std.specs.Prelude.{◌≡◌, ◌≤◌, ◌<◌, ◌*◌, ◌/◌, ℕ, true, false, List, length, Result, IfErr, OnOk, ⊤}
 use Rattle.nor_model.specs.Chip.{Chip, IsSame, kept_in}
@@ -22,65 +22,68 @@ use Rattle.nor_session.specs.Headline.{CanRestore}
 use Rattle.nor_session.specs.Restore.{IsCheckedFirst, IsRestoreVerdict, differing, restored}
 use Rattle.nor_serprog.specs.Device.{PortState}
 
--- Holds for an honest port to a programmer whose chip is what its ID or SFDP says.
+-- Holds for a well-behaved port to a programmer whose chip is genuine: it has the properties that its ID or SFDP
+-- promises.
 pub record ReachesGenuine (port : PortState) : Type 0 where
   pub honest : port.honest ≡ true
   pub genuine : IsGenuine port.device.chip.config
 
--- Holds if the journal can restore the original chip (`first`) from this chip, on every bus that reaches this chip.
+-- Holds if the journal can restore the original chip `first` from `chip`, on every bus that reaches `chip`.
 abbrev pub CanRestoreChip : Content → (first chip : Chip) → Type 0
 CanRestoreChip journal first chip = (state : BusState) → state.chip ≡ chip → CanRestore journal first state
 
--- Holds if these bytes are the encoding of a journal that can restore the original chip (`first`) from this chip.
+-- Holds if `bytes` are the encoding of a journal that can restore the original chip `first` from `chip`.
 pub record CanRestoreChipFrom (bytes : List ℕ) (first chip : Chip) : Type 0 where
   pub journal : IsJournal bytes
   pub back : CanRestoreChip journal.content first chip
 
--- Holds if fewer calls of the port were left than three for each of the given number of transactions. A transaction
--- takes three calls.
+-- Holds if fewer calls of the port were left than the given number of transactions takes. One transaction takes three
+-- calls.
 abbrev pub HadFewCalls : (transactions : ℕ) → PortState → Type 0
 HadFewCalls transactions port = port.left < 3 * transactions
 
 -- ---- a session
 
--- Holds after a session succeeded. The chip is idle, and has the target bytes and the target protection bits. Its other
--- non-volatile status bits are as they were.
+-- Holds if a session that succeeded made the chip what `request` asks for. The chip is idle, and has the target bytes
+-- and the target protection bits. Its other non-volatile status bits are as they were.
 pub record IsTargetOf (request : Request) (image : List ℕ) (old new : Chip) : Type 0 where
   pub made : IsTargetChip (wanted request image old) old new
   pub code : ℕ
   pub is_wanted : IsWantedCode request.what old code
   pub kept : new.kept ≡ with_code code old.kept
 
--- Holds if the error of a session is the verdict on the request; or 11, and the vault failed; or 12, and the port had
--- too few calls left for the session's bound (`HadFewCalls`). A session promises this on an honest port to a genuine
--- chip.
+-- Holds if an error of a session is one of three: the verdict on the request; 11, and the vault failed; or 12, and the
+-- port had too few calls left for the session's bound (`HadFewCalls`). A session promises this on a well-behaved port
+-- to a genuine chip.
 abbrev pub SessionFails : Request → (image : List ℕ) → PortState → (vault vault' : VaultState) → Refusal → Type 0
 SessionFails request image port vault vault' Vault = CountsRefusal vault vault'
 SessionFails request image port vault vault' Stopped = HadFewCalls (most_of (port.device.chip.config.size / 4096)) port
 SessionFails request image port vault vault' refusal = IsVerdict request image port.device.chip refusal
 
--- The promise of a session at every exit, wherever the port failed. `sent` lists the transactions that may modify the
--- chip and that the bus was asked to send before the session; `sent'` lists those until its exit.
+-- The promise of a session at every exit, wherever the port failed. `sent` lists the transactions before the session
+-- that may modify the chip, as far as the bus was asked to send them; `sent'` lists those until the exit of the
+-- session.
 pub record KeepsOriginalChip (old new : PortState) (sent sent' : Sent) (vault : VaultState) : Type 0 where
   -- on every port: if the vault isn't sealed, no modifying command was sent
   pub unsent : vault.sealed ≡ false → sent' ≡ sent
-  -- on an honest port whose chip was idle at the start: if the vault isn't sealed, bytes and non-volatile status bits
-  -- of the chip are as they were. A busy chip is excluded: a failure of the port may interrupt its operation.
+  -- on a well-behaved port whose chip was idle at the start: if the vault isn't sealed, bytes and non-volatile status
+  -- bits of the chip are as they were. A busy chip is excluded, because a failure of the port may interrupt its
+  -- operation.
   pub same : vault.sealed ≡ false → old.honest ≡ true → old.device.chip.busy ≡ 0
       → IsSame old.device.chip new.device.chip
-  -- on an honest port to a genuine chip, idle or busy: if a faithful vault is sealed, its bytes are a journal that can
-  -- restore the original chip
+  -- on a well-behaved port to a genuine chip, idle or busy: if a faithful vault is sealed, its bytes are a journal that
+  -- can restore the original chip
   pub restorable : vault.sealed ≡ true → vault.telling ≡ true → ReachesGenuine old
       → CanRestoreChipFrom vault.bytes old.device.chip new.device.chip
 
--- The result of a session on an honest port to a genuine chip.
+-- The result of a session on a well-behaved port to a genuine chip.
 pub record SessionResults (request : Request) (image : List ℕ) (old new : PortState) (vault vault' : VaultState)
     (result : Result Report Refusal) : Type 0 where
   -- after success the programmer's chip is the target
   pub done : OnOk result (IsTargetOf request image old.device.chip new.device.chip)
   -- after success the vault is sealed
   pub sealed : OnOk result (vault'.sealed ≡ true)
-  -- an error is the verdict, a failure of the vault, or a failure of the port (`SessionFails`)
+  -- an error is the verdict on the request, a failure of the vault, or a failure of the port (`SessionFails`)
   pub errors : IfErr result (SessionFails request image old vault vault')
   -- after errors 1 to 11 the vault isn't sealed
   pub unsealed : IfErr result (λ refusal. refusal_number refusal ≤ 11 → vault'.sealed ≡ false)
@@ -89,39 +92,40 @@ pub record SessionResults (request : Request) (image : List ℕ) (old new : Port
 
 -- ---- a restore
 
--- Holds for errors 12 (stop), 13 (timeout) and 14 (mismatch), and for every other error if no modifying command was
--- sent. A restore promises this on every port and for every journal.
+-- Holds for the errors 12 (stop), 13 (timeout) and 14 (mismatch). Holds for every other error if no modifying command
+-- was sent. A restore promises this on every port and for every journal.
 abbrev pub RefusesUnsent : (sent sent' : Sent) → Refusal → Type 0
 RefusesUnsent sent sent' Stopped = ⊤
 RefusesUnsent sent sent' (Timeout address) = ⊤
 RefusesUnsent sent sent' (Mismatch address) = ⊤
 RefusesUnsent sent sent' refusal = sent' ≡ sent
 
--- Holds if the error of a restore is the verdict on the journal and the chip; or 12, and the port had too few calls
--- left for the bound (`HadFewCalls`). A restore promises this on an honest port to a genuine chip, for every journal.
+-- Holds if an error of a restore is the verdict on the journal and the chip; or 12, and the port had too few calls left
+-- for the restore's bound (`HadFewCalls`). A restore promises this on a well-behaved port to a genuine chip, for every
+-- journal.
 abbrev pub RestoreFails : Content → PortState → Refusal → Type 0
 RestoreFails journal port Stopped = HadFewCalls (most_of (length journal.saved)) port
 RestoreFails journal port refusal = IsRestoreVerdict differing journal port.device.chip refusal
 
--- The promise of a restore on an honest port to a genuine chip: for each chip `first` that the journal can restore at
--- the start (`within`, `back`, `only_stops`), and for every journal (the other fields).
+-- The promise of a restore on a well-behaved port to a genuine chip. The fields `within`, `back` and `only_stops` are
+-- about each chip `first` that the journal can restore at the start. The other fields hold for every journal.
 pub record RestoresOriginalChip (journal : Content) (old new : PortState)
     (result : Result Report Refusal) : Type 0 where
-  -- at every exit, wherever the port failed, the journal can still restore that chip
+  -- at every exit, wherever the port failed, the journal can still restore `first`
   pub within : (first : Chip) → CanRestoreChip journal first old.device.chip
       → CanRestoreChip journal first new.device.chip
-  -- a restore that succeeds has restored that chip
+  -- a restore that succeeds has restored the contents and the non-volatile status bits of `first`
   pub back : (first : Chip) → CanRestoreChip journal first old.device.chip
       → OnOk result (IsSame first new.device.chip)
   -- after success the programmer's chip is idle
   pub idle : OnOk result (new.device.chip.busy ≡ 0)
-  -- the only possible error is a stop, because the port failed and had too few calls left for the bound (`HadFewCalls`)
+  -- the only possible error is a stop: the port failed because it had too few calls left for the bound (`HadFewCalls`)
   pub only_stops : (first : Chip) → CanRestoreChip journal first old.device.chip
       → IfErr result (λ refusal. (refusal ≡ Stopped) × HadFewCalls (most_of (length journal.saved)) old)
-  -- after success the programmer's chip has the saved bytes and the journal's non-volatile status bits
+  -- after success the programmer's chip has the saved bytes, and the non-volatile status bits that the journal saved
   pub made : OnOk result (IsTargetChip (restored journal old.device.chip.bytes) old.device.chip new.device.chip)
   pub kept : OnOk result (new.device.chip.kept ≡ kept_in journal.status)
-  -- an error is the verdict, or a failure of the port (`RestoreFails`)
+  -- an error is the verdict on the journal and the chip, or a failure of the port (`RestoreFails`)
   pub errors : IfErr result (RestoreFails journal old)
-  -- after an error that is checked first the programmer's chip is as it was
+  -- after an error that a restore checks first (`IsCheckedFirst`), the programmer's chip is as it was
   pub same : IfErr result (λ refusal. IsCheckedFirst refusal → IsSame old.device.chip new.device.chip)

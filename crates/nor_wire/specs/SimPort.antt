@@ -11,12 +11,12 @@ use Rattle.nor_wire.specs.declared.sim_port.SimPort.{SimPort}
 abbrev pub simulated_chip : SimPort → SimBus
 simulated_chip port = port.chip
 
--- The greatest number of calls that the port can still carry out.
+-- The greatest number of further calls of the port that can succeed.
 abbrev pub left_of : SimPort → ℕ
 left_of port = port.left
 
--- The firmware of the simulated programmer: version 1 and SPI, without a name or limits. It has the commands 00h, 01h,
--- 02h, 10h, 12h and 13h, and accepts each type of bus.
+-- The firmware of the simulated programmer: version 1 of the protocol and SPI, without a name or limits. It has the
+-- commands 00h, 01h, 02h, 10h, 12h and 13h, and accepts each type of bus.
 abbrev pub simulated_firmware : Firmware
 simulated_firmware = record {
   version = 1;
@@ -40,7 +40,7 @@ simulated_firmware = record {
   clock_fits = λ hertz. tt;
 }
 
--- The reply of the simulated programmer to a frame that begins with this opcode, except O_SPIOP.
+-- The reply of the simulated programmer to a frame that begins with `opcode`. It does not apply to O_SPIOP.
 abbrev pub simulated_reply : (opcode : ℕ) → List ℕ
 simulated_reply opcode =
     if opcode == 0x00 || opcode == 0x12 then 0x06 ∷ []
@@ -49,16 +49,18 @@ simulated_reply opcode =
     else if opcode == 0x10 then 0x15 ∷ 0x06 ∷ []
     else nak
 
--- The type of bus that is selected after a frame, if `before` was selected before it. Only S_BUSTYPE (12h) selects one.
+-- The type of bus that is selected after `frame`, if the type `before` was selected before it. Only S_BUSTYPE (12h)
+-- selects one.
 abbrev pub bus_type_after : (frame : List ℕ) → (before : Option ℕ) → Option ℕ
 bus_type_after frame before = if slice_index frame 0 == 0x12 then Some (slice_index frame 1) else before
 
--- The settings of the simulated programmer, which has no S_PIN_STATE.
+-- The settings of the simulated programmer with this type of bus selected. Its pin drivers are never switched on,
+-- because it has no S_PIN_STATE.
 abbrev pub simulated_settings : (bus_type : Option ℕ) → ProgrammerSettings
 simulated_settings bus_type = record { bus_type = bus_type; pins_on = false }
 
--- A programmer in front of the chip of this bus, with this type of bus selected, and with these bytes pending. The
--- programmer keeps no part of a frame from one call of the port to the next, so `begun` is empty.
+-- A simulated programmer with the chip of this bus, where `bus_type` is selected and the bytes `pending` are not yet
+-- received. The programmer keeps no part of a frame from one call of the port to the next, so `begun` is empty.
 abbrev pub device_over : BusState → (bus_type : Option ℕ) → (pending : List ℕ) → Device
 device_over bus bus_type pending = record {
   chip = bus.chip;
@@ -69,7 +71,7 @@ device_over bus bus_type pending = record {
   pending = pending;
 }
 
--- An honest port to the programmer in front of the chip of this bus (`device_over`), with `left` calls left.
+-- A well-behaved port to the simulated programmer with the chip of this bus (`device_over`), with `left` calls left.
 abbrev pub port_over : BusState → (bus_type : Option ℕ) → (pending : List ℕ) → (left : ℕ) → PortState
 port_over bus bus_type pending left = record {
   device = device_over bus bus_type pending;

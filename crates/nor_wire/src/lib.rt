@@ -1,5 +1,5 @@
-//! Sessions and restores of a chip at a serial programmer that speaks serprog. They are those of nor_session; the
-//! promises are stated for the programmer's chip, and for a port that may fail at any call.
+//! Sessions and restores of a chip at a serial programmer that speaks serprog. The calls run `session` and `restore` of
+//! nor_session. Their promises are stated for the programmer's chip, and for a port that may fail at any call.
 //!
 //! ```rust
 //! use nor_chip::{Config, Delays, SimBus};
@@ -27,10 +27,10 @@
 //! ```
 //!
 //! - `calls.rt`: a session and a restore over a `SerprogBus`
-//! - `laws.rt`: laws on what happens between them
-//! - `sim_port.rt`: a programmer in memory, in front of a simulated chip
+//! - `laws.rt`: laws (theorems) about the time between a session and its restores
+//! - `sim_port.rt`: a simulated port to a simulated programmer with a simulated chip
 //!
-//! `specs/Headline.antt` has what the two calls promise.
+//! `specs/Headline.antt` has the promises of the two calls.
 #![tactic(auto)]
 
 mod calls;

@@ -1,4 +1,4 @@
-//! A simulated port: a programmer in memory, in front of a simulated chip.
+//! A simulated port to a simulated programmer with a simulated chip, all in memory.
 ghost use Rattle.std.specs.Prelude.{◌≡◌, ◌≤◌, ◌+◌, ◌++◌, ◌∷◌, true, false, [], ℕ, List, Option, None, length, slice_index};
 ghost use Rattle.std.specs.Prelude.{OnOk, OnErr};
 ghost use Rattle.nor_serprog.specs.Device.{IsIdle, IsSent, IsCutOff, IsCut, StepsOnce};
@@ -19,19 +19,19 @@ const NAK: u8 = 0x15;
 
 const O_SPIOP: u8 = 0x13;
 
-// The most bytes that a transaction may read: those of a sector. The programmer's reply is ACK and the bytes read, so
-// it has at most `MOST_PENDING` bytes.
+// The greatest number of bytes that a transaction may read: the length of a sector. The reply of the programmer has one
+// more byte, ACK, so it has at most `MOST_PENDING` bytes.
 const MOST_READ: usize = 4096;
 
 const MOST_PENDING: usize = 1 + MOST_READ;
 
-// The reply to Q_CMDMAP: ACK and the map of the commands 00h, 01h, 02h, 10h, 12h and 13h.
+// The reply to Q_CMDMAP: ACK, and the map with the commands 00h, 01h, 02h, 10h, 12h and 13h.
 const COMMANDS: [u8; 33] = [
     ACK, 0x07, 0, 0x0D, 0, 0, 0, 0, 0, 0, 0, 0, 0, 0, 0, 0, 0, 0, 0, 0, 0, 0, 0, 0, 0, 0, 0, 0, 0,
     0, 0, 0, 0,
 ];
 
-/// The call of a `SimPort` that failed: `send` (`Cut`) or `receive` (`Silent`).
+/// The reason why a call of a `SimPort` failed: `Cut` for `send`, `Silent` for `receive`.
 #[derive(Clone, Copy, Debug, PartialEq, Eq, Error)]
 pub enum SimFailure {
     #[error("the simulated port was cut")]
@@ -40,29 +40,30 @@ pub enum SimFailure {
     Silent,
 }
 
-/// A port to a serprog programmer that is simulated in memory, with a simulated chip. The port is honest: it carries
-/// out the given number of calls, and then fails.
+/// A port to a serprog programmer that is simulated in memory, with a simulated chip. The port is well-behaved: it
+/// carries out at most the given number of calls, and then fails.
 ///
 /// The programmer carries out an O_SPIOP frame only if one call of `send` sends that frame and nothing else. It replies
 /// to the queries of a handshake (`Programmer::identify`), and accepts any type of bus (S_BUSTYPE). If the port fails
-/// while it sends an O_SPIOP, the chip stops as `SimBus::tear` and `SimBus::lose` set. The programmer sends as many
+/// while it sends an O_SPIOP, the chip stops as `SimBus::tear` and `SimBus::lose` specify: the programmer sends as many
 /// bytes of the transaction as `tear` set (none by default, at most all), and the chip loses its power only if `lose`
 /// set that. If the port fails later in an exchange, the chip has carried out the transaction, and the reply is lost.
 ///
 /// A call that sends one O_SPIOP frame also fails if a reply is pending, or if the frame requests more than 4,096
-/// bytes. A call fails, too, if it sends other frames whose replies are longer than 4,097 bytes together with those
-/// that are pending, or if it requests more bytes than are pending. After any failure no call succeeds.
+/// bytes. A call that sends other frames also fails if their replies and those that are pending have more than 4,097
+/// bytes in total. A call that receives also fails if it requests more bytes than are pending. After any failure no
+/// call succeeds.
 #[derive(Drop)]
 pub struct SimPort {
     chip: SimBus,
     pending: ArrayVec<u8, MOST_PENDING>,
-    // The flags of the last S_BUSTYPE, or `None` if there was none.
+    // The flags of the last S_BUSTYPE, or `None` if no S_BUSTYPE was sent.
     bus_type: Option<u8>,
     left: u64,
 }
 
 impl SimPort {
-    /// Returns a port to a programmer with this chip. `left` is the greatest number of calls that can succeed.
+    /// Returns a port to a programmer with this chip. At most `left` calls of the port can succeed.
     pub fn new(chip: SimBus, left: u64) -> SimPort
         ensures chip { simulated_chip result ≡ chip }
         ensures state { ⟦<SimPort as Port>⟧.state result ≡ port_over (⟦<SimBus as Bus>⟧.state chip) None [] left }
@@ -89,16 +90,16 @@ impl SimPort {
         self.left
     }
 
-    /// Returns whether no byte of a reply is pending.
+    /// Returns whether the programmer has no reply bytes that the host hasn't received.
     pub fn is_idle(&self) -> bool
         ensures { result ≡ true → IsIdle (⟦<SimPort as Port>⟧.state self.now).device }
     {
         self.pending.is_empty()
     }
 
-    // Carries out a frame of O_SPIOP: one transaction of the chip. The reply is ACK and the bytes that the chip
-    // returned. Stops the chip at the transaction (`cut`) and returns `Cut` if no call is left, if a reply is pending,
-    // or if the frame requests more than 4,096 bytes.
+    // Carries out a frame of O_SPIOP with one transaction of the chip. The reply is ACK and the bytes that the chip
+    // returned. If no call is left, a reply is pending, or the frame requests more than 4,096 bytes, stops the chip at
+    // the transaction (`cut`) and returns `Cut`.
     fn operate(&mut self, frame: &[u8]) -> Result<(), SimFailure>
         requires { slice_index frame.now 0 ≡ 0x13 }
         ensures sent { OnOk result (IsSent frame.now (⟦<SimPort as Port>⟧.state self.old)
@@ -165,7 +166,7 @@ impl Port for SimPort {
     }
 }
 
-// True if these bytes are one whole frame of O_SPIOP.
+// Returns whether `bytes` are one whole frame of O_SPIOP.
 fn is_operation(bytes: &[u8]) -> bool
     ensures opcode { result ≡ true → slice_index bytes.now 0 ≡ 0x13 }
     ensures other { result ≡ false → ¬ (IsFrame bytes.now × (slice_index bytes.now 0 ≡ 0x13)) }
@@ -180,7 +181,7 @@ fn sent_by(frame: &[u8]) -> &[u8]
     frame.get(7..).unwrap_or(&[])
 }
 
-// Returns the number of bytes that a frame of O_SPIOP reads from the chip.
+// Returns the number of reply bytes that a frame of O_SPIOP requests.
 fn reply_len(frame: &[u8]) -> usize
     ensures { result ≡ replies_in frame.now }
 {
@@ -188,14 +189,14 @@ fn reply_len(frame: &[u8]) -> usize
     u32::from_le_bytes(header) as usize
 }
 
-// Returns the byte at this index, or 0 if there is none.
+// Returns the byte with the index `index`, or 0 if `bytes` has no such byte.
 fn byte_at(bytes: &[u8], index: usize) -> u8
     ensures { result ≡ slice_index bytes.now index }
 {
     bytes.get(index).copied().unwrap_or(0)
 }
 
-// Returns ACK and these bytes.
+// Returns ACK followed by `bytes`.
 fn acknowledged(bytes: &[u8]) -> ArrayVec<u8, MOST_PENDING>
     requires { length bytes.now ≤ 4096 }
     ensures { result.items ≡ 0x06 ∷ bytes.now }
@@ -206,7 +207,7 @@ fn acknowledged(bytes: &[u8]) -> ArrayVec<u8, MOST_PENDING>
     reply
 }
 
-// Carries out one transaction of the chip.
+// Lets the chip carry out one transaction that sends `out`, and fills `reply`.
 fn transact(chip: &mut SimBus, out: &[u8], reply: &mut [u8])
     ensures { (bus_type : Option ℕ) (pending pending' : List ℕ) → StepsOnce out.now reply.new
         (device_over (⟦<SimBus as Bus>⟧.state chip.old) bus_type pending)
@@ -216,8 +217,8 @@ fn transact(chip: &mut SimBus, out: &[u8], reply: &mut [u8])
     let _ = chip.transfer(out, reply);
 }
 
-// Stops the chip at a transaction that sends `out`, after as many bytes as `SimBus::tear` set, and with or without a
-// loss of power, as `SimBus::lose` set.
+// Stops the chip in a transaction that sends `out`. The chip receives as many bytes of it as `SimBus::tear` set, and
+// loses its power if `SimBus::lose` set that.
 fn cut(chip: &mut SimBus, out: &[u8])
     ensures { (bus_type : Option ℕ) (pending : List ℕ) → IsCut out.now
         (device_over (⟦<SimBus as Bus>⟧.state chip.old) bus_type pending)
@@ -228,7 +229,8 @@ fn cut(chip: &mut SimBus, out: &[u8])
 }
 
 // Appends the reply to each of these frames (`reply_to`) to `pending`, and stores the type of bus that they select in
-// `bus_type` (`selected_by`). Bytes after the last whole frame are ignored. Returns false if the replies do not fit.
+// `bus_type` (`selected_by`). Ignores bytes after the last whole frame. Returns false if the replies do not fit in
+// `pending`.
 fn reply_to_each(
     pending: &mut ArrayVec<u8, MOST_PENDING>,
     bus_type: &mut Option<u8>,
@@ -259,7 +261,7 @@ fn reply_to_each(
     true
 }
 
-// Returns the type of bus that is selected after a frame, if `before` was selected before it.
+// Returns the type of bus that is selected after `frame`, if the type `before` was selected before it.
 fn selected_by(frame: &[u8], before: Option<u8>) -> Option<u8>
     ensures { result ≡ bus_type_after frame.now before }
 {
@@ -270,8 +272,8 @@ fn selected_by(frame: &[u8], before: Option<u8>) -> Option<u8>
     }
 }
 
-// Returns the reply to one frame (serprog protocol, flashrom's Documentation/serprog-protocol.txt). An O_SPIOP that is
-// sent together with other frames is refused.
+// Returns the reply to one frame (serprog protocol, flashrom's Documentation/serprog-protocol.txt). The programmer
+// refuses an O_SPIOP that is sent together with other frames.
 fn reply_to(frame: &[u8]) -> &'static [u8]
     ensures { result.now ≡ simulated_reply (slice_index frame.now 0) }
 {
