@@ -1,4 +1,4 @@
-//! A port over a device file, such as a serial port that stty has set up.
+//! A port over a device file, for example a serial port that stty has set up.
 ghost use Rattle.std.proofs.lemmas.Bool.{false≢true};
 ghost use Rattle.nor_serprog.specs.Device.{unknown_port};
 
@@ -9,16 +9,16 @@ use std::io::{Read, Write};
 use std::os::unix::fs::FileTypeExt;
 use std::{fs, io};
 
-/// A port over a device file. Reads of the file must time out (`stty min 0 time 50`); otherwise a silent programmer
-/// blocks the program forever.
+/// A port over a device file. Reads of the file must time out (`stty min 0 time 50`); otherwise a programmer that sends
+/// nothing blocks the program forever.
 #[derive(Drop)]
 pub struct DevicePort<F> {
     file: F,
 }
 
 impl DevicePort<File> {
-    /// Opens a character device for reading and writing, and locks it, which keeps out programs that lock it, too.
-    /// Nothing is sent.
+    /// Opens a character device for reading and writing, and locks it. The lock keeps out other programs that lock the
+    /// device, too. Nothing is sent.
     ///
     /// Returns `NoDevice` if the name refers to any other file, `InUse` if another program has locked the device, and
     /// `System` if the device is missing, or can't be opened or locked.

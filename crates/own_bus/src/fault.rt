@@ -1,4 +1,4 @@
-//! The errors that end the example.
+//! The errors that end a run of the example.
 
 use nor_chip::WrongLength;
 use nor_files::CreateFault;

@@ -1,15 +1,15 @@
 //! An example of a bus of your own. `docs/OWN_BUS.md` explains it.
 //!
-//! Without arguments it uses a serial programmer and a chip that it simulates: it reads the chip out into a file,
-//! changes the chip with a journal, and restores it. Then it begins the change on a second simulated chip, over a bus
-//! that speaks no serprog and whose wires are cut. With the name of a serial port it identifies the chip of the
-//! programmer at that port, and changes nothing.
+//! Without arguments the example simulates a serial programmer and a chip: it reads the chip out into a file, changes
+//! the chip with a journal, and restores it. Then it begins the same change on a second simulated chip, over a bus that
+//! does not speak serprog and whose wires are cut during the session. If the argument is the name of a serial port, the
+//! example identifies the chip of the programmer at that port, and changes nothing.
 //!
 //! - `main.rt`: the steps of the example
 //! - `device.rt`: a port over a device file
 //! - `own.rt`: the bus for a programmer that does not speak serprog, over the trait `Wires`, which you implement
 //! - `played.rt`: a simulated programmer and simulated wires, each with a simulated chip
-//! - `fault.rt`: the errors that end the example
+//! - `fault.rt`: the errors that end a run of the example
 #![tactic(auto)]
 
 ghost use Rattle.std.specs.Prelude.{◌≡◌, false};
@@ -33,8 +33,8 @@ use played::{PlayedPort, PlayedWires};
 use std::alloc::Global;
 use std::{env, fs};
 
-/// The example's bus over a port. If many polls in a row show BUSY, it pauses between them. It reads data (03h) twice,
-/// and stops if the two readings differ.
+/// The example's bus over a port. After a poll that shows BUSY it pauses before the next one. It reads IDs, SFDP and
+/// data twice, and stops if the two replies differ.
 type PortBus<'a, P> = Paced<ReadTwice<SerprogBus<P>>, &'a HostRuntime>;
 
 fn main(rt: HostRuntime) -> Result<(), Fault> {
@@ -44,7 +44,7 @@ fn main(rt: HostRuntime) -> Result<(), Fault> {
     }
 }
 
-// Identifies the chip at the programmer that `port` reaches, and prints the chip's size.
+// Identifies the programmer and the chip at `port`, and prints the size of the chip.
 fn identify_chip<P: Port<Cause = std::io::Error> + Drop>(
     rt: &HostRuntime,
     port: P,
@@ -57,8 +57,8 @@ fn identify_chip<P: Port<Cause = std::io::Error> + Drop>(
     Ok(())
 }
 
-// Identifies the programmer at `port`, and returns a bus to its chip. No port of the example is honest, so no contract
-// promises anything about the programmer.
+// Identifies the programmer at `port`, and returns a bus to its chip. No port of the example counts as well-behaved
+// (`honest`), so no contract promises anything about the programmer.
 fn open<P: Port + Drop>(
     rt: &HostRuntime,
     port: P,
@@ -71,8 +71,8 @@ fn open<P: Port + Drop>(
     Ok(Paced::new(bus, rt))
 }
 
-// Runs the example without hardware: reads, changes and restores a simulated chip, and then interrupts a change of
-// another chip.
+// Runs the example without hardware: reads, changes and restores a simulated chip, and then interrupts the change of a
+// second simulated chip.
 fn play(rt: &HostRuntime) -> Result<(), Fault> {
     let mut bus = open(rt, PlayedPort::new(erased_chip(rt.alloc())?))?;
     let found = probe(&mut bus, None)?;
@@ -85,7 +85,8 @@ fn play(rt: &HostRuntime) -> Result<(), Fault> {
     cut_off(rt)
 }
 
-// Returns a simulated bus to a chip of 65,536 bytes, all FFh. The bus carries out `u64::MAX` transactions.
+// Returns a simulated bus to a chip of 65,536 bytes that are all FFh. The bus carries out up to `u64::MAX`
+// transactions.
 fn erased_chip(alloc: Global) -> Result<SimBus, Fault> {
     let idle = Delays { now: 0, each: 0 };
     let erased = vec![in alloc; 0xFF; 65536]?;
@@ -103,8 +104,8 @@ fn back_up<B: Bus>(rt: &HostRuntime, bus: &mut B) -> Result<(), Fault> {
     Ok(())
 }
 
-// Changes the first byte of the backup to 5Ah in memory, and writes the result to the chip. The session's journal is in
-// a new file with the name `journal`.
+// Writes an image to the chip: the contents of `chip.bin` with the first byte changed to 5Ah. The session's journal
+// goes to a new file with the name `journal`.
 fn change<B: Bus>(rt: &HostRuntime, bus: &mut B, journal: &str) -> Result<Report, Fault> {
     let mut image = fs::read(rt, "chip.bin")?;
     if let Some(first) = image.first_mut() {
@@ -115,8 +116,8 @@ fn change<B: Bus>(rt: &HostRuntime, bus: &mut B, journal: &str) -> Result<Report
     Ok(report)
 }
 
-// Tries a second change with the file name of the existing journal. If that fails because the file exists, prints
-// whether the journal stayed as it was. Otherwise ends with the result of the change, and prints nothing.
+// Tries a second change whose journal has the file name of the existing journal. If that fails because the file exists,
+// prints whether the existing journal is as it was. Otherwise returns the result of the change, and prints nothing.
 fn change_again<B: Bus>(rt: &HostRuntime, bus: &mut B) -> Result<(), Fault> {
     let before = fs::read(rt, "undo.journal")?;
     match change(rt, bus, "undo.journal") {
@@ -133,8 +134,8 @@ fn change_again<B: Bus>(rt: &HostRuntime, bus: &mut B) -> Result<(), Fault> {
     Ok(())
 }
 
-// Restores the chip from the journal, and compares the chip with the backup. Prints the counts of the restore, and that
-// the chip equals the backup.
+// Restores the chip from the journal, and compares the chip with the backup. Prints the numbers of erases and programs
+// of the restore, and that the chip equals the backup.
 fn undo<B: Bus>(rt: &HostRuntime, bus: &mut B) -> Result<(), Fault> {
     let saved = fs::read(rt, "undo.journal")?;
     let done = restore(bus, &Journal::read(&saved)?)?;
@@ -155,8 +156,8 @@ fn print_counts(rt: &HostRuntime, what: &str, done: &Report) -> Result<(), Fault
     Ok(())
 }
 
-// Begins the change of an erased chip over wires that are cut after 10 transactions, while the session scans the chip.
-// Prints the error, the number of modifying commands sent, and the cause of the error.
+// Begins the change of an erased chip over wires that are cut after 10 transactions, when the session still scans the
+// chip. Prints the error, the number of modifying commands that were sent, and the cause of the error.
 fn cut_off(rt: &HostRuntime) -> Result<(), Fault> {
     let mut bus = OwnBus::new(PlayedWires::new(erased_chip(rt.alloc())?, 10));
     let refusal = match change(rt, &mut bus, "second.journal") {

@@ -1,4 +1,4 @@
-//! A bus of your own. It doesn't count as honest, so only the clauses for any bus apply to it.
+//! A bus of your own. It doesn't count as well-behaved (`honest`), so only the clauses for any bus apply to it.
 ghost use Rattle.std.proofs.lemmas.Bool.{false≢true};
 ghost use Rattle.nor_model.specs.Bus.{unknown_bus};
 
@@ -10,15 +10,16 @@ pub trait Wires {
     type Cause: Drop;
 
     /// Makes one transaction: pulls chip select low, sends `out`, then reads bytes from the chip until `reply` is full,
-    /// and releases chip select. Must release chip select after an error, too.
+    /// and releases chip select. An implementation must release chip select after an error, too.
     ///
-    /// The engine sends at most 260 bytes and reads at most 4,096 in one transaction. An error ends the engine's call.
+    /// The engine sends at most 260 bytes and reads at most 4,096 in one transaction. If an implementation returns an
+    /// error, the engine ends its call.
     fn transact(&mut self, out: &[u8], reply: &mut [u8]) -> Result<(), Self::Cause>;
 }
 
-/// A bus over `wires`. It doesn't count as honest, so only the clauses for any bus apply to it. The bus keeps the cause
-/// of the last transaction that failed, since error 12 contains no cause. The bus adds each transaction to its history,
-/// which only contracts can read.
+/// A bus over `wires`. It doesn't count as well-behaved (`honest`), so only the clauses for any bus apply to it. The
+/// field `cause` has the cause of the last transaction that failed, since error 12 contains no cause. The bus adds each
+/// transaction to its history, which only contracts can read.
 #[derive(Drop)]
 pub struct OwnBus<W: Wires + Drop> {
     pub wires: W,

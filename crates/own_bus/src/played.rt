@@ -1,4 +1,4 @@
-//! A simulated programmer behind a port, and simulated wires, each with a simulated chip: the example needs no
+//! A simulated programmer at a port, and simulated wires, each with a simulated chip, so that the example needs no
 //! hardware.
 ghost use Rattle.std.proofs.lemmas.Bool.{false≢true};
 ghost use Rattle.nor_serprog.specs.Device.{unknown_port};
@@ -10,8 +10,8 @@ use nor_serprog::{Port, frame_len};
 use std::io::ErrorKind;
 use std::{fmt, io, mem};
 
-// The length of the longest frame, a page program: a header of 7 bytes, an opcode, three address bytes and 256 data
-// bytes.
+// The length of the longest frame, which is that of a page program: 7 bytes of header, an opcode, three address bytes
+// and 256 data bytes.
 const MOST_BEGUN: usize = 267;
 
 // The length of the longest reply: ACK and the 4,096 bytes of a sector.
@@ -21,7 +21,7 @@ const ACK: u8 = 0x06;
 
 const NAK: u8 = 0x15;
 
-// The reply to Q_CMDMAP: ACK and the map of the commands 00h, 01h, 02h, 10h, 12h and 13h.
+// The reply to Q_CMDMAP: ACK, and the map with the commands 00h, 01h, 02h, 10h, 12h and 13h.
 const COMMANDS: [u8; 33] = [
     ACK, 0x07, 0, 0x0D, 0, 0, 0, 0, 0, 0, 0, 0, 0, 0, 0, 0, 0, 0, 0, 0, 0, 0, 0, 0, 0, 0, 0, 0, 0,
     0, 0, 0, 0,
@@ -31,7 +31,8 @@ const COMMANDS: [u8; 33] = [
 #[derive(Drop)]
 pub struct PlayedPort {
     chip: SimBus,
-    // The bytes sent of an incomplete command, and the reply bytes that the host hasn't received yet.
+    // The bytes received of a command that is not complete yet (`begun`), and the reply bytes that the host has not
+    // received yet (`pending`).
     begun: ArrayVec<u8, MOST_BEGUN>,
     pending: ArrayVec<u8, MOST_PENDING>,
 }
@@ -45,14 +46,14 @@ impl PlayedPort {
         }
     }
 
-    // Appends these bytes to the pending replies.
+    // Appends `bytes` to the pending replies.
     fn reply(&mut self, bytes: &[u8]) -> io::Result<()> {
         self.pending
             .try_extend_from_slice(bytes)
             .map_err(|_| ErrorKind::OutOfMemory.into())
     }
 
-    // Carries out a complete command (flashrom's Documentation/serprog-protocol.txt).
+    // Carries out the command of a whole frame (flashrom's Documentation/serprog-protocol.txt).
     fn carry_out(&mut self, frame: &[u8]) -> io::Result<()> {
         match frame {
             [0x00 | 0x12, ..] => self.reply(&[ACK]),
@@ -66,7 +67,7 @@ impl PlayedPort {
         }
     }
 
-    // Carries out one transaction with the chip, and appends its reply: at most 4,096 bytes after ACK, or NAK if the
+    // Carries out one transaction with the chip, and appends the reply: ACK and at most 4,096 bytes, or NAK if the
     // simulated bus stops.
     fn operate(&mut self, out: &[u8], replies: u16) -> io::Result<()> {
         let mut reply = [0; 4096];
@@ -124,7 +125,7 @@ impl fmt::Display for Cut {
     }
 }
 
-/// Wires to a simulated chip. They are cut after a given number of transactions.
+/// Wires to a simulated chip, which are cut after a given number of transactions.
 #[derive(Drop)]
 pub struct PlayedWires {
     chip: SimBus,
@@ -134,7 +135,7 @@ pub struct PlayedWires {
 }
 
 impl PlayedWires {
-    /// Returns wires to this chip that carry out `left` transactions, and then are cut.
+    /// Returns wires to this chip that are cut after `left` transactions.
     pub fn new(chip: SimBus, left: u64) -> PlayedWires {
         PlayedWires {
             chip,
