@@ -4,7 +4,7 @@ use Rattle.std.specs.Str.{bytes_eq}
 use Rattle.bench.specs.declared.words.Request.{Request}
 use Rattle.bench.specs.declared.words.Request.TheVariants.{Usage, Chip, Plan, Journal, Session, Read, Answers, Unknown}
 
--- the job that one argument selects, `Unknown` if it is none of these six
+-- The job that the argument `word` selects; `Unknown` if it is none of the six words.
 abbrev pub request_named : List ℕ → Request
 request_named word =
     if bytes_eq word (codes "chip") then Chip
@@ -15,7 +15,8 @@ request_named word =
     else if bytes_eq word (codes "answers") then Answers
     else Unknown
 
--- without an argument the usage is printed; one argument selects a job; more are an error
+-- The job that the arguments select. No argument prints the usage, one argument selects a job, and more than one are an
+-- error.
 abbrev pub request_of : List (List ℕ) → Request
 request_of [] = Usage
 request_of (word ∷ []) = request_named word

@@ -1,4 +1,4 @@
-//! Reads, erases and page programs of the simulated W25Q128FV, each over its whole 16 MiB.
+//! Measures reads, erases and page programs of a simulated W25Q128FV, each over its whole 16 MiB.
 ghost use Rattle.std.specs.Prelude.{◌≡◌, IfOk, vec_len};
 
 use crate::fault::Fault;
@@ -72,7 +72,7 @@ pub fn answer<R: Print + AllocGlobal>(rt: &R) -> Result<(), Fault> {
     Ok(())
 }
 
-// Returns the number of bytes that have this value.
+// Returns how many of `bytes` have the value `byte`.
 fn count(bytes: &[u8], byte: u8) -> usize {
     bytes.iter().filter(|found| **found == byte).count()
 }
@@ -89,15 +89,15 @@ fn measure_reads<R: Clock + Print>(rt: &R, bus: &mut SimBus, memory: &[u8]) -> R
     compare(rt, READS, &mut reads, &mut copies)
 }
 
-// Returns the contents of an erased chip.
+// Returns the contents of an erased chip: 16 MiB of FFh.
 fn erased_bytes(alloc: Global) -> Result<Vec<u8>, AllocError>
     ensures { IfOk result (λ bytes. vec_len bytes ≡ 16777216) }
 {
     vec![in alloc; 0xFF; CHIP]
 }
 
-// Returns a bus to an erased W25Q128FV that shows BUSY in one poll after each operation. The bus carries out more
-// transactions than any measurement sends.
+// Returns a bus to an erased W25Q128FV that shows BUSY in one poll after each operation. The number of transactions
+// left on the bus is greater than any measurement needs.
 fn open_bus(alloc: Global) -> Result<SimBus, Fault> {
     let delays = Delays { now: 0, each: 1 };
     let bytes = erased_bytes(alloc)?;
@@ -153,7 +153,7 @@ impl Work for Programs<'_> {
     }
 }
 
-// The reference for reads: copies each sector of the memory to a buffer.
+// The reference for reads: copies each sector of `memory` to a buffer.
 #[derive(Drop)]
 struct CopiesOut<'a> {
     memory: &'a [u8],
@@ -171,7 +171,7 @@ impl Work for CopiesOut<'_> {
     }
 }
 
-// The reference for erases and programs: copies one sector to each sector of the memory.
+// The reference for erases and programs: copies a buffer to each sector of `memory`.
 #[derive(Drop)]
 struct CopiesIn<'a> {
     memory: &'a mut [u8],

@@ -1,4 +1,4 @@
-//! A journal of all sectors of a 16 MiB chip, written and read.
+//! Measures writing and reading a journal of all sectors of a 16 MiB chip.
 
 ghost use Rattle.std.specs.Prelude.{◌≡◌, true, OnOk};
 ghost use Rattle.nor_journal.specs.Vault.{IsFresh};
@@ -28,8 +28,8 @@ const READING: Measurement = Measurement {
     rounds: 15,
 };
 
-/// Prints the times of writing and of reading the journal, each as a ratio to the time of a SHA-256 digest of all its
-/// bytes. Returns a checksum of all results.
+/// Prints the times of writing and of reading the journal, each as a ratio to the time of computing a SHA-256 digest of
+/// all its bytes. Returns a checksum of all results.
 pub fn measure<R: Clock + Print + AllocGlobal>(rt: &R) -> Result<u64, Fault> {
     let alloc = rt.alloc();
     let mut vault = MemVault::new(alloc);
@@ -41,7 +41,7 @@ pub fn measure<R: Clock + Print + AllocGlobal>(rt: &R) -> Result<u64, Fault> {
     Ok(sum ^ compare(rt, READING, &mut Reading { bytes }, &mut digests)?)
 }
 
-/// Writes the journal and reads it once, and prints the number of its sectors.
+/// Writes the journal once and reads it once, and prints the number of its sectors.
 pub fn answer<R: Print + AllocGlobal>(rt: &R) -> Result<(), Fault> {
     let mut vault = MemVault::new(rt.alloc());
     write(&mut vault)?;
@@ -51,8 +51,8 @@ pub fn answer<R: Print + AllocGlobal>(rt: &R) -> Result<(), Fault> {
     Ok(())
 }
 
-// Writes the journal of a chip whose bytes are all 5Ah to `vault`, which must be empty and unsealed. If the result is
-// `Ok`, the vault is sealed.
+// Writes the journal of a chip whose bytes are all 5Ah to `vault`, which must be empty and unsealed. After success the
+// vault is sealed.
 fn write<V: Vault>(vault: &mut V) -> Result<(), VaultFault>
     requires { IsFresh (V.state vault.old) }
     ensures { OnOk result ((V.state vault.new).sealed ≡ true) }

@@ -1,6 +1,6 @@
-//! Measures parts of this project. Each measurement prints a line with the ratio of a piece of work's time to that of a
-//! simpler reference, measured in the same run, and the greatest ratio that is acceptable. A greater ratio is marked in
-//! the line.
+//! Measures parts of this project. A measurement times a piece of work and a simpler reference in the same run. It
+//! prints one line with the ratio of the two times and the greatest ratio that is acceptable, and marks the line if the
+//! ratio is greater.
 //!
 //! - `main.rt`: runs the measurement that the argument selects
 //! - `words.rt`: the arguments
@@ -10,7 +10,7 @@
 //! - `journal.rt`: a journal of all sectors of a 16 MiB chip, written and read
 //! - `session.rt`: sessions and a restore on a 16 MiB chip
 //! - `read.rt`: a 16 MiB chip, read out and verified
-//! - `fault.rt`: the errors that end a measurement
+//! - `fault.rt`: the errors that end a run
 #![tactic(auto)]
 
 mod chip;
@@ -62,8 +62,8 @@ fn main(rt: HostRuntime) -> Result<ExitCode, Fault> {
     Ok(ExitCode::SUCCESS)
 }
 
-// Does the work of `chip`, `plan`, `journal` and `read` once, and prints the results, then two lines of `timing` for
-// fixed times. The gate compares this output with the file `stdout`.
+// Does the work of `chip`, `plan`, `journal` and `read` once, untimed, and prints the results. Then prints two lines as
+// `timing` prints them, for fixed times. The gate compares this output with the file `stdout`.
 fn answer<R: Print + AllocGlobal>(rt: &R) -> Result<(), Fault> {
     chip::answer(rt)?;
     plan::answer(rt)?;

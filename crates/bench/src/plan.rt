@@ -1,4 +1,4 @@
-//! Comparisons of two sectors that differ only in the last byte.
+//! Measures the comparison of two sectors that differ only in the last byte.
 
 use crate::fault::Fault;
 use crate::timing::{Measurement, Work, compare, look_at};
@@ -7,7 +7,7 @@ use nor_plan::{bounds, differs};
 use std::alloc::{AllocError, Global};
 use std::rt::Clock;
 
-/// The number of comparisons between two readings of the clock.
+/// The number of comparisons that are timed together.
 const PASSES: u32 = 1000;
 
 const DIFFERS: Measurement = Measurement {
@@ -24,7 +24,7 @@ const BOUNDS: Measurement = Measurement {
     rounds: 10001,
 };
 
-/// Prints the times of `differs` and of `bounds`, each as a ratio to the time of copies of the same number of sectors.
+/// Prints the times of `differs` and of `bounds`, each as a ratio to the time of copying the same number of sectors.
 /// Returns a checksum of all results.
 pub fn measure<R: Clock + Print + AllocGlobal>(rt: &R) -> Result<u64, Fault> {
     let mut copies = Copies(Sectors::new(rt.alloc())?);
@@ -42,7 +42,7 @@ pub fn answer<R: Print + AllocGlobal>(rt: &R) -> Result<(), Fault> {
     Ok(())
 }
 
-// An old sector, its target, and space for a copy, each in an allocation of its own, as in a real program.
+// A sector, its target, and space for a copy of the target. Each has an allocation of its own, as in the program.
 #[derive(Drop)]
 struct Sectors {
     old: Box<[u8; SECTOR_LEN as usize]>,
@@ -58,8 +58,8 @@ impl Sectors {
         Ok(Sectors { old, target, copy })
     }
 
-    // Makes the target differ from the old sector in the last byte only, by a value that differs from that of the pass
-    // before.
+    // Makes the target differ from the old sector in the last byte only. The new last byte differs from that of the
+    // pass before.
     fn touch(&mut self, pass: u32) {
         self.target[4095] = self.old[4095] ^ ((pass % 255) as u8 + 1);
     }

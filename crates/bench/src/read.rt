@@ -1,4 +1,4 @@
-//! A readout of a whole W25Q128FV into memory, and a verification against an image.
+//! Measures reading a whole W25Q128FV out into memory, and verifying it against an image.
 
 use crate::fault::Fault;
 use crate::timing::{Measurement, Work, compare};
@@ -26,7 +26,7 @@ const VERIFYING: Measurement = Measurement {
 };
 
 /// Prints the times of reading out and of verifying, each as a ratio to the time of a reference. The reference copies
-/// the same number of bytes into newly allocated memory, as reading out does. Returns a checksum of all results.
+/// as many bytes into newly allocated memory, as reading out does. Returns a checksum of all results.
 pub fn measure<R: Clock + Print + AllocGlobal>(rt: &R) -> Result<u64, Fault> {
     let alloc = rt.alloc();
     let image = bytes(alloc)?;
@@ -45,7 +45,7 @@ pub fn measure<R: Clock + Print + AllocGlobal>(rt: &R) -> Result<u64, Fault> {
     Ok(sum ^ compare(rt, VERIFYING, &mut verifying, &mut copies)?)
 }
 
-/// Reads the chip out and verifies it once, and prints the results.
+/// Reads the chip out once and verifies it once, and prints the results.
 pub fn answer<R: Print + AllocGlobal>(rt: &R) -> Result<(), Fault> {
     let alloc = rt.alloc();
     let image = bytes(alloc)?;
@@ -70,7 +70,7 @@ fn bytes(alloc: Global) -> Result<Vec<u8>, AllocError> {
     vec![in alloc; 0x5A; CHIP]
 }
 
-// Returns a bus to an idle W25Q128FV. The bus carries out more transactions than any measurement sends.
+// Returns a bus to an idle W25Q128FV. The number of transactions left on the bus is greater than any measurement needs.
 fn open_bus(alloc: Global) -> Result<SimBus, Fault> {
     let delays = Delays { now: 0, each: 0 };
     let mut bus = SimBus::new(Config::w25q128fv(), bytes(alloc)?, [0, 0], delays)?;

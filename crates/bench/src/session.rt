@@ -1,4 +1,4 @@
-//! Sessions and a restore on a simulated chip of 16 MiB.
+//! Measures sessions and a restore on a simulated chip of 16 MiB.
 
 use crate::fault::Fault;
 use crate::read::Copies;
@@ -50,8 +50,8 @@ const TOUCHING: Measurement = Measurement {
     rounds: 15,
 };
 
-/// Prints the times of three sessions and a restore, each as a ratio to the time of a SHA-256 digest of the journal or
-/// of a copy of the chip. Returns a checksum of all results.
+/// Prints the times of three sessions and a restore, each as a ratio to the time of a reference. The reference computes
+/// the SHA-256 digest of the journal, or copies the contents of the chip. Returns a checksum of all results.
 pub fn measure<R: Clock + Print + AllocGlobal>(rt: &R) -> Result<u64, Fault> {
     let alloc = rt.alloc();
     let image = scattered(alloc)?;
@@ -85,7 +85,8 @@ pub fn measure<R: Clock + Print + AllocGlobal>(rt: &R) -> Result<u64, Fault> {
     Ok(sum ^ compare(rt, TOUCHING, &mut touching, &mut copies)?)
 }
 
-// Returns pseudo-random contents, the same in each run: the high bytes of a linear congruential generator.
+// Returns pseudo-random contents for the chip, which are the same in each run: the high bytes of a linear congruential
+// generator.
 fn scattered(alloc: Global) -> Result<Vec<u8>, Fault> {
     let mut bytes = vec![in alloc; 0; CHIP]?;
     let mut state: u64 = 1;
@@ -98,7 +99,7 @@ fn scattered(alloc: Global) -> Result<Vec<u8>, Fault> {
     Ok(bytes)
 }
 
-// Returns a bus to an idle W25Q128FV. The bus carries out more transactions than any measurement sends.
+// Returns a bus to an idle W25Q128FV. The number of transactions left on the bus is greater than any measurement needs.
 fn chip_of(bytes: Vec<u8>) -> Result<SimBus, Fault> {
     let idle = Delays { now: 0, each: 0 };
     let mut bus = SimBus::new(Config::w25q128fv(), bytes, [0x00, 0x00], idle)?;
@@ -106,7 +107,7 @@ fn chip_of(bytes: Vec<u8>) -> Result<SimBus, Fault> {
     Ok(bus)
 }
 
-// Returns a vault with the journal of a session that erased a chip with these contents.
+// Returns a vault with the journal of a session that erased a chip with the contents `bytes`.
 fn saved(alloc: Global, bytes: &[u8]) -> Result<MemVault, Fault> {
     let mut bus = chip_of(bytes.to_vec(alloc)?)?;
     let mut image = vec![in alloc; 0; CHIP]?;
@@ -119,7 +120,7 @@ fn saved(alloc: Global, bytes: &[u8]) -> Result<MemVault, Fault> {
     Ok(vault)
 }
 
-// Erases the chip, and writes a whole image in a session. Both are timed.
+// Erases the chip, and then writes a whole image in a session. The time of both is measured.
 #[derive(Drop)]
 struct Writing {
     alloc: Global,
@@ -140,7 +141,8 @@ impl Work for Writing {
     }
 }
 
-// Erases the chip, reads a journal of all its sectors, and restores them. All three are timed.
+// Erases the chip, reads a journal of all its sectors, and restores the chip from it. The time of all three is
+// measured.
 #[derive(Drop)]
 struct Restoring<'a> {
     bus: SimBus,
@@ -160,7 +162,7 @@ impl Work for Restoring<'_> {
 }
 
 // Inverts the bits `flips` in one byte of the image, and writes the image in a session. If `flips` is 0 and the chip
-// has the image, the session changes nothing.
+// already has the contents of the image, the session changes nothing.
 #[derive(Drop)]
 struct Touching {
     alloc: Global,

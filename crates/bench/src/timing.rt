@@ -12,24 +12,24 @@ pub trait Work {
     fn run(&mut self) -> Result<u64, Fault>;
 }
 
-/// Returns the sum of `sum` and one of the bytes, modulo 2^64. `sum` selects the byte, so the compiler can't omit the
-/// computation of the other bytes.
+/// Returns the sum of `sum` and one of `bytes`, modulo 2^64. The value of `sum` selects the byte, so the compiler can't
+/// omit the computation of the other bytes.
 pub fn look_at(bytes: &[u8; SECTOR_LEN as usize], sum: u64) -> u64 {
     sum.wrapping_add(u64::from(bytes[(sum % u64::from(SECTOR_LEN)) as usize]))
 }
 
-/// A measurement: the name of the work (`what`) and of the reference (`beside`), and the greatest acceptable ratio of
-/// the work's time to the reference's (`at_most`).
+/// A measurement. `what` names the work, and `beside` names the reference. `at_most` is the greatest acceptable ratio
+/// of the work's time to the reference's time.
 #[derive(Clone, Copy)]
 pub struct Measurement {
     pub what: &'static str,
     pub beside: &'static str,
     pub at_most: f64,
-    /// The number of times that each of the two is timed.
+    /// How often the work is timed, and how often the reference is timed.
     pub rounds: u32,
 }
 
-/// The shortest times of the work and of the reference.
+/// The shortest time of the work (`work`) and of the reference (`plain`) in a measurement.
 #[derive(Clone, Copy)]
 struct Outcome {
     measurement: Measurement,
@@ -58,8 +58,8 @@ impl fmt::Display for Outcome {
     }
 }
 
-/// Prints the lines for two pieces of work, of 111 ms and 150 ms, with a reference of 100 ms. The gate compares these
-/// lines with those in the file `stdout`, to test their form.
+/// Prints the lines for two pieces of work that took 111 ms and 150 ms, with a reference that took 100 ms. The gate
+/// compares these lines with those in the file `stdout`, to test their form.
 pub fn answer<R: Print>(rt: &R) -> Result<(), Fault> {
     let measurement = Measurement {
         what: "timing",
@@ -84,7 +84,7 @@ pub fn answer<R: Print>(rt: &R) -> Result<(), Fault> {
 }
 
 /// Times `work` and its reference `plain` in turn, each `measurement.rounds` times, and prints the ratio of their
-/// shortest times. Since the two alternate, a slow phase of the machine affects both. Returns the sum of all their
+/// shortest times. The two alternate so that a slow phase of the machine affects both. Returns the sum of all their
 /// results, modulo 2^64.
 pub fn compare<R: Clock + Print, W: Work, P: Work>(
     rt: &R,

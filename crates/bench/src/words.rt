@@ -2,7 +2,7 @@
 ghost use Rattle.std.specs.Prelude.{◌≡◌, map, string_bytes};
 ghost use Rattle.bench.specs.Words.{request_named, request_of};
 
-/// The job of a run.
+/// What a run does.
 #[derive(Clone, Copy, Debug, PartialEq, Eq)]
 pub enum Request {
     /// No argument: print the usage.
@@ -17,14 +17,16 @@ pub enum Request {
     Session,
     /// `read`: measure a readout and a verification of a whole chip.
     Read,
-    /// `answers`: do the work of `chip`, `plan`, `journal` and `read` once, untimed, and print the results.
+    /// `answers`: do the work of `chip`, `plan`, `journal` and `read` once, untimed, and print the results and two
+    /// lines for fixed times.
     Answers,
     /// Any other argument, or more than one: print the usage to standard error, and fail.
     Unknown,
 }
 
-/// Returns the job that the arguments `words` select, without the program's name. Returns `Request::Usage` without an
-/// argument, and `Request::Unknown` for more than one argument or one that selects no job.
+/// Returns the job that the arguments `words` select; `words` doesn't contain the program's name. Returns
+/// `Request::Usage` if there is no argument, and `Request::Unknown` if there are several or the only one selects no
+/// job.
 pub fn request_of(words: &[String]) -> Request
     ensures { result ≡ request_of (map string_bytes words.now) }
 {
@@ -35,7 +37,7 @@ pub fn request_of(words: &[String]) -> Request
     }
 }
 
-// Returns the job with this name; `Request::Unknown` if there is none.
+// Returns the job with the name `word`, or `Request::Unknown` if there is none.
 fn request_named(word: &str) -> Request
     ensures { result ≡ request_named word.now }
 {
