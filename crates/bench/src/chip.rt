@@ -153,7 +153,7 @@ impl Work for Programs<'_> {
     }
 }
 
-// The reference for reads: copies each sector of `memory` to a buffer.
+// The reference for reads, which copies each sector of `memory` to a buffer.
 #[derive(Drop)]
 struct CopiesOut<'a> {
     memory: &'a [u8],
@@ -171,7 +171,7 @@ impl Work for CopiesOut<'_> {
     }
 }
 
-// The reference for erases and programs: copies a buffer to each sector of `memory`.
+// The reference for erases and programs, which copies a buffer to each sector of `memory`.
 #[derive(Drop)]
 struct CopiesIn<'a> {
     memory: &'a mut [u8],

@@ -42,7 +42,7 @@ pub fn answer<R: Print + AllocGlobal>(rt: &R) -> Result<(), Fault> {
     Ok(())
 }
 
-// A sector, its target, and space for a copy of the target. Each has an allocation of its own, as in the program.
+// A sector, its target, and space for a copy of the target. Each has an allocation of its own, as in a real program.
 #[derive(Drop)]
 struct Sectors {
     old: Box<[u8; SECTOR_LEN as usize]>,
@@ -97,7 +97,7 @@ impl Work for Bounds {
     }
 }
 
-// The reference: copies the target sector in each pass.
+// The reference, which copies the target sector in each pass.
 #[derive(Drop)]
 struct Copies(Sectors);
 

@@ -26,7 +26,8 @@ const VERIFYING: Measurement = Measurement {
 };
 
 /// Prints the times of reading out and of verifying, each as a ratio to the time of a reference. The reference copies
-/// as many bytes into newly allocated memory, as reading out does. Returns a checksum of all results.
+/// the same number of bytes into newly allocated memory, because reading out allocates memory, too. Returns a checksum
+/// of all results.
 pub fn measure<R: Clock + Print + AllocGlobal>(rt: &R) -> Result<u64, Fault> {
     let alloc = rt.alloc();
     let image = bytes(alloc)?;
@@ -104,7 +105,7 @@ impl Work for Verifying<'_> {
     }
 }
 
-/// The reference: copies the image into newly allocated memory.
+/// The reference, which copies the image into newly allocated memory.
 #[derive(Drop)]
 pub struct Copies<'a> {
     pub alloc: Global,

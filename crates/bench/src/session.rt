@@ -120,7 +120,7 @@ fn saved(alloc: Global, bytes: &[u8]) -> Result<MemVault, Fault> {
     Ok(vault)
 }
 
-// Erases the chip, and then writes a whole image in a session. The time of both is measured.
+// Work that erases the chip, and then writes a whole image in a session. The time of both is measured.
 #[derive(Drop)]
 struct Writing {
     alloc: Global,
@@ -141,8 +141,8 @@ impl Work for Writing {
     }
 }
 
-// Erases the chip, reads a journal of all its sectors, and restores the chip from it. The time of all three is
-// measured.
+// Work that erases the chip, reads a journal of all its sectors, and restores the chip from it. The time of all three
+// is measured.
 #[derive(Drop)]
 struct Restoring<'a> {
     bus: SimBus,
@@ -161,8 +161,8 @@ impl Work for Restoring<'_> {
     }
 }
 
-// Inverts the bits `flips` in one byte of the image, and writes the image in a session. If `flips` is 0 and the chip
-// already has the contents of the image, the session changes nothing.
+// Work that inverts the bits `flips` in one byte of the image, and writes the image in a session. If `flips` is 0 and
+// the chip already has the contents of the image, the session changes nothing.
 #[derive(Drop)]
 struct Touching {
     alloc: Global,
@@ -182,7 +182,7 @@ impl Work for Touching {
     }
 }
 
-// The reference: computes the SHA-256 digest of all bytes of a journal.
+// The reference, which computes the SHA-256 digest of all bytes of a journal.
 #[derive(Drop)]
 struct Digests<'a> {
     bytes: &'a [u8],

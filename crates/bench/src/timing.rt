@@ -8,7 +8,7 @@ use std::time::{Duration, Instant};
 
 /// A piece of work that is timed.
 pub trait Work {
-    /// Does the work once. The result depends on the work, so that the compiler can't remove it.
+    /// Does the work once. The result depends on the work, so that the compiler can't remove the work.
     fn run(&mut self) -> Result<u64, Fault>;
 }
 

@@ -47,8 +47,9 @@ stops_after done found = record {
   power = record { chip = inl done.asks.chip; worn = λ s. ap (λ (w : ℕ → Bool). w s) done.asks.worn };
 }
 
--- If a call in a step failed, and the error that the firmware causes in this call is also that of the step, the step
--- may return the error of the call. The settings don't matter, because `Concludes` states none after an error.
+-- If a call in a step failed, the step may return the error of this call, provided that an error that the firmware
+-- causes in the call is also the one that it causes in the step. `settings` can be any, because `Concludes` states no
+-- settings after an error.
 pub fails_as : {T T' C : Type 0} {calls : ℕ} {fault fault' : Option (HandshakeFault C)} {IsValue : T → Type 0}
     {IsValue' : T' → Type 0} {error : HandshakeFault C} {old new : PortState} (settings : ProgrammerSettings)
     → Concludes calls fault IsValue (Err error) old new → (fault ≡ Some error → fault' ≡ Some error)
@@ -178,8 +179,8 @@ set_result false firmware setting reply opcode (Ok value) old new replies first 
 set_result false firmware setting reply opcode (Err error) old new replies first a =
     fails_as _ (a.naked replies) (λ found. ap (λ (n : ℕ). Some (Faults.Failure (Refused n))) (sym first) ∙ found)
 
--- If the programmer lacks S_BUSTYPE or accepts it, the settings after it have SPI selected if the programmer has the
--- command, and are as they were otherwise.
+-- If the programmer does not refuse S_BUSTYPE, SPI is selected afterwards; if the programmer lacks the command, the
+-- settings are unchanged.
 bus_selected : {C : Type 0} (has_it takes : Bool) (settings : ProgrammerSettings)
     → refused {C = C} 0x12 has_it takes ≡ None
     → (if has_it then (if takes then record settings { bus_type = Some 8 } else settings) else settings)
@@ -188,8 +189,8 @@ bus_selected true true settings none = refl
 bus_selected true false settings none = let never : ⊥ = cc in absurd never
 bus_selected false takes settings none = refl
 
--- If the programmer lacks S_PIN_STATE or accepts it, the settings after it have the pin drivers on if the programmer
--- has the command, and are as they were otherwise.
+-- If the programmer does not refuse S_PIN_STATE, the pin drivers are on afterwards; if the programmer lacks the
+-- command, the settings are unchanged.
 pins_switched : {C : Type 0} (has_it takes : Bool) (settings : ProgrammerSettings)
     → refused {C = C} 0x15 has_it takes ≡ None
     → (if has_it then (if takes then record settings { pins_on = true } else settings) else settings)

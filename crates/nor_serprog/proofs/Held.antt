@@ -10,14 +10,14 @@ use Rattle.nor_model.specs.History.{replied}
 use Rattle.nor_model.specs.declared.bus.Stopped.{Stopped}
 use Rattle.nor_serprog.specs.ReadsAs.{reads_data, address_in, part, EndsWithRead, EndsWithData, HoldsReply}
 
--- If a history begins with a read of data, this read is its last transaction (`EndsWithRead`).
+-- If the last transaction of a history, its first entry, is a read of data that succeeded, `EndsWithRead` holds.
 pub read_last : (start : ℕ) (out answer : List ℕ) (earlier history : List Exchange) → reads_data out ≡ true
     → address_in out ≡ start → history ≡ replied out answer ∷ earlier → EndsWithRead start answer history
 read_last start out answer earlier history reads address e =
     let P : List Exchange → Type 0 = λ h. EndsWithRead start answer h in
     subst P (sym e) (record { reads = reads; address = address; is = refl })
 
--- A list equals its part that begins at 0 and has the length of the list.
+-- A list equals its part that begins at 0 (written `a - a`) and has the length of the list.
 pub whole_part : (a : ℕ) (bytes : List ℕ) → bytes ≡ part bytes (a - a) (length bytes)
 whole_part a bytes =
     let none : a - a ≡ 0 = omega arith in

@@ -217,7 +217,7 @@ repeats_none image at answer old = record {
   carried = λ honest. refl;
 }
 
--- If `P` holds for each index `i` below `n`, and for each other one, it holds for every `i`.
+-- If `P` follows from `i < n`, and also from `n ≤ i`, `P` holds.
 by_end : (P : Type 0) (i n : ℕ) → (i < n → P) → (n ≤ i → P) → P
 by_end P i n below above =
     elim (cases_Bool (ltb i n)) [ inl is ↦ below (ltb-true i n is) | inr not ↦ above (ltb-false i n not) ]
@@ -304,7 +304,7 @@ carries_all image out answer old mid new reads first was carries honest = record
   again = was.carried honest;
 }
 
--- ---- a part that is read again on an honest bus
+-- ---- a part that is read again on a well-behaved bus
 
 -- If a well-behaved bus accepted the whole read, it accepts a read of one of its parts.
 pub part_fits : (at n m : ℕ) (out answer : List ℕ) (old mid : BusState) → out ≡ data_read (at + n) → n ≤ m
@@ -364,13 +364,13 @@ pub fits_first : (at : ℕ) (out answer : List ℕ) (old mid : BusState) → Fir
 fits_first at out answer old mid first honest =
     fits_less out (data_read at) (length answer) (length answer) old mid first.nature (omega arith) (omega arith) honest
 
--- The predicate `CarriesUnexpected` as a function of the expected image.
+-- The predicate `CarriesUnexpected`, with the expected image as an argument.
 abbrev pub CarriesBy : (out answer : List ℕ) → (old new : BusState) → (expected : Option (Vec ℕ Global)) → Type 0
 CarriesBy out answer old new None = ⊥
 CarriesBy out answer old new (Some image) = CarriesDiffering image.items out answer old new
 
--- If an image is expected, and `RepeatsBelow` holds for all bytes of the reply, `CarriesUnexpected` holds for that
--- image (`CarriesBy`).
+-- If an image is expected, and a well-behaved bus read each sector again that differs from it (`RepeatsBelow` for all
+-- bytes of the reply), `CarriesUnexpected` holds for that image (`CarriesBy`).
 pub carries_expected : (expected : Option (Vec ℕ Global)) (image : Vec ℕ Global) (items out answer : List ℕ) (at : ℕ)
     (old mid new : BusState) → expected ≡ Some image → items ≡ image.items → reads_data out ≡ true
     → at ≡ address_in out → FirstRead out answer old mid → IsHonestFor out (length answer) old

@@ -14,8 +14,8 @@ use Rattle.nor_serprog.specs.Device.{Device, PortState, IsIdle, AnswerBegins, Is
 use Rattle.nor_serprog.specs.Replies.{AwaitsCommand, EndsExchange, IsPortFailure, IsRefusal, IsRefused}
 use Rattle.nor_serprog.proofs.Exchanges.{none_rest}
 
--- If an idle programmer has a specified reply to `command`, the frame of `command` is a list of one command that
--- `AsksFor` describes.
+-- If the programmer is idle and its reply to `command` is specified, `AsksFor` holds for this one command and its
+-- frame.
 pub asks_one : (command : Command) (frame : List ℕ) (old : Device) → IsIdle old → frame ≡ frame_of command
     → HasReply old.firmware command → AsksFor (command ∷ []) frame old
 asks_one command frame old idle exact has = record {

@@ -15,12 +15,12 @@ use Rattle.nor_serprog.proofs.Replied.{power_then}
 use Rattle.nor_serprog.specs.Replies.{AsksUnlessFew, IsPortFailure, OnlyAsks, IsPending}
 use Rattle.nor_serprog.proofs.Exchanges.{UsesCalls, uses_none}
 
--- The last 25 bytes received, if the bytes `received` were received. If they are fewer than 25, zeros precede them.
+-- The last 25 of the bytes `received`, with zeros before them if there are fewer than 25.
 abbrev pub window : (received : List ℕ) → List ℕ
 window received = drop (length received) (replicate 25 0 ++ received)
 
--- Holds if the first `count` bytes of `wanted`, which were pending, were received. `last` are the last 25 bytes
--- received (`window`). Nothing else of the device changed.
+-- Holds if the first `count` bytes of `wanted` were received, and the others are still pending. `last` has the last 25
+-- bytes received (`window`). Nothing else of the device changed.
 pub record HasSkipped (wanted last : List ℕ) (count : ℕ) (old now : PortState) : Type 0 where
   pub shows : last ≡ window (take count wanted)
   pub pending : now.device.pending ≡ drop count wanted
@@ -66,7 +66,7 @@ more zeros received byte some =
     ∙ ap (λ (l : List ℕ). drop (length received + 1) l) (simp append_assoc)
     ∙ ap (λ (n : ℕ). drop n (zeros ++ (received ++ byte ∷ []))) (sym (length-append received (byte ∷ [])))
 
--- If only some of the bytes `wanted` were received, and the first of these bytes is not 0, the window does not end with
+-- If fewer bytes were received than `wanted` has, and the first byte of `wanted` is not 0, the window does not end with
 -- `wanted`.
 too_early : (zeros received wanted front : List ℕ) → ((i : ℕ) → i < length zeros → get_or zeros i 0 ≡ 0)
     → length received < length wanted → length wanted ≤ length zeros → slice_index wanted 0 ≢ 0
@@ -89,8 +89,8 @@ too_early zeros received wanted front are_zero some_left few first ends =
     ∙ ap (λ (n : ℕ). get_or wanted n 0) (omega arith) in
     first (sym there ∙ sym (ap (λ (l : List ℕ). get_or l (length front) 0) ends) ∙ at)
 
--- If fewer than all bytes of `wanted` were received, and one more byte is received, it is the next byte of `wanted`
--- (`HasSkipped`).
+-- If some bytes of `wanted` are still pending and one more byte is received, it is the next byte of `wanted`, and
+-- `HasSkipped` holds with one more byte.
 pub received_more : (wanted last last' : List ℕ) (count byte : ℕ) (old now new : PortState)
     → count < length wanted → HasSkipped wanted last count old now → IsReceived (byte ∷ []) now new
     → new.honest ≡ now.honest → last' ≡ drop 1 last ++ byte ∷ [] → HasSkipped wanted last' (count + 1) old new

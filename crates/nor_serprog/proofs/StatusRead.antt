@@ -20,7 +20,7 @@ read_grown opcode byte more (d ∷ c ∷ b ∷ earlier) read =
     ap (λ (x : Bool). (has_read_id more && has_read opcode byte d && has_read_id c && has_read opcode byte b) || x) read
     ∙ or_true _
 
--- The lemma `read_grown` for a status byte that is known or not.
+-- If each status byte that is known was read twice in the history, this stays true after one more transaction.
 pub still_read : (known : Option ℕ) (opcode : ℕ) (more : Exchange) (old new : List Exchange) → new ≡ more ∷ old
     → ForSome known (λ byte. was_read_twice opcode byte old ≡ true)
     → ForSome known (λ byte. was_read_twice opcode byte new ≡ true)

@@ -15,9 +15,9 @@ row =
     SyncNop ∷ SyncNop ∷ Nop ∷ SyncNop ∷ Nop ∷ Nop ∷ SyncNop ∷ SyncNop ∷ SyncNop ∷ Nop ∷ Nop ∷ Nop ∷ SyncNop ∷ Nop
     ∷ SyncNop ∷ SyncNop ∷ []
 
--- Holds if `bytes` are the frames of `commands`, which each programmer has and which make no settings, and `answers`
--- are the replies to them. There are at most 260 bytes of frames, and 1 to 25 bytes of replies, the first of which is
--- not 0.
+-- Holds if `bytes` are the frames of `commands`, and `answers` are the replies to them. Each programmer has these
+-- commands, and they make no settings. The frames have at most 260 bytes in total, the replies 1 to 25 bytes. The first
+-- byte of the replies is not 0.
 pub record IsRow (commands : List Command) (bytes answers : List ℕ) : Type 0 where
   pub frames : bytes ≡ frames_of commands
   pub has : (firmware : Firmware) → HaveReplies firmware commands
@@ -153,8 +153,8 @@ few_then first second failure old mid new asks few = record {
   power = power_then old.device mid.device new.device asks.chip asks.worn few.power;
 }
 
--- If a call failed because fewer than `calls` calls of the port were left, fewer than `more` were left for any `more`
--- that is at least `calls`.
+-- If a call failed because fewer than `calls` calls of the port were left, and `more` is at least `calls`, fewer than
+-- `more` calls were left.
 pub few_of_more : {C : Type 0} (calls more : ℕ) (failure : Failure C) (old new : PortState) → calls ≤ more
     → AsksUnlessFew calls (Err failure) old new → AsksUnlessFew more (Err failure) old new
 few_of_more calls more failure old new within few = record {

@@ -27,6 +27,7 @@ history_of ahead = ahead.history.exchanges
 abbrev pub inside_of : {B : Type 0} {over : Ghosts B} → ReadAhead B over → BusState
 inside_of {over = over} ahead = over.state (ahead_of ahead)
 
--- The state of the bus: its own history, with the state of the bus inside as `view_of` shows it.
+-- The state of the bus: its own history, and from the bus inside only what was sent and the result of the last poll
+-- (`view_of`).
 abbrev pub ahead_state : {B : Type 0} {over : Ghosts B} → ReadAhead B over → BusState
 ahead_state ahead = view_of (inside_of ahead) (history_of ahead)

@@ -59,6 +59,6 @@ cause_of bus = bus.cause
 abbrev pub is_ready : {P C : Type 0} {over : Ghosts P C} → SerprogBus P C over → Bool
 is_ready bus = is_in_step bus.link
 
--- The state of the bus.
+-- The state of the bus, from the state of its port and from its history (`over_port`).
 abbrev pub serprog_state : {P C : Type 0} {over : Ghosts P C} → SerprogBus P C over → BusState
 serprog_state {over = over} bus = over_port (over.state bus.link.port) (history_of bus)

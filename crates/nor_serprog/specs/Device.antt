@@ -44,8 +44,8 @@ pub record PortState : Type 0 where
 abbrev pub with_settings : ProgrammerSettings → PortState → PortState
 with_settings settings port = record port { device = record port.device { settings = settings } }
 
--- Holds if the chip made one step: it received the bytes `out` and returned the bytes `answer`. If it carried out an
--- erase, `worn` records the erased sectors.
+-- Holds if the chip made one step: it received the bytes `out` and returned the bytes `answer`. `worn` then also has
+-- the sectors that this step erased.
 pub record StepsOnce (out answer : List ℕ) (old new : Device) : Type 0 where
   pub step : Step old.chip out answer new.chip
   pub worn : (s : ℕ) → new.worn s ≡ (old.worn s || wears (done_of old.chip out (length answer)) s)

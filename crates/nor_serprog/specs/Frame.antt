@@ -43,8 +43,8 @@ abbrev pub FitsFrame : Command → Type 0
 FitsFrame (Operate out replies) = (length out.now ≤ 260) × (replies < 16777216)
 FitsFrame _ = ⊤
 
--- The number of argument bytes after an opcode up to 16h. It does not apply to O_SPIOP (13h) and "write n" (0Dh), whose
--- frames `long_len` describes. It is 0 for all opcodes after 16h.
+-- The number of argument bytes after an opcode. It is 0 for all opcodes after 16h. The number is not used for O_SPIOP
+-- (13h) and "write n" (0Dh), whose frames `long_len` describes.
 abbrev pub argument_count : (opcode : ℕ) → ℕ
 argument_count opcode =
     if opcode == 0x12 || opcode == 0x15 || opcode == 0x16 then 1

@@ -37,8 +37,8 @@ read_limit firmware = limit_in (has_command firmware 0x11) firmware.longest_read
 
 -- The greatest number of bytes that a transaction may send, if `writes` is the limit of the programmer and `buffer` is
 -- the size of its serial buffer. If the programmer has Q_SERBUF (04h) but lacks Q_WRNMAXLEN (08h), the frame of the
--- transaction, which has 7 more bytes, must also fit into the buffer. The number is never less than 5, so a buffer of
--- fewer than 12 bytes is too small for it.
+-- transaction, which has 7 more bytes, must also fit into the buffer. In this case the number is at least 5, even if
+-- the buffer has fewer than 12 bytes.
 abbrev pub part_limit_of : (commands : List ℕ) → (writes buffer : ℕ) → ℕ
 part_limit_of commands writes buffer =
     if is_in_map commands 0x08 then writes
@@ -189,9 +189,9 @@ abbrev pub IsPortFault : {C : Type 0} → HandshakeFault C → Type 0
 IsPortFault (Failure failure) = IsPortFailure failure
 IsPortFault _ = ⊥
 
--- The result of the handshake, or of a part of it that makes at most `calls` calls, over a well-behaved port to an idle
--- programmer. `fault` is the error that the firmware causes, or `None`. `old` is the state of the port before the part,
--- except that its settings are those that the programmer has after success.
+-- Holds for the result of the handshake, or of a part of it that makes at most `calls` calls, over a well-behaved port
+-- to an idle programmer. `fault` is the error that the firmware causes, or `None`. `old` is the state of the port
+-- before the part, except that its settings are those that the programmer has after success.
 pub record Concludes {T C : Type 0} (calls : ℕ) (fault : Option (HandshakeFault C)) (IsValue : T → Type 0)
     (result : Result T (HandshakeFault C)) (old new : PortState) : Type 0 where
   -- after success the firmware causes no error, `IsValue` holds for the value, the programmer is idle and has the
@@ -210,7 +210,7 @@ pub record IsInStepWith {P C : Type 0} (port : P → PortState) (firmware : Firm
   pub awaits : AwaitsCommand (port link.port)
   pub same : (port link.port).device.firmware ≡ firmware
 
--- The result of one exchange of the handshake: `command` is sent, and `count` reply bytes are requested. If the
+-- Holds for the result of one exchange of the handshake that sends `command` and requests `count` reply bytes. If the
 -- firmware replies ACK and `count` bytes, the exchange returns these bytes. If it replies NAK, the exchange returns
 -- `Refused`.
 pub record Asked {C : Type 0} (firmware : Firmware) (command : Command) (count : ℕ) (reply : List ℕ)

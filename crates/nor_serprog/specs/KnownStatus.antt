@@ -41,7 +41,7 @@ pub record IsWritten (out : List ℕ) (remembered : Option (List ℕ)) : Type 0 
   pub is : out ≡ 0x01 ∷ one ∷ two ∷ []
   pub written : remembered ≡ Some (one ∷ two ∷ [])
 
--- Holds if a transaction did not change whether a modifying command was passed on, nor which status write is to be read
+-- Holds if two facts are as before: whether a modifying command was passed on, and which status write is to be read
 -- back.
 pub record KeepsTask (old new : Known) : Type 0 where
   pub is_changing : new.is_changing ≡ old.is_changing
@@ -61,10 +61,11 @@ pub record SendsKept (out : List ℕ) (old new : BusState) : Type 0 where
   pub sent : (new.sent ≡ old.sent) ⊎ (new.sent ≡ with_sent out old.sent)
   pub kept : begins_status_write out ≡ true → (new ≡ old) ⊎ IsStatusKept out old.history
 
--- What is known after a transaction that sent `out` succeeded with the reply `answer`.
+-- Holds after a transaction that sent `out` and succeeded with the reply `answer`. The fields say how the bus inside
+-- was read before the reply was believed, and what is remembered.
 pub record BelievesStatus (out answer : List ℕ) (known known' : Known) (old new : List Exchange) : Type 0 where
-  -- If a poll shows that the chip is ready, both reply bytes of each poll of the bus inside were equal to the returned
-  -- status. `PollAgrees` says how often it polled, and when it read the ID.
+  -- If a poll shows that the chip is ready, both reply bytes of each poll over the bus inside were equal to the
+  -- returned status. `PollAgrees` says how often the bus inside was polled, and when the ID was read.
   pub poll : out ≡ 0x05 ∷ [] → length answer ≡ 1 → slice_index answer 0 % 2 ≡ 0
       → PollAgrees known known' (slice_index answer 0) old new
   -- Status 2 was read twice with the same reply, and the known ID was read after each read.

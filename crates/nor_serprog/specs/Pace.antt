@@ -2,9 +2,8 @@
 use Rattle.std.specs.Prelude.{◌+◌, ◌-◌, ◌*◌, ◌/◌, ◌^◌, ◌==◌, ◌||◌, ℕ, zero, suc, true, List, [], ◌∷◌, Option, None, Some, min, max, if◌then◌else◌}
 use Rattle.nor_model.specs.PolledReady.{polled_ready_after}
 
--- The number of polls in a row that showed BUSY, after one more transaction that sent `out` and read `answer`. Before
--- it the number was `before`. Any transaction except a poll that shows BUSY sets the number to 0. It is at most 2^64 -
--- 1.
+-- The number of polls in a row that showed BUSY (at most 2^64 - 1), after one more transaction that sent `out` and read
+-- `answer`. Before it the number was `before`. Any transaction except a poll that shows BUSY sets the number to 0.
 abbrev pub busy_row_after : (out answer : List ℕ) → (before : ℕ) → ℕ
 busy_row_after out answer before = if polled_ready_after out answer true then 0 else min (before + 1) (2 ^ 64 - 1)
 
@@ -31,7 +30,7 @@ third_pause typical = min 6250 (max 100 (typical / 16))
 
 -- The pause before a transaction that follows `busy_polls` polls in a row which showed BUSY. The operation typically
 -- takes `typical`, and its command was sent `elapsed` ago. From the third poll on, the pause doubles after every 16
--- polls.
+-- polls, up to 6,250.
 abbrev pub pause_before : (typical elapsed busy_polls : ℕ) → ℕ
 pause_before typical elapsed busy_polls =
     if busy_polls == 0 then 0

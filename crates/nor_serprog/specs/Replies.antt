@@ -37,9 +37,9 @@ abbrev pub IsPortFailure : {C : Type 0} → Failure C → Type 0
 IsPortFailure (Port cause) = ⊤
 IsPortFailure _ = ⊥
 
--- The result of a call of a link. After success, at most `calls` calls of the port were made, and the programmer is
--- idle again (`OnlyAsks`). After an error, the port failed because fewer than `calls` calls were left, and the chip is
--- as it was or has lost its power.
+-- Holds for the result of a call of a link. After success, at most `calls` calls of the port were made, and the
+-- programmer is idle again (`OnlyAsks`). After an error, the port failed because fewer than `calls` calls were left,
+-- and the chip is as it was or has lost its power.
 pub record AsksUnlessFew {C : Type 0} (calls : ℕ) (result : Result Unit (Failure C))
     (old new : PortState) : Type 0 where
   pub done : OnOk result (OnlyAsks calls old new)
@@ -56,9 +56,9 @@ IsRefusal opcode _ = ⊥
 abbrev pub IsRefused : {C : Type 0} → (opcode calls left : ℕ) → Failure C → Type 0
 IsRefused opcode calls left failure = IsRefusal opcode failure ⊎ (IsPortFailure failure × (left < calls))
 
--- The result of an exchange of `command`, which requests `count` reply bytes, over a well-behaved port to an idle
--- programmer. The command is not O_SPIOP, and its reply is specified. For SYNCNOP, whose reply is NAK and ACK, only
--- `power` says something.
+-- Holds for the result of an exchange of `command`, which requests `count` reply bytes, over a well-behaved port to an
+-- idle programmer. The command is not O_SPIOP, and its reply is specified. For SYNCNOP, whose reply is NAK and ACK,
+-- only `power` says something.
 pub record EndsExchange {C : Type 0} (command : Command) (count : ℕ) (reply : List ℕ) (result : Result Unit (Failure C))
     (old new : PortState) : Type 0 where
   -- if the programmer replies ACK and `count` bytes: either success with these bytes, and the programmer is idle and

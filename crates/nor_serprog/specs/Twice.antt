@@ -20,15 +20,15 @@ has_differed twice = twice.differed
 abbrev pub expected_of : {B : Type 0} → ReadTwice B → Option (Vec ℕ Global)
 expected_of twice = twice.expected
 
--- Holds if an image is expected, the read of data `out` had the reply `answer`, and then only parts of it were read
--- again, among them each byte that differs from the image (`RepeatsDiffering`).
+-- Holds if an image is expected, and the read of data `out` had the reply `answer`. After it only parts of `answer`
+-- were read again, and these parts contain each byte that differs from the image (`RepeatsDiffering`).
 abbrev pub RepeatsUnexpected : {B : Type 0} → ReadTwice B → (out answer : List ℕ) → (old new : List Exchange) → Type 0
 RepeatsUnexpected twice out answer old new = elim twice.expected [
   | None ↦ ⊥
   | Some image ↦ RepeatsDiffering image.items out answer old new
 ]
 
--- Holds if an image is expected, and a well-behaved bus carried out the transactions of `RepeatsUnexpected`.
+-- Holds if an image is expected, and the bus carried out the transactions of `RepeatsUnexpected`.
 abbrev pub CarriesUnexpected : {B : Type 0} → ReadTwice B → (out answer : List ℕ) → (old new : BusState) → Type 0
 CarriesUnexpected twice out answer old new = elim twice.expected [
   | None ↦ ⊥
@@ -40,7 +40,8 @@ CarriesUnexpected twice out answer old new = elim twice.expected [
 abbrev pub history_of : {B : Type 0} → ReadTwice B → List Exchange
 history_of twice = twice.history.exchanges
 
--- The state of the bus: its own history, with the state of the bus inside as `view_of` shows it.
+-- The state of the bus: its own history, and from the bus inside only what was sent and the result of the last poll
+-- (`view_of`).
 abbrev pub twice_state : {B : Type 0} → (inside : B → BusState) → ReadTwice B → BusState
 twice_state inside twice = view_of (inside (twice_of twice)) (history_of twice)
 

@@ -45,9 +45,9 @@ pub(crate) fn is_repeated<B: Bus>(
     Ok(are_same(reply, second))
 }
 
-// Compares `reply`, which was read from `address` on, with the image, and reads each sector that differs again. Returns
-// whether each second reply is the same as the first. Neighbouring sectors are read with one transaction. Overwrites
-// `again` with the second replies.
+// Compares `reply`, which was read from `address` on, with the image, and reads the sectors that differ a second time.
+// Returns whether each second reply is the same as the first. Neighbouring sectors are read with one transaction.
+// Overwrites `again` with the second replies.
 pub(crate) fn is_repeated_or_expected<B: Bus>(
     bus: &mut B,
     image: &[u8],
@@ -80,7 +80,7 @@ pub(crate) fn is_repeated_or_expected<B: Bus>(
     Ok(true)
 }
 
-// Returns the longest run of sectors of a reply that begins at the index `from`. The reply was read from `address` on.
+// Returns the longest run of sectors that begins at the index `from` of a reply. The reply was read from `address` on.
 fn run_from(image: &[u8], address: u32, reply: &[u8], from: usize) -> Run
     requires fits { address + length reply.now ≤ 16777216 }
     requires some { from < length reply.now }

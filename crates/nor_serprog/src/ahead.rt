@@ -16,20 +16,20 @@ const LONGEST_BLOCK: u32 = 1 << 16;
 const READ_DATA: u8 = 0x03;
 
 /// A bus that reads data (03h) ahead, if reads follow each other. It returns the bytes of a read inside the last block
-/// from memory. A read that begins where the last block ended doubles the length of a block, up to 64 KiB; any other
-/// read sets it to its own length. A block is longer if the read needs more bytes, and shorter if it would pass a
-/// multiple of 64 KiB.
+/// from memory. A read that begins where the last block ended doubles the length of the next block, up to 64 KiB. Any
+/// other read sets this length to its own length. A block is longer if the read needs more bytes, and shorter if it
+/// would pass a multiple of 64 KiB.
 ///
 /// The bus forgets the block at each transaction that it passes on unchanged, and if the bus inside stops. A block ends
-/// at a multiple of 64 KiB at the latest, so it never reaches past the end of a chip. It is never longer than the bus
-/// inside can read, and `end_blocks_at` ends it earlier. A transaction is passed on unchanged if it is no read of data,
-/// reads more than the longest block, or reaches past a multiple of 64 KiB.
+/// at a multiple of 64 KiB at the latest, so it never reaches past the end of a chip. A block is never longer than the
+/// bus inside can read, and `end_blocks_at` ends it earlier. A transaction is passed on unchanged if it is no read of
+/// data, reads more than the longest block, or reaches past a multiple of 64 KiB.
 ///
 /// If a read of data of at least one byte returns `Ok`, the last transaction over the bus inside is a read of data, and
-/// the bytes returned are those that its reply has for the same addresses.
+/// the bytes returned are the bytes that the reply to it has for the same addresses.
 ///
 /// A read over this bus may be no transaction over the bus inside, or a longer one, so this bus is not well-behaved as
-/// `Bus` defines it, even if the bus inside is. Nobody else may modify the chip meanwhile.
+/// `Bus` defines it, even if the bus inside is. While this bus is used, nobody else may modify the chip.
 ///
 /// The history lists each transaction over this bus with its reply, even a read whose bytes came from memory; a
 /// transaction that failed is listed without a reply. In contracts, the modifying commands that were sent and the

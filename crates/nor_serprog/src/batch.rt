@@ -7,7 +7,8 @@ use crate::{AnyProgrammer, Command, Failure, Frame, Link, Port, Sync};
 use arrayvec::ArrayVec;
 use nor_model::is_changing;
 
-// The greatest number of bytes in a batch. A write enable, a full page program and a poll have 283 bytes together.
+// The greatest number of bytes in a batch. The frames of a write enable, a full page program and a poll have 283 bytes
+// in total.
 const LONGEST_BATCH: usize = 512;
 
 /// A link, and the frames that wait to be sent over it. Each of these frames is an O_SPIOP that requests no reply

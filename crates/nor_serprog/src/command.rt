@@ -26,37 +26,40 @@ pub type Frame = ArrayVec<u8, LONGEST_FRAME>;
 /// parallel chips are left out, and so are commands after 16h.
 #[derive(Clone, Copy, Debug, PartialEq, Eq)]
 pub enum Command<'a> {
-    /// 00h, NOP: no effect.
+    /// 00h, NOP: has no effect.
     Nop,
-    /// 01h, Q_IFACE: the version of the protocol, 2 bytes.
+    /// 01h, Q_IFACE: queries the version of the protocol. The reply has 2 bytes.
     QueryInterface,
-    /// 02h, Q_CMDMAP: the map of the commands that the programmer has, 32 bytes.
+    /// 02h, Q_CMDMAP: queries the map of the commands that the programmer has. The reply has 32 bytes.
     QueryCommands,
-    /// 03h, Q_PGMNAME: the name of the programmer, 16 bytes padded with zeros.
+    /// 03h, Q_PGMNAME: queries the name of the programmer. The reply has 16 bytes, padded with zeros.
     QueryName,
-    /// 04h, Q_SERBUF: the size of the serial buffer, 2 bytes.
+    /// 04h, Q_SERBUF: queries the size of the serial buffer. The reply has 2 bytes.
     QuerySerialBuffer,
-    /// 05h, Q_BUSTYPE: the types of bus that the programmer supports, 1 byte of flags.
+    /// 05h, Q_BUSTYPE: queries the types of bus that the programmer supports. The reply is a byte of flags.
     QueryBuses,
-    /// 08h, Q_WRNMAXLEN: the greatest number of bytes that an O_SPIOP may send, 3 bytes; 0 means 2^24.
+    /// 08h, Q_WRNMAXLEN: queries the greatest number of bytes that an O_SPIOP may send. The reply has 3 bytes; 0 means
+    /// 2^24.
     QueryLongestWrite,
-    /// 10h, SYNCNOP: no effect; the reply is NAK and then ACK.
+    /// 10h, SYNCNOP: has no effect. The reply is NAK and then ACK.
     SyncNop,
-    /// 11h, Q_RDNMAXLEN: the greatest number of bytes that an O_SPIOP may read, 3 bytes; 0 means 2^24.
+    /// 11h, Q_RDNMAXLEN: queries the greatest number of bytes that an O_SPIOP may read. The reply has 3 bytes; 0 means
+    /// 2^24.
     QueryLongestRead,
-    /// 12h, S_BUSTYPE: use one of these types of bus (flags as in the reply to Q_BUSTYPE).
+    /// 12h, S_BUSTYPE: selects the types of bus that have these flags. The flags are those of Q_BUSTYPE.
     SetBuses(u8),
-    /// 13h, O_SPIOP: one SPI transaction that sends `out` and then reads `replies` bytes.
+    /// 13h, O_SPIOP: makes one SPI transaction that sends `out` and then reads `replies` bytes.
     Operate { out: &'a [u8], replies: u32 },
-    /// 14h, S_SPI_FREQ: the clock in hertz. The reply has the frequency that was set, 4 bytes.
+    /// 14h, S_SPI_FREQ: requests this clock in hertz. The reply has the clock that was set, in 4 bytes.
     SetFrequency(u32),
-    /// 15h, S_PIN_STATE: switch the programmer's pin drivers on or off.
+    /// 15h, S_PIN_STATE: switches the programmer's pin drivers on or off.
     SetPins(bool),
-    /// 16h, S_SPI_CS: use the chip select with this number. Newer descriptions of version 1 have this command.
+    /// 16h, S_SPI_CS: selects the chip select with this number. Only newer descriptions of version 1 have this command.
     SelectChip(u8),
 }
 
-/// The command does not fit into a frame: it sends more than 260 bytes to the chip, or reads 2^24 bytes or more.
+/// The error for a command that does not fit into a frame: it sends more than 260 bytes to the chip, or reads 2^24
+/// bytes or more.
 #[derive(Clone, Copy, Debug, PartialEq, Eq, Error)]
 #[error("a transaction that sends more than 260 bytes or reads 16777216 or more does not fit into a serprog frame")]
 pub struct TooLong;

@@ -108,7 +108,7 @@ pub(crate) fn set<P: Port + Drop>(
     ask(link, setting, &mut [])
 }
 
-// Queries the version of the protocol, and returns `Version` if it isn't 1.
+// Queries the version of the protocol, and returns the error `Version` if it isn't 1.
 pub(crate) fn require_version<P: Port + Drop>(
     link: &mut Link<P>,
 ) -> Result<(), HandshakeFault<P::Cause>>
@@ -126,7 +126,7 @@ pub(crate) fn require_version<P: Port + Drop>(
     Ok(())
 }
 
-// Returns the map of the programmer's commands, or the error `Lacks` if the map lacks O_SPIOP.
+// Queries the map of the programmer's commands, and returns it. Returns the error `Lacks` if the map lacks O_SPIOP.
 pub(crate) fn query_commands<P: Port + Drop>(
     link: &mut Link<P>,
 ) -> Result<Map, HandshakeFault<P::Cause>>
@@ -143,7 +143,7 @@ pub(crate) fn query_commands<P: Port + Drop>(
     Ok(commands)
 }
 
-// Returns `NotSpi` if the programmer can't be set to SPI.
+// Returns the error `NotSpi` if the programmer can't be set to SPI.
 pub(crate) fn require_spi<P: Port + Drop>(
     link: &mut Link<P>,
     commands: &Map,

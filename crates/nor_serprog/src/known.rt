@@ -12,8 +12,9 @@ const WRITE_STATUS: u8 = 0x01;
 pub enum CheckFault {
     /// Two reads of the same status register (05h or 35h) had different replies.
     Differs,
-    /// A status write was not sent, because it could set a one-time bit. Status 1 or status 2 was not read yet, or a
-    /// bit that is not a protection bit differs from the one that was read, or BUSY, WEL or SUS is set.
+    /// A status write was not sent, because it could change a bit that is not a protection bit, and some of these bits
+    /// can be set only once. Status 1 or status 2 was not read yet, or such a bit differs from the one that was read,
+    /// or BUSY, WEL or SUS is set, or the status write doesn't have exactly two data bytes.
     Refused,
     /// The status write of `sent` was not stored: afterwards the status registers are `found`, which differs in a
     /// non-volatile bit.
@@ -23,7 +24,7 @@ pub enum CheckFault {
     Lost { id: [u8; 3], found: [u8; 3] },
 }
 
-// What is known about the chip.
+// The state of the knowledge of a `CheckedStatus` about the chip.
 #[derive(Clone, Copy)]
 pub(crate) struct Known {
     // Status 1 and status 2. Each is known if the register was read twice with the same value, and the known ID was

@@ -10,7 +10,7 @@ ghost use Rattle.nor_serprog.specs.Replies.{AwaitsCommand, EndsExchange, IsPortF
 use crate::{Answer, Command, Frame, Port};
 use thiserror::Error;
 
-/// Why an exchange with a programmer failed. `C` is the cause of a failure of the port.
+/// Why an exchange with a programmer failed. `C` is the type for the cause of a failure of the port.
 #[derive(Debug, Drop, Error)]
 #[error_bound(C: std::fmt::Display)]
 pub enum Failure<C> {
@@ -27,7 +27,8 @@ pub enum Failure<C> {
     /// the link is as it was.
     #[error("a transaction of this length does not fit into one serprog frame")]
     TooLong,
-    /// Nothing was sent, because the link isn't synchronized: it is new, or an exchange or `synchronize` failed.
+    /// Nothing was sent, because the link isn't synchronized: it is new, or an earlier exchange or `synchronize`
+    /// failed.
     #[error("an earlier exchange with the programmer failed, and it was not synchronized since")]
     OutOfStep,
     /// Nothing was sent, because a frame may have been sent only in part: any further byte could complete it.
@@ -146,8 +147,8 @@ impl<P: Port + Drop> Link<P> {
         }
     }
 
-    /// Returns the error for a command that is too long to be sent: `TooLong`, or `OutOfStep` or `CutFrame` if the link
-    /// is out of step.
+    /// Returns the error for a command that is too long to be sent. That is `TooLong` if the link is in step, and
+    /// otherwise `OutOfStep` or `CutFrame`.
     pub(crate) fn rejection(&self) -> Failure<P::Cause> {
         match self.sync {
             Sync::InStep => Failure::TooLong,

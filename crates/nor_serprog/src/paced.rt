@@ -90,7 +90,7 @@ impl<B: Bus + Drop, C: Clock + Drop> Paced<B, C> {
 }
 
 impl<B, C: Clock> Paced<B, C> {
-    // Pauses for the time that the polls so far require before the next transaction.
+    // Pauses before the next transaction, for the time that `pause_micros` returns.
     fn pause(&self) {
         let micros = pause_micros(self.typical, self.elapsed(), self.busy_polls);
         if micros > 0 {

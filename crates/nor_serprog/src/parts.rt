@@ -69,8 +69,8 @@ fn first_address(out: &[u8]) -> Option<u32>
     }
 }
 
-// Fills `reply` by reads of at most `longest` bytes each. Returns `Stopped` and sends nothing if `out` is no read that
-// can be split and `reply` isn't empty.
+// Fills `reply` by reads of at most `longest` bytes each. If `out` is no read that can be split, sends nothing, and
+// returns `Stopped` unless `reply` is empty.
 fn read_parts<B: Bus>(
     bus: &mut B,
     longest: usize,

@@ -4,7 +4,7 @@ ghost use Rattle.std.specs.Prelude.{◌≡◌, ◌≤◌};
 use crate::Failure;
 use thiserror::Error;
 
-/// Why a programmer cannot be used. `C` is the cause of a failure of the port.
+/// Why a programmer cannot be used. `C` is the type for the cause of a failure of the port.
 #[derive(Debug, Drop, Error)]
 #[error_bound(C: std::fmt::Display)]
 pub enum HandshakeFault<C> {
@@ -30,15 +30,15 @@ pub enum HandshakeFault<C> {
     /// An O_SPIOP may read at most this many bytes, which is too few for the 4,096 bytes of a sector.
     #[error("the programmer reads at most {0} bytes in a transaction, and a sector needs 4096")]
     ReadLimit(u32),
-    /// The serial buffer of the programmer has this many bytes, which is too few. The buffer limits the length of a
-    /// frame, because the programmer lacks Q_WRNMAXLEN. The frame of a page program has 267 bytes, and that of its
-    /// shortest part 12.
+    /// The serial buffer of the programmer has this many bytes, which is too few. Because the programmer lacks
+    /// Q_WRNMAXLEN, the buffer limits the length of a frame. The frame of a page program has 267 bytes, and the frame
+    /// of its shortest part has 12.
     #[error("the serial buffer of the programmer has {0} bytes, too few for a page program")]
     SmallBuffer(u16),
 }
 
-/// The replies of a programmer to its identification, whatever its limits. If one transaction can't send a page program
-/// or read a sector, use a `SplittingBus`.
+/// The replies of a programmer to its identification. Nothing is promised about its limits. If one transaction can't
+/// send a page program or read a sector, use a `SplittingBus`.
 #[derive(Clone, Copy, Debug, PartialEq, Eq)]
 pub struct AnyProgrammer {
     pub(crate) name: [u8; 16],
@@ -133,7 +133,7 @@ impl Programmer {
         self.reported.name
     }
 
-    /// Returns the same replies as an `AnyProgrammer`, which promises nothing about the limits.
+    /// Returns the replies of the programmer as an `AnyProgrammer`, whose type promises nothing about the limits.
     pub fn reported(&self) -> &AnyProgrammer
         ensures { result.now ≡ self.now.reported }
     {

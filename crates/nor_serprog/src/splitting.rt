@@ -22,9 +22,9 @@ use nor_model::{Bus, History, Stopped};
 /// read in parts. A read that passes address FFFFFFh, or a program that passes the end of its page, is also rejected if
 /// it is too long for the bus inside.
 ///
-/// A program in parts stops if the bus inside stops, or after 65,536 polls in a row that show BUSY. Then only the first
-/// parts are programmed. A restore treats this like an interrupted program: the bytes lie in a sector that the journal
-/// saves.
+/// A program in parts stops if the bus inside stops, or after 65,536 polls in a row that show BUSY. Then perhaps only
+/// some of its bytes are programmed, as after an interrupted program. A restore can undo this, because the bytes lie in
+/// a sector that the journal saves.
 ///
 /// The history lists each transaction over this bus with its reply. A transaction that failed or was rejected is listed
 /// without a reply, and a transaction that was split is listed once. One transaction over this bus may be many over the
@@ -35,7 +35,8 @@ pub struct SplittingBus<B> {
     longest_write: u32,
     longest_read: u32,
     history: History,
-    // A part of a program sends at least one data byte, and a part of a read reads at least one byte.
+    // The first part of a program sends 4 bytes before its data, so 5 bytes is the least useful limit. A part of a read
+    // reads at least one byte.
     ghost writes: { 5 ≤ longest_write },
     ghost reads: { 1 ≤ longest_read },
 }

@@ -36,20 +36,20 @@ const BUSY: u8 = 0x01;
 ///
 /// - If contact or supply fails, each reply is FFh or 00h, however often it is read. Therefore the ID is read (9Fh with
 ///   three reply bytes) after each reply on which a decision depends, except for polls that are believed at once (see
-///   below). Each ID must equal the first one, even if the caller requested it; otherwise the call returns `Stopped`. A
-///   wrong reply that is checked in this way is believed only if the chip loses contact for each read of the reply, and
-///   has contact again for the ID after each of them.
+///   below). Each ID must equal the first one, even if the caller requested it; otherwise the call returns `Stopped`.
+///   With this check, a wrong reply is believed only if the chip is lost each time the reply is read, and has contact
+///   again each time for the ID after it.
 /// - The ID is read after each transaction that begins with the opcode of a read of data (03h), of SFDP (5Ah) or of the
 ///   unique ID (4Bh).
 /// - A poll (05h with one reply byte) is carried out with two reply bytes, since a chip repeats its status (W25Q64FV
 ///   datasheet, Read Status Register). If one of them shows BUSY, that byte is returned. If both show that the chip is
 ///   ready, they must be equal. Before the first modifying command, and until a status write is read back, the poll is
-///   then repeated with the same reply, and the ID is read after each of the two polls. Other polls are believed at
-///   once.
+///   then repeated and must have the same reply, and the ID is read after each of the two polls. Other polls are
+///   believed at once.
 /// - Status 2 (35h with one reply byte) is read twice, and the ID is read after each read. Both replies must be equal.
-/// - A status write (01h) is passed on only if both status registers were read in this way before, and if outside the
-///   protection bits it has the bits that were read: SRP0, SRP1, QE, the reserved bit, and the one-time bits LB1, LB2
-///   and LB3. BUSY, WEL and SUS must be clear. Otherwise nothing is sent.
+/// - A status write (01h) is passed on only if both status registers were read in this way before. Outside the
+///   protection bits it must have the bits that were read: SRP0, SRP1, QE, the reserved bit, and the one-time bits LB1,
+///   LB2 and LB3. BUSY, WEL and SUS must be clear. Otherwise nothing is sent.
 /// - After a status write, the first poll that shows that the chip is ready also reads status 2, twice. If a
 ///   non-volatile bit isn't as it was sent, the poll returns `Stopped`.
 ///

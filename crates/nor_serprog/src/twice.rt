@@ -28,8 +28,8 @@ const READ_ID: u8 = 0x9F;
 
 /// A bus that carries out each read of data (03h), of the ID (9Fh), of SFDP (5Ah) and of the unique ID (4Bh) twice, and
 /// stops if the replies differ. A poor contact flips bits in some reads. Without a second read a flipped bit could get
-/// into the journal, and a restore would write it to the chip; or a wrong ID could be read. Such a read of more than
-/// 65,536 bytes is rejected: nothing is sent.
+/// into the journal, and a restore would write it to the chip; or a wrong ID could be read. If such a read requests
+/// more than 65,536 bytes, it is rejected: nothing is sent.
 ///
 /// If an image is expected (`expecting`), a read of data that sends four bytes is carried out once. After that only the
 /// sectors of its reply that differ from the image at the same addresses are read again, neighbouring ones together. If
@@ -39,8 +39,8 @@ const READ_ID: u8 = 0x9F;
 ///
 /// An error that is the same in both reads is not detected. A read over this bus may be several transactions over the
 /// bus inside, so this bus is not well-behaved as `Bus` defines it, even if the bus inside is. On any bus, each byte
-/// that a successful read returned is the expected one, or a later transaction returned the same byte again. If the bus
-/// inside is well-behaved and accepts a read of this length, a read of at most 65,536 bytes fails only if no
+/// that a successful read returned is the expected one, or was returned a second time by a later transaction. If the
+/// bus inside is well-behaved and accepts a read of this length, a read of at most 65,536 bytes fails only if no
 /// transaction is left afterwards.
 ///
 /// The history lists each transaction over this bus with its reply; a transaction that failed is listed without a
@@ -222,7 +222,7 @@ impl<B: Bus> Bus for ReadTwice<B> {
 }
 
 // Returns whether a transaction begins with the opcode of a read of data, of the ID, of the unique ID or of SFDP. Only
-// the first byte counts, even if the address is incomplete.
+// the first byte counts, so a read with an incomplete address counts, too.
 fn is_read(out: &[u8]) -> bool
     ensures { result ≡ begins_read out.now }
 {

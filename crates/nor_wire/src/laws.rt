@@ -1,4 +1,5 @@
-//! Laws (theorems) about the time between a session and its restores.
+//! Laws (theorems) about what happens between a session and its restores: the journal is read, and the chip loses its
+//! power.
 ghost use Rattle.std.specs.Prelude.{◌≡◌, ℕ, List};
 ghost use Rattle.nor_model.specs.Chip.{Chip};
 ghost use Rattle.nor_model.specs.Power.{PowerLost};
