@@ -145,7 +145,8 @@ pub on_err : {T E : Type 0} (result : Result T E) (P : Type 0) → P → OnErr r
 on_err (Ok x) P p = tt
 on_err (Err e) P p = p
 
--- Holds if the port is well-behaved if and only if it was before. If it is, the number of calls left did not increase.
+-- Holds if a call did not change whether the port is well-behaved (`honest`). If the port is well-behaved, the call did
+-- not increase the number of calls left.
 pub record UsesCalls (old new : PortState) : Type 0 where
   pub honest : new.honest ≡ old.honest
   pub fewer : old.honest ≡ true → new.left ≤ old.left

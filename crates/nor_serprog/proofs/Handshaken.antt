@@ -47,8 +47,8 @@ stops_after done found = record {
   power = record { chip = inl done.asks.chip; worn = λ s. ap (λ (w : ℕ → Bool). w s) done.asks.worn };
 }
 
--- If a call in a step failed, the step may return the error of this call, provided that an error that the firmware
--- causes in the call is also the one that it causes in the step. `settings` can be any, because `Concludes` states no
+-- If a call in a step failed, the step may return the error of this call. If the firmware causes this error in the call
+-- (`fault`), it must also cause it in the step (`fault'`). `settings` can be any, because `Concludes` states no
 -- settings after an error.
 pub fails_as : {T T' C : Type 0} {calls : ℕ} {fault fault' : Option (HandshakeFault C)} {IsValue : T → Type 0}
     {IsValue' : T' → Type 0} {error : HandshakeFault C} {old new : PortState} (settings : ProgrammerSettings)

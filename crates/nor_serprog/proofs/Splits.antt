@@ -36,7 +36,7 @@ pub none_read : (most : ℕ) (out : List ℕ) (old : List Exchange) → ReadsInP
 none_read most out old = record { later = []; is = refl; parts = tt; whole = refl }
 
 -- If `ReadsInParts` holds for the first `from` bytes of `reply`, and one more part with the reply `answer` succeeded,
--- it holds for the first `n` bytes, to which `answer` was added.
+-- `ReadsInParts` holds for these bytes followed by `answer`.
 pub read_more : (most from k n : ℕ) (out reply answer : List ℕ) (old mid new : List Exchange)
     → ReadsInParts most out (take from reply) old mid → from ≤ length reply → n ≡ from + length answer
     → length answer ≤ most → new ≡ replied (further out from) answer ∷ mid

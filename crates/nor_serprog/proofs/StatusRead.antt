@@ -1,4 +1,4 @@
--- Lemmas: a status register that was read twice stays so when the history grows.
+-- Lemmas: if a status register was read twice in a history, this stays true when the history grows.
 use Rattle.std.proofs.Common.{◌≡◌, ◌∙◌, ℕ, Bool, true, false, List, [], ◌∷◌, Option, None, Some, refl, ap, sym, eq-eqb}
 use Rattle.std.specs.Prelude.{◌||◌, ◌&&◌, ◌==◌}
 use Rattle.std.specs.Option.{ForSome}

@@ -6,7 +6,7 @@ use Rattle.nor_model.specs.declared.bus.Bus.{Ghosts}
 use Rattle.nor_serprog.specs.ReadsAs.{view_of}
 use Rattle.nor_serprog.specs.declared.ahead.ReadAhead.{ReadAhead}
 
--- The bus inside.
+-- The bus inside, which carries out the transactions of a `ReadAhead`.
 abbrev pub ahead_of : {B : Type 0} {over : Ghosts B} → ReadAhead B over → B
 ahead_of ahead = ahead.bus
 

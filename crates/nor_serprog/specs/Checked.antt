@@ -6,7 +6,7 @@ use Rattle.nor_model.specs.declared.bus.Bus.{Ghosts}
 use Rattle.nor_serprog.specs.declared.status.CheckedStatus.{CheckedStatus}
 use Rattle.nor_serprog.specs.declared.known.Known.{Known}
 
--- The bus inside.
+-- The bus inside, which carries out the transactions of a `CheckedStatus`.
 abbrev pub bus_of : {B : Type 0} {over : Ghosts B} → CheckedStatus B over → B
 bus_of checked = checked.bus
 

@@ -61,8 +61,8 @@ pub record SendsKept (out : List ℕ) (old new : BusState) : Type 0 where
   pub sent : (new.sent ≡ old.sent) ⊎ (new.sent ≡ with_sent out old.sent)
   pub kept : begins_status_write out ≡ true → (new ≡ old) ⊎ IsStatusKept out old.history
 
--- Holds after a transaction that sent `out` and succeeded with the reply `answer`. The fields say how the bus inside
--- was read before the reply was believed, and what is remembered.
+-- Holds after a transaction that sent `out` and succeeded with the reply `answer`. The fields say which transactions
+-- the bus inside made before the reply was believed, and what is remembered.
 pub record BelievesStatus (out answer : List ℕ) (known known' : Known) (old new : List Exchange) : Type 0 where
   -- If a poll shows that the chip is ready, both reply bytes of each poll over the bus inside were equal to the
   -- returned status. `PollAgrees` says how often the bus inside was polled, and when the ID was read.

@@ -2,7 +2,7 @@
 use Rattle.std.specs.Prelude.{ℕ}
 use Rattle.nor_serprog.specs.declared.paced.Paced.{Paced}
 
--- The bus inside.
+-- The bus inside, which carries out the transactions of a `Paced`.
 abbrev pub paced_of : {B C : Type 0} → Paced B C → B
 paced_of paced = paced.bus
 

@@ -51,8 +51,8 @@ abbrev pub IsRefusal : {C : Type 0} → (opcode : ℕ) → Failure C → Type 0
 IsRefusal opcode (Refused refused) = refused ≡ opcode
 IsRefusal opcode _ = ⊥
 
--- Holds for the failure after a reply NAK. It says that the command with this opcode was refused, or that the port
--- failed because fewer than `calls` calls were left (`left`).
+-- Holds if the failure says that the programmer refused the command with this opcode, or that the port failed because
+-- fewer than `calls` calls were left (`left`).
 abbrev pub IsRefused : {C : Type 0} → (opcode calls left : ℕ) → Failure C → Type 0
 IsRefused opcode calls left failure = IsRefusal opcode failure ⊎ (IsPortFailure failure × (left < calls))
 

@@ -4,7 +4,7 @@ use Rattle.nor_model.specs.Bus.{BusState, unknown_bus}
 use Rattle.nor_model.specs.Exchange.{Exchange}
 use Rattle.nor_serprog.specs.declared.splitting.SplittingBus.{SplittingBus}
 
--- The bus inside.
+-- The bus inside, which carries out the transactions of a `SplittingBus`.
 abbrev pub split_of : {B : Type 0} → SplittingBus B → B
 split_of splitting = splitting.bus
 

@@ -8,7 +8,7 @@ use Rattle.nor_model.specs.Exchange.{Exchange}
 use Rattle.nor_model.specs.History.{replied}
 use Rattle.nor_serprog.specs.declared.twice.ReadTwice.{ReadTwice}
 
--- The bus inside.
+-- The bus inside, which carries out the transactions of a `ReadTwice`.
 abbrev pub twice_of : {B : Type 0} → ReadTwice B → B
 twice_of twice = twice.bus
 

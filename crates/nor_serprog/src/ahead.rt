@@ -87,7 +87,7 @@ impl<B: Bus + Drop> ReadAhead<B> {
         self.end = address;
     }
 
-    /// Returns the bus inside.
+    /// Returns the bus inside, which carries out the transactions of this bus.
     pub fn inner(&self) -> &B
         ensures { result.now ≡ ahead_of self.now }
     {
@@ -119,7 +119,8 @@ impl<B: Bus + Drop> ReadAhead<B> {
         }
     }
 
-    // Fills `reply` with bytes of the block, and reads a new block before that if the block does not hold all of them.
+    // Fills `reply` with the bytes of the chip from `address` on, which are copied from the block. Reads a new block
+    // first if the block does not hold all of these bytes.
     fn read(&mut self, address: u32, reply: &mut [u8]) -> Result<(), Stopped>
         requires address { address ≤ 16777215 }
         requires len { length reply.old ≤ 65536 }

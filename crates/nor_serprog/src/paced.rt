@@ -67,7 +67,7 @@ impl<B: Bus + Drop, C: Clock + Drop> Paced<B, C> {
         }
     }
 
-    /// Returns the bus inside.
+    /// Returns the bus inside, which carries out the transactions of this bus.
     pub fn inner(&self) -> &B
         ensures { result.now ≡ paced_of self.now }
     {

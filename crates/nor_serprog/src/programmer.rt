@@ -81,7 +81,7 @@ impl AnyProgrammer {
         self.name
     }
 
-    /// Returns the greatest number of bytes that a transaction may send according to Q_WRNMAXLEN, or 2^24 if the
+    /// Returns the greatest number of bytes that a transaction may send according to Q_WRNMAXLEN. It is 2^24 if the
     /// programmer sets no limit. The serial buffer may limit it further (`longest_part`).
     pub fn longest_write(&self) -> u32
         ensures { result ≡ self.now.longest_write }
@@ -98,8 +98,8 @@ impl AnyProgrammer {
         self.longest_part
     }
 
-    /// Returns the greatest number of bytes that a transaction may read, which is at least 1, or 2^24 if the programmer
-    /// sets no limit.
+    /// Returns the greatest number of bytes that a transaction may read, which is at least 1. It is 2^24 if the
+    /// programmer sets no limit.
     pub fn longest_read(&self) -> u32
         ensures value { result ≡ self.now.longest_read }
         ensures enough { 1 ≤ result }
@@ -140,7 +140,7 @@ impl Programmer {
         &self.reported
     }
 
-    /// Returns the greatest number of bytes that a transaction may send, which is at least 260, or 2^24 if the
+    /// Returns the greatest number of bytes that a transaction may send, which is at least 260. It is 2^24 if the
     /// programmer sets no limit.
     pub fn longest_write(&self) -> u32
         ensures value { result ≡ writes_most self.now }
@@ -149,7 +149,7 @@ impl Programmer {
         self.reported.longest_write
     }
 
-    /// Returns the greatest number of bytes that a transaction may read, which is at least 4,096, or 2^24 if the
+    /// Returns the greatest number of bytes that a transaction may read, which is at least 4,096. It is 2^24 if the
     /// programmer sets no limit.
     pub fn longest_read(&self) -> u32
         ensures value { result ≡ reads_most self.now }

@@ -35,8 +35,8 @@ pub struct SplittingBus<B> {
     longest_write: u32,
     longest_read: u32,
     history: History,
-    // The first part of a program sends 4 bytes before its data, so 5 bytes is the least useful limit. A part of a read
-    // reads at least one byte.
+    // A program sends 4 bytes before its data, so a part with one data byte sends 5 bytes. A part of a read reads at
+    // least one byte.
     ghost writes: { 5 ≤ longest_write },
     ghost reads: { 1 ≤ longest_read },
 }
@@ -61,7 +61,7 @@ impl<B: Bus + Drop> SplittingBus<B> {
         }
     }
 
-    /// Returns the bus inside.
+    /// Returns the bus inside, which carries out the transactions of this bus.
     pub fn inner(&self) -> &B
         ensures { result.now ≡ split_of self.now }
     {

@@ -98,7 +98,7 @@ impl<B: Bus + Drop> CheckedStatus<B> {
         }
     }
 
-    /// Returns the bus inside.
+    /// Returns the bus inside, which carries out the transactions of this bus.
     pub fn inner(&self) -> &B
         ensures { result.now ≡ bus_of self.now }
     {

@@ -89,7 +89,7 @@ impl<B: Bus + Drop> ReadTwice<B> {
         }
     }
 
-    /// Returns the bus inside.
+    /// Returns the bus inside, which carries out the transactions of this bus.
     pub fn inner(&self) -> &B
         ensures { result.now ≡ twice_of self.now }
     {

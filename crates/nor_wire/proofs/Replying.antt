@@ -87,9 +87,9 @@ len_some (opcode ∷ rest) =
     either_some (opcode == 0x13 || opcode == 0x0D) (long_len rest) (Some (1 + argument_count opcode)) (long_some rest)
     (omega arith)
 
--- Holds while the frames of some of `commands` are still to be answered. `rest` has the frames of the commands `later`,
--- and `now` has `before` and the replies to the commands before them. The commands `later` change the type of bus
--- `bus'` to the one to which all commands change `bus`.
+-- Holds while the programmer answers the frames of `commands` one after another. `rest` has the frames of the commands
+-- `later`, which are not answered yet, and `now` has `before` and the replies to the others. From the type of bus `bus'`
+-- the commands `later` lead to the same type as all `commands` do from `bus`.
 pub record Remains (rest before now : List ℕ) (bus bus' : Option ℕ) (commands : List Command) : Type 0 where
   pub later : List Command
   pub frames : rest ≡ frames_of later

@@ -40,7 +40,7 @@ simulated_firmware = record {
   clock_fits = λ hertz. tt;
 }
 
--- The reply of the simulated programmer to a frame that begins with `opcode`. It does not apply to O_SPIOP.
+-- The reply of the simulated programmer to a frame that begins with `opcode`. This definition is not used for O_SPIOP.
 abbrev pub simulated_reply : (opcode : ℕ) → List ℕ
 simulated_reply opcode =
     if opcode == 0x00 || opcode == 0x12 then 0x06 ∷ []

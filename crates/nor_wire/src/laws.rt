@@ -1,4 +1,4 @@
-//! Laws (theorems) about what happens between a session and its restores: the journal is read, and the chip loses its
+//! Laws (theorems) about what happens between a session and its restores: the journal is read, and the chip may lose its
 //! power.
 ghost use Rattle.std.specs.Prelude.{◌≡◌, ℕ, List};
 ghost use Rattle.nor_model.specs.Chip.{Chip};

@@ -27,7 +27,7 @@
 //! ```
 //!
 //! - `calls.rt`: a session and a restore over a `SerprogBus`
-//! - `laws.rt`: laws (theorems) about the time between a session and its restores
+//! - `laws.rt`: laws (theorems) about what happens between a session and its restores
 //! - `sim_port.rt`: a simulated port to a simulated programmer with a simulated chip
 //!
 //! `specs/Headline.antt` has the promises of the two calls.
