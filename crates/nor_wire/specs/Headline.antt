@@ -22,8 +22,9 @@ use Rattle.nor_session.specs.Headline.{CanRestore}
 use Rattle.nor_session.specs.Restore.{IsCheckedFirst, IsRestoreVerdict, differing, restored}
 use Rattle.nor_serprog.specs.Device.{PortState}
 
--- Holds for a well-behaved port to a programmer whose chip is genuine (`IsGenuine`): the size, the erase types and the
--- block protection of the chip match its row of the table of chips, or its SFDP if it has no row.
+-- Holds for a well-behaved port to a programmer whose chip is genuine (`IsGenuine`). If the ID of the chip is in the
+-- table of chips, its size, erase types and block protection are those of its row. Otherwise the chip has no block
+-- protection, and if its SFDP is accepted, its size and erase types are those of its SFDP.
 pub record ReachesGenuine (port : PortState) : Type 0 where
   pub honest : port.honest ≡ true
   pub genuine : IsGenuine port.device.chip.config
