@@ -115,8 +115,8 @@ missed frame out replies wanted old sent new idle whole opcode goes comes s m =
       };
     }
 
--- The lemmas `exchanged`, `cut_off` and `missed` for every command. For a command other than O_SPIOP they state
--- nothing.
+-- The lemmas `exchanged`, `cut_off` and `missed` for every command. For a command other than O_SPIOP they are trivially
+-- true.
 pub exchanged_by : (command : Command) (frame reply : List ℕ) (len : ℕ) (old sent new : PortState)
     → IsIdle old.device → IsFrame frame → ReadsAs frame command → IsSent frame old sent → TakesAnswer reply sent new
     → length reply ≡ len → IfOperates command (λ out replies. len ≡ replies → Exchanged out reply old new)

@@ -11,7 +11,7 @@ use Rattle.nor_serprog.specs.ReadsAs.{part}
 use Rattle.nor_serprog.specs.Parts.{address_bytes, further, bytes_of_replies, IsReadPart, AreReadParts, SplitsRead}
 use Rattle.nor_serprog.specs.Parts.{program_part, bytes_programmed, EndsReady, EndsEnabled, AreProgramSteps, SplitsProgram, ArePolls, WaitsReady, PollsOnce}
 
--- If a call failed, any fact holds on its success.
+-- If a call can't have succeeded (`OnOk result ⊥`), `OnOk` holds for its result with any `P`.
 never : (P : Type 0) (result : Result Unit Stopped) → OnOk result ⊥ → OnOk result P
 never P (Ok done) fails = absurd fails
 never P (Err stop) fails = tt

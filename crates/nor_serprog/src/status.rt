@@ -69,7 +69,8 @@ pub struct CheckedStatus<B: Bus + Drop> {
     known: Known,
     fault: Option<CheckFault>,
     history: History,
-    // Each status byte that is known was read twice over the bus inside, with an ID after each read.
+    // Each status byte that is known was read twice over the bus inside, and an ID was read after each of the two
+    // reads.
     ghost one_read: { ForSome known.one (λ byte. was_read_twice 0x05 byte (B.state bus).history ≡ true) },
     ghost two_read: { ForSome known.two (λ byte. was_read_twice 0x35 byte (B.state bus).history ≡ true) },
 }

@@ -88,8 +88,8 @@ len_some (opcode ∷ rest) =
     (omega arith)
 
 -- Holds while the programmer answers the frames of `commands` one after another. `rest` has the frames of the commands
--- `later`, which are not answered yet, and `now` has `before` and the replies to the others. From the type of bus `bus'`
--- the commands `later` lead to the same type as all `commands` do from `bus`.
+-- `later`, which are not answered yet, and `now` has `before` and the replies to the others. From the type of bus
+-- `bus'` the commands `later` lead to the same type as all `commands` do from `bus`.
 pub record Remains (rest before now : List ℕ) (bus bus' : Option ℕ) (commands : List Command) : Type 0 where
   pub later : List Command
   pub frames : rest ≡ frames_of later

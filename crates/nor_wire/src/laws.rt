@@ -1,5 +1,5 @@
-//! Laws (theorems) about what happens between a session and its restores: the journal is read, and the chip may lose its
-//! power.
+//! Laws (theorems) about what happens between a session and its restores: the journal is read, and the chip may lose
+//! its power.
 ghost use Rattle.std.specs.Prelude.{◌≡◌, ℕ, List};
 ghost use Rattle.nor_model.specs.Chip.{Chip};
 ghost use Rattle.nor_model.specs.Power.{PowerLost};
