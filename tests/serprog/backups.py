@@ -1,6 +1,6 @@
 """Cases of --backup, which saves the whole chip in a new journal, and of restores from it."""
 import reference
-from bench import check
+from bench import STRIDE, check
 from chip import READ_ID, SECTOR
 from faults import DIFFER, LOST
 from losses import UNSEALED, session_wire
@@ -173,7 +173,7 @@ def is_cut(start):
     old, _ = images("is_cut")
     wire = reference.carried(reference.backup("TINY64"))
     bench = start(data=old)
-    for number in range(2, len(wire) + 1):
+    for number in range(2, len(wire) + 1, STRIDE):
         for event in "kill", "lose", "unplug":
             got = bench.run(*BACKUP, events={number: event})
             check("status 0", got.status == 0, False)

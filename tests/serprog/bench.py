@@ -11,6 +11,10 @@ import reference
 from chip import Chip
 from server import ARGUMENTS, O_SPIOP, Server, Traits, trace_line
 
+# A case that interrupts a job at each transaction in turn takes each STRIDE-th one. The number is 1, except if self.py
+# tests such a case, since it runs the stand-in, which is slow.
+STRIDE = int(os.environ.get("STRIDE", "1"))
+
 # How long a run may take, in seconds. A run that takes longer hangs, even on a busy machine.
 LONGEST = 300
 

@@ -6,11 +6,10 @@ journal may have bytes that the chip never had, and no one-time bit may be set. 
 must restore it. If the chip stays lost, the line below error 12 says so.
 """
 import hashlib
-import os
 
 import bits
 import reference
-from bench import check, check_data
+from bench import STRIDE, check, check_data
 from chip import ONCE, PARTS, SECTOR
 from faults import LOST, RESTORE, UNCHANGED
 from losses import FEW, chip_images
@@ -23,8 +22,6 @@ ALL = range(16)
 IDENTIFICATION = 20
 LENGTHS = (1, 2, 3, 5, 9)
 END = 1 << 24
-# A loss begins at every transaction, or at each third one if the cases themselves are tested, which takes long.
-STRIDE = int(os.environ.get("STRIDE", "1"))
 ADVICE = "h now. Check contacts and supply."
 
 

@@ -12,6 +12,8 @@ MISTAKE = os.environ.get("MISTAKE", "")
 STTY = "stty -F {} raw -echo clocal -hupcl min 0 time 50"
 ROW = bytes.fromhex("10100010000010101000000010001010")
 FIRMWARE = ". Install other firmware on it."
+# A chip that sleeps shows BUSY for ever. The mistake that lets it sleep gives up soon, since only its failure counts.
+MOST_POLLS = 50 if MISTAKE == "does not wake" else 65536
 OPERATIONS = ("--flash-size", "--wp-status", "--wp-list", "-r", "-v", "-w", "-E", "--wp-range", "--restore",
               "--backup")
 TAKE_VALUES = ("-p", "-c", "-r", "-w", "-v", "--wp-range", "--restore", "--backup", "-l", "-i", "--journal")
@@ -439,8 +441,12 @@ class Link:
         reply = b""
         for out, length in plan:
             reply = self.transfer(out, length)
+            polls = 1
             while out == b"\x05" and reply[0] & 1 and MISTAKE != "polls once":
+                if polls == MOST_POLLS:
+                    raise Fault("Error 13: timeout at 000000.")
                 reply = self.transfer(out, length)
+                polls += 1
         return reply
 
 
