@@ -1,4 +1,5 @@
--- Each prefix of an operation's bytes is decoded as the same command as all of the bytes, or as `Ignored`.
+-- Each prefix of the bytes that an operation sends as its command is decoded as the same command as all of these bytes,
+-- or as `Ignored`.
 use Rattle.std.proofs.Common.{◌≡◌, ◌<◌, ◌≤◌, ◌∙◌, ◌⊎◌, ℕ, zero, suc, true, false, List, length, [], ◌∷◌, take, refl, sym, arith, inl, inr}
 use Rattle.std.proofs.Math.Seq.{take-nil}
 use Rattle.std.proofs.lemmas.Bool.Decides.{nat_tests}
@@ -11,7 +12,8 @@ use Rattle.nor_driver.specs.declared.units.EraseBlock.TheVariants as Units
 use Rattle.nor_driver.specs.Operations.{is_operation_or_none, IsCommandAt, AsksForOperation}
 use Rattle.nor_driver.proofs.Erasing.{erase_bytes}
 
--- the first `count` bytes of `out` are decoded as `Ignored`, or as the same command as all bytes
+-- The first `count` bytes of `out`, with `replies` reply bytes, are decoded as `Ignored`, or as the same command as all
+-- bytes of `out` without reply bytes.
 abbrev AsksAlike : Config → List ℕ → (count replies : ℕ) → Type 0
 AsksAlike config out count replies = (command_of config (take count out) replies ≡ Ignored)
     ⊎ (command_of config (take count out) replies ≡ command_of config out 0)

@@ -1,5 +1,5 @@
--- The state that an operation leaves at each of its exits: at its write enable or its command, in its wait, or after
--- success.
+-- The effect of an operation at each of its exits. The bus may stop at the write enable or at the command, the wait may
+-- fail, or the operation succeeds.
 use Rattle.std.proofs.Common.{◌≡◌, ◌+◌, ◌∙◌, ◌⊎◌, ℕ, true, false, List, [], ◌∷◌, length, drop, take, ap, sym, subst, arith, inl, inr}
 use Rattle.std.proofs.Math.Bool.{or-true}
 use Rattle.nor_model.specs.declared.command.Command.{Command}
@@ -20,8 +20,8 @@ use Rattle.nor_driver.proofs.Torn.{Wore, IsAsBefore, still_or_torn, still_stays,
 use Rattle.nor_driver.proofs.Readings.{carried_ignored}
 use Rattle.nor_driver.proofs.Begun.{IsEnabled, enabled, then_done, part_done, operation-ignored, idle-takes, HasBegun, operation-begins, may-before, may-after, may-unsteady, operated, latch-kept}
 
--- At an exit of an operation, on every bus: `KeepsNature` holds, and `SendsWithin` for these limits. A transaction that
--- begins with a modifying opcode was sent, in this call or before it.
+-- Holds at an exit of an operation, on every bus. `KeepsNature` holds, and `SendsWithin` holds for `limits`. A
+-- transaction that begins with a modifying opcode was sent, in this call or before it.
 record Stirs (limits : Limits) (old new : BusState) : Type 0 where
   pub nature : KeepsNature old new
   pub stirred : is_stirred new.sent ≡ true
@@ -35,7 +35,8 @@ module _ (out : List ℕ) (asks : AsksForOperation out) (old : BusState) where
       → LeavesOperation (command_operation out) old new
   leaves_by stirs falls reached ignored = assumption
 
-  -- if the command was not carried out, `LeavesOperation` follows from `Stirs`, `Falls` and `KeepsChip`
+  -- If the chip carried out no operation for the command, so that `KeepsChip` holds, `LeavesOperation` follows from
+  -- `Stirs` and `Falls`.
   not_begun : (new : BusState) → Stirs (limits_of out) old new
       → (old.honest ≡ true → Falls most_operation old new) → (old.honest ≡ true → KeepsChip old new)
       → LeavesOperation (command_operation out) old new
@@ -45,7 +46,7 @@ module _ (out : List ℕ) (asks : AsksForOperation out) (old : BusState) where
       may-before (operation_of old.chip out) (drop 4 out) old new (idle-takes old.chip out asks is) (stays honest))
       (λ honest none. stays honest)
 
-  -- every well-behaved bus takes a write enable, and the command
+  -- every well-behaved bus accepts the write enable (`enable_fits`) and the command (`command_fits`)
   enable_fits : (bus : BusState) → bus.honest ≡ true → IsHonestFor (6 ∷ []) 0 bus
   enable_fits bus honest = record { honest = honest; fits = inr (omega arith, omega arith) }
 
@@ -73,8 +74,8 @@ module _ (out : List ℕ) (asks : AsksForOperation out) (old : BusState) where
     honest-ready : old.honest ≡ true → ready.honest ≡ true
     honest-ready honest = sends.nature.honest ∙ honest
 
-    -- if the bus was asked to send the command after a write enable that succeeded, `Stirs` holds with the command's
-    -- limits
+    -- If the write enable succeeded and the bus was then asked to send the command, `Stirs` holds with the limits of
+    -- the command.
     stirs-by : (new : BusState) → Sends out ready new → Stirs (limits_of out) old new
     stirs-by new sends' =
         let nature = nature_then old ready new sends'.nature sends.nature in
@@ -84,8 +85,8 @@ module _ (out : List ℕ) (asks : AsksForOperation out) (old : BusState) where
           sends = command_sends out old ready new asks.known sends sends';
         }
 
-    -- The effect on the chip if the bus stopped at the command. For the bytes that were sent, the chip carried out no
-    -- operation, or the command's operation.
+    -- The effect on the chip of a stop at the command: for the bytes that were sent before the stop, the chip carried
+    -- out the operation of the whole command, or no operation.
     module _ (honest : old.honest ≡ true) (new : BusState) where
       stays-before : KeepsChip ready new → KeepsChip old new
       stays-before stays = stays_after old ready new sends.nature.steady (enabling honest).unchanged stays

@@ -1,4 +1,4 @@
--- How limits on modifying commands (`Limits`) add up over transactions and calls that follow one another.
+-- Limits on modifying commands (`Limits`): how they add up over successive transactions and calls.
 use Rattle.std.proofs.Common.{◌≡◌, ◌≤◌, ◌+◌, ◌++◌, ◌∙◌, ℕ, Bool, true, false, cond, List, [], ◌∷◌, ap, sym, arith, refl}
 use Rattle.std.specs.Prelude.{if◌then◌else◌}
 use Rattle.std.proofs.lemmas.List.{append_assoc}
@@ -10,7 +10,7 @@ use Rattle.nor_model.specs.Bus.{BusState}
 use Rattle.nor_driver.proofs.Sends.{Sends}
 use Rattle.nor_driver.specs.Limits.{Limits, limits_of, SendsWithin, SendsExactly}
 
--- The second limits allow all that the first ones allow.
+-- Holds if `more` allows all that `less` allows.
 pub record IsPartOf (less more : Limits) : Type 0 where
   pub sectors : (s : ℕ) → less.sectors s ≡ true → more.sectors s ≡ true
   pub status : (one two : ℕ) → less.status one two ≡ true → more.status one two ≡ true
@@ -18,7 +18,7 @@ pub record IsPartOf (less more : Limits) : Type 0 where
   pub programs : less.programs ≤ more.programs
   pub status_writes : less.status_writes ≤ more.status_writes
 
--- The third limits allow all that the first two allow together.
+-- Holds if `all` allows all that `first` allows followed by all that `second` allows.
 pub record AreParts (first second all : Limits) : Type 0 where
   pub sectors : (s : ℕ) → first.sectors s ≡ true → all.sectors s ≡ true
   pub sectors' : (s : ℕ) → second.sectors s ≡ true → all.sectors s ≡ true
@@ -28,7 +28,8 @@ pub record AreParts (first second all : Limits) : Type 0 where
   pub programs : first.programs + second.programs ≤ all.programs
   pub status_writes : first.status_writes + second.status_writes ≤ all.status_writes
 
--- The third limits allow all that the first two allow together, and have exactly the sums of their numbers.
+-- Holds if `all` allows all that `first` allows followed by all that `second` allows, and the numbers of `all` are
+-- exactly the sums of those of `first` and `second`.
 pub record IsSum (first second all : Limits) : Type 0 where
   pub sectors : (s : ℕ) → first.sectors s ≡ true → all.sectors s ≡ true
   pub sectors' : (s : ℕ) → second.sectors s ≡ true → all.sectors s ≡ true
@@ -53,12 +54,13 @@ pub sends_then : (first second all : Limits) (old mid new : BusState) → ArePar
 sends_then first second all old mid new parts before after =
     grind (arith, before.targeted, after.targeted, before.written, after.written, parts.sectors, parts.sectors', parts.status, parts.status')
 
--- limits are still kept if nothing that may modify a chip is sent afterwards
+-- if `SendsWithin` holds from `old` to `mid`, and no transaction that may modify a chip is sent from `mid` to `new`, it
+-- also holds from `old` to `new`
 pub sends_same : (limits : Limits) (old mid new : BusState) → new.sent ≡ mid.sent → SendsWithin limits old mid
     → SendsWithin limits old new
 sends_same limits old mid new same sends = grind (arith, sends.targeted, sends.written)
 
--- ---- exact numbers
+-- ---- the exact numbers of erases, page programs and status writes
 
 pub exactly_none : (old new : BusState) → new.sent ≡ old.sent → SendsExactly 0 0 0 old new
 exactly_none old new same =
@@ -92,14 +94,14 @@ exactly_then {old = old} erases programs status before after = record {
   wrote_status = omega (arith, before.wrote_status, after.wrote_status);
 }
 
--- limits are still kept if their numbers are replaced by the exact numbers of erases, page programs and status writes
--- that were sent
+-- If `SendsWithin` and `SendsExactly` hold for a call, `SendsWithin` still holds after the numbers in the limits are
+-- replaced by the exact numbers.
 pub sends_exactly : {limits : Limits} {e p w : ℕ} {old new : BusState} → SendsWithin limits old new
     → SendsExactly e p w old new
     → SendsWithin (record limits { erases = e; programs = p; status_writes = w }) old new
 sends_exactly sends exactly = search arith
 
--- ---- one transaction
+-- ---- the limits that one transaction needs
 
 counts_most : (is : Bool) (before after : ℕ) → after ≡ counted_once is before → after ≤ before + cond is 1 0
 counts_most true before after same = grind arith
@@ -121,7 +123,8 @@ sends_one out old new known sends = record {
   unknown = grind (arith, or-false, sends.sent.unknown);
 }
 
--- the list that one transaction adds to the list `sent`: only its bytes, or nothing
+-- The list of transactions that a transaction with the bytes `out` adds to the list `sent`: only `out`, or nothing if
+-- `out` is empty or begins with a quiet opcode.
 added_by : (out : List ℕ) → Sent
 added_by out = if begins_quiet out then [] else out ∷ []
 
@@ -140,7 +143,7 @@ exactly_one out old new sends = record {
       sends.sent.status_writes;
 }
 
--- ---- an operation: write enable, which targets nothing, and then a command
+-- ---- an operation, which sends a write enable (it targets no sector) and then a command
 
 pub in_none : (s : ℕ) → is_in_targeted none_targeted s ≡ true → ⊥
 in_none s is = grind (arith, nat_tests)
@@ -166,7 +169,8 @@ command_exactly out old ready new enables sends =
     exactly_then (omega arith) (omega arith) (omega arith) (exactly_one (6 ∷ []) old ready enables)
     (exactly_one out ready new sends)
 
--- a modifying opcode that was sent still counts as sent after another transaction
+-- if a transaction with a modifying opcode was sent before another transaction, it still counts as sent after that
+-- transaction
 pub still_stirred : (out : List ℕ) (old new : BusState) → is_stirred old.sent ≡ true → Sends out old new
     → is_stirred new.sent ≡ true
 still_stirred out old new is sends = grind (arith, sends.sent.stirred)

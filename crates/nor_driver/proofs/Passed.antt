@@ -1,8 +1,8 @@
--- The error that a function returns after `?`.
+-- The error that a function returns if the operator `?` passes it on.
 use Rattle.std.proofs.Common.{◌≡◌, ap}
 use Rattle.std.specs.Prelude.{Result, Ok, Err, IsErrAnd}
 
--- If `?` passed on this error, the outcome is `Err` of this error.
+-- if `?` passed on `error`, the outcome is `Err error`
 pub is_err : {T E : Type 0} (outcome : Result T E) (error : E) → IsErrAnd outcome (λ passed. passed ≡ error)
     → outcome ≡ Err error
 is_err (Ok value) error is = absurd is

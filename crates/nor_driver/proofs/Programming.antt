@@ -1,4 +1,4 @@
--- The effect of a program follows from the effect of an operation.
+-- Derives the effect of a page program from the effect of an operation.
 use Rattle.std.proofs.Common.{◌≡◌, ◌<◌, ◌≤◌, ◌+◌, ◌*◌, ◌%◌, ℕ, true, false, cond, List, [], ◌∷◌, length, refl, arith}
 use Rattle.std.proofs.Math.Nat.{mod-eq_of_lt}
 use Rattle.std.proofs.Math.Bool.{or-false, and-true}
@@ -18,8 +18,8 @@ pub same_address : (config : Config) (x y z at : ℕ) → 65536 * x + 256 * y + 
     → address_of config x y z ≡ at
 same_address config x y z at names below = rw names (mod-eq_of_lt below)
 
--- after a write enable, 02h with an address on the chip and at least one data byte programs from there if the chip
--- takes a program, and is otherwise ignored
+-- After a write enable, 02h with an address on the chip and at least one data byte programs from this address on if
+-- `takes_program` is true. Otherwise the chip ignores the command.
 program_command : (chip : Chip) (x y z at : ℕ) (sent : List ℕ) → 65536 * x + 256 * y + z ≡ at → at < chip.config.size
     → 0 < length sent → operation_of chip (0x02 ∷ x ∷ y ∷ z ∷ sent) ≡ cond (takes_program chip at) (Program at) Ignored
 program_command chip x y z at [] names below some = absurd (omega arith)
@@ -39,7 +39,7 @@ module _ (at : ℕ) (sent : List ℕ) (fits : at % 256 + length sent ≤ 256) (o
       let byte = λ (a : ℕ). byte_after-program old.chip at sent a fits in
       grind (arith, byte, or-false)
 
--- the contract of `program_page` follows from that of `operation`
+-- derives the contract of `program_page` from the contract of `operation`
 module _ (at : ℕ) (sent command : List ℕ) (sends : IsCommandAt 0x02 at sent command) (some : 0 < length sent)
     (fits : at % 256 + length sent ≤ 256) (old new : BusState) where
   asked : at < old.chip.config.size

@@ -1,4 +1,4 @@
--- The effect and the result of one transaction that reads.
+-- The effect of one transaction that only reads, and what it returns.
 use Rattle.std.proofs.Common.{◌≡◌, ◌≤◌, ◌+◌, ℕ, true, false, List, [], ◌∷◌, length, refl, ap, arith, inl, inr}
 use Rattle.std.specs.Prelude.{Result, Ok, Err, OnOk, OnErr}
 use Rattle.std.proofs.lemmas.Bool.Decides.{eqb_tells}
@@ -36,18 +36,18 @@ carried_reading : (out answer : List ℕ) (old new : BusState) → IsReading out
 carried_reading out answer old new is carries =
     carried_by out answer old new (grind (arith, is.reading old.chip.config (length answer))) carries
 
--- a command that is ignored has the effect of a read
+-- a transaction that the chip ignores has the effect of a read (`HasRead`)
 pub carried_ignored : (out answer : List ℕ) (old new : BusState) → done_of old.chip out (length answer) ≡ Ignored
     → Carries out answer old new → HasRead old new
 carried_ignored out answer old new ignored carries = carried_by out answer old new (ap changes_nothing ignored) carries
 
--- if `most` transactions were carried out, the relation for reads that succeeded (`Rested`) implies the one for every
--- exit (`OnlyReadsHonest`)
+-- if `Rested` holds after reads that succeeded, and `most` transactions were carried out, `OnlyReadsHonest` holds with
+-- the bound `most`
 pub honest_reads_by : (old new : BusState) (most : ℕ) → Rested old new → old.left ≡ new.left + most → OnlyReadsHonest most old new
 honest_reads_by old new most rested count = search (arith, unchanged_stays old new rested.unchanged)
 
--- two successive calls that only read satisfy `OnlyReadsHonest` together, with the sum of their bounds, if the first
--- one did not change whether the bus is steady
+-- If two successive calls satisfy `OnlyReadsHonest` with the bounds `m` and `n`, and the first one didn't change
+-- whether the bus is steady, the two calls together satisfy `OnlyReadsHonest` with the bound `m + n`.
 pub honest_reads_then : (m n : ℕ) (old mid new : BusState) → mid.steady ≡ old.steady → OnlyReadsHonest m old mid
     → OnlyReadsHonest n mid new → OnlyReadsHonest (m + n) old new
 honest_reads_then m n old mid new steady first second =
@@ -69,16 +69,16 @@ honest_reads_once (Ok done) out answer old new is stops carries =
     honest_reads_by old new 1 read.rested read.count
 honest_reads_once (Err stopped) out answer old new is stops carries = honest_reads_at_stop out old new 1 is.quiet stops
 
--- every well-behaved bus takes a poll with one reply byte
+-- every well-behaved bus accepts a poll with one reply byte
 pub poll_fits : (bus : BusState) → bus.honest ≡ true → IsHonestFor (5 ∷ []) 1 bus
 poll_fits bus honest = record { honest = honest; fits = inr (omega arith, omega arith) }
 
--- every well-behaved bus takes a transaction that only reads (`IsReading`) and receives at most 4,096 bytes
+-- every well-behaved bus accepts a transaction that only reads (`IsReading`) and receives at most 4,096 bytes
 pub read_fits : (out asked : List ℕ) (bus : BusState) → IsReading out → length asked ≤ 4096 → bus.honest ≡ true
     → IsHonestFor out (length asked) bus
 read_fits out asked bus is short honest = record { honest = honest; fits = inr (is.short, short) }
 
--- at every exit of one transaction that reads, `OnlyReads` holds with a bound of one transaction
+-- One transaction that only reads satisfies `OnlyReads` with a bound of 1, whether it succeeds or the bus stops at it.
 pub read_leaves : {T E : Type 0} (outcome : Result T E) (out answer : List ℕ) (old new : BusState) → IsReading out
     → Sends out old new → (old.honest ≡ true → OnErr outcome (Stops out old new))
     → (old.honest ≡ true → OnOk outcome (Carries out answer old new)) → OnlyReads 1 old new
@@ -94,8 +94,8 @@ pub read_does : {T E : Type 0} (outcome : Result T E) (out answer : List ℕ) (o
 read_does outcome out answer old new is history carries =
     grind (arith, history, carries, carried_reading out answer old new is)
 
--- if the bus stopped at a transaction, that transaction was the last one, and a well-behaved bus ran out of
--- transactions
+-- If the bus stopped at a transaction, it was the last one in the history, and a well-behaved bus had no transaction
+-- left.
 pub read_fails : (outcome : Result Unit Stopped) (out answer : List ℕ) (old new : BusState)
     → Records out answer outcome old new → (old.honest ≡ true → OnErr outcome (Stops out old new))
     → OnErr outcome (HasStopped 1 old new)
@@ -108,7 +108,7 @@ read_fails (Err stop) out answer old new records stops = record {
   };
 }
 
--- a transaction for which `IsReading` holds is no poll
+-- a transaction that satisfies `IsReading` isn't a poll
 no_poll : (config : Config) (out : List ℕ) → IsReading out → is_poll out ≡ false
 no_poll config (opcode ∷ []) is = elim (eqb_tells opcode 5) [
   | inl five ↦ absurd (let off = is.reading config 0 in cc)
@@ -116,7 +116,7 @@ no_poll config (opcode ∷ []) is = elim (eqb_tells opcode 5) [
 ]
 no_poll config _ is = refl
 
--- a transaction that reads (`IsReading`) is no poll, so it leaves `polled_ready` as it was
+-- A transaction that satisfies `IsReading` leaves `polled_ready` as it was, because it isn't a poll.
 pub read_keeps_polled_ready : (outcome : Result Unit Stopped) (out answer : List ℕ) (old new : BusState) → IsReading out
     → Records out answer outcome old new → new.polled_ready ≡ old.polled_ready
 read_keeps_polled_ready outcome out answer old new is records =

@@ -1,4 +1,4 @@
--- The replies of an idle chip: its unique ID, its SFDP bytes, and the bytes of a sector.
+-- What an idle chip replies to reads of its unique ID, of SFDP bytes, and of a sector.
 use Rattle.std.proofs.Common.{◌≡◌, ◌<◌, ◌≤◌, ◌+◌, ◌*◌, ◌%◌, ◌∙◌, ℕ, List, [], ◌∷◌, length, slice_index, refl, ap, sym, arith}
 use Rattle.std.specs.Prelude.{map, slice_index_or}
 use Rattle.std.specs.List.{range_with_len}
@@ -11,7 +11,8 @@ use Rattle.nor_model.specs.Chip.{sfdp_byte}
 use Rattle.nor_model.specs.Bus.{BusState}
 use Rattle.nor_driver.specs.Reads.{Replies, unique_of, shown, ReadsUnique, ReadsSfdp, ReadsSector}
 
--- `len` bytes are the list `shown` if they equal the SFDP bytes from the address `at % config.size` on
+-- If `bytes` has `len` bytes, and these are the SFDP bytes from the address `at % config.size` on, then `bytes` is
+-- `shown config at len`.
 reply_shown : (config : Config) (at len : ℕ) (bytes : List ℕ) → length bytes ≡ len
     → ((i : ℕ) → i < length bytes → slice_index bytes i ≡ sfdp_byte config (at % config.size + i))
     → bytes ≡ shown config at len
@@ -31,7 +32,8 @@ reads_sfdp old new x y z at len answer named long replies = record {
       (λ i below. replies.replied honest i below ∙ rw (idle, named) refl);
 }
 
--- for byte `i` of a sector that lies on the chip, the chip reads the address `4096 * sector + i`
+-- When a sector that lies on the chip is read from its start, byte `i` of the reply is the chip's byte at `4096 *
+-- sector + i`.
 address_in_sector : (size at sector i : ℕ) → at ≡ 4096 * sector → 4096 * (sector + 1) ≤ size → i < 4096
     → (at % size + i) % size ≡ 4096 * sector + i
 address_in_sector size at sector i names inside small =

@@ -1,4 +1,4 @@
--- The effect of one transaction on what a bus records.
+-- The effect of one transaction on what every bus records.
 use Rattle.std.proofs.Common.{◌≡◌, ◌∷◌, ℕ, List}
 use Rattle.std.specs.Prelude.{Result, Ok, Err, OnOk, OnErr}
 use Rattle.nor_model.specs.declared.bus.Stopped.{Stopped}
@@ -8,8 +8,8 @@ use Rattle.nor_model.specs.Bus.{BusState, SameNature, KeepsNature, Records}
 use Rattle.nor_model.proofs.Nature.{nature_by}
 use Rattle.nor_model.proofs.RecordedSent.{records_sent}
 
--- One transaction kept the bus as `KeepsNature` says, had the effect `RecordsSent` on the list `sent` of the bus, and
--- was added to that list unless it is empty or begins with a quiet opcode.
+-- The effect of one transaction on every bus. It satisfies `KeepsNature`, and the list `sent` changed as `RecordsSent`
+-- says: the transaction was added to this list, unless it is empty or begins with a quiet opcode.
 pub record Sends (out : List ℕ) (old new : BusState) : Type 0 where
   pub nature : KeepsNature old new
   pub sent : RecordsSent out old.sent new.sent
@@ -23,13 +23,13 @@ sends_by same records = record {
   added = records.sent;
 }
 
--- if a transaction succeeded, the history is the earlier one with this transaction and its reply
+-- if a transaction succeeded, the new history is the old one with this transaction and its reply added
 pub answered_by : (outcome : Result Unit Stopped) (out answer : List ℕ) (old new : BusState)
     → Records out answer outcome old new → OnOk outcome (new.history ≡ replied out answer ∷ old.history)
 answered_by (Ok done) out answer old new records = records.history
 answered_by (Err stop) out answer old new records = tt
 
--- if a transaction returned `Stopped`, the history ends with a transaction at which the bus stopped
+-- if a transaction returned `Stopped`, it is the last one in the history, recorded as one at which the bus stopped
 pub stopped_by : (outcome : Result Unit Stopped) (out answer : List ℕ) (old new : BusState)
     → Records out answer outcome old new → OnErr outcome (EndsStopped new.history)
 stopped_by (Ok done) out answer old new records = tt

@@ -1,5 +1,4 @@
--- The effect of a status write that keeps the bits that flashnor never changes. It follows from the effect of an
--- operation.
+-- Derives the effect of a status write from the effect of an operation.
 use Rattle.std.proofs.Common.{◌≡◌, ◌<◌, ◌+◌, ◌*◌, ◌/◌, ◌%◌, ◌∙◌, ℕ, Bool, true, false, cond, List, [], ◌∷◌, length, slice_index, ap, sym, refl, arith}
 use Rattle.std.specs.Prelude.{◌==◌, bit_and, bit_or}
 use Rattle.std.specs.List.{list_all, range_with_len}
@@ -21,7 +20,8 @@ use Rattle.nor_driver.specs.StatusWrites.{fixed_of, with_code, is_status_with_co
 use Rattle.nor_driver.proofs.Limits.{in_none}
 use Rattle.nor_driver.proofs.Taken.{IsFor, asked_at, leaves_as, does_as}
 
--- the non-volatile bits of status 2, which were `kept`, after a status write whose second byte is `sent`
+-- The non-volatile bits of status 2 after a status write. `kept` has these bits before the write, and `sent` is the
+-- second byte that the write sends.
 abbrev written : ℕ → ℕ → ℕ
 written kept sent = bit_or (bit_and sent 0b1000011) (bit_or (bit_and kept 0b0111100) (bit_and sent 0b0111000))
 
@@ -30,15 +30,15 @@ held_as : (kept sent : ℕ) → kept % 64 ≡ sent % 64 → bit_and kept 60 ≡ 
 held_as kept sent same =
     sym (and_assoc 60 kept 63) ∙ rw (and_mask kept 6, same, ← and_mask sent 6) (and_assoc 60 sent 63)
 
--- a test that is true for all numbers below `n` is true for each of them
+-- if `test` is true for all numbers below `n`, and `i` is below `n`, `test i` is true
 every : (test : ℕ → Bool) (n i : ℕ) → list_all test (range_with_len 0 n) ≡ true → i < n → test i ≡ true
 every test n i all small =
     let at = get_or-range_with_len 0 n i 0 small in
     let below : i < length (range_with_len 0 n) = omega (arith, length-range_with_len 0 n) in
     ap test (omega (arith, at)) ∙ AllPass-from_list_all test (range_with_len 0 n) all i 0 below
 
--- If the low six bits of status 2 and of the sent byte agree, and bit 7 of the sent byte is clear, status 2 is the sent
--- byte after the write. The proof checks all 128 values of the sent byte.
+-- If the low six bits of `kept` and `sent` agree, and bit 7 of `sent` is clear, the non-volatile bits of status 2 after
+-- the write are `sent`. The proof checks all 128 values of `sent`.
 written_as : (kept sent : ℕ) → sent < 128 → kept % 64 ≡ sent % 64 → written kept sent ≡ sent
 written_as kept sent small same =
     rw (held_as kept sent same)
@@ -51,7 +51,8 @@ module _ (status : Status) (code : ℕ) (below : code < 64) where
   abbrev two : ℕ
   two = status.two.0 % 64 + 64 * (code / 32)
 
-  -- after a write enable, 01h writes these two bytes if the chip takes a status write, and is otherwise ignored
+  -- After a write enable, 01h with the bytes `one` and `two` writes them if `takes_status` is true. Otherwise the chip
+  -- ignores the command.
   asked : (chip : Chip)
       → operation_of chip (1 ∷ one ∷ two ∷ []) ≡ cond (takes_status chip) (WriteStatus one two) Ignored
   asked chip = rw (and-true (is_idle chip)) refl
@@ -61,8 +62,8 @@ module _ (status : Status) (code : ℕ) (below : code < 64) where
 
   module _ (old new : BusState) where
     module _ (fixed : fixed_of old.chip.kept ≡ fixed_of (kept_in (bytes_of status))) where
-      -- if the bits that flashnor never changes are those of `status`, the non-volatile bits after the status write are
-      -- those from before it, with the protection bits of `code`
+      -- If the chip's bits that flashnor never changes are those of `status`, the status write changes only the
+      -- protection bits, to `code`.
       code_there : new.chip.kept ≡ record { one = one / 4; two = written old.chip.kept.two two }
           → new.chip.kept ≡ with_code code old.chip.kept
       code_there kept =

@@ -1,4 +1,4 @@
--- Polls one after another.
+-- Successive polls.
 use Rattle.std.proofs.Common.{◌≡◌, ◌<◌, ◌+◌, ◌%◌, ℕ, true, List, [], ◌∷◌, length, slice_index, refl, subst, arith}
 use Rattle.std.proofs.lemmas.List.{ext_get_or}
 use Rattle.nor_model.specs.History.{Answered, EndsBusy, replied}
@@ -10,18 +10,18 @@ use Rattle.nor_driver.specs.Waits.{Polls}
 use Rattle.nor_driver.proofs.Readings.{honest_reads_by}
 use Rattle.nor_driver.proofs.ReadsInTurn.{only_reads_then, only_reads_more}
 
--- a list of one byte is the list of its item 0
+-- a list that has one byte is equal to the list of its byte 0
 pub one_byte : (bytes : List ℕ) → length bytes ≡ 1 → bytes ≡ slice_index bytes 0 ∷ []
 one_byte bytes one = ext_get_or 0 bytes (slice_index bytes 0 ∷ []) one
     (λ i below. let first : i ≡ 0 = omega (arith, one, below) in rw first refl)
 
--- the one-byte reply of the last transaction is the list of its item 0
+-- If the last transaction of `new` has a reply of one byte, this reply is the list of its byte 0.
 pub replied_byte : (out answer : List ℕ) (old new : List Exchange) → length answer ≡ 1
     → new ≡ replied out answer ∷ old → new ≡ replied out (slice_index answer 0 ∷ []) ∷ old
 replied_byte out answer old new one is =
     subst (λ (bytes : List ℕ). new ≡ replied out bytes ∷ old) (one_byte answer one) is
 
--- a poll that succeeded satisfies `Answered`
+-- a poll that succeeded satisfies `Answered` for polls, with its status byte as the reply
 pub poll_answered : {old new : BusState} {status : ℕ} → Polls old new status
     → Answered is_poll old.history new.history (status ∷ [])
 poll_answered polls = record { out = 0x05 ∷ []; asks = refl; history = polls.history }
@@ -31,7 +31,7 @@ pub ends_busy : {old new : BusState} {status : ℕ} → Polls old new status →
 ends_busy {old} {new} {status} polls busy =
     record { status = status; earlier = old.history; is = polls.history; busy = busy }
 
--- after `polls` polls that succeeded, and one more poll that may fail, `OnlyReads` holds with each bound above `polls`
+-- If `polls` polls succeeded, and one more poll follows and may fail, `OnlyReads` holds with each bound above `polls`.
 pub polled_leaves : (polls most : ℕ) (old mid new : BusState) → polls < most → KeepsNature old mid
     → mid.sent ≡ old.sent → (old.honest ≡ true → Rested old mid) → (old.honest ≡ true → old.left ≡ mid.left + polls)
     → OnlyReads 1 mid new → OnlyReads most old new

@@ -11,49 +11,51 @@ use Rattle.nor_driver.specs.Units.{sectors_in, has_block, is_aligned, erases_sec
 use Rattle.nor_driver.specs.Limits.{erasing}
 use Rattle.nor_driver.specs.Operations.{ChangesOnly, HasEnded, ChipOperation}
 
--- the number of the chip's sectors
+-- the number of sectors of `chip`, of 4 KiB each
 abbrev pub sectors_of : Chip → ℕ
 sectors_of chip = chip.config.size / 4096
 
--- the length of the erase block in bytes
+-- the length in bytes of the block that `erase` erases on `chip`
 abbrev pub block_length : Chip → Erase → ℕ
 block_length chip erase = 4096 * sectors_in (sectors_of chip) erase.unit
 
--- The erase block is aligned and lies on the chip.
+-- Holds if the block of `erase` is aligned and lies on `chip`.
 pub record IsOnChip (erase : Erase) (chip : Chip) : Type 0 where
   pub aligned : is_aligned erase.unit erase.sector ≡ true
   pub within : erase.sector + sectors_in (sectors_of chip) erase.unit ≤ sectors_of chip
 
--- The chip is idle, has this erase block and its erase type, and protects no address of the block.
+-- Holds if `chip` is idle and can carry out `erase` after a write enable: the block is aligned and lies on the chip,
+-- and the chip has the erase type and protects no address of the block.
 pub record CanErase (erase : Erase) (chip : Chip) : Type 0 where
   pub on_chip : IsOnChip erase chip
   pub idle : chip.busy ≡ 0
   pub offered : has_block chip.config erase.unit ≡ true
   pub free : is_block_protected chip (4096 * erase.sector) (block_length chip erase) ≡ false
 
--- true if the chip carries out this erase of a block that lies on it, after a write enable: the chip is idle, has the
--- erase type, and protects no address of the block
+-- True if `chip` carries out `erase` after a write enable, provided that the block is aligned and lies on the chip. The
+-- chip must be idle, have the erase type, and protect no address of the block.
 abbrev pub takes_erase : Chip → Erase → Bool
 takes_erase chip erase =
     is_idle chip && has_block chip.config erase.unit
     && not (is_block_protected chip (4096 * erase.sector) (block_length chip erase))
 
--- true if the sector `s` is in the erase block
+-- true if the sector `s` is in the block that `erase` erases on `chip`
 abbrev pub is_sector_in_block : Erase → Chip → ℕ → Bool
 is_sector_in_block erase chip s = erases_sector (sectors_of chip) s erase
 
--- true if the address `a` is in the erase block
+-- true if the address `a` is in the block that `erase` erases on `chip`
 abbrev pub is_address_in_block : Erase → Chip → ℕ → Bool
 is_address_in_block erase chip a = is_sector_in_block erase chip (a / 4096)
 
--- true if the sector is in the aligned block that the erase command addresses; for C7h that is all 4,096 sectors of the
--- largest chip
+-- True if the sector `s` is in the aligned block that the command of `erase` addresses. For C7h, which has no address,
+-- all sectors below 4,096 count as addressed, because the largest chip has 4,096 sectors.
 abbrev pub is_sector_named : Erase → ℕ → Bool
 is_sector_named erase s = is_in_targeted (block_targeted (sectors_in 4096 erase.unit) erase.sector) s
 
--- On a well-behaved bus, at every exit of an erase that the chip can carry out: bytes and records of erased sectors
--- outside the erase block, and the non-volatile bits, are as they were. On a steady bus each byte in the block is as it
--- was or FFh; on any other bus it may have any value. A chip that is still busy executes this erase.
+-- The effect, on a well-behaved bus and at every exit, of an erase that the chip can carry out. Bytes outside the erase
+-- block and the non-volatile bits are as they were, and no sector outside the block is newly recorded as erased. On a
+-- steady bus each byte in the block is as it was or FFh; on any other bus it may have any value. A chip that is still
+-- busy executes this erase.
 pub record MayErase (erase : Erase) (old new : BusState) : Type 0 where
   pub config : new.chip.config ≡ old.chip.config
   pub bytes : ChangesOnly old.steady (is_address_in_block erase old.chip) (λ _. 255) old.chip.bytes new.chip.bytes
@@ -61,14 +63,16 @@ pub record MayErase (erase : Erase) (old new : BusState) : Type 0 where
   pub runs : new.chip.busy ≢ 0 → new.chip.running ≡ Runs.Erase (4096 * erase.sector) (block_length old.chip erase)
   pub worn : (s : ℕ) → is_sector_in_block erase old.chip s ≡ false → new.worn s ≡ old.worn s
 
--- On a well-behaved bus, the block was erased, and the write enable latch is clear. All other bytes, the non-volatile
+-- The effect, on a well-behaved bus, of an erase that the chip carried out and that has ended. The bytes of the block
+-- are FFh, its sectors are recorded as erased, and the write enable latch is clear. All other bytes, the non-volatile
 -- bits and the record of other erased sectors are as they were.
 abbrev pub HasErased : Erase → (old new : BusState) → Type 0
 HasErased erase old =
     HasEnded (λ a. if is_address_in_block erase old.chip a then 255 else old.chip.bytes a) old.chip.kept
     (λ s. old.worn s || is_sector_in_block erase old.chip s) old
 
--- The erase of this block. A chip on which the block lies ignores it if `takes_erase` is false.
+-- The operation that performs `erase`. A chip on which the aligned block lies ignores the operation if `takes_erase` is
+-- false.
 abbrev pub block_erase : Erase → ChipOperation
 block_erase erase = record {
   limits = erasing (is_sector_named erase) 1;
@@ -78,8 +82,8 @@ block_erase erase = record {
   has = HasErased erase;
 }
 
--- Since `old`, a write enable and an erase command were sent, and nothing else that may modify a chip. The command
--- targets each sector that the erase names.
+-- Holds if, since `old`, the bus was asked to send a write enable and then an erase command, and nothing else that may
+-- modify a chip. The erase command targets each sector of the block that `erase` addresses (`is_sector_named`).
 pub record SendsErase (erase : Erase) (old new : BusState) : Type 0 where
   pub out : List ℕ
   pub added : new.sent ≡ out ∷ (0x06 ∷ []) ∷ old.sent

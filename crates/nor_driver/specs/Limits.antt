@@ -22,19 +22,19 @@ no_sector s = false
 abbrev pub no_status : (one two : ℕ) → Bool
 no_status one two = false
 
--- the limits of at most `n` erases of these sectors
+-- the limits that allow at most `n` erases, each of them only within `sectors`
 abbrev pub erasing : (sectors : ℕ → Bool) → (n : ℕ) → Limits
 erasing sectors n = record { sectors = sectors; status = no_status; erases = n; programs = 0; status_writes = 0 }
 
--- the limits of at most `n` page programs in these sectors
+-- the limits that allow at most `n` page programs, each of them only within `sectors`
 abbrev pub programming : (sectors : ℕ → Bool) → (n : ℕ) → Limits
 programming sectors n = record { sectors = sectors; status = no_status; erases = 0; programs = n; status_writes = 0 }
 
--- the limits of at most `n` status writes of these bytes
+-- the limits that allow at most `n` status writes, each of them only with a pair of bytes for which `status` is true
 abbrev pub writing : (status : (one two : ℕ) → Bool) → (n : ℕ) → Limits
 writing status n = record { sectors = no_sector; status = status; erases = 0; programs = 0; status_writes = n }
 
--- the limits of one transaction, by the bytes `out` that it sends
+-- the limits that one transaction, which sends the bytes `out`, needs
 abbrev pub limits_of : (out : List ℕ) → Limits
 limits_of out = record {
   sectors = targets out;
@@ -44,11 +44,11 @@ limits_of out = record {
   status_writes = if begins_status_write out then 1 else 0;
 }
 
--- Since the state `old`, each sector that an erase or program targeted for the first time, and each pair of bytes that
--- a status write had for the first time, is within the limits. The numbers of erases, page programs and status writes
--- grew by at most those of the limits. A transaction that the model doesn't know was sent only if one had been sent
--- before `old` too. Sectors that were already targeted before `old` may be targeted again, and pairs of bytes that were
--- already written may be written again, even outside the limits.
+-- Holds if what was sent from the state `old` to the state `new` is within `limits`. A sector outside `limits.sectors`
+-- was targeted by an erase or program only if it had been targeted before `old` too. A pair of bytes outside
+-- `limits.status` was sent by a status write only if it had been sent before `old` too. The numbers of erases, page
+-- programs and status writes grew by at most those of `limits`. A transaction that the model doesn't know was sent only
+-- if one had been sent before `old` too.
 pub record SendsWithin (limits : Limits) (old new : BusState) : Type 0 where
   pub targeted : (s : ℕ) → (is_targeted new.sent s ≡ is_targeted old.sent s) ⊎ (limits.sectors s ≡ true)
   pub written : (one two : ℕ)
@@ -58,9 +58,10 @@ pub record SendsWithin (limits : Limits) (old new : BusState) : Type 0 where
   pub status_writes : status_writes_of new.sent ≤ status_writes_of old.sent + limits.status_writes
   pub unknown : has_unknown new.sent ≡ has_unknown old.sent
 
--- Since the state `old`, the bus was asked to send exactly these numbers of transactions that begin with the opcode of
--- an erase, of a page program and of a status write. `later` has all transactions that were sent since `old` and may
--- modify a chip, the last one first.
+-- Holds if, since the state `old`, the bus was asked to send exactly `erases` transactions that begin with the opcode
+-- of an erase, `programs` that begin with the opcode of a page program, and `status_writes` that begin with the opcode
+-- of a status write. `later` lists all transactions that were sent since `old` and may modify a chip, the last one
+-- first.
 pub record SendsExactly (erases programs status_writes : ℕ) (old new : BusState) : Type 0 where
   pub later : Sent
   pub added : new.sent ≡ later ++ old.sent
@@ -68,15 +69,15 @@ pub record SendsExactly (erases programs status_writes : ℕ) (old new : BusStat
   pub programmed : programs_of new.sent ≡ programs_of old.sent + programs
   pub wrote_status : status_writes_of new.sent ≡ status_writes_of old.sent + status_writes
 
--- At every exit of a call: `KeepsNature` holds on every bus, and on a well-behaved bus at most `most` transactions were
--- carried out.
+-- Holds at every exit of a call that needs at most `most` transactions. `KeepsNature` holds on every bus. On a
+-- well-behaved bus, at most `most` transactions were carried out.
 pub record Spends (most : ℕ) (old new : BusState) : Type 0 where
   pub nature : KeepsNature old new
   pub falls : old.honest ≡ true → Falls most old new
 
--- At every exit of a call: on every bus the modifying commands that it sent are within `limits`. On a well-behaved bus
--- at most `most` transactions were carried out, and if `Can` held for the chip at the start, `May` holds for the states
--- before and after the call.
+-- Holds at every exit of a call. On every bus, `KeepsNature` holds and the modifying commands that were sent are within
+-- `limits`. On a well-behaved bus, at most `most` transactions were carried out. If the bus is well-behaved and `Can`
+-- held for the chip before the call, `May` holds for the states before and after the call.
 pub record Leaves (most : ℕ) (limits : Limits) (Can : Chip → Type 0) (May : BusState → BusState → Type 0)
     (old new : BusState) : Type 0 where
   pub spends : Spends most old new

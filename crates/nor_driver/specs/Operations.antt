@@ -1,4 +1,4 @@
--- The effect of any operation: a write enable, a command, and a wait.
+-- The effect of any operation, which consists of a write enable, a command, and a wait.
 use Rattle.std.specs.Prelude.{◌≡◌, ◌≢◌, ◌≤◌, ◌+◌, ◌*◌, ◌⊎◌, ◌||◌, ℕ, Bool, true, false, List, ◌∷◌, length, drop, take, slice_index}
 use Rattle.nor_model.specs.declared.config.Config.{Config}
 use Rattle.nor_model.specs.declared.command.Command.{Command}
@@ -12,15 +12,15 @@ use Rattle.nor_model.specs.Bus.{BusState}
 use Rattle.nor_driver.specs.OnlyReads.{KeepsChip}
 use Rattle.nor_driver.specs.Limits.{Limits, limits_of, SendsExactly, Leaves}
 
--- the greatest number of transactions of an operation: write enable, its command and 65,536 polls
+-- the greatest number of transactions of an operation: one write enable, one command and 65,536 polls
 abbrev pub most_operation : ℕ
 most_operation = 65538
 
--- the first three of these bytes are the address `at`, high byte first
+-- the first three bytes of `bytes` are the address `at`, high byte first
 abbrev pub BytesNameAddress : ℕ → List ℕ → Type 0
 BytesNameAddress at bytes = 65536 * slice_index bytes 0 + 256 * slice_index bytes 1 + slice_index bytes 2 ≡ at
 
--- the command consists of this opcode, the three bytes of the address `at`, and the data `sent`
+-- the bytes `command` are `opcode`, the three bytes of the address `at` (high byte first), and the data `sent`
 abbrev pub IsCommandAt : (opcode at : ℕ) → (sent command : List ℕ) → Type 0
 IsCommandAt opcode at sent command =
     (x : ℕ) × (y : ℕ) × (z : ℕ) × (65536 * x + 256 * y + z ≡ at) × (command ≡ opcode ∷ x ∷ y ∷ z ∷ sent)
@@ -33,9 +33,9 @@ is_operation_or_none (Erase start len) = true
 is_operation_or_none Ignored = true
 is_operation_or_none _ = false
 
--- For every chip, the bytes `out` ask for an operation or for nothing, if no reply byte is read. Each prefix of them
--- asks for the same command or for nothing, for any number of reply bytes. The transaction is one that the model knows,
--- and short enough for every well-behaved bus.
+-- Holds if the bytes `out` ask every chip for an operation or for nothing, when no reply byte is read. Each prefix of
+-- `out` asks for the same operation or for nothing, for any number of reply bytes. The model knows the transaction, and
+-- every well-behaved bus accepts its length.
 pub record AsksForOperation (out : List ℕ) : Type 0 where
   pub known : is_unknown_to_model out ≡ false
   pub whole : (config : Config) → is_operation_or_none (command_of config out 0) ≡ true
@@ -43,8 +43,8 @@ pub record AsksForOperation (out : List ℕ) : Type 0 where
       ⊎ (command_of config (take count out) replies ≡ command_of config out 0)
   pub short : length out ≤ 260
 
--- Each byte is as it was, except at addresses in `addresses`. At such an address the byte may have changed: on a steady
--- bus to the byte of `wanted`, on any other bus to any value.
+-- Holds if each byte is as it was, except at addresses for which `addresses` is true. At such an address the byte may
+-- have changed: on a steady bus to the byte of `wanted`, on any other bus to any value.
 abbrev pub ChangesOnly : Bool → (ℕ → Bool) → (wanted old new : ℕ → ℕ) → Type 0
 ChangesOnly steady addresses wanted old new =
     (a : ℕ) → (new a ≡ old a) ⊎ ((addresses a ≡ true) × (steady ≡ true → new a ≡ wanted a))
@@ -57,8 +57,8 @@ pub record HasIgnored (old new : BusState) : Type 0 where
   pub worn : (s : ℕ) → new.worn s ≡ old.worn s
   pub latch : new.chip.latch ≡ is_idle old.chip
 
--- An operation succeeded with `sent` transactions. On every bus `sent` is from 3 to 65,538, and the last poll showed
--- that the chip is ready. On a well-behaved bus `sent` fewer transactions are left, and the chip is idle.
+-- Holds if an operation succeeded with `sent` transactions. On every bus `sent` is from 3 to 65,538, and the last poll
+-- showed that the chip is ready. On a well-behaved bus `sent` fewer transactions are left, and the chip is idle.
 pub record EndsWaiting (old new : BusState) (sent : ℕ) : Type 0 where
   pub least : 3 ≤ sent
   pub few : sent ≤ most_operation
@@ -66,15 +66,16 @@ pub record EndsWaiting (old new : BusState) (sent : ℕ) : Type 0 where
   pub count : old.honest ≡ true → old.left ≡ new.left + sent
   pub idle : old.honest ≡ true → new.chip.busy ≡ 0
 
--- the command that this chip carries out when `out` follows a write enable, which sets the latch of an idle chip;
--- `Ignored` if it carries out none
+-- the command that `chip` carries out if it receives `out` after a write enable, or `Ignored` if it carries out none;
+-- the write enable sets the latch of an idle chip
 abbrev pub operation_of : Chip → List ℕ → Command
 operation_of chip out = done_of (record chip { latch = true }) out 0
 
--- The effect, on a well-behaved bus and at every exit, of an operation of an idle chip. Bytes on which the operation
--- doesn't work are as they were. On a steady bus each other byte is as before or as after the operation; on any other
--- bus it may have any value. The non-volatile bits are those from before or those from after the operation. A chip that
--- is still busy executes this operation. Only sectors that the operation erases may be newly recorded as erased.
+-- The effect, on a well-behaved bus and at every exit, of an operation that an idle chip can carry out. Bytes on which
+-- the operation doesn't work are as they were. On a steady bus each other byte is as before or as after the operation;
+-- on any other bus it may have any value. The non-volatile bits are those from before or those from after the
+-- operation. A chip that is still busy executes this operation. Only sectors that the operation erases may be newly
+-- recorded as erased.
 pub record MayOperate (command : Command) (sent : List ℕ) (old new : BusState) : Type 0 where
   pub config : new.chip.config ≡ old.chip.config
   pub bytes : ChangesOnly old.steady (is_in_work (running_after old.chip command))
@@ -83,9 +84,9 @@ pub record MayOperate (command : Command) (sent : List ℕ) (old new : BusState)
   pub runs : new.chip.busy ≢ 0 → new.chip.running ≡ running_after old.chip command
   pub worn : (s : ℕ) → wears command s ≡ false → new.worn s ≡ old.worn s
 
--- On a well-behaved bus, an operation has ended: the chip has the bytes `content` and the non-volatile bits `bits`, and
--- exactly the sectors of `erased` are recorded as erased. The configuration is as it was, and the write enable latch is
--- clear.
+-- Holds if, on a well-behaved bus, an operation has ended with these results: the chip has the bytes `content` and the
+-- non-volatile bits `bits`, and exactly the sectors of `erased` are recorded as erased. The configuration is as it was,
+-- and the write enable latch is clear.
 pub record HasEnded (content : ℕ → ℕ) (bits : KeptBits) (erased : ℕ → Bool) (old new : BusState) : Type 0 where
   pub config : new.chip.config ≡ old.chip.config
   pub bytes : (a : ℕ) → new.chip.bytes a ≡ content a
@@ -93,14 +94,15 @@ pub record HasEnded (content : ℕ → ℕ) (bits : KeptBits) (erased : ℕ → 
   pub worn : (s : ℕ) → new.worn s ≡ erased s
   pub latch : new.chip.latch ≡ false
 
--- On a well-behaved bus, an operation that an idle chip carried out has ended, with its whole effect on bytes,
--- non-volatile bits and erased sectors. The write enable latch is clear.
+-- The effect, on a well-behaved bus, of an operation that an idle chip carried out and that has ended. Bytes,
+-- non-volatile bits and erased sectors are as after `command`, and the write enable latch is clear.
 abbrev pub HasOperated : Command → (sent : List ℕ) → (old new : BusState) → Type 0
 HasOperated command sent old =
     HasEnded (byte_after old.chip command sent) (kept_after old.chip command) (λ s. old.worn s || wears command s) old
 
--- An operation: its limits, a condition under which a chip carries it out (`can`), and one under which a chip ignores
--- it (`ignores`). Under `can`, on a well-behaved bus: its effect at every exit (`may`), and after it succeeded (`has`).
+-- An operation. A chip carries it out if `can` holds for the chip, and ignores it if `ignores` holds. What the
+-- operation sends is within `limits`. On a well-behaved bus whose chip satisfies `can`, `may` relates the states before
+-- and after the operation at every exit, and `has` relates them after success.
 pub record ChipOperation : Type 1 where
   pub limits : Limits
   pub can : Chip → Type 0
@@ -108,24 +110,24 @@ pub record ChipOperation : Type 1 where
   pub may : (old new : BusState) → Type 0
   pub has : (old new : BusState) → Type 0
 
--- The effect of an operation at every exit: `Leaves` holds with at most 65,538 transactions. The bus has been asked to
--- send at least one transaction that begins with a modifying opcode, in this call or before it. On a well-behaved bus,
--- if the chip would ignore the operation, `KeepsChip` holds.
+-- The effect of `operation` at every exit. `Leaves` holds with at most 65,538 transactions. The bus has been asked to
+-- send at least one transaction that begins with a modifying opcode, in this call or before it. On a well-behaved bus
+-- whose chip ignores the operation, `KeepsChip` holds.
 pub record LeavesOperation (operation : ChipOperation) (old new : BusState) : Type 0 where
   pub leaves : Leaves most_operation operation.limits operation.can operation.may old new
   pub stirred : is_stirred new.sent ≡ true
   pub ignored : old.honest ≡ true → operation.ignores old.chip → KeepsChip old new
 
--- The effect of an operation that succeeded, after `sent` transactions: on every bus `EndsWaiting` holds, and
--- `SendsExactly` for the numbers of the limits. On a well-behaved bus `has` holds if the chip can carry the operation
--- out, and `HasIgnored` if it ignores the operation.
+-- The effect of `operation` if it succeeded with `sent` transactions. On every bus `EndsWaiting` holds, and
+-- `SendsExactly` holds for the numbers of the operation's limits. On a well-behaved bus `has` holds if the chip can
+-- carry the operation out, and `HasIgnored` holds if the chip ignores it.
 pub record Operates (operation : ChipOperation) (old new : BusState) (sent : ℕ) : Type 0 where
   pub ends : EndsWaiting old new sent
   pub sends : SendsExactly operation.limits.erases operation.limits.programs operation.limits.status_writes old new
   pub done : old.honest ≡ true → operation.can old.chip → operation.has old new
   pub ignored : old.honest ≡ true → operation.ignores old.chip → HasIgnored old new
 
--- the operation whose command consists of the bytes `out`
+-- the operation that sends the bytes `out` as its command
 abbrev pub command_operation : (out : List ℕ) → ChipOperation
 command_operation out = record {
   limits = limits_of out;

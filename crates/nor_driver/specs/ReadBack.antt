@@ -1,52 +1,54 @@
--- The replies to reads of sectors, on every bus.
+-- Replies to reads of sectors. The definitions apply to the history of any bus.
 use Rattle.std.specs.Prelude.{◌≡◌, ◌≢◌, ◌<◌, ◌*◌, ◌/◌, ◌%◌, ◌++◌, ℕ, Bool, true, List, length, slice_index, Some}
 use Rattle.std.specs.List.{All}
 use Rattle.nor_model.specs.Exchange.{Exchange}
 use Rattle.nor_model.specs.History.{Continues, last_reply, names}
 
--- the last reply to a read (03h) from the start of the sector that has this address; empty if there was no such read
+-- the last reply to a read (03h) from the start of the sector in which the address `a` lies; empty if there was no such
+-- read
 abbrev pub sector_read : List Exchange → (a : ℕ) → List ℕ
 sector_read history a = last_reply (names 0x03 (4096 * (a / 4096))) history
 
--- the byte of an address in the last reply to a read (03h) from the start of its sector; 0 if there is no such byte
+-- the byte of the address `a` in the last reply to a read (03h) from the start of its sector; 0 if the reply has no
+-- such byte
 abbrev pub bytes_read : List Exchange → (a : ℕ) → ℕ
 bytes_read history a = slice_index (sector_read history a) (a % 4096)
 
--- Holds if the transaction was a read (03h) from the start of a sector, and the bus did not stop at it. The number of
--- bytes read is not stated.
+-- Holds if the transaction was a read (03h) from the start of a sector, and the bus did not stop at it. The definition
+-- doesn't say how many bytes were read.
 pub record IsSectorRead (exchange : Exchange) : Type 0 where
   pub sector : ℕ
   pub bytes : List ℕ
   pub reads : names 0x03 (4096 * sector) exchange.out ≡ true
   pub replied : exchange.reply ≡ Some bytes
 
--- Holds if the history `new` continues `old` with reads of sectors and with nothing else.
+-- Holds if `new` is the history `old`, followed only by reads of sectors.
 pub record AddsSectorReads (old new : List Exchange) : Type 0 where
   pub later : List Exchange
   pub is : new ≡ later ++ old
   pub each : All IsSectorRead later
 
--- Holds if the sector that has this address was read, and the last reply to such a read has 4,096 bytes, with `byte` at
--- this address.
+-- Holds if the sector in which `a` lies was read, the last reply to such a read has 4,096 bytes, and that reply has
+-- `byte` at the address `a`.
 pub record IsReadAs (byte : ℕ) (history : List Exchange) (a : ℕ) : Type 0 where
   pub whole : length (sector_read history a) ≡ 4096
   pub same : bytes_read history a ≡ byte
 
--- Holds if the sector of each of these addresses was read since the history `old`, and the last reply to such a read
--- has 4,096 bytes.
+-- Holds if, for each address in `Addresses`, the sector of the address was read after the history `old`, and the last
+-- reply to such a read has 4,096 bytes.
 pub record HaveBeenRead (Addresses : (a : ℕ) → Type 0) (old new : List Exchange) : Type 0 where
   pub later : List Exchange
   pub is : new ≡ later ++ old
   pub whole : (a : ℕ) → Addresses a → length (sector_read later a) ≡ 4096
 
--- Holds if, since the history `old`, sectors were read and nothing else was sent, and the last reply to a read of the
--- sector of each of these addresses has the target byte there.
+-- Holds if only sectors were read after the history `old`, and for each address in `addresses` the last reply to a read
+-- of its sector has the byte of `target` there.
 pub record ReadsBack (addresses : ℕ → Bool) (target : ℕ → ℕ) (old new : List Exchange) : Type 0 where
   pub reads : AddsSectorReads old new
   pub each : (a : ℕ) → addresses a ≡ true → IsReadAs (target a) reads.later a
 
--- Holds if, since the history `old`, sectors were read and nothing else was sent, and `address` is the first of these
--- addresses whose byte in the last reply to a read of its sector isn't the target byte.
+-- Holds if only sectors were read after the history `old`, and `address` is the first address in `addresses` at which
+-- the bytes read differ from `target`. The bytes read are those of the last reply to a read of the address's sector.
 pub record ReadsOther (addresses : ℕ → Bool) (target : ℕ → ℕ) (address : ℕ) (old new : List Exchange) : Type 0 where
   pub reads : AddsSectorReads old new
   pub is : addresses address ≡ true
@@ -54,14 +56,14 @@ pub record ReadsOther (addresses : ℕ → Bool) (target : ℕ → ℕ) (address
   pub differs : bytes_read reads.later address ≢ target address
   pub before : (a : ℕ) → a < address → addresses a ≡ true → IsReadAs (target a) reads.later a
 
--- Holds if the last transactions since `old` were reads of sectors, in whose last replies each of these addresses has
--- the target byte (`ReadsBack`).
+-- Holds if the history `new` continues `old` and ends with reads of sectors for which `ReadsBack` holds: the bytes read
+-- at `addresses` are those of `target`.
 abbrev pub EndsReadBack : (addresses : ℕ → Bool) → (target : ℕ → ℕ) → (old new : List Exchange) → Type 0
 EndsReadBack addresses target old new =
     (before : List Exchange) × Continues old before × ReadsBack addresses target before new
 
--- Holds if the last transactions since `old` were reads of sectors, in whose last replies `address` is the first of
--- these addresses that doesn't have the target byte (`ReadsOther`).
+-- Holds if the history `new` continues `old` and ends with reads of sectors for which `ReadsOther` holds: `address` is
+-- the first of `addresses` at which the byte read isn't that of `target`.
 abbrev pub EndsReadOther : (addresses : ℕ → Bool) → (target : ℕ → ℕ) → (address : ℕ) → (old new : List Exchange)
     → Type 0
 EndsReadOther addresses target address old new =

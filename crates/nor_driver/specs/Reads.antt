@@ -21,23 +21,23 @@ changes_nothing ReadUnique = true
 changes_nothing Ignored = true
 changes_nothing _ = false
 
--- The transaction asks every chip only for a read other than a poll, or for nothing. It begins with a quiet opcode or
--- sends nothing, and it sends few enough bytes for every well-behaved bus.
+-- Holds if the bytes `out` ask every chip only for a read other than a poll, or for nothing. `out` begins with a quiet
+-- opcode or is empty, and every well-behaved bus accepts its length.
 pub record IsReading (out : List ℕ) : Type 0 where
   pub short : length out ≤ 260
   pub quiet : begins_quiet out ≡ true
   pub reading : (config : Config) (replies : ℕ) → changes_nothing (command_of config out replies) ≡ true
 
--- On a well-behaved bus, one transaction that reads was carried out. The chip is as it was, even its write enable latch
--- and `busy`, and no sector was newly recorded as erased.
+-- The effect, on a well-behaved bus, of one read that was carried out. The chip is as it was, even its write enable
+-- latch and `busy`, and no sector was newly recorded as erased.
 pub record HasRead (old new : BusState) : Type 0 where
   pub rested : Rested old new
   pub busy : new.chip.busy ≡ old.chip.busy
   pub latch : new.chip.latch ≡ old.chip.latch
   pub count : old.left ≡ new.left + 1
 
--- A transaction that reads succeeded: on every bus it was added to the history with this reply. On a well-behaved bus
--- it left the chip as it was, and the reply is the chip's.
+-- Holds if the bus sent `out`, which only reads, and received `reply`. On every bus this transaction was added to the
+-- history. On a well-behaved bus it left the chip as it was, and `reply` is the chip's reply.
 pub record Replies (out : List ℕ) (old new : BusState) (reply : List ℕ) : Type 0 where
   pub history : new.history ≡ replied out reply ∷ old.history
   pub read : old.honest ≡ true → HasRead old new
@@ -52,44 +52,44 @@ id_of config = slice_index_or config.id 0 255 ∷ slice_index_or config.id 1 255
 abbrev pub unique_of : Config → List ℕ
 unique_of config = map (λ (i : ℕ). slice_index_or config.unique i 255) (0 ∷ 1 ∷ 2 ∷ 3 ∷ 4 ∷ 5 ∷ 6 ∷ 7 ∷ [])
 
--- `len` SFDP bytes as 5Ah reads them, from the address `at` modulo the chip's size
+-- the `len` SFDP bytes that 5Ah reads from the address `at`, which the chip takes modulo its size
 unfoldable pub shown : Config → (at len : ℕ) → List ℕ
 shown config at len = map (sfdp_byte config) (range_with_len (at % config.size) len)
 
--- the first 4,096 of these bytes are those of the sector `sector` of `content`
+-- Holds if the first 4,096 bytes of `bytes` are those of `content` in the sector with the number `sector`.
 pub record IsSectorOf (content : ℕ → ℕ) (sector : ℕ) (bytes : List ℕ) : Type 0 where
   pub byte : (i : ℕ) → i < 4096 → slice_index bytes i ≡ content (4096 * sector + i)
 
--- A read of the ID succeeded: on every bus these bytes are its reply. On a well-behaved bus it left the chip as it was,
--- and returned the chip's bytes if the chip was idle.
+-- Holds if a read of the ID succeeded, and `id` is the reply. On a well-behaved bus the read left the chip as it was,
+-- and `id` is the chip's ID if the chip was idle.
 pub record ReadsId (old new : BusState) (id : List ℕ) : Type 0 where
   pub answered : Answered (begins_with 0x9F) old.history new.history id
   pub read : old.honest ≡ true → HasRead old new
   pub replied : old.honest ≡ true → old.chip.busy ≡ 0 → id ≡ id_of old.chip.config
 
--- A read of status 2 succeeded: on every bus this byte is its reply. On a well-behaved bus it left the chip as it was,
--- and returned the chip's byte even if the chip was busy.
+-- Holds if a read of status 2 succeeded, and `status2` is the reply. On a well-behaved bus the read left the chip as it
+-- was, and `status2` is the chip's status 2, even if the chip was busy.
 pub record ReadsStatus2 (old new : BusState) (status2 : ℕ) : Type 0 where
   pub answered : Answered (begins_with 0x35) old.history new.history (status2 ∷ [])
   pub read : old.honest ≡ true → HasRead old new
   pub replied : old.honest ≡ true → status2 ≡ old.chip.kept.two
 
--- A read of the unique ID succeeded: on every bus these bytes are its reply. On a well-behaved bus it left the chip as
--- it was, and returned the chip's bytes if the chip was idle.
+-- Holds if a read of the unique ID succeeded, and `unique` is the reply. On a well-behaved bus the read left the chip
+-- as it was, and `unique` is the chip's unique ID if the chip was idle.
 pub record ReadsUnique (old new : BusState) (unique : List ℕ) : Type 0 where
   pub answered : Answered (begins_with 0x4B) old.history new.history unique
   pub read : old.honest ≡ true → HasRead old new
   pub replied : old.honest ≡ true → old.chip.busy ≡ 0 → unique ≡ unique_of old.chip.config
 
--- A read of `len` SFDP bytes succeeded: on every bus these bytes are its reply. On a well-behaved bus it left the chip
--- as it was, and returned the chip's bytes if the chip was idle.
+-- Holds if a read of `len` SFDP bytes from the address `at` on succeeded, and `bytes` is the reply. On a well-behaved
+-- bus the read left the chip as it was, and `bytes` are the chip's SFDP bytes if the chip was idle.
 pub record ReadsSfdp (at len : ℕ) (old new : BusState) (bytes : List ℕ) : Type 0 where
   pub answered : Answered (names 0x5A at) old.history new.history bytes
   pub read : old.honest ≡ true → HasRead old new
   pub replied : old.honest ≡ true → old.chip.busy ≡ 0 → bytes ≡ shown old.chip.config at len
 
--- A read of a sector succeeded: on every bus these bytes are its reply. On a well-behaved bus it left the chip as it
--- was, and returned the chip's bytes if the chip was idle and the sector lies on it.
+-- Holds if a read from the start of `sector` succeeded, and `bytes` is the reply. On a well-behaved bus the read left
+-- the chip as it was. If the chip was idle and has the sector, the first 4,096 bytes of `bytes` are the chip's.
 pub record ReadsSector (sector : ℕ) (old new : BusState) (bytes : List ℕ) : Type 0 where
   pub answered : Answered (names 0x03 (4096 * sector)) old.history new.history bytes
   pub read : old.honest ≡ true → HasRead old new

@@ -1,12 +1,12 @@
--- The effect of reads that succeeded, one after another.
+-- The effect of several successive reads that succeeded.
 use Rattle.std.specs.Prelude.{◌≡◌, ◌+◌, ℕ, true}
 use Rattle.nor_model.specs.Bus.{BusState, KeepsNature}
 use Rattle.nor_driver.specs.OnlyReads.{Rested}
 use Rattle.nor_driver.specs.Ready.{StaysReady}
 
--- Holds after `reads` transactions that only read succeeded, if none of them was a poll that showed BUSY. On every bus,
--- no transaction that may modify a chip was sent, and `KeepsNature` and `StaysReady` hold. On a well-behaved bus
--- the chip is as `Rested` says, and exactly `reads` fewer transactions are left.
+-- Holds after `reads` successive reads that succeeded, if none of them was a poll that showed BUSY. On every bus, no
+-- transaction that may modify a chip was sent, and `KeepsNature` and `StaysReady` hold. On a well-behaved bus, `Rested`
+-- holds for the chip, and exactly `reads` fewer transactions are left.
 pub record HasOnlyRead (reads : ℕ) (old new : BusState) : Type 0 where
   pub nature : KeepsNature old new
   pub same_sent : new.sent ≡ old.sent

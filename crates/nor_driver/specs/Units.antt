@@ -1,4 +1,4 @@
--- Erase blocks. `total` is the number of the chip's sectors, of 4 KiB each.
+-- Erase blocks. `total` is the number of 4 KiB sectors of the chip.
 use Rattle.std.specs.Prelude.{◌==◌, ◌+◌, ◌%◌, ◌&&◌, ℕ, Bool, true, nat_le, nat_lt}
 use Rattle.nor_model.specs.declared.config.Config.{Config}
 use Rattle.nor_driver.specs.declared.units.Erase.{Erase}
@@ -12,7 +12,7 @@ opcode_of Block32 = 0x52
 opcode_of Block64 = 0xD8
 opcode_of Chip = 0xC7
 
--- how many sectors the block has, on a chip of `total` sectors
+-- the number of sectors in the block, on a chip with `total` sectors
 abbrev pub sectors_in : (total : ℕ) → EraseBlock → ℕ
 sectors_in total Sector = 1
 sectors_in total Block32 = 8
@@ -26,15 +26,15 @@ has_block config Block32 = config.kinds.k32
 has_block config Block64 = config.kinds.k64
 has_block config Chip = true
 
--- true if the block may begin at this sector: a 32 or 64 KiB block at a multiple of its size, the chip at 0, a 4 KiB
--- block at any sector
+-- True if the block may begin at the sector with the number `sector`: a 32 or 64 KiB block at a multiple of its size,
+-- the whole chip only at sector 0, and a 4 KiB block at any sector.
 abbrev pub is_aligned : EraseBlock → (sector : ℕ) → Bool
 is_aligned Sector sector = true
 is_aligned Block32 sector = sector % 8 == 0
 is_aligned Block64 sector = sector % 16 == 0
 is_aligned Chip sector = sector == 0
 
--- true if, on a chip of `total` sectors, this sector is in the block of the erase
+-- true if, on a chip with `total` sectors, the sector with the number `sector` is in the block of `erase`
 abbrev pub erases_sector : (total sector : ℕ) → Erase → Bool
 erases_sector total sector erase =
     nat_le erase.sector sector && nat_lt sector (erase.sector + sectors_in total erase.unit)

@@ -10,8 +10,8 @@ use Rattle.nor_driver.specs.declared.waits.OperationError.TheVariants.{Stopped, 
 use Rattle.nor_driver.specs.declared.waits.Waited.{Waited}
 use Rattle.nor_driver.specs.OnlyReads.{Rested, RanOut}
 
--- On a well-behaved bus, one poll read status 1 as it was before the poll. A busy chip is then busy for one poll fewer,
--- and the poll that shows the last BUSY clears the write enable latch.
+-- The effect, on a well-behaved bus, of one poll: `status` is status 1 as it was before the poll. A chip that was busy
+-- will show BUSY in one poll fewer, and the poll that shows the last BUSY clears the write enable latch.
 pub record HasPolled (old new : BusState) (status : ℕ) : Type 0 where
   pub rested : Rested old new
   pub status1 : status ≡ status1_of old.chip
@@ -19,18 +19,19 @@ pub record HasPolled (old new : BusState) (status : ℕ) : Type 0 where
   pub latch : new.chip.latch ≡ (if old.chip.busy == 1 then false else old.chip.latch)
   pub count : old.left ≡ new.left + 1
 
--- A poll succeeded: on every bus this status is its reply. On a well-behaved bus its effect is `HasPolled`.
+-- Holds if a poll succeeded and received `status`. On a well-behaved bus, `HasPolled` states its effect.
 pub record Polls (old new : BusState) (status : ℕ) : Type 0 where
   pub history : new.history ≡ replied (0x05 ∷ []) (status ∷ []) ∷ old.history
   pub done : old.honest ≡ true → HasPolled old new status
 
--- the write enable latch of a chip after a wait: as before if the chip was idle, otherwise clear, because the operation
--- that was running has ended
+-- the write enable latch of `chip` after a wait: as before if the chip was idle, otherwise clear, because the operation
+-- in progress has ended
 abbrev pub latch_when_idle : Chip → Bool
 latch_when_idle chip = if chip.busy == 0 then chip.latch else false
 
--- On a well-behaved bus, a wait polled until the chip was idle: once for each poll that the chip was still busy for
--- (`busy`), and once more. Status 1 is that of the chip after the wait.
+-- The effect, on a well-behaved bus, of a wait that succeeded. It made one more poll than `busy` said before the wait:
+-- `busy` polls that showed BUSY, and a last one that showed that the chip is idle. `status1` is status 1 of the chip
+-- after the wait.
 pub record HasWaited (old new : BusState) (waited : Waited) : Type 0 where
   pub rested : Rested old new
   pub idle : new.chip.busy ≡ 0
@@ -39,10 +40,10 @@ pub record HasWaited (old new : BusState) (waited : Waited) : Type 0 where
   pub polls : waited.polls ≡ old.chip.busy + 1
   pub count : old.left ≡ new.left + waited.polls
 
--- A wait succeeded. On every bus its last poll received this status, which shows that the chip is ready, and the number
--- of polls is from 1 to 65,536. For each test that is false for every poll, the last reply to a transaction that passes
--- the test is as before (`keeps_other_replies`); that leaves open whether transactions other than polls were sent. On a
--- well-behaved bus the effect of the wait is `HasWaited`.
+-- Holds if a wait succeeded. On every bus its last poll received `status1`, which shows that the chip is ready, and it
+-- made from 1 to 65,536 polls. For each test that is false for every poll, the last reply to a transaction that passes
+-- the test is as before (`keeps_other_replies`). The definition doesn't say that only polls were sent. On a
+-- well-behaved bus, `HasWaited` states the effect of the wait.
 pub record Waits (old new : BusState) (waited : Waited) : Type 0 where
   pub keeps_other_replies : KeepsReplies is_poll old.history new.history
   pub status : last_reply is_poll new.history ≡ waited.status1 ∷ []
@@ -52,27 +53,27 @@ pub record Waits (old new : BusState) (waited : Waited) : Type 0 where
   pub polled_ready : new.polled_ready ≡ true
   pub done : old.honest ≡ true → HasWaited old new waited
 
--- on every bus, an error that is a timeout contains the address `at`
+-- if the error is a timeout, it contains the address `at`
 abbrev pub NamesTimeout : ℕ → OperationError → Type 0
 NamesTimeout at Stopped = ⊤
 NamesTimeout at (Timeout address) = address ≡ at
 
--- The last transaction of a call that returned this error. For `Stopped` the bus stopped at it, for `Timeout` it was a
--- poll that showed BUSY.
+-- The last transaction in `history` is the one that caused the error. `Stopped`: the bus stopped at this transaction.
+-- `Timeout`: this transaction was a poll that showed BUSY.
 abbrev pub EndsAt : OperationError → List Exchange → Type 0
 EndsAt Stopped history = EndsStopped history
 EndsAt (Timeout address) history = EndsBusy history
 
--- A call that waits returned an error. On every bus nothing was sent after the transaction that caused the error
--- (`EndsAt`). On a well-behaved bus the error is a stop: fewer than `needed` transactions were left, and all of these
--- were carried out.
+-- Holds if a call that waits returned `error`. On every bus nothing was sent after the transaction that caused the
+-- error (`EndsAt`). On a well-behaved bus the error is `Stopped`: fewer than `needed` transactions were left, and all
+-- of these were carried out.
 pub record OperationFails (needed : ℕ) (old new : BusState) (error : OperationError) : Type 0 where
   pub last : EndsAt error new.history
   pub stopped : old.honest ≡ true → error ≡ Stopped
   pub ran_out : old.honest ≡ true → RanOut needed old new
 
--- A wait returned an error. On every bus a timeout contains the address `at`. On a well-behaved bus the error is a
--- stop, and fewer transactions were left than the wait needed, which is never more than 65,536.
+-- Holds if a wait returned `error`. On every bus, if the error is a timeout, it contains the address `at`. On a
+-- well-behaved bus the error is `Stopped`, and fewer transactions were left than the `busy + 1` that the wait needed.
 pub record WaitFails (at : ℕ) (old new : BusState) (error : OperationError) : Type 0 where
   pub names : NamesTimeout at error
   pub fails : OperationFails 65536 old new error

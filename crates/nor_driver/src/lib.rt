@@ -1,5 +1,6 @@
-//! The commands to a flash chip, over any bus: a function for each read, for polls and waits, and for each operation
-//! with its write enable and wait. The other crates of the engine send commands only through these functions.
+//! Sends commands to a flash chip, over any bus. The crate has one function for each kind of read, one for a poll, one
+//! for a wait, and one for each operation. A function for an operation sends a write enable and the command, and waits
+//! until the chip is ready. The other crates of the engine send commands only through these functions.
 //!
 //! ```rust
 //! use nor_chip::{Config, Delays, Meter, SimBus};
@@ -18,13 +19,14 @@
 //! assert_eq!(rt; sector[0x100], 0xA5);
 //! ```
 //!
-//! `specs/OnlyReads.antt` defines the effect of functions that only read, and `Waits` and `Reads` what they return.
-//! `Programs`, `Erases` and `StatusWrites` define the effect of operations.
+//! `specs/OnlyReads.antt` defines the effect of functions that only read. `specs/Waits.antt` and `specs/Reads.antt`
+//! define what these functions return. `specs/Programs.antt`, `specs/Erases.antt` and `specs/StatusWrites.antt` define
+//! the effect of operations.
 //!
 //! - `waits.rt`: polls, and waits until the chip is ready
 //! - `reads.rt`: reads the ID, status 2, the unique ID, SFDP bytes and sectors
 //! - `operations.rt`: programs, erases and status writes
-//! - `units.rt`: erase blocks, and erases of them
+//! - `units.rt`: the types `EraseBlock` and `Erase`
 #![tactic(auto)]
 
 mod operations;

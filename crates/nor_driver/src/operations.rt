@@ -1,4 +1,5 @@
-//! Operations: write enable, a command that modifies the chip, and a wait.
+//! Operations. Each one sends a write enable and a command that modifies the chip, and then waits until the chip is
+//! ready.
 
 ghost use Rattle.std.specs.Prelude.{◌≡◌, ◌<◌, ◌≤◌, ◌+◌, ◌*◌, ◌%◌, ◌^◌, true, [], ◌∷◌, length, IfOk, IfErr, OnOk};
 ghost use Rattle.nor_model.specs.Sent.{with_sent};
@@ -22,11 +23,11 @@ const WRITE_ENABLE: u8 = 0x06;
 
 /// Programs `bytes` from `address` (02h), and waits until the chip is ready. Returns the number of transactions.
 ///
-/// There must be at least one byte, the bytes must lie in one page of 256 bytes, and the address must fit in three
-/// bytes. On a well-behaved bus, a chip that has this address ignores the program if it is busy or protects the
-/// address; unless the bus stops, this function succeeds even then.
+/// `bytes` must not be empty and must lie in one page of 256 bytes, and `address` must fit in three bytes. On a
+/// well-behaved bus, a chip on which `address` lies ignores the program if the chip is busy or protects `address`. Even
+/// then this function succeeds, unless the bus stops.
 ///
-/// Returns `Stopped` if the bus stopped, and `Timeout` with this address after 65,536 polls that showed BUSY. On a
+/// Returns `Stopped` if the bus stopped, and `Timeout` with `address` after 65,536 polls that showed BUSY. On a
 /// well-behaved bus there is no timeout. (W25Q64FV datasheet, Page Program.)
 pub fn program_page<B: Bus>(bus: &mut B, address: u32, bytes: &[u8]) -> Result<u32, OperationError>
     requires reachable { address < 2 ^ 24 }
@@ -43,9 +44,9 @@ pub fn program_page<B: Bus>(bus: &mut B, address: u32, bytes: &[u8]) -> Result<u
 
 /// Erases an erase block (20h, 52h, D8h or C7h), and waits until the chip is ready. Returns the number of transactions.
 ///
-/// The sector must be below 4,096 and aligned to the block. On a well-behaved bus, a chip on which the block lies
-/// ignores the erase if it is busy, lacks this erase type or protects an address of the block. Unless the bus stops,
-/// this function succeeds even then.
+/// `erase.sector` must be below 4,096, and the block must be aligned (`Erase::is_aligned`). On a well-behaved bus, a
+/// chip on which the block lies ignores the erase if the chip is busy, lacks this erase type or protects an address of
+/// the block. Even then this function succeeds, unless the bus stops.
 ///
 /// Returns `Stopped` if the bus stopped, and `Timeout` with the block's first address after 65,536 polls that showed
 /// BUSY. On a well-behaved bus there is no timeout. (W25Q64FV datasheet, erase instructions.)
@@ -67,12 +68,12 @@ pub fn erase<B: Bus>(bus: &mut B, erase: Erase) -> Result<u32, OperationError>
     }
 }
 
-/// Writes the status registers (01h), and waits until the chip is ready. The function sends the protection bits of
-/// `code`, which must be below 64, all other non-volatile bits as in `status`, and BUSY, WEL and SUS clear. Returns the
-/// number of transactions.
+/// Writes the status registers (01h), and waits until the chip is ready. Returns the number of transactions. The
+/// protection bits sent are those of `code`, which must be below 64. All other non-volatile bits are sent as in
+/// `status`, and BUSY, WEL and SUS are sent as 0.
 ///
-/// On a well-behaved bus, a chip that is busy or has SRP0 or SRP1 set ignores the write; unless the bus stops, this
-/// function succeeds even then.
+/// On a well-behaved bus, a chip that is busy or has SRP0 or SRP1 set ignores the status write. Even then this function
+/// succeeds, unless the bus stops.
 ///
 /// Returns `Stopped` if the bus stopped, and `Timeout` with address 0 after 65,536 polls that showed BUSY. On a
 /// well-behaved bus there is no timeout. (W25Q64FV datasheet, Write Status Register.)
@@ -87,8 +88,8 @@ pub fn write_status<B: Bus>(bus: &mut B, status: Status, code: u8) -> Result<u32
     operation(bus, &[WRITE_STATUS, one, two], 0)
 }
 
-// Performs one operation: write enable, the command, a wait. The command must satisfy `AsksForOperation`. Returns the
-// number of transactions. A timeout contains `address`.
+// Sends a write enable and then `command`, which must satisfy `AsksForOperation`, and waits until the chip is ready.
+// Returns the number of transactions. If the wait times out, the error contains `address`.
 fn operation<B: Bus>(bus: &mut B, command: &[u8], address: u32) -> Result<u32, OperationError>
     requires { AsksForOperation command.now }
     ensures leaves { LeavesOperation (command_operation command.now) (B.state bus.old) (B.state bus.new) }
@@ -104,7 +105,7 @@ fn operation<B: Bus>(bus: &mut B, command: &[u8], address: u32) -> Result<u32, O
     Ok(waited.polls + 2)
 }
 
-// Returns the three bytes of an address, high byte first.
+// Returns the three bytes of `address`, high byte first. The address must fit in three bytes.
 pub(crate) fn address_bytes(address: u32) -> [u8; 3]
     requires { address < 2 ^ 24 }
     ensures { BytesNameAddress address result }
@@ -113,8 +114,8 @@ pub(crate) fn address_bytes(address: u32) -> [u8; 3]
     [high, middle, low]
 }
 
-// Returns the bytes of a page program: the opcode, three address bytes and the data, of which there must be at most 256
-// bytes.
+// Returns the bytes of a page program: the opcode, the three bytes of `address`, and the data `bytes`, which must have
+// at most 256 bytes.
 fn program_command(address: u32, bytes: &[u8]) -> ArrayVec<u8, 260>
     requires reachable { address < 2 ^ 24 }
     requires short { length bytes.now ≤ 256 }

@@ -19,8 +19,8 @@ const READ_SFDP: u8 = 0x5A;
 
 const READ_ID: u8 = 0x9F;
 
-/// Reads the three bytes of the ID (9Fh; W25Q64FV datasheet, Read JEDEC ID). On a well-behaved bus they are the chip's
-/// if the chip is idle. Returns `Stopped` if the bus stopped.
+/// Reads the three bytes of the ID (9Fh; W25Q64FV datasheet, Read JEDEC ID). On a well-behaved bus the result is the
+/// chip's ID if the chip is idle. Returns `Stopped` if the bus stopped.
 pub fn read_id<B: Bus>(bus: &mut B) -> Result<[u8; 3], Stopped>
     ensures leaves { OnlyReads 1 (B.state bus.old) (B.state bus.new) }
     ensures does { IfOk result (ReadsId (B.state bus.old) (B.state bus.new)) }
@@ -32,8 +32,8 @@ pub fn read_id<B: Bus>(bus: &mut B) -> Result<[u8; 3], Stopped>
     Ok(id)
 }
 
-/// Reads status 2 (35h; W25Q64FV datasheet, Read Status Register-2). On a well-behaved bus the byte is the chip's, even
-/// if the chip is busy. Returns `Stopped` if the bus stopped.
+/// Reads status 2 (35h; W25Q64FV datasheet, Read Status Register-2). On a well-behaved bus the result is the chip's
+/// status 2, even if the chip is busy. Returns `Stopped` if the bus stopped.
 pub fn read_status2<B: Bus>(bus: &mut B) -> Result<u8, Stopped>
     ensures leaves { OnlyReads 1 (B.state bus.old) (B.state bus.new) }
     ensures does { IfOk result (ReadsStatus2 (B.state bus.old) (B.state bus.new)) }
@@ -45,8 +45,8 @@ pub fn read_status2<B: Bus>(bus: &mut B) -> Result<u8, Stopped>
     Ok(reply[0])
 }
 
-/// Reads the eight bytes of the unique ID (4Bh; W25Q64FV datasheet, Read Unique ID Number). On a well-behaved bus they
-/// are the chip's if the chip is idle. Returns `Stopped` if the bus stopped.
+/// Reads the eight bytes of the unique ID (4Bh; W25Q64FV datasheet, Read Unique ID Number). On a well-behaved bus the
+/// result is the chip's unique ID if the chip is idle. Returns `Stopped` if the bus stopped.
 pub fn read_unique<B: Bus>(bus: &mut B) -> Result<[u8; 8], Stopped>
     ensures leaves { OnlyReads 1 (B.state bus.old) (B.state bus.new) }
     ensures does { IfOk result (ReadsUnique (B.state bus.old) (B.state bus.new)) }
@@ -58,8 +58,9 @@ pub fn read_unique<B: Bus>(bus: &mut B) -> Result<[u8; 8], Stopped>
     Ok(unique)
 }
 
-/// Fills `bytes` (at most 4,096) with SFDP bytes from `address` (5Ah; JESD216). The address must fit in three bytes. On
-/// a well-behaved bus the bytes are the chip's if the chip is idle; the chip takes the address modulo its size.
+/// Fills `bytes` with the SFDP bytes from `address` on (5Ah; JESD216). The length of `bytes` must be at most 4,096, and
+/// `address` must fit in three bytes. On a well-behaved bus `bytes` receives the chip's SFDP bytes if the chip is idle.
+/// The chip takes `address` modulo its size.
 ///
 /// Returns `Stopped` if the bus stopped. A well-behaved bus then leaves `bytes` as they were.
 pub fn read_parameters<B: Bus>(bus: &mut B, address: u32, bytes: &mut [u8]) -> Result<(), Stopped>
@@ -75,8 +76,9 @@ pub fn read_parameters<B: Bus>(bus: &mut B, address: u32, bytes: &mut [u8]) -> R
     read(bus, &[READ_SFDP, high, middle, low, 0], bytes)
 }
 
-/// Reads the 4,096 bytes of a sector (03h; W25Q64FV datasheet, Read Data). The sector must be below 4,096. On a
-/// well-behaved bus the bytes are the chip's if the chip is idle and has the sector.
+/// Reads the 4,096 bytes of the sector with the number `sector` into `bytes` (03h; W25Q64FV datasheet, Read Data).
+/// `sector` must be below 4,096, and `bytes` must have a length of 4,096. On a well-behaved bus `bytes` receives the
+/// chip's bytes if the chip is idle and the sector lies on it.
 ///
 /// Returns `Stopped` if the bus stopped. A well-behaved bus then leaves `bytes` as they were.
 pub fn read_sector<B: Bus>(bus: &mut B, sector: u32, bytes: &mut [u8]) -> Result<(), Stopped>
@@ -92,7 +94,8 @@ pub fn read_sector<B: Bus>(bus: &mut B, sector: u32, bytes: &mut [u8]) -> Result
     read(bus, &[READ_DATA, high, middle, low], bytes)
 }
 
-// Performs one transaction, which must satisfy `IsReading` and receive at most 4,096 bytes.
+// Performs one transaction that sends `out` and fills `reply`. `out` must satisfy `IsReading`, and `reply` must have at
+// most 4,096 bytes.
 fn read<B: Bus>(bus: &mut B, out: &[u8], reply: &mut [u8]) -> Result<(), Stopped>
     requires reading { IsReading out.now }
     requires short { length reply.old ≤ 4096 }

@@ -1,11 +1,11 @@
-//! Erase blocks, and erases of them.
+//! The types of erase blocks and of erases.
 
 ghost use Rattle.std.specs.Prelude.{◌≡◌, ◌*◌};
 ghost use Rattle.nor_driver.specs.Units.{opcode_of, is_aligned};
 
 use nor_geometry::SECTOR_LEN;
 
-/// The block that one erase command sets to FFh.
+/// The kind of block that one erase command sets to FFh.
 #[derive(Clone, Copy, Debug, PartialEq, Eq)]
 pub enum EraseBlock {
     /// A sector of 4 KiB (20h).
@@ -19,7 +19,7 @@ pub enum EraseBlock {
 }
 
 impl EraseBlock {
-    // Returns the opcode that erases the block.
+    // Returns the opcode of the command that erases such a block.
     pub(crate) fn opcode(self) -> u8
         ensures { result ≡ opcode_of self }
     {
@@ -32,23 +32,25 @@ impl EraseBlock {
     }
 }
 
-/// An erase: a block, and the number of its first sector.
+/// An erase of one block.
 #[derive(Clone, Copy, Debug, PartialEq, Eq)]
 pub struct Erase {
+    /// The kind of block.
     pub unit: EraseBlock,
+    /// The number of the first sector of the block.
     pub sector: u16,
 }
 
 impl Erase {
-    /// Returns the first address of the block.
+    /// Returns the first address of the erased block.
     pub fn address(self) -> u32
         ensures { result ≡ 4096 * self.sector }
     {
         SECTOR_LEN * u32::from(self.sector)
     }
 
-    /// Returns whether the block may begin at its sector: a 4 KiB block at any sector, a 32 or 64 KiB block at a
-    /// multiple of its size, the chip at 0.
+    /// Returns whether a block of this kind may begin at `sector`: a 4 KiB block at any sector, a 32 or 64 KiB block at
+    /// a multiple of its size, the whole chip only at sector 0.
     pub fn is_aligned(self) -> bool
         ensures { result ≡ is_aligned self.unit self.sector }
     {

@@ -34,8 +34,8 @@ pub enum OperationError {
     /// The bus stopped.
     #[error("the bus stopped")]
     Stopped,
-    /// 65,536 polls in a row showed BUSY. The address is that of the operation's command, or 0 for a status write. From
-    /// `wait` it is the address that the caller passed.
+    /// Status 1 showed BUSY in 65,536 polls in a row. `address` is the address of the operation's command, or 0 for a
+    /// status write. In an error from `wait`, it is the address that the caller passed.
     #[error("the chip stayed busy after the command for address 0x{address:06x}")]
     Timeout { address: u32 },
 }
@@ -51,7 +51,7 @@ impl From<Stopped> for OperationError {
 /// The result of a wait.
 #[derive(Clone, Copy, Debug, PartialEq, Eq)]
 pub struct Waited {
-    /// Status 1, as the last poll read it.
+    /// Status 1, as the last poll received it.
     pub status1: u8,
     /// The number of polls.
     pub polls: u32,
@@ -59,8 +59,8 @@ pub struct Waited {
 
 /// Polls until a reply shows that the chip is ready, at most 65,536 times.
 ///
-/// Returns `Stopped` if the bus stopped, and `Timeout` with `address` if all 65,536 polls showed BUSY. Pass the address
-/// of the command that the wait follows, or 0. On a well-behaved bus there is no timeout.
+/// Returns `Stopped` if the bus stopped, and `Timeout` with `address` if all 65,536 polls showed BUSY. As `address`,
+/// pass the address of the command whose completion the wait awaits, or 0. On a well-behaved bus there is no timeout.
 pub fn wait<B: Bus>(bus: &mut B, address: u32) -> Result<Waited, OperationError>
     ensures leaves { OnlyReads 65536 (B.state bus.old) (B.state bus.new) }
     ensures does { IfOk result (Waits (B.state bus.old) (B.state bus.new)) }
