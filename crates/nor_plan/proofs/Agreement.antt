@@ -1,4 +1,4 @@
--- If no byte differs, no bit must go from 0 to 1.
+-- If `old` and `target` agree in all bytes, no bit must go from 0 to 1.
 use Rattle.std.proofs.Common.{ℕ, List, ◌∙◌, ap, get_or, bit_and}
 use Rattle.std.specs.Int.Bits.{and_self}
 use Rattle.nor_plan.specs.Bytes.{AllAgree, NoneRises}

@@ -1,4 +1,4 @@
--- The properties of the spans of all pages.
+-- The spans of all pages have the properties that `AreSpans` states.
 use Rattle.std.proofs.Common.{ℕ, zero, suc, ◌≡◌, ◌<◌, ◌≤◌, ◌+◌, ◌-◌, ◌*◌, ◌/◌, min, Bool, true, cond, List, [], ◌∷◌, All, Option, Some, None, filter, length, get_or, refl, sym, ap, ◌∙◌, inl, inr, arith}
 use Rattle.std.specs.Prelude.{AllPairs, is_some, count_by}
 use Rattle.std.specs.List.{cons_option, list_any, range_with_len}
@@ -14,7 +14,7 @@ use Rattle.nor_plan.specs.SpanFacts.{IsSpan, AreSpans, spanned_by}
 use Rattle.nor_plan.proofs.Ends.{AreEnds}
 use Rattle.nor_plan.proofs.PageSpans.{other, DiffersOn, page_ends}
 
--- the positions of a list that pass a test have ends (a first and a last one) if and only if some position passes it
+-- `ends` returns a span for the positions of a list that pass `test` if and only if some position of the list passes it
 is_some-ends : (test : ℕ → Bool) (places : List ℕ) → is_some (ends (filter test places)) ≡ list_any test places
 is_some-ends test [] = refl
 is_some-ends test (k ∷ ks) = elim (cases_Bool (test k)) [
@@ -28,11 +28,12 @@ length-cons_option None spans = omega arith
 length-cons_option (Some s) spans = omega arith
 
 module _ (old target : List ℕ) where
-  -- a span of page `page` or a later one
+  -- the span is one of `old` and `target`, and lies on the page `page` or a later one
   abbrev SpanFrom : ℕ → PageSpan → Type 0
   SpanFrom page s = IsSpan old target s × (page ≤ s.first / 256)
 
-  -- the properties of the spans of `count` pages from `page` on
+  -- Holds if `spans` are the spans of all pages that have a difference among the `count` pages from `page` on, one per
+  -- page, in ascending order.
   record ArePageSpans (page count : ℕ) (spans : List PageSpan) : Type 0 where
     each : All (SpanFrom page) spans
     complete : (k : ℕ) → page ≤ k / 256 → k / 256 < page + count → DifferAt old target k → spanned_by spans k ≡ true

@@ -1,4 +1,4 @@
--- The differences of a block of bytes, combined with OR before one test.
+-- The differences of a block of bytes. Vector code combines them with OR, so that one test covers the whole block.
 use Rattle.std.proofs.Common.{ℕ, zero, suc, ◌≡◌, ◌≢◌, ◌<◌, ◌≤◌, ◌+◌, ◌-◌, bit_or, bit_xor, List, [], ◌∷◌, length, replicate, get_or, sym, ◌∙◌, ap, not, nat_eq, inl, inr, arith}
 use lib.Bits.{xor_self, xor_assoc, xor_zero_l, xor_zero_r, or_zero_l}
 use lib.Lanes.{chunk, zip2, fold_l}
@@ -11,17 +11,17 @@ use Rattle.std.specs.Bool.{MatchBool}
 use Rattle.nor_plan.specs.Bytes.{AgreeWithin, SomeDiffer}
 use Rattle.nor_plan.specs.Mask.{ShowsDifferences}
 
--- numbers that differ in no bit are equal
+-- if the XOR of `a` and `b` is 0, the numbers are equal
 same_from_xor : (a b : ℕ) → bit_xor a b ≡ 0 → a ≡ b
 same_from_xor a b none =
     sym (xor_zero_r a) ∙ ap (bit_xor a) (sym none) ∙ sym (xor_assoc a a b)
     ∙ ap (λ x. bit_xor x b) (xor_self a) ∙ xor_zero_l b
 
--- an OR is 0 only if both its operands are
+-- if the OR of `x` and `y` is 0, both numbers are 0
 or_zero : (x y : ℕ) → bit_or x y ≡ 0 → (x ≡ 0) × (y ≡ 0)
 or_zero x y none = (omega (arith, none, le_or_l x y), omega (arith, none, le_or_r x y))
 
--- the OR of a start value and the numbers of a list is at least the start value
+-- the OR of `start` and all numbers of the list `xs` is at least `start`
 front_le : (start : ℕ) (xs : List ℕ) → start ≤ fold_l bit_or start xs
 front_le start [] = omega arith
 front_le start (x ∷ xs) = omega (arith, le_or_l start x, front_le (bit_or start x) xs)
@@ -31,7 +31,8 @@ lane_le start [] i = omega arith
 lane_le start (x ∷ xs) zero = omega (arith, le_or_r start x, front_le (bit_or start x) xs)
 lane_le start (x ∷ xs) (suc i) = lane_le (bit_or start x) xs i
 
--- a case distinction: if the OR of the start value and all lanes isn't 0, the start value or some lane isn't 0
+-- If the OR of `start` and all numbers of `xs` isn't 0, `start` or some number of `xs` isn't 0. The lemma takes a proof
+-- of `P` for each of these cases.
 some_lane : (P : Type 0) (start : ℕ) (xs : List ℕ) → (start ≢ 0 → P) → ((i : ℕ) → i < length xs → get_or xs i 0 ≢ 0 → P)
     → fold_l bit_or start xs ≢ 0 → P
 some_lane P start [] front lane some = front some
@@ -44,7 +45,7 @@ some_lane P start (x ∷ xs) front lane some =
     (λ i within other. lane (suc i) (omega arith) other) some
 
 module _ (a b : List ℕ) where
-  -- the XOR of 32 bytes at the same position of both slices shows their differences
+  -- the XOR of the 32 bytes from `at` on in `a` with those in `b` shows their differences
   pub ShowsDifferences-xor : (at : ℕ) → at + 32 ≤ length a → at + 32 ≤ length b
       → ShowsDifferences a b at 32 (zip2 bit_xor (chunk at 32 a) (chunk at 32 b))
   ShowsDifferences-xor at a_room b_room =
@@ -67,7 +68,8 @@ module _ (a b : List ℕ) where
         some = λ i lane other. (at + i, omega arith, λ same. other (bits i lane ∙ rw (same, xor_self)));
       }
 
-  -- 32 lanes of 0 show the differences of an empty range, with which `changes_256` and `blocks_differ` begin
+  -- a vector of 32 zero lanes, with which `changes_256` and `blocks_differ` begin, shows the differences of an empty
+  -- range of bytes
   pub ShowsDifferences-zeros : (at : ℕ) → ShowsDifferences a b at 0 (replicate 32 0)
   ShowsDifferences-zeros at = record {
     long = length-replicate {A = ℕ} 32 0;
@@ -75,7 +77,8 @@ module _ (a b : List ℕ) where
     some = λ i lane other. absurd (other (get_or-replicate {A = ℕ} 32 i 0 0 lane));
   }
 
-  -- the OR of two vectors that show the differences of adjacent parts shows those of both parts together
+  -- If two vectors show the differences of two adjacent ranges of bytes, the OR of the vectors shows the differences of
+  -- both ranges together.
   pub ShowsDifferences-or : {at m from n count : ℕ} {xs ys : List ℕ} → from ≡ at + m → count ≡ m + n
       → ShowsDifferences a b at m xs → ShowsDifferences a b from n ys → ShowsDifferences a b at count (zip2 bit_or xs ys)
   ShowsDifferences-or {at} {m} {from} {n} {count} {xs} {ys} next sum first second =
@@ -98,13 +101,15 @@ module _ (a b : List ℕ) where
         ];
       }
 
-  -- if a vector shows the differences of some bytes, and the OR of its lanes is 0, none of these bytes differs
+  -- If the vector `xs` shows the differences of a range of bytes, and the OR of its lanes is 0, no byte of the range
+  -- differs.
   pub ShowsDifferences-none : (at count : ℕ) (xs : List ℕ) → ShowsDifferences a b at count xs → fold_l bit_or 0 xs ≡ 0
       → AgreeWithin a b at (at + count)
   ShowsDifferences-none at count xs shows none = shows.none (λ i lane. omega (arith, none, lane_le 0 xs i))
 
-  -- The vector shows the differences of at least the first `end` bytes. If the OR of its lanes isn't 0, some byte of
-  -- the slices differs; if the OR is 0, none of the first `end` bytes differs.
+  -- If `xs` shows the differences of the first `count` bytes, one test of the OR of its lanes decides about the slices:
+  -- if the OR isn't 0, some byte of them differs; if it is 0, none of the first `end` bytes differs, for each `end` of
+  -- at most `count`.
   pub ShowsDifferences-tested : (count end : ℕ) (xs : List ℕ) → ShowsDifferences a b 0 count xs → end ≤ count
       → MatchBool (not (nat_eq (fold_l bit_or 0 xs) 0)) (SomeDiffer a b) (AgreeWithin a b 0 end)
   ShowsDifferences-tested count end xs shows within =

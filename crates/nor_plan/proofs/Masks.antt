@@ -1,4 +1,4 @@
--- The masks that comparisons of 32 lanes return, with one bit per lane.
+-- Masks that comparisons of 32 lanes return. A mask has one bit per lane.
 use Rattle.std.proofs.Common.{ℕ, suc, ◌*◌, inl, inr, w64, ◌≡◌, ◌<◌, ◌≤◌, ◌+◌, ◌^◌, ◌-◌, ◌%◌, ◌/◌, Bool, true, false, not, cond, nat_eq, ◌≢◌, List, length, get_or, map, sym, ◌∙◌, ap, arith, w8}
 use Rattle.std.specs.Int.{bit_at, trailing_zeros}
 use lib.Lanes.{mask_l, top, zip2}
@@ -10,12 +10,13 @@ use Rattle.std.proofs.lemmas.Nat.Bits.{bit_at-zero, bit_at-trailing_zeros, bit_a
 use Rattle.nor_plan.specs.Mask.{IsMask}
 use Rattle.std.proofs.lemmas.Simd.{tops_compared, mask_l-lt, mask_l-mod, bit_mask_l, length-zip2, get_or-zip2}
 
--- the value that vector code computes for the comparison `t`: each lane becomes all ones or 0, and its top bit is taken
+-- The mask that vector code computes for the comparison `t`: each lane becomes all ones if `t` holds for it and
+-- otherwise 0, and the mask has the top bit of each lane.
 abbrev pub compared : (ℕ → ℕ → Bool) → List ℕ → List ℕ → ℕ
 compared t xs ys = mask_l (map (top 7) (zip2 (λ a b. cond (t a b) (2 ^ 8 - 1) 0) xs ys)) % 2 ^ 64
 
--- the mask of two vectors of 32 lanes is the mask of `test`, if the comparison `t` of the lanes at each position `i`
--- returns `test i`
+-- The mask of two vectors of 32 lanes marks the lanes that pass `test`, if comparing the two lanes at each position `i`
+-- with `t` returns `test i`.
 pub compared-IsMask : (t : ℕ → ℕ → Bool) (xs ys : List ℕ) → length xs ≡ 32 → length ys ≡ 32 → (test : ℕ → Bool)
     → ((i : ℕ) → i < 32 → t (get_or xs i 0) (get_or ys i 0) ≡ test i) → IsMask (compared t xs ys) test
 compared-IsMask t xs ys long same test compares =
@@ -29,28 +30,29 @@ compared-IsMask t xs ys long same test compares =
           ∙ ap (λ b. cond b 1 0) (get_or-zip2 t xs ys i 0 0 false (omega arith) (omega arith) ∙ compares i lane);
     }
 
--- if the test for unequal numbers is true, the numbers differ
+-- if `not (nat_eq x y)` is true, `x` and `y` differ
 pub other_from_test : (x y : ℕ) → not (nat_eq x y) ≡ true → x ≢ y
 other_from_test x y e same = grind (arith, nat_tests)
 
 pub test_from_other : (x y : ℕ) → x ≢ y → not (nat_eq x y) ≡ true
 test_from_other x y differ = grind (arith, nat_tests)
 
--- if the bit of the test for unequal numbers is 0, the numbers are equal
+-- if the bit that stands for `not (nat_eq x y)` is 0, `x` and `y` are equal
 same_from_bit : (x y : ℕ) → ◌≡◌ {A = ℕ} (cond (not (nat_eq x y)) 1 0) 0 → x ≡ y
 same_from_bit x y e = grind (arith, nat_tests)
 
 other_from_bit : (x y : ℕ) → ◌≡◌ {A = ℕ} (cond (not (nat_eq x y)) 1 0) 1 → x ≢ y
 other_from_bit x y e same = grind (arith, nat_tests)
 
--- the bit at a number's binary logarithm, rounded down, is set
+-- if `n` is at least `2 ^ r` and below `2 ^ (r + 1)`, bit `r` of `n` is set
 highest_bit : (n r : ℕ) → 2 ^ r ≤ n → n < 2 * 2 ^ r → bit_at n r ≡ 1
 highest_bit n r least most =
     let above = le-div 1 n (2 ^ r) (pow_pos r) (omega (arith, least)) in
     let one : n / 2 ^ r ≡ 1 = omega (arith, above, div_below n (2 ^ r) 2 (pow_pos r) most) in
     ap (λ x. x % 2) one
 
--- `mask` marks the positions, among the 32 from `at` on, at which the two functions differ
+-- Suppose that bit `i` of `mask` is set if and only if the functions `f` and `g` differ at `at + i`, for each `i` below
+-- 32.
 module _ (f g : ℕ → ℕ) (at mask : ℕ) (is : IsMask mask (λ i. not (nat_eq (f (at + i)) (g (at + i))))) where
   clear_lane : (k : ℕ) → at ≤ k → k < at + 32 → bit_at mask (k - at) ≡ 0 → f k ≡ g k
   clear_lane k low high clear =
@@ -63,7 +65,7 @@ module _ (f g : ℕ → ℕ) (at mask : ℕ) (is : IsMask mask (λ i. not (nat_e
       let lane : i < 32 = omega arith in
       (lane, other_from_bit _ _ (sym (is.bits i lane) ∙ one))
 
-  -- if the mask is 0, the two functions agree at all 32 positions from `at` on
+  -- if `mask` is 0, `f` and `g` agree at all 32 positions from `at` on
   pub passed_block : mask ≡ 0 → (k : ℕ) → at ≤ k → k < at + 32 → f k ≡ g k
   passed_block none k low high = clear_lane k low high (ap (λ m. bit_at m (k - at)) none ∙ bit_at-zero (k - at))
 
@@ -71,8 +73,8 @@ module _ (f g : ℕ → ℕ) (at mask : ℕ) (is : IsMask mask (λ i. not (nat_e
   passed_before before none k high =
       elim (cases_lt k at) [ inl earlier ↦ before k earlier | inr here ↦ passed_block none k here high ]
 
-  -- if the mask isn't 0, its lowest set bit shows the first of the 32 positions from `at` on at which the two functions
-  -- differ
+  -- If `mask` isn't 0, the number of its trailing zeros is the offset of the first of the 32 positions from `at` on at
+  -- which `f` and `g` differ.
   pub first_in_block : 0 < mask → let t = trailing_zeros w64
       mask in (t < 32) × (f (at + t) ≢ g (at + t)) × ((k : ℕ) → at ≤ k → k < at + t → f k ≡ g k)
   first_in_block some =
@@ -80,8 +82,8 @@ module _ (f g : ℕ → ℕ) (at mask : ℕ) (is : IsMask mask (λ i. not (nat_e
       let first = set_lane (trailing_zeros w64 mask) lowest.1 in
       (first.0, first.1, λ k low before. clear_lane k low (omega (arith, first.0)) (lowest.2 (k - at) (omega arith)))
 
-  -- if the mask isn't 0, its highest set bit `r` shows the last of the 32 positions from `at` on at which the two
-  -- functions differ
+  -- If `mask` isn't 0 and its highest set bit is bit `r`, `at + r` is the last of the 32 positions from `at` on at
+  -- which `f` and `g` differ.
   pub last_in_block : (r : ℕ) → 2 ^ r ≤ mask → mask < 2 * 2 ^ r
       → (r < 32) × (f (at + r) ≢ g (at + r)) × ((k : ℕ) → at + r < k → k < at + 32 → f k ≡ g k)
   last_in_block r least most =

@@ -1,4 +1,4 @@
--- The list of planned erases, step by step from one sector to the next.
+-- The list of planned erases from one sector on, compared with the list from the next sector on.
 use Rattle.std.proofs.Common.{ℕ, suc, ◌≡◌, ◌<◌, ◌≤◌, ◌+◌, ◌-◌, Bool, true, false, [], ◌∷◌, arith}
 use Rattle.nor_model.specs.declared.config.Kinds.{Kinds}
 use Rattle.nor_plan.specs.Planned.{begins_block, erase_at, planned_from}

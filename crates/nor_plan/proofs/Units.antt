@@ -1,4 +1,5 @@
--- The erase block of a sector: which aligned blocks around the sector lie in the set, and where they begin.
+-- The erase block planned for a sector. The lemmas say which aligned blocks that contain the sector lie in the set, and
+-- where these blocks begin.
 use Rattle.std.proofs.Common.{ℕ, ◌≡◌, ◌<◌, ◌≤◌, ◌+◌, ◌-◌, ◌%◌, Bool, true, false, ◌&&◌, refl, sym, ap, ◌∙◌, inl, inr, arith}
 use Rattle.std.specs.List.{range_with_len}
 use Rattle.std.proofs.lemmas.Bool.{cases_Bool, both_ways, eq-eqb, eqb-true}
@@ -10,7 +11,8 @@ use Rattle.nor_driver.specs.declared.units.EraseBlock.TheVariants.{Sector, Block
 use Rattle.nor_driver.specs.Units.{sectors_in, is_aligned}
 use Rattle.nor_plan.specs.Planned.{holds_run, holds_block, planned_block}
 
--- a run of sectors is in the set if and only if each of its sectors is (`holds_run-at` and `holds_run-from`)
+-- `holds_run` is true for a run of sectors if and only if each sector of the run is in the set (`holds_run-at` and
+-- `holds_run-from`).
 pub holds_run-at : (set : ℕ → Bool) (from count : ℕ) → holds_run set from count ≡ true → (s : ℕ) → from ≤ s
     → s < from + count → set s ≡ true
 unfolding holds_run
@@ -28,7 +30,7 @@ holds_run-from set from count all = list_all-from_AllPass set (range_with_len fr
     let there : k < count = omega (arith, length-range_with_len from count) in
     ap set (get_or-range_with_len from count k d there) ∙ all (from + k) (omega arith) (omega arith))
 
--- the first sector of the erase block that holds a sector
+-- the first sector of the aligned erase block, of the given kind, that contains the sector `s`
 abbrev pub first_of : EraseBlock → ℕ → ℕ
 first_of Sector s = s
 first_of Block32 s = s - s % 8
@@ -56,15 +58,16 @@ first_of-holds total Block64 s below = (omega arith, omega arith)
 first_of-holds total Chip s below = (omega arith, omega arith)
 
 module _ (whole : Bool) (kinds : Kinds) (set : ℕ → Bool) where
-  -- The erase block of this kind that holds the sector is fit. A block of 32 or 64 KiB is fit if the chip has its erase
-  -- type and the block lies in the set. The chip is fit if `whole` is true, and the block of 4 KiB is always fit.
+  -- True if the aligned erase block of this kind that contains the sector `s` may be used for an erase, here called
+  -- fit. A block of 32 or 64 KiB is fit if the chip has its erase type and the block lies in the set. The whole chip is
+  -- fit if `whole` is true. A block of 4 KiB is always fit.
   abbrev pub is_fit : ℕ → EraseBlock → Bool
   is_fit s Sector = true
   is_fit s Block32 = kinds.k32 && holds_block set 8 s
   is_fit s Block64 = kinds.k64 && holds_block set 16 s
   is_fit s Chip = whole
 
-  -- the erase block of this kind that holds the sector is fit, and no larger one is
+  -- holds if the erase block of this kind is fit for the sector `s`, and no larger erase block is fit for it
   abbrev pub IsLargest : ℕ → EraseBlock → Type 0
   IsLargest s Chip = whole ≡ true
   IsLargest s Block64 = (whole ≡ false) × (is_fit s Block64 ≡ true)
@@ -84,7 +87,8 @@ module _ (whole : Bool) (kinds : Kinds) (set : ℕ → Bool) where
     ]
   ]
 
-  -- the planned block of a sector is also the planned block of that block's first sector
+  -- If `unit` is the largest fit erase block of the sector `s`, it is also the block planned for the first sector of
+  -- that block.
   pub planned_block-first : (s : ℕ) (unit : EraseBlock) → IsLargest s unit
       → planned_block whole kinds set (first_of unit s) ≡ unit
   unfolding planned_block
@@ -98,7 +102,7 @@ module _ (whole : Bool) (kinds : Kinds) (set : ℕ → Bool) where
       rw (largest.0, wide, largest.1, same, largest.2)
   planned_block-first s Sector largest = rw (largest.0, largest.1, largest.2)
 
-  -- if the largest fit block that holds a sector begins at this sector, so does each fit block that holds it
+  -- If the largest fit erase block of the sector `s` begins at `s`, each fit erase block of `s` begins at `s`.
   pub larger_begins : (s : ℕ) (unit largest : EraseBlock) → is_fit s unit ≡ true → IsLargest s largest
       → is_aligned largest s ≡ true → first_of unit s ≡ s
   larger_begins s Sector _ fit is aligned = refl

@@ -3,13 +3,14 @@ use Rattle.std.specs.Prelude.{ℕ, ◌≡◌, ◌≢◌, ◌<◌, ◌^◌, ◌+�
 use Rattle.std.specs.Int.{bit_at}
 use Rattle.nor_plan.specs.Bytes.{AgreeWithin, SomeDiffer}
 
--- bit i of the mask is set if and only if lane i passes the test; no bit above 31 is set
+-- Holds if bit `i` of `mask` is set exactly if `test i` is true, for each `i` below 32, and no higher bit is set.
 pub record IsMask (mask : ℕ) (test : ℕ → Bool) : Type 0 where
   pub lanes : mask < 2 ^ 32
   pub bits : (i : ℕ) → i < 32 → bit_at mask i ≡ (if test i then 1 else 0)
 
--- A vector of 32 lanes that shows differences. If all lanes are 0, none of the `count` bytes from position `at` on
--- differs. If some lane isn't 0, some byte of the slices differs, not necessarily one of these.
+-- Holds if `lanes` are 32 lanes that show whether `a` and `b` differ in the `count` bytes from position `at` on. If all
+-- lanes are 0, none of these bytes differs. If some lane isn't 0, some byte of the slices differs, which need not be
+-- one of these.
 pub record ShowsDifferences (a b : List ℕ) (at count : ℕ) (lanes : List ℕ) : Type 0 where
   pub long : length lanes ≡ 32
   pub none : ((i : ℕ) → i < 32 → slice_index lanes i ≡ 0) → AgreeWithin a b at (at + count)

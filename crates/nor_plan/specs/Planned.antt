@@ -1,4 +1,4 @@
--- The erases planned for a set of sectors.
+-- The erases that `erases` plans for a set of sectors.
 use Rattle.std.specs.Prelude.{ℕ, ◌≡◌, ◌≤◌, ◌-◌, ◌%◌, Bool, ◌&&◌, if◌then◌else◌, List, length, map, filter, Option, MatchOption, [], ◌∷◌}
 use Rattle.std.specs.List.{list_all, range_with_len}
 use Rattle.nor_model.specs.declared.config.Kinds.{Kinds}
@@ -8,16 +8,17 @@ use Rattle.nor_driver.specs.declared.units.EraseBlock.TheVariants.{Sector, Block
 use Rattle.nor_driver.specs.Units.{is_aligned}
 use Rattle.nor_plan.specs.Erase.{Covers}
 
--- the `count` sectors from `from` on are all in the set
+-- true if all of the `count` sectors from `from` on are in `set`
 unfoldable pub holds_run : (ℕ → Bool) → (from count : ℕ) → Bool
 holds_run set from count = list_all set (range_with_len from count)
 
--- the aligned block of `count` sectors that holds this sector lies in the set
+-- true if all sectors of the aligned block of `count` sectors that contains `sector` are in `set`
 abbrev pub holds_block : (ℕ → Bool) → (count sector : ℕ) → Bool
 holds_block set count sector = holds_run set (sector - sector % count) count
 
--- The erase block with which a sector of the set is erased. The block is the chip if `whole` is true, else the largest
--- of the chip's blocks of 64, 32 and 4 KiB that holds the sector and lies in the set.
+-- The erase block with which `sector`, a sector of `set`, is erased. If `whole` is true, the block is the whole chip.
+-- Otherwise it is the largest of the blocks of 64, 32 and 4 KiB that contains `sector`, lies in the set and is an erase
+-- type of the chip.
 unfoldable pub planned_block : Bool → Kinds → (ℕ → Bool) → ℕ → EraseBlock
 planned_block whole kinds set sector =
     if whole then Chip
@@ -25,37 +26,37 @@ planned_block whole kinds set sector =
     else if kinds.k32 && holds_block set 8 sector then Block32
     else Sector
 
--- the sector is in the set, and its erase block begins at it
+-- true if `sector` is in `set`, and the erase block planned for it begins at this sector
 abbrev pub begins_block : Bool → Kinds → (ℕ → Bool) → ℕ → Bool
 begins_block whole kinds set sector = set sector && is_aligned (planned_block whole kinds set sector) sector
 
--- the erase at this sector, of the block that is planned for it
+-- the erase of the block that is planned for `sector`, with `sector` as its first sector
 abbrev pub erase_at : Bool → Kinds → (ℕ → Bool) → ℕ → Erase
 erase_at whole kinds set sector = record { unit = planned_block whole kinds set sector; sector = sector }
 
--- the planned erases that begin at a sector from `from` to 4,095, in ascending order
+-- the planned erases whose first sector is from `from` to 4,095, in ascending order
 unfoldable pub planned_from : Bool → Kinds → (ℕ → Bool) → ℕ → List Erase
 planned_from whole kinds set from =
     map (erase_at whole kinds set) (filter (begins_block whole kinds set) (range_with_len from (4096 - from)))
 
--- `head` is a pair: the first planned erase that begins at or after sector `from`, and a sector at or after which the
--- remaining ones begin; `None` if no planned erase begins at or after `from`
+-- `head` is a pair: the first planned erase that begins at or after the sector `from`, and a sector at or after which
+-- the remaining planned erases begin. It is `None` if no planned erase begins at or after `from`.
 abbrev pub HeadsPlanned : Bool → Kinds → (ℕ → Bool) → ℕ → Option (Erase × ℕ) → Type 0
 HeadsPlanned whole kinds set from head =
     MatchOption head (planned_from whole kinds set from ≡ [])
     (λ h. planned_from whole kinds set from ≡ h.0 ∷ planned_from whole kinds set h.1)
 
--- the erases planned for a set, on a chip with `total` sectors
+-- the erases planned for `set`, on a chip with the erase types `kinds` and `total` sectors
 abbrev pub planned : Kinds → ℕ → (ℕ → Bool) → List Erase
 planned kinds total set = planned_from (holds_run set 0 total) kinds set 0
 
--- the number of planned erases; `fewest_is_least` proves that it is the least number of erases that cover the set, if
--- the set lies on a chip of at most 4,096 sectors
+-- The number of erases planned for `set`. `fewest_is_least` proves that it is the least number of erases that cover the
+-- set, if the set lies on a chip of at most 4,096 sectors.
 abbrev pub fewest_erases : Kinds → ℕ → (ℕ → Bool) → ℕ
 fewest_erases kinds total set = length (planned kinds total set)
 
--- `count` is the least number of erases that cover the set: some list of this length covers it, and no shorter list
--- does.
+-- Holds if `count` is the least number of erases that cover `set`: some list of this length covers it, and no shorter
+-- list does.
 pub record IsLeastLength (kinds : Kinds) (total : ℕ) (set : ℕ → Bool) (count : ℕ) : Type 0 where
   pub some : List Erase
   pub covers : Covers kinds total some set

@@ -1,12 +1,13 @@
--- Properties of spans: the spans hold all differences, and each span reaches from the first to the last difference of
--- one page. A page is 256 bytes.
+-- Properties of spans. Every position at which the slices differ lies in a span, and each span reaches from the first
+-- to the last such position of one page. A page has 256 bytes.
 use Rattle.std.specs.Prelude.{ℕ, ◌≡◌, ◌<◌, ◌≤◌, ◌/◌, Bool, false, ◌&&◌, nat_le, List, length, slice_index, All, Any, AllPairs}
 use Rattle.std.specs.List.{list_any}
 use Rattle.nor_plan.specs.declared.page.PageSpan.{PageSpan}
 use Rattle.nor_plan.specs.Bytes.{DifferAt}
 use Rattle.nor_plan.specs.Span.{pages_changed}
 
--- the span reaches from the first to the last difference of one page
+-- Holds if `span` lies in one page, and reaches from the first to the last position of the page at which `old` and
+-- `target` differ.
 pub record IsSpan (old target : List ℕ) (span : PageSpan) : Type 0 where
   pub one_page : span.first / 256 ≡ span.last / 256
   pub order : span.first ≤ span.last
@@ -14,19 +15,19 @@ pub record IsSpan (old target : List ℕ) (span : PageSpan) : Type 0 where
   pub last : DifferAt old target span.last
   pub outside : (k : ℕ) → k / 256 ≡ span.first / 256 → DifferAt old target k → (span.first ≤ k) × (k ≤ span.last)
 
--- the position is in the span, which includes both its ends
+-- true if position `k` is in `span`, which includes both its ends
 abbrev pub is_within_span : ℕ → PageSpan → Bool
 is_within_span k span = nat_le span.first k && nat_le k span.last
 
--- the position is in one of the spans
+-- true if position `k` is in one of the spans
 abbrev pub spanned_by : List PageSpan → ℕ → Bool
 spanned_by spans k = list_any (is_within_span k) spans
 
--- the spans of all pages with a difference, one per page, in ascending order
+-- Holds if `spans` are the spans of all pages in which `old` and `target` differ, one per page, in ascending order.
 pub record AreSpans (old target : List ℕ) (spans : List PageSpan) : Type 0 where
   pub each : All (IsSpan old target) spans
   pub complete : (k : ℕ) → DifferAt old target k → Any (λ span. (span.first ≤ k) × (k ≤ span.last)) spans
   pub rising : AllPairs (λ span later. span.last / 256 < later.first / 256) spans
-  -- outside the spans each byte already equals the target
+  -- At each position outside the spans, the old byte already equals the target byte.
   pub others : (k : ℕ) → k < length old → spanned_by spans k ≡ false → slice_index old k ≡ slice_index target k
   pub count : length spans ≡ pages_changed old target

@@ -1,4 +1,4 @@
-//! The fewest erases for a set of sectors.
+//! Finds the fewest erases for a set of sectors.
 
 ghost use Rattle.std.specs.Prelude.{◌≡◌, ◌+◌, ◌*◌, ◌/◌, ◌^◌, ◌<◌, ◌≤◌, ℕ, Bool};
 ghost use Rattle.std.specs.Prelude.{true, List, length};
@@ -19,15 +19,15 @@ mod iter;
 
 pub use iter::Erases;
 
-/// Returns the fewest erases that set exactly the sectors of `set` to FFh, on a chip of `size` bytes with these erase
-/// types. If the set isn't empty and contains all sectors of the chip, this is one erase of the chip (C7h).
+/// Returns the fewest erases that together erase exactly the sectors of `set`, on a chip of `size` bytes with the erase
+/// types `kinds`. If the set is empty, so is the result. Otherwise, if the set contains all sectors of the chip, the
+/// result is one erase of the whole chip (C7h).
 ///
-/// Otherwise the erases are in ascending order of their sectors. D8h erases each aligned 64 KiB block with all its
-/// sectors in the set, if the chip has this erase type. In the rest of the set, 52h erases each aligned 32 KiB block
-/// with all its sectors in the set, if the chip has that erase type. 20h erases each other sector of the set.
+/// In all other cases the erases are in ascending order of their sectors. If the chip has D8h, one D8h erases each
+/// aligned 64 KiB block whose sectors are all in the set. In the rest of the set, if the chip has 52h, one 52h erases
+/// each aligned 32 KiB block whose sectors are all in the set. A 20h erases each other sector of the set.
 ///
-/// Requires that all sectors of `set` are on the chip. No shorter list of this chip's erases sets exactly these sectors
-/// to FFh.
+/// All sectors of `set` must lie on the chip. No shorter list of erases that the chip has erases exactly these sectors.
 pub fn erases(set: &SectorSet, kinds: Kinds, size: u32) -> Erases
     requires { LiesBelow set.now (size / 4096) }
     ensures covers { Covers kinds (size / 4096) (erases_left result) (has set.now) }
@@ -42,8 +42,8 @@ pub fn erases(set: &SectorSet, kinds: Kinds, size: u32) -> Erases
     Erases::new(*set, kinds, whole)
 }
 
-/// States that `fewest_erases` is the least length of a list of the chip's erases that sets exactly the sectors of a
-/// set to FFh. The set must lie on the chip, and the chip must have at most 4,096 sectors.
+/// States that `fewest_erases` is the length of a shortest list of erases that together erase exactly the sectors of a
+/// set, using only erase types of the chip. The set must lie on the chip, and the chip must have at most 4,096 sectors.
 #[tactic(auto, using(crate::proofs::Fewest::fewest_least))]
 pub fn fewest_is_least()
     ensures { (kinds : Kinds) (total : ℕ) (set : ℕ → Bool) → total ≤ 4096
@@ -51,8 +51,8 @@ pub fn fewest_is_least()
         → IsLeastLength kinds total set (fewest_erases kinds total set) }
 {}
 
-/// Returns the first planned erase that begins at or after the sector `from`, and the sector at or after which the
-/// other ones begin. Returns `None` if no planned erase begins at or after `from`.
+/// Returns the first planned erase that begins at or after the sector `from`, together with the sector at or after
+/// which the remaining planned erases begin. Returns `None` if no planned erase begins at or after `from`.
 fn next_erase(set: &SectorSet, kinds: Kinds, whole: bool, from: u32) -> Option<(Erase, u32)>
     ensures { HeadsPlanned whole kinds (has set.now) from result }
 {
@@ -71,8 +71,9 @@ fn next_erase(set: &SectorSet, kinds: Kinds, whole: bool, from: u32) -> Option<(
     None
 }
 
-/// Returns the erase block with which `sector` is erased, if it is in the set. The block is the chip if `whole` is
-/// true, else the largest of the chip's blocks of 64, 32 and 4 KiB that holds `sector` and lies in the set.
+/// Returns the erase block with which `sector`, a sector of the set, is erased. If `whole` is true, the block is the
+/// whole chip. Otherwise it is the largest of the blocks of 64, 32 and 4 KiB that contains `sector`, lies in the set
+/// and is an erase type of the chip.
 #[tactic(auto, unfolding(crate::specs::Planned::planned_block))]
 fn block_of(set: &SectorSet, kinds: Kinds, whole: bool, sector: u16) -> EraseBlock
     ensures { result ≡ planned_block whole kinds (has set.now) sector }
@@ -88,7 +89,7 @@ fn block_of(set: &SectorSet, kinds: Kinds, whole: bool, sector: u16) -> EraseBlo
     }
 }
 
-/// Returns whether the aligned block of `count` sectors that holds `sector` lies in the set.
+/// Returns whether all sectors of the aligned block of `count` sectors that contains `sector` are in the set.
 fn is_block(set: &SectorSet, count: u16, sector: u16) -> bool
     requires { 0 < count }
     ensures { result ≡ holds_block (has set.now) count sector }

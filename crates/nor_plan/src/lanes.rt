@@ -1,4 +1,4 @@
-//! Comparisons of two slices of equal length: 32 bytes at a time, and the rest byte by byte.
+//! Compares two slices of equal length: 32 bytes at a time, and the remaining bytes one by one.
 
 ghost use Rattle.std.specs.Prelude.{◌≡◌, ◌==◌, ◌+◌, ◌*◌, ◌/◌, ◌≤◌, not, bit_and, length, slice_index};
 ghost use Rattle.std.specs.Prelude.{MatchBool, MatchOption, IfNone, IfSome};
@@ -10,10 +10,10 @@ use std::simd::prelude::*;
 /// The number of bytes that one vector comparison covers.
 const LANES: usize = 32;
 
-/// The number of bytes whose differences `changes_256` combines.
+/// The number of bytes whose differences `changes_256` combines in one vector.
 const BLOCK: usize = 8 * LANES;
 
-/// Returns whether some byte differs. Requires slices of equal length.
+/// Returns whether `a` and `b` differ in some byte. The slices must have equal lengths.
 pub fn differs(a: &[u8], b: &[u8]) -> bool
     requires { length a.now ≡ length b.now }
     ensures { MatchBool result (SomeDiffer a.now b.now) (AllAgree a.now b.now) }
@@ -21,8 +21,8 @@ pub fn differs(a: &[u8], b: &[u8]) -> bool
     blocks_differ(a, b) || first_from(a, b, a.len() / BLOCK * BLOCK).is_some()
 }
 
-/// Returns whether some byte of the whole 256-byte blocks differs. All blocks are compared before the one test. For
-/// equal slices this avoids a test per block.
+/// Returns whether `a` and `b` differ in some byte of their whole 256-byte blocks. The loop combines the differences of
+/// all blocks and tests them once at the end. For equal slices this avoids a test per block.
 fn blocks_differ(a: &[u8], b: &[u8]) -> bool
     requires { length a.now ≡ length b.now }
     ensures { MatchBool result (SomeDiffer a.now b.now) (AgreeWithin a.now b.now 0 (length a.now / 256 * 256)) }
@@ -34,8 +34,8 @@ fn blocks_differ(a: &[u8], b: &[u8]) -> bool
     changes.reduce_or() != 0
 }
 
-/// Returns the positions of the first and the last byte that differ, or `None` if no byte differs. Requires slices of
-/// equal length.
+/// Returns the positions of the first and the last byte in which `old` and `target` differ, or `None` if they are
+/// equal. The slices must have equal lengths.
 pub fn bounds(old: &[u8], target: &[u8]) -> Option<(usize, usize)>
     requires { length old.now ≡ length target.now }
     ensures none { IfNone result (AllAgree old.now target.now) }
@@ -47,7 +47,7 @@ pub fn bounds(old: &[u8], target: &[u8]) -> Option<(usize, usize)>
     Some((first, last))
 }
 
-/// Returns the position of the first byte that differs, or `None` if no byte differs.
+/// Returns the position of the first byte in which `a` and `b` differ, or `None` if they are equal.
 fn first_difference(a: &[u8], b: &[u8]) -> Option<usize>
     requires { length a.now ≡ length b.now }
     ensures { MatchOption result (AllAgree a.now b.now) (IsFirstDifference a.now b.now) }
@@ -55,8 +55,8 @@ fn first_difference(a: &[u8], b: &[u8]) -> Option<usize>
     first_from(a, b, agreeing(a, b))
 }
 
-/// Returns the position of the first byte that differs, or `None` if no byte differs. Requires that no byte before
-/// `from` differs.
+/// Returns the position of the first byte in which `a` and `b` differ, or `None` if they are equal. The slices must
+/// agree in all bytes before `from`.
 fn first_from(a: &[u8], b: &[u8], from: usize) -> Option<usize>
     requires same_length { length a.now ≡ length b.now }
     requires within { from ≤ length a.now }
@@ -78,8 +78,8 @@ fn first_from(a: &[u8], b: &[u8], from: usize) -> Option<usize>
     None
 }
 
-/// Returns a position before which no byte differs: the start of the first 256-byte block with a difference, or the end
-/// of the whole blocks.
+/// Returns a position before which `a` and `b` agree: the start of the first 256-byte block in which they differ, or
+/// the end of the whole blocks if they differ in none.
 fn agreeing(a: &[u8], b: &[u8]) -> usize
     requires { length a.now ≡ length b.now }
     ensures within { result ≤ length a.now }
@@ -93,7 +93,7 @@ fn agreeing(a: &[u8], b: &[u8]) -> usize
     a.len() / BLOCK * BLOCK
 }
 
-/// Returns the position of the last byte that differs, or `None` if no byte differs.
+/// Returns the position of the last byte in which `a` and `b` differ, or `None` if they are equal.
 fn last_difference(a: &[u8], b: &[u8]) -> Option<usize>
     requires { length a.now ≡ length b.now }
     ensures { MatchOption result (AllAgree a.now b.now) (IsLastDifference a.now b.now) }
@@ -113,8 +113,8 @@ fn last_difference(a: &[u8], b: &[u8]) -> Option<usize>
     None
 }
 
-/// Returns whether some bit is 1 in `target` and 0 in `old`. Only an erase can set that bit. Requires slices of equal
-/// length.
+/// Returns whether some bit is 1 in `target` and 0 in `old`. Only an erase can set such a bit. The slices must have
+/// equal lengths.
 pub fn raises(old: &[u8], target: &[u8]) -> bool
     requires { length old.now ≡ length target.now }
     ensures { MatchBool result (SomeRise old.now target.now) (NoneRises old.now target.now) }
@@ -132,8 +132,8 @@ pub fn raises(old: &[u8], target: &[u8]) -> bool
     false
 }
 
-/// Returns the differences of the 256 bytes from `at` on, combined into 32 lanes. Lane `i` combines the eight bytes
-/// whose offset from `at` is `i` modulo 32, and is 0 if and only if these are equal in both slices.
+/// Returns the differences of the 256 bytes from `at` on, combined into 32 lanes. Lane `i` combines the eight bytes at
+/// the positions `at + i`, `at + i + 32`, and so on. It is 0 if and only if `a` and `b` agree in these eight bytes.
 #[inline(always)]
 fn changes_256(a: &[u8], b: &[u8], at: usize) -> u8x32
     requires a_within { at + 256 ≤ length a.now }
@@ -147,7 +147,7 @@ fn changes_256(a: &[u8], b: &[u8], at: usize) -> u8x32
     changes
 }
 
-/// Returns, for each of the 32 bytes from `at` on, the bits that differ.
+/// Returns 32 lanes: for each of the 32 bytes from `at` on, the bits in which `a` and `b` differ.
 #[inline(always)]
 fn changes_32(a: &[u8], b: &[u8], at: usize) -> u8x32
     requires a_within { at + 32 ≤ length a.now }
@@ -157,7 +157,8 @@ fn changes_32(a: &[u8], b: &[u8], at: usize) -> u8x32
     u8x32::from_slice(&a[at..]) ^ u8x32::from_slice(&b[at..])
 }
 
-/// Returns a mask with one bit per byte for the 32 bytes from `at` on, set if the byte differs.
+/// Returns a mask whose bit `i` is set if and only if `a` and `b` differ in the byte at `at + i`, for each `i` below
+/// 32.
 #[inline(always)]
 fn differing(a: &[u8], b: &[u8], at: usize) -> u64
     requires a_within { at + 32 ≤ length a.now }
@@ -169,7 +170,8 @@ fn differing(a: &[u8], b: &[u8], at: usize) -> u64
         .to_bitmask()
 }
 
-/// Returns a mask with one bit per byte for the 32 bytes from `at` on, set if a bit is 1 in `target` and 0 in `old`.
+/// Returns a mask whose bit `i` is set if and only if some bit of the byte at `at + i` is 1 in `target` and 0 in `old`,
+/// for each `i` below 32.
 #[inline(always)]
 fn rising(old: &[u8], target: &[u8], at: usize) -> u64
     requires old_within { at + 32 ≤ length old.now }

@@ -1,5 +1,6 @@
-//! Plans how to change sectors: whether a sector must be erased, the spans of its pages that must be programmed, and
-//! the fewest erases for a set of sectors. The crate sends nothing and allocates no memory.
+//! Plans how to change sectors. For one sector, the crate decides whether it must be written or erased, and which span
+//! of each page must be programmed. For a set of sectors, it finds the fewest erases. The crate sends nothing and
+//! allocates no memory.
 //!
 //! - `set.rt`: sets of sectors
 //! - `plan.rt`: whether a sector must be written, and whether it must be erased first
@@ -21,8 +22,8 @@
 //! assert_eq!(rt; list.next(), None);
 //! ```
 //!
-//! `specs/Plan.antt` defines the plan of a sector, `specs/Span.antt` its spans, and `specs/Planned.antt` the planned
-//! erases. `specs/Content.antt` defines touched and raised sectors.
+//! `specs/Plan.antt` defines the plan of a sector, `specs/Span.antt` the spans of a sector, and `specs/Planned.antt`
+//! the planned erases. `specs/Content.antt` defines touched and raised sectors.
 #![tactic(auto)]
 
 mod erase;

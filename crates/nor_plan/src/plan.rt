@@ -6,28 +6,29 @@ ghost use Rattle.nor_plan.specs.Plan.{AreBytesOf, IsPlan};
 
 use crate::lanes::{differs, raises};
 
-/// The planner for single sectors.
+/// The planner for single sectors. It has no fields: call `Plan::of`.
 #[derive(Clone, Copy, Debug)]
 pub struct Plan;
 
-/// The plan of a sector: whether it must be written or erased to get its target bytes.
+/// The plan of a sector: whether the sector must be written, and whether it must be erased first.
 #[derive(Clone, Copy, Debug, PartialEq, Eq)]
 pub struct SectorPlan {
-    /// Whether some byte differs, so that the sector must be written.
+    /// Whether some byte differs from the target, so that the sector must be written.
     pub touched: bool,
     /// Whether some bit must go from 0 to 1, so that the sector must be erased first.
     pub raised: bool,
 }
 
 impl Plan {
-    /// Returns what a sector with the bytes `old` needs to get the bytes `target`. Requires slices of equal length.
+    /// Returns the plan of a sector that has the bytes `old` and must get the bytes `target`. The slices must have
+    /// equal lengths.
     #[tactic(auto, using(crate::proofs::Agreement::agreed_NoneRises, crate::proofs::Plans::plan_anywhere))]
     pub fn of(old: &[u8], target: &[u8]) -> SectorPlan
         requires { length old.now ≡ length target.now }
         ensures touched { MatchBool result.touched (SomeDiffer old.now target.now) (AllAgree old.now target.now) }
         ensures raised { MatchBool result.raised (SomeRise old.now target.now) (NoneRises old.now target.now) }
         ensures needed { result.raised ≡ true → result.touched ≡ true }
-        // Restates the result for two functions from positions to bytes, for example the contents of a chip and of an
+        // Restates the result for contents, which are functions from positions to bytes, such as those of a chip and an
         // image.
         ensures anywhere { (content wanted : ℕ → ℕ) → AreBytesOf content old.now → AreBytesOf wanted target.now
             → IsPlan content wanted (length old.now) result }

@@ -1,4 +1,4 @@
-//! Sets of sectors in a fixed array of 512 bytes, which is cheap to copy.
+//! Sets of sectors. A set is a bitmap of 512 bytes in a fixed array, so copying it is cheap.
 
 /// A set of sector numbers below 4,096.
 #[derive(Clone, Copy, Debug, PartialEq, Eq)]

@@ -3,6 +3,7 @@ use Rattle.nor_plan.specs.SectorSet.{has}
 use Rattle.nor_plan.specs.Planned.{planned_from}
 use Rattle.nor_plan.proofs.erase.next_erase.Given as goal
 
--- no planned erase begins at a sector that the loop has passed
+-- No planned erase begins at a sector that the loop has passed, so the planned erases from `l.sector` on are those from
+-- `l.fn.from` on.
 abbrev pub invariant-loop-sector : goal.invariant-loop-sector
 invariant-loop-sector l = planned_from l.fn.whole l.fn.kinds (has l.fn.set) l.sector ≡ planned_from l.fn.whole l.fn.kinds (has l.fn.set) l.fn.from

@@ -1,4 +1,4 @@
--- The mask is the result of comparing the lanes of the two slices.
+-- The returned mask is the one for comparing the lanes of the two slices.
 use Rattle.std.proofs.Common.{not, nat_eq}
 use lib.Lanes.{chunk}
 use Rattle.std.proofs.lemmas.Simd.{length-chunk, get_or-chunk}
