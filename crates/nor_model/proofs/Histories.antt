@@ -1,11 +1,11 @@
--- Lemmas on the history of a bus.
+-- Lemmas about the history of a bus.
 use Rattle.std.proofs.Common.{◌≡◌, ◌∙◌, ◌∷◌, ◌++◌, ℕ, Bool, true, List, [], refl, sym, ap}
 use Rattle.std.specs.Prelude.{if◌then◌else◌}
 use Rattle.std.proofs.lemmas.List.{append_assoc}
 use Rattle.nor_model.specs.Exchange.{Exchange}
 use Rattle.nor_model.specs.History.{Continues, KeepsReplies, Answered, last_reply, bytes_or_none}
 
--- ---- a history that goes on
+-- ---- histories that continue an earlier one (`Continues`)
 
 pub continues_refl : (history : List Exchange) → Continues history history
 continues_refl history = record { later = []; is = refl }
@@ -19,7 +19,7 @@ continues_then {old} first second = record {
   is = second.is ∙ ap (λ (h : List Exchange). second.later ++ h) first.is ∙ sym (append_assoc second.later first.later old);
 }
 
--- ---- the last replies
+-- ---- histories with the same last replies (`KeepsReplies`)
 
 pub keeps_replies_none : {may : List ℕ → Bool} (history : List Exchange) → KeepsReplies may history history
 keeps_replies_none history = record { same = λ is others. refl }
@@ -28,7 +28,7 @@ pub keeps_replies_then : {may : List ℕ → Bool} {old mid new : List Exchange}
     → KeepsReplies may mid new → KeepsReplies may old new
 keeps_replies_then first second = record { same = λ is others. second.same is others ∙ first.same is others }
 
--- one later transaction that satisfies `may` keeps the replies (`KeepsReplies`)
+-- if `new` is `old` with one more transaction, and this transaction satisfies `may`, `KeepsReplies` holds for `may`
 pub keeps_replies_by : {may : List ℕ → Bool} {exchange : Exchange} {old new : List Exchange}
     → new ≡ exchange ∷ old → may exchange.out ≡ true → KeepsReplies may old new
 keeps_replies_by {may} {exchange} {old} {new} by passes = record {
@@ -36,18 +36,20 @@ keeps_replies_by {may} {exchange} {old} {new} by passes = record {
       ∙ ap (λ (b : Bool). if b then bytes_or_none exchange.reply else last_reply is old) (others exchange.out passes);
 }
 
--- `may` can be replaced by a test `might` that is true for each transaction for which `may` is true
+-- if `KeepsReplies` holds for `may`, and `might` is true for each transaction for which `may` is true, it holds for
+-- `might`
 pub keeps_replies_less : {may might : List ℕ → Bool} {old new : List Exchange} → KeepsReplies may old new
     → ((out : List ℕ) → may out ≡ true → might out ≡ true) → KeepsReplies might old new
 keeps_replies_less keeps less = record { same = λ is others. keeps.same is (λ out passes. others out (less out passes)) }
 
--- ---- one transaction with a reply
+-- ---- histories with one more transaction that received a reply (`Answered`)
 
 pub answered_keeps : {is : List ℕ → Bool} {old new : List Exchange} {reply : List ℕ} → Answered is old new reply
     → KeepsReplies is old new
 answered_keeps answered = keeps_replies_by answered.history answered.asks
 
--- after the transaction of `Answered`, the last reply to a transaction that satisfies `is` is `reply`
+-- if `Answered` holds with `is` and `reply`, then in `new` the last reply to a transaction that satisfies `is` is
+-- `reply`
 pub answered_last : {is : List ℕ → Bool} {old new : List Exchange} {reply : List ℕ} → Answered is old new reply
     → last_reply is new ≡ reply
 answered_last {is} {old} {new} {reply} answered =

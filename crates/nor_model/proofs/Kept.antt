@@ -1,16 +1,17 @@
--- Non-volatile status bits, and the status bytes that contain them.
+-- The non-volatile status bits, and the status bytes in which they are.
 use Rattle.std.proofs.Common.{◌≡◌, ◌<◌, ◌+◌, ◌*◌, ◌/◌, ◌==◌, ◌∙◌, ℕ, Bool, ap, arith, if◌then◌else◌}
 use Rattle.nor_model.specs.Chip.{Chip, KeptBits, kept_in}
 use Rattle.nor_model.specs.Chip.{status_of}
 
--- the record of these non-volatile bits; two records with equal fields are equal (`kept_same`)
+-- The record with the non-volatile bits `one` and `two`. Two such records with equal fields are equal (`kept_same`).
 abbrev bits : (one two : ℕ) → KeptBits
 bits one two = record { one = one; two = two }
 
 pub kept_same : (x y : KeptBits) → x.one ≡ y.one → x.two ≡ y.two → x ≡ y
 kept_same x y one two = ap (λ (n : ℕ). bits n x.two) one ∙ ap (bits y.one) two
 
--- the status bytes of a chip contain its non-volatile bits (`kept_in-status_of`), if those of status 2 are below 128
+-- The non-volatile bits in the status bytes of a chip are those of the chip (`kept_in-status_of`), if its non-volatile
+-- bits of status 2 are below 128.
 quarter : (one : ℕ) (latch idle : Bool) → (4 * one + (if latch then 2 else 0) + (if idle then 0 else 1)) / 4 ≡ one
 quarter one latch idle = grind arith
 

@@ -1,4 +1,4 @@
--- Codes that protect exactly the same range.
+-- Codes (values of the protection bits) that protect exactly the same range.
 use Rattle.std.proofs.Common.{◌≡◌, ℕ, ◌+◌, ◌-◌, ◌<◌, ◌⊎◌, inl, inr, arith, ap}
 use Rattle.std.specs.Prelude.{Option, None, Some, IfSome, IfNone, Bool, not, ◌||◌, ◌==◌, if◌then◌else◌}
 use Rattle.std.proofs.lemmas.Bool.{cases_order}
@@ -6,13 +6,14 @@ use Rattle.std.proofs.lemmas.Bool.Decides.{nat_tests}
 use mathlib.Core.Bool.{beq}
 use Rattle.nor_model.specs.Offer.{ProtectsExactly, IsLeastCode, IsNotOffered}
 
--- two ranges have the same length and, unless they are empty, the same start
+-- Holds if the range of `len` bytes from `start` and the range of `len'` bytes from `start'` have the same length and,
+-- unless they are empty, the same start.
 pub record AreAlike (start len start' len' : ℕ) : Type 0 where
   pub as_long : len ≡ len'
   pub alike : (len' ≡ 0) ⊎ (start ≡ start')
 
--- a code that protects exactly a first range also protects exactly a second one if (`protects-alike`) and only if
--- (`alike-protects`) the two ranges are alike
+-- Suppose that `code` protects exactly the first range. If the two ranges are alike (`AreAlike`), `code` also protects
+-- exactly the second one (`protects-alike`). If `code` protects exactly both, the ranges are alike (`alike-protects`).
 pub protects-alike : (size code start len start' len' : ℕ) → ProtectsExactly size code start len
     → AreAlike start len start' len' → ProtectsExactly size code start' len'
 protects-alike size code start len start' len' protects alike a =
@@ -27,8 +28,8 @@ alike-protects size code start len start' len' protects protects' =
     let end = protects (start' + len' - 1) in let end' = protects' (start' + len' - 1) in
     grind (arith, first, first', last, last', begin, begin', end, end')
 
--- `found` is the result of a search for the least code of a range that `code` protects exactly. If `code` is the least
--- code of some range, then `found` is `code`.
+-- `found` is the result of a search for the least code that protects exactly the range of `len'` bytes from `start'`.
+-- If `code` protects exactly this range and is the least code of some range, then `found` is `code`.
 pub least_found : (size code start len start' len' : ℕ) (found : Option ℕ) → IfSome found (IsLeastCode size start' len')
     → IfNone found (IsNotOffered size start' len') → ProtectsExactly size code start' len'
     → IsLeastCode size start len code
@@ -43,7 +44,7 @@ least_found size code start len start' len' (Some other) least none there is_lea
       | inr (inr above) ↦ absurd (least.least code above is_least.defined there)
     ]
 
--- If the protected range isn't empty, its first address as `start_of` (`src/guard.rt`) returns it is the one that
+-- If the protected range isn't empty, the first address that `start_of` (`src/guard.rt`) returns is the one that
 -- `IsSelectedRange` states.
 pub starts : (size len : ℕ) (complement bottom : Bool) → 0 < len
     → (if not (beq bottom complement) || len == 0 then 0 else size - len)

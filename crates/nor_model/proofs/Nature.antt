@@ -1,4 +1,4 @@
--- If `KeepsNature` holds for each of several successive transactions, it holds for all of them together.
+-- `KeepsNature` holds for several successive transactions together if it holds for each of them.
 use Rattle.std.proofs.Common.{◌≡◌, ◌∙◌, ◌∷◌, refl}
 use Rattle.nor_model.specs.Exchange.{Exchange}
 use Rattle.nor_model.specs.Bus.{BusState, SameNature, KeepsNature}
@@ -14,7 +14,8 @@ nature_refl state = record {
   allowances = refl;
 }
 
--- a transaction that is added to the history, and keeps the nature and the allowances, satisfies `KeepsNature`
+-- If `new` is `old` with one more transaction in its history, `SameNature` holds, and the allowances are as before,
+-- then `KeepsNature` holds.
 pub nature_by : {old new : BusState} {exchange : Exchange} → SameNature old new → new.history ≡ exchange ∷ old.history
     → new.allowances ≡ old.allowances → KeepsNature old new
 nature_by same history allowances = record {

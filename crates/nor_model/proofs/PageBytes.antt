@@ -1,4 +1,4 @@
--- The byte that is programmed to each address of a page.
+-- The byte that a program stores at each address of a page.
 use Rattle.std.proofs.Common.{◌≡◌, ◌≢◌, ℕ, suc, zero, ◌+◌, ◌-◌, ◌/◌, ◌%◌, ◌<◌, ◌≤◌, List, [], ◌∷◌, length, refl, arith, inl, inr}
 use Rattle.std.specs.Prelude.{true, false, None, Some, slice_index, bit_and, nat_le, nat_lt, ◌&&◌, if◌then◌else◌}
 use Rattle.std.proofs.lemmas.Bool.Decides.{eqb_tells, nat_tests}
@@ -7,7 +7,7 @@ use Rattle.nor_model.specs.declared.command.Command.TheVariants.{Program}
 use Rattle.nor_model.specs.Chip.{Chip}
 use Rattle.nor_model.specs.Step.{last_for, byte_after}
 
--- if none of the sent bytes is for an address, `last_for` is `None`
+-- if no byte of `sent` is for the address `a`, `last_for` is `None`
 pub last_for-apart : (at : ℕ) (sent : List ℕ) (a : ℕ) → ((i : ℕ) → i < length sent → (at + i) % 256 ≢ a % 256)
     → last_for at sent a ≡ None
 unfolding last_for
@@ -16,7 +16,7 @@ last_for-apart at (byte ∷ sent) a apart =
     let later = last_for-apart (at + 1) sent a (λ i small same. apart (suc i) (omega arith) (omega arith)) in
     rw (later, ne_eqb (at % 256) (a % 256) (λ same. apart 0 (omega arith) (omega arith))) refl
 
--- the byte at index `i` is the last one sent for its address if at most 256 bytes are sent from index `i` on
+-- If at most 256 bytes are sent from index `i` on, byte `i` is the last one that is sent for its address.
 pub last_for-at : (at : ℕ) (sent : List ℕ) (a i : ℕ) → i < length sent → length sent ≤ i + 256
     → (at + i) % 256 ≡ a % 256 → last_for at sent a ≡ Some (slice_index sent i)
 unfolding last_for
@@ -27,8 +27,8 @@ last_for-at at (byte ∷ sent) a zero small last here =
 last_for-at at (byte ∷ sent) a (suc i) small last here =
     rw (last_for-at (at + 1) sent a i (omega arith) (omega arith) (omega arith)) refl
 
--- If the bytes sent stay inside the page, each byte that they cover is ANDed with the sent one, and every other byte is
--- as it was.
+-- If the bytes of `sent` stay inside the page, a program ANDs each byte that they cover with the byte sent for it, and
+-- leaves every other byte as it was.
 pub byte_after-program : (chip : Chip) (at : ℕ) (sent : List ℕ) (a : ℕ) → at % 256 + length sent ≤ 256
     → byte_after chip (Program at) sent a
     ≡ (if nat_le at a && nat_lt a (at + length sent) then bit_and (chip.bytes a) (slice_index sent (a - at))

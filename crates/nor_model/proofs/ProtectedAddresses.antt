@@ -1,4 +1,5 @@
--- The protected addresses are at one end of a chip of an allowed size, and their range begins and ends at whole KiB.
+-- On a chip of an allowed size, the protected addresses are at one end of the chip, and their range begins and ends at
+-- whole KiB.
 use Rattle.std.proofs.Common.{◌≡◌, ℕ, zero, suc, ◌+◌, ◌-◌, ◌*◌, ◌/◌, ◌%◌, ◌^◌, ◌<◌, ◌≤◌, ◌⊎◌, inl, inr, arith, refl}
 use Rattle.std.proofs.Common.{◌∙◌}
 use Rattle.std.specs.Prelude.{Bool, true, false, not, ◌==◌, ◌&&◌, ◌||◌, ◌↔◌, nat_lt, nat_le, if◌then◌else◌}
@@ -9,13 +10,14 @@ use Rattle.nor_model.specs.Offer.{ProtectsExactly}
 use Rattle.nor_model.specs.Guard.{protected_by, named_length, is_undefined, is_complement, is_bottom, names_sectors, bp_of}
 use Rattle.nor_model.specs.Units.{LieAtAnEnd, HoldsSomewhere, OnFirst, OnLast}
 
--- a number of bytes up to the chip's size: whole KiB, and whole sectors if the chip's size is a multiple of 256 KiB
+-- Holds if `n` is at most `size`, is a multiple of 1 KiB and, if `size` is a multiple of 256 KiB, is a multiple of 4
+-- KiB (a sector).
 pub record IsPart (size n : ℕ) : Type 0 where
   pub within : n ≤ size
   pub whole : n % 1024 ≡ 0
   pub sectors : size % 262144 ≡ 0 → n % 4096 ≡ 0
 
--- If the size is a multiple of 64 KiB, and at least 64 KiB, the length that `named_length` returns satisfies `IsPart`.
+-- If `size` is a multiple of 64 KiB, and at least 64 KiB, the length that `named_length` returns satisfies `IsPart`.
 -- The first two equations are for `bp` 7, the third one is for all lesser values.
 part_of : (size : ℕ) (sectors : Bool) (bp : ℕ) → 65536 ≤ size → size % 65536 ≡ 0 → bp < 8
     → IsPart size (if bp == 0 then 0 else if bp == 7 then size else if not sectors then size / 2 ^ (7 - bp)
@@ -24,16 +26,16 @@ part_of size true (suc (suc (suc (suc (suc (suc (suc zero))))))) large blocks sm
 part_of size false (suc (suc (suc (suc (suc (suc (suc zero))))))) large blocks small = omega arith
 part_of size _ _ large blocks small = omega arith
 
--- on a chip of an allowed size (`IsInBlocks`), the length of the selected range satisfies `IsPart`, and so does the
--- length of the rest of the chip (`part-rest`)
+-- On a chip of an allowed size (`IsInBlocks`), the length of the selected range satisfies `IsPart`, and so does the
+-- length of the rest of the chip (`part-rest`).
 named_length-part : (size code : ℕ) → IsInBlocks size → IsPart size (named_length size code)
 named_length-part size code are = part_of size (names_sectors code) (bp_of code) are.large are.blocks (omega arith)
 
 part-rest : (size n : ℕ) → size % 65536 ≡ 0 → IsPart size n → IsPart size (size - n)
 part-rest size n blocks part = grind arith
 
--- the value of `protected_by` for an address, given the length `named` of the selected range, and whether the code is
--- undefined, has CMP set, and has TB set
+-- The value of `protected_by` for the address `a`. `named` is the length of the selected range, and the Boolean
+-- arguments say whether the code is undefined, has CMP set, and has TB set.
 address_test : ℕ → ℕ → Bool → Bool → Bool → ℕ → Bool
 address_test size named undefined complement bottom a =
     let is_named = if bottom then nat_lt a named else nat_le (size - named) a in
@@ -65,21 +67,21 @@ address_test-end size named false false true blocks part =
 address_test-end size named false false false blocks part =
     ends_at (size - named) (part-rest size named blocks part) (inr (λ a below. rw (lt-ltb a size below) refl))
 
--- On a chip of an allowed size (`IsInBlocks`), the addresses that a code protects are the first or the last ones of the
--- chip, and the border is at a whole KiB.
+-- On a chip of an allowed size (`IsInBlocks`), `code` protects only the first or only the last addresses of the chip,
+-- and the border between protected and unprotected addresses is at a whole KiB.
 pub protected_by-end : (size code : ℕ) → IsInBlocks size → LieAtAnEnd size (protected_by size code)
 unfolding protected_by address_test
 protected_by-end size code are =
     address_test-end size (named_length size code) (is_undefined code) (is_complement code) (is_bottom code) are.blocks
     (named_length-part size code are)
 
--- no address past the chip's end is protected
+-- no address from the chip's end on is protected
 pub protected_by-past : (size code a : ℕ) → size ≤ a → protected_by size code a ≡ false
 unfolding protected_by
 protected_by-past size code a past = rw (le-ltb a size past) refl
 
--- if a test holds exactly in a range of whole KiB at one end of the chip (`LieAtAnEnd`), it has the same value at any
--- two addresses of a page of the chip
+-- If `test` is true exactly in a range of whole KiB at one end of the chip (`LieAtAnEnd`), it has the same value for
+-- any two addresses of one page of the chip.
 alike : (size : ℕ) (test : ℕ → Bool) (a b : ℕ) → LieAtAnEnd size test → a < size → b < size → a / 256 ≡ b / 256
     → test a ≡ test b
 alike size test a b ends below_a below_b page =
@@ -88,8 +90,8 @@ alike size test a b ends below_a below_b page =
       | inr last ↦ grind (arith, nat_tests, last a below_a, last b below_b)
     ]
 
--- `test` holds exactly in a range at one end of the chip (`LieAtAnEnd`). If it holds at some address of another range
--- on the chip, it holds at the first or the last address of that other range.
+-- Suppose that `test` is true exactly in a range at one end of the chip (`LieAtAnEnd`). If it is true for some address
+-- of another range on the chip, it is true for the first or the last address of that other range.
 pub at_borders : (size : ℕ) (test : ℕ → Bool) (start len a : ℕ) → LieAtAnEnd size test → start + len ≤ size → start ≤ a
     → a < start + len → test a ≡ true → (test start || test (start + len - 1)) ≡ true
 at_borders size test start len a ends fits from before holds = elim ends.side [
@@ -97,7 +99,7 @@ at_borders size test start len a ends fits from before holds = elim ends.side [
   | inr last ↦ grind (arith, nat_tests, last a (omega arith), last (start + len - 1) (omega arith))
 ]
 
--- On a chip of an allowed size (`IsInBlocks`), a code protects an address of the chip if and only if it protects some
+-- On a chip of an allowed size (`IsInBlocks`), `code` protects an address of the chip if and only if it protects some
 -- address of the same page.
 pub protected_by-page_of : (size code at : ℕ) → IsInBlocks size → at < size
     → (protected_by size code at ≡ true) ↔ HoldsSomewhere (protected_by size code) (at / 256 * 256) 256
@@ -108,8 +110,9 @@ protected_by-page_of size code at are below = (
       (omega arith) (omega arith) ∙ there.holds),
 )
 
--- The start and the length of the range that a defined code protects; the start of an empty range is not stated.
--- `named` is the length of the selected range.
+-- Holds if the range of `len` bytes from `start` is the one that a defined code protects. `named` is the length of the
+-- selected range, and `complement` and `bottom` say whether CMP and TB are set. The start of an empty range may have
+-- any value.
 pub record IsSelectedRange (size named : ℕ) (complement bottom : Bool) (start len : ℕ) : Type 0 where
   pub len_is : len ≡ (if complement then size - named else named)
   pub start_is : 0 < len
@@ -122,8 +125,8 @@ unfolding address_test
 address_test-exactly size named complement bottom start len within are a =
     let long = are.len_is in let begin = are.start_is in grind (arith, nat_tests)
 
--- On a chip of an allowed size (`IsInBlocks`), a defined code protects exactly the range that `IsSelectedRange`
--- describes.
+-- On a chip of an allowed size (`IsInBlocks`), a defined code protects exactly the range for which `IsSelectedRange`
+-- holds.
 pub protects_selected : (size code start len : ℕ) → IsInBlocks size → is_undefined code ≡ false
     → IsSelectedRange size (named_length size code) (is_complement code) (is_bottom code) start len
     → ProtectsExactly size code start len

@@ -1,4 +1,4 @@
--- Protected addresses and erase blocks of a chip: lemmas for the crates that use this one.
+-- Lemmas about the protected addresses and erase blocks of a chip, for the crates that depend on this one.
 use Rattle.std.proofs.Common.{◌≡◌, ℕ, ◌*◌, ◌/◌, ◌<◌, ◌≤◌, inl, arith, refl, sym, ◌∙◌}
 use Rattle.std.specs.Prelude.{Bool, true, false, ◌&&◌}
 use Rattle.std.proofs.Math.Bool.{and-false}
@@ -10,7 +10,8 @@ use Rattle.nor_model.specs.Units.{LieAtAnEnd}
 use Rattle.nor_model.proofs.Sizes.{sized_bounds}
 use Rattle.nor_model.proofs.ProtectedAddresses.{ends_at, protected_by-end, protected_by-past, at_borders}
 
--- the protected addresses of a chip, with or without block protection, are at one of its ends
+-- If the addresses for which `test` is true are at one end of the chip, so are the protected addresses, whether the
+-- chip has block protection (`scheme`) or not.
 with_scheme : (scheme : Bool) (size : ℕ) (test : ℕ → Bool) → LieAtAnEnd size test
     → LieAtAnEnd size (λ a. scheme && test a)
 with_scheme true size test ends = ends
@@ -21,7 +22,8 @@ is_protected-end chip =
     with_scheme chip.config.scheme chip.config.size (protected_by chip.config.size (code_of chip.kept))
     (protected_by-end chip.config.size (code_of chip.kept) (sized_bounds chip.config))
 
--- If the first and the last address of a sector of the chip are unprotected, each address of the sector is unprotected.
+-- If a sector of the chip is unprotected (`is_block_protected` is false for it), each address of the sector is
+-- unprotected.
 pub is_protected-sector : (chip : Chip) (a : ℕ) → a < chip.config.size
     → is_block_protected chip (4096 * (a / 4096)) 4096 ≡ false → is_protected chip a ≡ false
 is_protected-sector chip a below free =
@@ -31,15 +33,15 @@ is_protected-sector chip a below free =
     (omega arith) (omega arith) (omega arith) protected in
     let both : true ≡ false = sym there ∙ free in cc)
 
--- Nothing is protected past the chip's end.
+-- no address from the chip's end on is protected
 pub is_protected-past : (chip : Chip) (a : ℕ) → chip.config.size ≤ a → is_protected chip a ≡ false
 is_protected-past chip a past = rw (protected_by-past chip.config.size (code_of chip.kept) a past) (and-false chip.config.scheme)
 
--- Nothing is protected on a chip without block protection.
+-- no address is protected on a chip without block protection
 pub is_protected-no_scheme : (chip : Chip) (a : ℕ) → chip.config.scheme ≡ false → is_protected chip a ≡ false
 is_protected-no_scheme chip a none = rw none refl
 
--- Nothing is protected if all protection bits are clear.
+-- no address is protected if all protection bits are clear
 protected_by-zero : (size a : ℕ) → protected_by size 0 a ≡ false
 unfolding protected_by
 protected_by-zero size a = grind (arith, nat_tests)
@@ -47,7 +49,7 @@ protected_by-zero size a = grind (arith, nat_tests)
 pub is_protected-zero : (chip : Chip) (a : ℕ) → code_of chip.kept ≡ 0 → is_protected chip a ≡ false
 is_protected-zero chip a zeros = rw (zeros, protected_by-zero chip.config.size a) (and-false chip.config.scheme)
 
--- Two chips with the same configuration and the same non-volatile bits protect the same addresses.
+-- two chips with the same configuration and the same non-volatile bits protect the same addresses
 pub is_protected-same : (old new : Chip) → new.config ≡ old.config → new.kept ≡ old.kept → (a : ℕ)
     → is_protected new a ≡ is_protected old a
 is_protected-same old new config kept a = cc

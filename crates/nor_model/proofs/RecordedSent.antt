@@ -1,4 +1,4 @@
--- The effect of a transaction on the list `Sent`.
+-- The effect of one transaction on the list `Sent`.
 use Rattle.std.proofs.Common.{◌≡◌, ◌∙◌, ◌∷◌, ℕ, Bool, true, false, true≢false, List, [], refl, sym, ap, subst, inl, inr, arith}
 use Rattle.std.specs.Prelude.{◌==◌, if◌then◌else◌}
 use Rattle.std.proofs.Math.Bool.{or-false}
@@ -7,7 +7,7 @@ use Rattle.std.proofs.lemmas.Bool.Decides.{nat_tests}
 use Rattle.nor_model.specs.Command.{begins_quiet, is_quiet_opcode, is_changing_opcode, is_erase_opcode}
 use Rattle.nor_model.specs.Sent.{Sent, RecordsSent, with_sent, is_stirred, has_unknown, is_targeted, has_written, none_targeted, bare_targeted, addressed_targeted, is_in_targeted, targets, writes_status}
 
--- what holds for the seven quiet opcodes holds for every opcode that passes `is_quiet_opcode`
+-- if a property `P` holds for each of the seven quiet opcodes, it holds for every opcode that passes `is_quiet_opcode`
 quiet_is : (opcode : ℕ) → is_quiet_opcode opcode ≡ true → (P : ℕ → Type 0) → P 0x03 → P 0x04 → P 0x05 → P 0x35 → P 0x4B
     → P 0x5A → P 0x9F → P opcode
 quiet_is opcode quiet P p3 p4 p5 p35 p4b p5a p9f =
@@ -35,7 +35,8 @@ quiet_is opcode quiet P p3 p4 p5 p35 p4b p5a p9f =
 in_none : (s : ℕ) → is_in_targeted none_targeted s ≡ false
 in_none s = grind (arith, nat_tests)
 
--- if an opcode targets no sector, with or without an address, then no transaction that begins with it targets a sector
+-- if `opcode` targets no sector, neither without nor with an address, no transaction that begins with it targets a
+-- sector
 targets_none : (opcode : ℕ) (rest : List ℕ) → bare_targeted opcode ≡ none_targeted
     → ((sector : ℕ) → addressed_targeted opcode sector ≡ none_targeted) → (s : ℕ) → targets (opcode ∷ rest) s ≡ false
 targets_none opcode [] bare at s = rw bare (in_none s)
@@ -50,8 +51,8 @@ writes_none opcode (x ∷ []) other one two = refl
 writes_none opcode (x ∷ y ∷ []) other one two = rw other refl
 writes_none opcode (x ∷ y ∷ z ∷ rest) other one two = refl
 
--- A transaction leaves the list `Sent` and each of its properties as they were if its opcode is quiet, isn't modifying,
--- and targets no sector.
+-- A transaction leaves the list `Sent` and all its properties as they were if its opcode is quiet, isn't a modifying
+-- opcode, and targets no sector.
 silent : (opcode : ℕ) (rest : List ℕ) (old : Sent) → bare_targeted opcode ≡ none_targeted
     → ((sector : ℕ) → addressed_targeted opcode sector ≡ none_targeted) → is_quiet_opcode opcode ≡ true
     → is_changing_opcode opcode ≡ false → (opcode == 0x01) ≡ false → (opcode == 0x02) ≡ false
@@ -101,7 +102,7 @@ loud_records_sent out old loud = record {
   status_writes = refl;
 }
 
--- a transaction has the effect `RecordsSent` on the list `Sent`
+-- adding the transaction `out` to the list `Sent` has the effect that `RecordsSent` states
 pub records_sent : {out : List ℕ} {old new : Sent} → new ≡ with_sent out old → RecordsSent out old new
 records_sent {out} {old} {new} is = elim (cases_Bool (begins_quiet out)) [
   | inl quiet ↦

@@ -1,4 +1,4 @@
--- Addresses that wrap around at a size.
+-- Addresses that wrap around at the size of the chip, and lists in which some items are replaced.
 use Rattle.std.proofs.Common.{◌≡◌, ℕ, List, ◌++◌, length, take, get_or, replicate, inl, inr, ◌+◌, ◌-◌, ◌*◌, ◌/◌, ◌%◌, ◌<◌, ◌≤◌, arith, ◌∙◌}
 use Rattle.std.proofs.Math.Nat.{mod-add-div, add-mul-mod_self_left, mod-eq_of_lt}
 use Rattle.std.proofs.lemmas.List.{length-take-le, get_or-append_right, get_or_append_left, get_or-take, get_or-replicate, length-replicate}
@@ -20,8 +20,8 @@ run_round at done from n place within =
     let split : at + (done + (n - from)) ≡ 0 + n * ((at + done) / n + 1) = omega (arith, mod-add-div (at + done) n) in
     rw (split, add-mul-mod_self_left) (mod-eq_of_lt (omega arith))
 
--- If the items of `ys` replace those of the list `xs` from index `a` on, the items before `a` are as they were
--- (`written_before`), and the next ones are those of `ys` (`written_within`).
+-- If the items of `ys` replace those of `xs` from index `a` on, the items before index `a` are those of `xs`
+-- (`written_before`), and the items from index `a` on are those of `ys`, up to its length (`written_within`).
 pub written_before : (a : ℕ) (xs ys zs : List ℕ) (i : ℕ) → a ≤ length xs → i < a
     → slice_index (take a xs ++ (ys ++ zs)) i ≡ slice_index xs i
 written_before a xs ys zs i fits before =
@@ -33,7 +33,7 @@ written_within a xs ys zs i fits later within =
     get_or-append_right (take a xs) (ys ++ zs) a i 0 (length-take-le a xs fits) later
     ∙ get_or_append_left ys zs 0 (i - a) (omega arith)
 
--- reading a list of copies of `x`, with `x` as the default, returns `x` at every index
+-- item `i` of a list of `n` copies of `x` is `x`, and so is the default past its end
 pub get_or-replicate_all : {A : Type 0} (n i : ℕ) (x : A) → get_or (replicate n x) i x ≡ x
 get_or-replicate_all n i x = elim (cases_lt i n) [
   | inl within ↦ get_or-replicate n i x x within

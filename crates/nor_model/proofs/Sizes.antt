@@ -1,4 +1,4 @@
--- Properties that all chip sizes share.
+-- Properties that all allowed chip sizes have.
 use Rattle.std.proofs.Common.{◌≡◌}
 use Rattle.std.specs.Prelude.{Bool, true}
 pub use Rattle.nor_geometry.proofs.Sizes.{IsInBlocks, is_chip_size-in_blocks, is_chip_size-from}
@@ -6,10 +6,10 @@ pub use Rattle.nor_geometry.proofs.Sizes.{is_chip_size-power_of_two, is_power_of
 use Rattle.nor_geometry.proofs.Below.{same_tests}
 use Rattle.nor_model.specs.declared.config.Config.{Config}
 
--- two truth values that imply each other are equal
+-- if each of two truth values is true whenever the other one is, they are equal
 pub alike : (one other : Bool) → (one ≡ true → other ≡ true) → (other ≡ true → one ≡ true) → one ≡ other
 alike = same_tests
 
--- the size of a configuration has the properties that `IsInBlocks` lists
+-- the size of each configuration satisfies `IsInBlocks`
 pub sized_bounds : (config : Config) → IsInBlocks config.size
 sized_bounds config = is_chip_size-in_blocks config.size config.sized

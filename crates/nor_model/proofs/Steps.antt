@@ -6,8 +6,8 @@ use Rattle.nor_model.specs.Chip.{Chip}
 use Rattle.nor_model.specs.Command.{command_of}
 use Rattle.nor_model.specs.Step.{Step, is_carried_out, done_of}
 
--- Two chips agree in configuration, non-volatile bits, latch and `busy`; their bytes and operations in progress may
--- differ.
+-- Holds if two chips agree in configuration, non-volatile bits, latch and `busy`. Their bytes and operations in
+-- progress may differ.
 pub record Agrees (x y : Chip) : Type 0 where
   pub config : y.config ≡ x.config
   pub kept : y.kept ≡ x.kept
@@ -21,7 +21,7 @@ carried-agrees x y _ same = cc
 pub done-agrees : (x y : Chip) (out : List ℕ) (replies : ℕ) → Agrees x y → done_of y out replies ≡ done_of x out replies
 done-agrees x y out replies same = cc (carried-agrees x y (command_of y.config out replies) same)
 
--- If no byte is sent or received, a chip that stays as it was has made one step. A bus that stops before the first byte
--- satisfies `AtStop` by this.
+-- If a chip receives no byte and none is read from it, it makes a step in which nothing changes. A bus that stops
+-- before the first byte therefore satisfies `AtStop`.
 pub nothing_sent : (chip : Chip) → Step chip [] [] chip
 nothing_sent chip = search arith

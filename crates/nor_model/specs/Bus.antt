@@ -1,4 +1,4 @@
--- The contract of a bus. Contracts see a bus as one state.
+-- The contract of a bus. The contract sees a bus as one value, its state.
 use Rattle.std.specs.Prelude.{◌≡◌, ◌≤◌, ◌+◌, ◌⊎◌, ◌||◌, ℕ, Bool, true, false, List, [], ◌∷◌, length, take, Result, OnOk, OnErr}
 use Rattle.std.proofs.Common.{refl}
 use Rattle.nor_model.specs.declared.running.Running.TheVariants.{Unknown}
@@ -14,38 +14,39 @@ use Rattle.nor_model.specs.Step.{Step, done_of, wears}
 -- The state of a bus, as contracts see it.
 pub record BusState : Type 0 where
   pub chip : Chip
-  -- if the bus is well-behaved: how many transactions it still carries out unless `allow` is called; code can't read
-  -- this
+  -- On a well-behaved bus: the number of transactions that the bus will still carry out unless `allow` is called. Code
+  -- can't read this number.
   pub left : ℕ
-  -- the bus is well-behaved: it obeys the contract of a bus
+  -- Whether the bus is well-behaved, which means that it obeys the contract of a bus.
   pub honest : Bool
-  -- the transactions that the bus was asked to carry out, each with its reply, the last one first
+  -- All transactions that the bus was asked to carry out, each with its reply, the last one first.
   pub history : List Exchange
-  -- the bytes of the transactions that may modify a chip and that the bus was asked to send, the last one first
+  -- The bytes of each transaction that the bus was asked to send and that may modify a chip, the last one first.
   pub sent : Sent
-  -- the allowances that were set, the last one first
+  -- The allowances that were set, the last one first.
   pub allowances : List ℕ
-  -- if the bus is well-behaved: the sectors that the chip erased so far, over this bus
+  -- On a well-behaved bus: the sectors that the chip has erased so far, over this bus.
   pub worn : ℕ → Bool
-  -- if the bus is well-behaved: a stop sends no byte of its transaction and keeps the chip's power, so the chip stays
-  -- as it was
+  -- On a well-behaved bus: whether a stop sends no byte of its transaction and keeps the chip's power, so that the chip
+  -- stays as it was.
   pub steady : Bool
-  -- if the bus is well-behaved: it takes transactions of any length
+  -- On a well-behaved bus: whether the bus takes transactions of any length.
   pub unlimited : Bool
-  -- the last poll that received at least one reply byte showed that the chip is ready
+  -- Whether the last poll that received at least one reply byte showed that the chip is ready.
   pub polled_ready : Bool
 
--- A bus is well-behaved, steady or unlimited after a call if and only if it was so before the call. On a well-behaved
--- bus the chip's configuration stays the same: its ID, size, SFDP and all else that no command changes.
+-- Holds if the bus is well-behaved, steady or unlimited after a call exactly if it was so before the call. On a
+-- well-behaved bus, the chip's configuration (its ID, size, SFDP and all else that no command changes) is also as
+-- before.
 pub record SameNature (old new : BusState) : Type 0 where
   pub honest : new.honest ≡ old.honest
   pub steady : new.steady ≡ old.steady
   pub unlimited : new.unlimited ≡ old.unlimited
   pub config : old.honest ≡ true → new.chip.config ≡ old.chip.config
 
--- The bus is well-behaved, steady or unlimited if and only if it was so before, and a well-behaved bus has a chip with
--- the same configuration as before (`SameNature`). The history continues the earlier one, and no allowance was set.
--- This holds for every sequence of transactions, on every bus.
+-- Holds for every sequence of transactions, on every bus. The bus is well-behaved, steady or unlimited exactly if it
+-- was so before, and the chip of a well-behaved bus has the same configuration as before. The history continues the
+-- earlier one, and no allowance was set.
 pub record KeepsNature (old new : BusState) : Type 0 where
   pub honest : new.honest ≡ old.honest
   pub steady : new.steady ≡ old.steady
@@ -54,17 +55,17 @@ pub record KeepsNature (old new : BusState) : Type 0 where
   pub history : Continues old.history new.history
   pub allowances : new.allowances ≡ old.allowances
 
--- The bus is well-behaved, and takes a transaction that sends `out` and reads `replies` bytes. An unlimited bus takes
--- every transaction, any other bus those that send at most 260 bytes (a page program) and read at most 4,096 (a
--- sector).
+-- Holds if the bus is well-behaved and takes a transaction that sends `out` and reads `replies` bytes. An unlimited bus
+-- takes every transaction. Any other bus takes those that send at most 260 bytes (a page program) and read at most
+-- 4,096 (a sector).
 pub record IsHonestFor (out : List ℕ) (replies : ℕ) (bus : BusState) : Type 0 where
   pub honest : bus.honest ≡ true
   pub fits : (bus.unlimited ≡ true) ⊎ ((length out ≤ 260) × (replies ≤ 4096))
 
 -- The effect of a transaction on what every bus records. The transaction is added to the history, with its reply or as
--- one at which the bus stopped. Its bytes are added to `sent`, unless there are none or they begin with a quiet opcode.
--- The allowances stay as they were. After a poll that received at least one reply byte, `polled_ready` follows the last
--- of these bytes; otherwise it stays as it was.
+-- one at which the bus stopped. `out` is added to `sent`, unless it is empty or begins with a quiet opcode. The
+-- allowances stay as they were. If the transaction is a poll that received at least one reply byte, `polled_ready`
+-- follows the last of these bytes; otherwise it stays as it was.
 pub record Records (out answer : List ℕ) (outcome : Result Unit Stopped) (old new : BusState) : Type 0 where
   pub history : new.history ≡ exchange_of out answer outcome ∷ old.history
   pub sent : new.sent ≡ with_sent out old.sent
@@ -72,10 +73,10 @@ pub record Records (out answer : List ℕ) (outcome : Result Unit Stopped) (old 
   pub returned : OnOk outcome (new.polled_ready ≡ polled_ready_after out answer old.polled_ready)
   pub stopped : OnErr outcome (new.polled_ready ≡ old.polled_ready)
 
--- The effect of a stop. The first `count` bytes of the transaction were sent (none, some or all). The bytes `read` of
--- the reply were read and are lost: none, some or all, and the definition also allows more than were asked for. The
--- chip made the step that these bytes ask for, and then lost its power or kept it. The sectors that this step erased
--- are recorded. On a steady bus no byte was sent and the chip is as it was.
+-- The effect of a stop. The first `count` bytes of the transaction were sent: none, some or all. Some reply bytes,
+-- `read`, may have been read and are lost; the definition also allows more of them than were asked for. The chip made
+-- the step for which these bytes ask, which took it to `reached`, and then lost its power or kept it. The sectors that
+-- this step erased are recorded as erased. On a steady bus no byte was sent and the chip is as it was.
 pub record AtStop (out : List ℕ) (old new : BusState) : Type 0 where
   pub count : ℕ
   pub read : List ℕ
@@ -86,21 +87,22 @@ pub record AtStop (out : List ℕ) (old new : BusState) : Type 0 where
   pub none : old.steady ≡ true → count ≡ 0
   pub unsent : old.steady ≡ true → new.chip ≡ old.chip
 
--- The bus stopped, because it had no transaction left to carry out, and the chip is as a stop may leave it.
+-- Holds if the bus stopped because it had no transaction left to carry out, and the chip is as a stop may leave it
+-- (`AtStop`).
 pub record Stops (out : List ℕ) (old new : BusState) : Type 0 where
   pub none_left : old.left ≡ 0
   pub left : new.left ≡ old.left
   pub at_stop : AtStop out old new
 
--- The transaction was carried out: the chip made one step, one transaction fewer is left, and the sectors of an erase
--- that the chip carried out are recorded.
+-- Holds if the transaction was carried out: the chip made one step, one transaction fewer is left, and the sectors that
+-- the chip erased in this step are recorded as erased.
 pub record Carries (out answer : List ℕ) (old new : BusState) : Type 0 where
   pub left : old.left ≡ new.left + 1
   pub step : Step old.chip out answer new.chip
   pub worn : (s : ℕ) → new.worn s ≡ (old.worn s || wears (done_of old.chip out (length answer)) s)
 
--- The effect of `allow`. If the bus is well-behaved, `n` transactions are left; on any other bus the number left is not
--- stated. The allowance is recorded, and nothing else changed.
+-- The effect of `allow`. The allowance `n` is recorded. On a well-behaved bus, `n` transactions are left; for any other
+-- bus the definition doesn't say how many are left. Nothing else changed.
 pub record Allows (n : ℕ) (old new : BusState) : Type 0 where
   pub chip : new.chip ≡ old.chip
   pub left : old.honest ≡ true → new.left ≡ n
@@ -111,7 +113,7 @@ pub record Allows (n : ℕ) (old new : BusState) : Type 0 where
   pub polled_ready : new.polled_ready ≡ old.polled_ready
   pub worn : (s : ℕ) → new.worn s ≡ old.worn s
 
--- An arbitrary chip, for a bus about whose chip nothing is promised.
+-- An arbitrary chip. It stands for the chip of a bus about whose chip nothing is promised.
 abbrev pub unknown_chip : Chip
 unknown_chip = record {
   config = record {
@@ -130,8 +132,8 @@ unknown_chip = record {
   running = Unknown;
 }
 
--- The state of a bus to a chip outside the model. Only its history is known, and what follows from it (`sent`,
--- `polled_ready`). The bus isn't well-behaved, so nothing is claimed about its chip. No allowance is recorded.
+-- The state of a bus that isn't well-behaved, for a chip outside the model. Only the history is known, and what follows
+-- from it: `sent` and `polled_ready`. No allowance is recorded, and nothing is claimed about the chip.
 abbrev pub unknown_bus : List Exchange → BusState
 unknown_bus history = record {
   chip = unknown_chip;

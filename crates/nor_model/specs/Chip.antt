@@ -5,44 +5,44 @@ use Rattle.nor_model.specs.declared.running.Running.{Running}
 
 -- The non-volatile status bits: all bits of status 1 and 2 except BUSY, WEL and SUS.
 pub record KeptBits : Type 0 where
-  -- bits 2 to 7 of status 1, shifted down by two: BP0, BP1, BP2, TB, SEC, SRP0
+  -- Bits 2 to 7 of status 1, shifted down by two: BP0, BP1, BP2, TB, SEC and SRP0, the lowest bit first.
   pub one : ℕ
-  -- bits 0 to 6 of status 2: SRP1, QE, a reserved bit, LB1, LB2, LB3, CMP
+  -- Bits 0 to 6 of status 2: SRP1, QE, a reserved bit, LB1, LB2, LB3 and CMP, the lowest bit first.
   pub two : ℕ
 
--- the non-volatile bits in the two bytes `status`, status 1 first
+-- the non-volatile bits in the two bytes of `status`, status 1 first
 abbrev pub kept_in : (status : List ℕ) → KeptBits
 kept_in status = record { one = slice_index status 0 / 4; two = slice_index status 1 % 128 }
 
--- The state of a chip. The type allows every combination of values, even a busy chip with its latch clear; `IsChip`
--- limits the ranges. (W25Q64FV and W25Q128FV datasheets, status registers.)
+-- The state of a chip. The type allows every combination of values, even that of a busy chip whose write enable latch
+-- is clear. `IsChip` limits the ranges of the values. (W25Q64FV and W25Q128FV datasheets, status registers.)
 pub record Chip : Type 0 where
-  -- the properties that never change
+  -- The properties that never change.
   pub config : Config
-  -- the byte at each address below the size
+  -- The byte at each address below the chip's size.
   pub bytes : ℕ → ℕ
-  -- the non-volatile status bits
+  -- The non-volatile status bits.
   pub kept : KeptBits
-  -- the write enable latch, WEL
+  -- The write enable latch (WEL).
   pub latch : Bool
-  -- how many more polls will show BUSY
+  -- The number of polls that will still show BUSY.
   pub busy : ℕ
-  -- the operation in progress; it matters only while the chip is busy
+  -- The operation in progress. This value matters only while the chip is busy.
   pub running : Running
 
--- The values are in range: `busy`, the non-volatile bits and each byte. An implementation of `Bus` must prove this for
--- the chip of each well-behaved bus (`reaches` in `src/bus.rt`).
+-- Holds if `busy`, the non-volatile bits and each byte are in range. An implementation of `Bus` must prove this for the
+-- chip of each well-behaved bus (`reaches` in `src/bus.rt`).
 pub record IsChip (chip : Chip) : Type 0 where
   pub busy : chip.busy < 65536
   pub kept1 : chip.kept.one < 64
   pub kept2 : chip.kept.two < 128
   pub bytes : (a : ℕ) → chip.bytes a < 256
 
--- the byte that 05h reads: BUSY, WEL, and the non-volatile bits above them
+-- the byte that 05h reads, status 1: BUSY, WEL, and the non-volatile bits above them
 abbrev pub status1_of : Chip → ℕ
 status1_of chip = 4 * chip.kept.one + (if chip.latch then 2 else 0) + (if chip.busy == 0 then 0 else 1)
 
--- the byte that 35h reads: SUS reads as 0
+-- the byte that 35h reads, status 2; its highest bit, SUS, reads as 0
 abbrev pub status2_of : Chip → ℕ
 status2_of chip = chip.kept.two
 
@@ -54,7 +54,7 @@ status_of chip = status1_of chip ∷ status2_of chip ∷ []
 abbrev pub srp0_bit : KeptBits → ℕ
 srp0_bit kept = kept.one / 32
 
--- SEC, TB, BP2, BP1 and BP0 as a number below 32, SEC being the highest bit
+-- SEC, TB, BP2, BP1 and BP0 as a number below 32, in which SEC is the highest bit
 abbrev pub sec_to_bp0 : KeptBits → ℕ
 sec_to_bp0 kept = kept.one % 32
 
@@ -62,7 +62,7 @@ sec_to_bp0 kept = kept.one % 32
 abbrev pub cmp_bit : KeptBits → ℕ
 cmp_bit kept = kept.two / 64 % 2
 
--- LB3, LB2, LB1, the reserved bit, QE and SRP1 as a number below 64, LB3 being the highest bit
+-- LB3, LB2, LB1, the reserved bit, QE and SRP1 as a number below 64, in which LB3 is the highest bit
 abbrev pub lb3_to_srp1 : KeptBits → ℕ
 lb3_to_srp1 kept = kept.two % 64
 
@@ -74,17 +74,17 @@ has_srp0 kept = srp0_bit kept % 2 == 1
 abbrev pub has_srp1 : KeptBits → Bool
 has_srp1 kept = kept.two % 2 == 1
 
--- True if SRP0 or SRP1 is set: the chip then ignores status writes. A real chip with only SRP0 set ignores them only
+-- True if SRP0 or SRP1 is set, so that the chip ignores status writes. A real chip with only SRP0 set ignores them only
 -- while its WP# pin is low; the model assumes that this pin is low.
 abbrev pub is_locked : KeptBits → Bool
 is_locked kept = has_srp0 kept || has_srp1 kept
 
--- the SFDP byte at an address; FFh past the end of the SFDP bytes
+-- the SFDP byte at the address `a`, which is FFh past the end of the SFDP bytes
 abbrev pub sfdp_byte : Config → (a : ℕ) → ℕ
 sfdp_byte config a = slice_index_or config.sfdp a 255
 
--- Two chips have the same configuration, bytes and non-volatile status bits. The write enable latch, `busy` and
--- `running` may differ.
+-- Holds if two chips have the same configuration, bytes and non-volatile status bits. The write enable latch, `busy`
+-- and `running` may differ.
 pub record IsSame (old new : Chip) : Type 0 where
   pub config : new.config ≡ old.config
   pub bytes : (a : ℕ) → new.bytes a ≡ old.bytes a

@@ -1,14 +1,14 @@
--- The command that the bytes of a transaction ask for. (W25Q64FV datasheet, instruction set table.)
+-- The command for which the bytes of a transaction ask. (W25Q64FV datasheet, instruction set table.)
 use Rattle.std.specs.Prelude.{◌+◌, ◌*◌, ◌/◌, ◌%◌, ◌==◌, ◌&&◌, ◌||◌, ℕ, Bool, true, false, List, [], ◌∷◌, if◌then◌else◌}
 use Rattle.nor_model.specs.declared.config.Config.{Config}
 use Rattle.nor_model.specs.declared.command.Command.{Command}
 use Rattle.nor_model.specs.declared.command.Command.TheVariants.{WriteEnable, WriteDisable, Poll, ReadStatus2, WriteStatus, Program, Erase, ReadData, ReadId, ReadSfdp, ReadUnique, Ignored}
 
--- the address in three bytes, high byte first, modulo the chip's size
+-- the address that the bytes `x`, `y` and `z` form, high byte first, modulo the chip's size
 abbrev pub address_of : Config → (x y z : ℕ) → ℕ
 address_of config x y z = (65536 * x + 256 * y + z) % config.size
 
--- an erase of the aligned block of `len` bytes that contains the address `at`
+-- the erase of the aligned block of `len` bytes that contains the address `at`
 abbrev pub aligned_erase : (len at : ℕ) → Command
 aligned_erase len at = Erase (at / len * len) len
 
@@ -32,7 +32,7 @@ addressed_command config opcode at replies =
     else if opcode == 0xD8 && replies == 0 && config.kinds.k64 then aligned_erase 65536 at
     else Ignored
 
--- The command of a transaction that sends `out` and reads `replies` bytes: `Ignored` if the transaction fits no
+-- The command of a transaction that sends `out` and reads `replies` bytes, or `Ignored` if the transaction fits no
 -- command.
 abbrev pub command_of : Config → (out : List ℕ) → (replies : ℕ) → Command
 command_of config [] replies = Ignored
@@ -48,22 +48,22 @@ command_of config (opcode ∷ x ∷ y ∷ z ∷ fifth ∷ []) replies =
 command_of config (opcode ∷ x ∷ y ∷ z ∷ fifth ∷ sixth ∷ rest) replies =
     if opcode == 0x02 && replies == 0 then Program (address_of config x y z) else Ignored
 
--- true for the quiet opcodes: the six with which the model reads, and write disable (04h), which only clears the write
--- enable latch
+-- True for the quiet opcodes. These are the six opcodes with which the model reads, and write disable (04h), which only
+-- clears the write enable latch.
 abbrev pub is_quiet_opcode : (opcode : ℕ) → Bool
 is_quiet_opcode opcode =
     opcode == 0x03 || opcode == 0x04 || opcode == 0x05 || opcode == 0x35
     || opcode == 0x4B || opcode == 0x5A || opcode == 0x9F
 
--- true for the model's four opcodes of an erase
+-- true for the four erase opcodes that the model knows
 abbrev pub is_erase_opcode : (opcode : ℕ) → Bool
 is_erase_opcode opcode = opcode == 0x20 || opcode == 0x52 || opcode == 0xD8 || opcode == 0xC7
 
--- true for the seven modifying opcodes: write enable, write status, page program and the erases
+-- true for the seven modifying opcodes: write enable, write status, page program and the four erase opcodes
 abbrev pub is_changing_opcode : (opcode : ℕ) → Bool
 is_changing_opcode opcode = opcode == 0x06 || opcode == 0x01 || opcode == 0x02 || is_erase_opcode opcode
 
--- true if a transaction that sends `out` begins with a modifying opcode
+-- true if `out` begins with a modifying opcode
 abbrev pub begins_change : (out : List ℕ) → Bool
 begins_change [] = false
 begins_change (opcode ∷ rest) = is_changing_opcode opcode
@@ -73,8 +73,8 @@ abbrev pub begins_quiet : (out : List ℕ) → Bool
 begins_quiet [] = true
 begins_quiet (opcode ∷ rest) = is_quiet_opcode opcode
 
--- true if `out` has the form of a modifying command: one of the seven opcodes, followed by the number of bytes that its
--- command takes (02h: an address and at least one byte)
+-- True if `out` has the form of a modifying command: one of the seven modifying opcodes, followed by the number of
+-- bytes that its command takes. After 02h these are an address and at least one byte.
 abbrev pub is_change : (out : List ℕ) → Bool
 is_change [] = false
 is_change (opcode ∷ []) = opcode == 0x06 || opcode == 0xC7

@@ -1,36 +1,36 @@
--- The addresses that the block protection bits protect from programs and erases. (After the status register protection
--- tables of the W25Q64FV and W25Q128FV datasheets.)
+-- The addresses that the block protection bits protect from programs and erases. A *code* is a value of the six
+-- protection bits. (After the status register protection tables of the W25Q64FV and W25Q128FV datasheets.)
 use Rattle.std.specs.Prelude.{◌+◌, ◌-◌, ◌*◌, ◌/◌, ◌%◌, ◌^◌, ◌==◌, ◌&&◌, ◌||◌, ℕ, Bool, not, nat_lt, nat_le, if◌then◌else◌}
 use Rattle.nor_model.specs.Chip.{Chip, KeptBits, cmp_bit, sec_to_bp0}
 
--- The protection bits as one number below 64: CMP, SEC, TB, BP2, BP1, BP0, the highest first.
+-- The code of the bits `kept`, a number below 64: CMP, SEC, TB, BP2, BP1 and BP0, the highest bit first.
 abbrev pub code_of : KeptBits → ℕ
 code_of kept = 32 * cmp_bit kept + sec_to_bp0 kept
 
--- BP2, BP1 and BP0 as a number, from which the length of the selected range follows
+-- BP2, BP1 and BP0 as a number below 8, which determines the length of the selected range
 abbrev pub bp_of : (code : ℕ) → ℕ
 bp_of code = code % 8
 
--- true if TB is set: the selected range is at the start of the chip, not at the end
+-- true if TB is set, so that the selected range is at the start of the chip and not at its end
 abbrev pub is_bottom : (code : ℕ) → Bool
 is_bottom code = code / 8 % 2 == 1
 
--- true if SEC is set: BP counts sectors, not blocks
+-- true if SEC is set, so that BP 001 to 101 select 4 to 32 KiB and not a fraction of the chip
 abbrev pub names_sectors : (code : ℕ) → Bool
 names_sectors code = code / 16 % 2 == 1
 
--- true if CMP is set: the protected addresses are those outside the selected range, if the code is defined
+-- true if CMP is set, so that a code that is defined protects the addresses outside the selected range
 abbrev pub is_complement : (code : ℕ) → Bool
 is_complement code = code / 32 % 2 == 1
 
--- true for SEC with BP 110, with CMP and TB set or clear, which the datasheets don't define; the model then protects
--- all addresses
+-- True if SEC is set and BP is 110. The datasheets don't define these codes, whatever CMP and TB are. The model then
+-- protects all addresses.
 abbrev pub is_undefined : (code : ℕ) → Bool
 is_undefined code = names_sectors code && bp_of code == 6
 
--- The length in bytes of the selected range: 0 for BP 000, the whole chip for BP 111. With SEC, BP 001 to 101 select 4,
--- 8, 16, 32 and 32 KiB. Without SEC, BP 001 selects a 64th of the chip; each further step of BP doubles that, up to one
--- half.
+-- The length in bytes of the range that `code` selects on a chip of `size` bytes. BP 000 selects nothing, and BP 111
+-- the whole chip. With SEC, BP 001 to 101 select 4, 8, 16, 32 and 32 KiB. Without SEC, BP 001 selects a 64th of the
+-- chip, and each further step up to 110 doubles the length, up to one half of the chip.
 abbrev pub named_length : (size code : ℕ) → ℕ
 named_length size code =
     if bp_of code == 0 then 0
@@ -41,25 +41,26 @@ named_length size code =
     else if bp_of code == 3 then 16384
     else 32768
 
--- true if the address `a` is in the selected range, which without TB includes all addresses past the chip's end
+-- True if the address `a` is in the selected range. Without TB the range is at the end of the chip, and then includes
+-- all addresses past that end.
 abbrev pub is_address_named : (size code a : ℕ) → Bool
 is_address_named size code a =
     if is_bottom code then nat_lt a (named_length size code) else nat_le (size - named_length size code) a
 
--- True if the code protects the address `a` of a chip of this size: an address of the selected range, or with CMP any
--- other address of the chip. An undefined code protects all addresses of the chip.
+-- True if `code` protects the address `a` of a chip of `size` bytes. Without CMP, a code protects the selected range,
+-- and with CMP all other addresses of the chip. An undefined code protects all addresses of the chip.
 unfoldable pub protected_by : (size code a : ℕ) → Bool
 protected_by size code a =
     nat_lt a size
     && (is_undefined code
     || (if is_complement code then not (is_address_named size code a) else is_address_named size code a))
 
--- true if the address `a` of this chip is protected; always false on a chip without block protection
+-- true if `chip` protects the address `a`; always false for a chip without block protection
 abbrev pub is_protected : Chip → (a : ℕ) → Bool
 is_protected chip a = chip.config.scheme && protected_by chip.config.size (code_of chip.kept) a
 
--- True if the first or the last address of the `len` bytes from `start` is protected. For a range on the chip that
--- isn't empty, that is so if and only if some address in it is protected, because the protected addresses are at one
+-- True if the first or the last of the `len` bytes from `start` is protected. If the range isn't empty and lies on the
+-- chip, this is true if and only if some address of the range is protected, because the protected addresses are at one
 -- end of the chip.
 abbrev pub is_block_protected : Chip → (start len : ℕ) → Bool
 is_block_protected chip start len = is_protected chip start || is_protected chip (start + len - 1)

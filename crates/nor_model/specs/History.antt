@@ -1,4 +1,5 @@
--- The history of a bus: the transactions over it, each with its reply. A history begins with the last transaction.
+-- The history of a bus: the transactions over it, each with its reply. The first item of the list is the last
+-- transaction.
 use Rattle.std.specs.Prelude.{◌≡◌, ◌+◌, ◌*◌, ◌/◌, ◌%◌, ◌==◌, ◌&&◌, ◌++◌, ℕ, Bool, true, false, List, [], ◌∷◌, Option, Some, None, Result, Ok, Err, if◌then◌else◌}
 use Rattle.nor_model.specs.Exchange.{Exchange}
 use Rattle.nor_model.specs.declared.bus.Stopped.{Stopped}
@@ -9,83 +10,84 @@ use Rattle.nor_model.specs.declared.history.Event.TheVariants as event
 abbrev pub replied : (out reply : List ℕ) → Exchange
 replied out reply = record { out = out; reply = Some reply }
 
--- a transaction that sends `out`, at which the bus stopped
+-- a transaction that was to send `out`, and at which the bus stopped
 abbrev pub stopped : (out : List ℕ) → Exchange
 stopped out = record { out = out; reply = None }
 
--- a transaction that sends `out`: with the reply `answer` if it succeeded, otherwise one at which the bus stopped
+-- A transaction that sends `out`: with the reply `answer` if the outcome is `Ok`, otherwise as one at which the bus
+-- stopped.
 abbrev pub exchange_of : (out answer : List ℕ) → Result Unit Stopped → Exchange
 exchange_of out answer (Ok done) = replied out answer
 exchange_of out answer (Err stop) = stopped out
 
--- the history after an event; an allowance adds no transaction
+-- the history `earlier` with an event added; an allowance adds no transaction
 abbrev pub exchanges_with : Event → List Exchange → List Exchange
 exchanges_with (event.Replied out reply) earlier = replied out.now reply.now ∷ earlier
 exchanges_with (event.Stopped out) earlier = stopped out.now ∷ earlier
 exchanges_with (event.Allowed n) earlier = earlier
 
--- the allowances after an event, the last one first
+-- the allowances `earlier` with an event added, the last one first; only an allowance adds a number
 abbrev pub allowances_with : Event → List ℕ → List ℕ
 allowances_with (event.Allowed n) earlier = n ∷ earlier
 allowances_with _ earlier = earlier
 
--- The history `new` is `old`, or `old` with later transactions in front of it.
+-- Holds if the history `new` is `old`, or `old` with later transactions in front of it.
 pub record Continues (old new : List Exchange) : Type 0 where
-  -- the later transactions, the last one first
+  -- The later transactions, the last one first.
   pub later : List Exchange
   pub is : new ≡ later ++ old
 
--- the bytes of a reply; no bytes if there is no reply, because the bus stopped
+-- the bytes of a reply, or no bytes if there is no reply because the bus stopped
 abbrev pub bytes_or_none : Option (List ℕ) → List ℕ
 bytes_or_none (Some bytes) = bytes
 bytes_or_none None = []
 
--- the reply to the last transaction whose sent bytes satisfy the test; empty if no transaction satisfies the test, or
--- if the bus stopped at the last one that does
+-- The reply to the last transaction in the history whose sent bytes satisfy `is`. The result is empty if no transaction
+-- satisfies `is`, or if the bus stopped at the last one that does.
 abbrev pub last_reply : (is : List ℕ → Bool) → List Exchange → List ℕ
 last_reply is [] = []
 last_reply is (exchange ∷ earlier) = if is exchange.out then bytes_or_none exchange.reply else last_reply is earlier
 
--- true if a transaction begins with this opcode
+-- true if `out` begins with the byte `opcode`
 abbrev pub begins_with : (opcode : ℕ) → (out : List ℕ) → Bool
 begins_with opcode [] = false
 begins_with opcode (first ∷ rest) = first == opcode
 
--- true if a transaction begins with this opcode and this address of three bytes, high byte first
+-- true if `out` begins with the byte `opcode` and the three bytes of `address`, high byte first
 abbrev pub names : (opcode address : ℕ) → (out : List ℕ) → Bool
 names opcode address (first ∷ x ∷ y ∷ z ∷ rest) = first == opcode && 65536 * x + 256 * y + z == address
 names opcode address _ = false
 
--- For each test `is` that is false for every transaction that satisfies `may`: the last reply to a transaction that
--- satisfies `is` is the same in both histories.
+-- Holds if the last reply to a transaction that satisfies `is` is the same in both histories, for each test `is` that
+-- is false for every transaction that satisfies `may`.
 pub record KeepsReplies (may : List ℕ → Bool) (old new : List Exchange) : Type 0 where
   pub same : (is : List ℕ → Bool) → ((out : List ℕ) → may out ≡ true → is out ≡ false)
       → last_reply is new ≡ last_reply is old
 
--- The history `new` is `old` with one later transaction: it sent bytes that satisfy the test `is`, and received
+-- Holds if the history `new` is `old` with one later transaction, which sent bytes that satisfy `is` and received
 -- `reply`.
 pub record Answered (is : List ℕ → Bool) (old new : List Exchange) (reply : List ℕ) : Type 0 where
   pub out : List ℕ
   pub asks : is out ≡ true
   pub history : new ≡ replied out reply ∷ old
 
--- ---- the last transaction
+-- ---- how a history ends
 
--- The bus stopped at the last transaction.
+-- Holds if the bus stopped at the last transaction.
 pub record EndsStopped (history : List Exchange) : Type 0 where
   pub out : List ℕ
   pub earlier : List Exchange
   pub is : history ≡ stopped out ∷ earlier
 
--- The last transaction was a poll, and its one reply byte showed BUSY.
+-- Holds if the last transaction was a poll, and its one reply byte showed BUSY.
 pub record EndsBusy (history : List Exchange) : Type 0 where
   pub status : ℕ
   pub earlier : List Exchange
   pub is : history ≡ replied (0x05 ∷ []) (status ∷ []) ∷ earlier
   pub busy : status % 2 ≡ 1
 
--- The last transaction received a reply. The bytes that it sent begin with 03h (a read of data), followed by the first
--- address of the sector that contains `address`. The number of bytes read is not stated.
+-- Holds if the last transaction was a read of data (03h) from the first address of the sector that contains `address`,
+-- and received a reply. The definition doesn't say how many bytes were read.
 pub record EndsReading (address : ℕ) (history : List Exchange) : Type 0 where
   pub earlier : List Exchange
   pub bytes : List ℕ

@@ -1,28 +1,29 @@
--- The ranges that protection bits can protect, and the protection bits that are used for each.
+-- The ranges that a code (a value of the protection bits) can protect, and the code that is used for each range.
 use Rattle.std.specs.Prelude.{◌≡◌, ◌<◌, ◌≤◌, ◌+◌, ◌↔◌, ℕ, true, false}
 use Rattle.nor_model.specs.Guard.{protected_by, is_undefined}
 
--- on a chip of this size the code protects exactly the range of `len` bytes from `start`
+-- holds if, on a chip of `size` bytes, `code` protects exactly the range of `len` bytes from `start`
 abbrev pub ProtectsExactly : (size code start len : ℕ) → Type 0
 ProtectsExactly size code start len = (a : ℕ) → (protected_by size code a ≡ true) ↔ ((start ≤ a) × (a < start + len))
 
--- The code is defined, and protects exactly the range of `len` bytes from `start`. An empty range starts at 0.
+-- Holds if `code` is defined and protects exactly the range of `len` bytes from `start`, and if the range starts at 0
+-- in case it is empty.
 pub record IsRangeOf (size code start len : ℕ) : Type 0 where
   pub defined : is_undefined code ≡ false
   pub exactly : ProtectsExactly size code start len
   pub plain : len ≡ 0 → start ≡ 0
 
--- The code has six bits, and the datasheets define it.
+-- Holds if `code` has six bits, and the datasheets define it.
 pub record IsDefined (code : ℕ) : Type 0 where
   pub six_bits : code < 64
   pub defined : is_undefined code ≡ false
 
--- The least defined code that protects exactly this range.
+-- Holds if `code` is the least defined code that protects exactly the range of `len` bytes from `start`.
 pub record IsLeastCode (size start len code : ℕ) : Type 0 where
   pub defined : IsDefined code
   pub protects : ProtectsExactly size code start len
   pub least : (lower : ℕ) → lower < code → IsDefined lower → ¬ ProtectsExactly size lower start len
 
--- No defined code protects exactly this range.
+-- holds if no defined code protects exactly the range of `len` bytes from `start`
 abbrev pub IsNotOffered : (size start len : ℕ) → Type 0
 IsNotOffered size start len = (code : ℕ) → IsDefined code → ¬ ProtectsExactly size code start len

@@ -1,19 +1,20 @@
--- The iterator over the ranges that can be protected.
+-- The iterator over the ranges that can be protected. It goes through the codes (values of the protection bits) in
+-- order.
 use Rattle.std.specs.Prelude.{◌≡◌, ◌<◌, ◌≤◌, ◌+◌, ℕ, Option, None, Some}
 use Rattle.nor_model.specs.declared.guard.walk.Offered.{Offered}
 use Rattle.nor_model.specs.Offer.{IsLeastCode}
 
--- the chip's size
+-- the size of the chip for which the iterator yields ranges
 abbrev pub size_of : Offered → ℕ
 size_of walk = walk.size
 
--- the first code that the iterator has not passed
+-- the position of the iterator: the first code that it has not passed
 abbrev pub next_code : Offered → ℕ
 next_code walk = walk.next
 
--- The iterator advances to the range of `len` bytes from `start`, which starts at 0 if it is empty. The least code of
--- this range is `code`. No code from the iterator's old position up to, but not including, `code` is the least code of
--- a range. The iterator's new position is `code + 1`.
+-- Holds if the iterator yields the range of `len` bytes from `start` and goes from the state `old` to `new`. `code` is
+-- the least code of this range, and the new position is `code + 1`. No code from the old position to `code - 1` is the
+-- least code of a range. An empty range starts at 0.
 pub record IsNextRange (old : Offered) (start len : ℕ) (new : Offered) : Type 0 where
   pub code : ℕ
   pub not_passed : next_code old ≤ code
@@ -24,20 +25,20 @@ pub record IsNextRange (old : Offered) (start len : ℕ) (new : Offered) : Type 
   pub passed : next_code new ≡ code + 1
   pub size : size_of new ≡ size_of old
 
--- No range is left: no code from the iterator's position on is the least code of a range. The iterator's new position
--- is 64, past all codes.
+-- Holds if no range is left: no code from the old position on is the least code of a range. The new position is 64,
+-- past all codes.
 pub record IsAtEnd (old new : Offered) : Type 0 where
   pub none : (code start len : ℕ) → next_code old ≤ code → ¬ IsLeastCode (size_of old) start len code
   pub ended : next_code new ≡ 64
   pub size : size_of new ≡ size_of old
 
--- The result of one call of `next`: the range of the first code, from the iterator's position on, that is the least
--- code of a range; or `None` if no such code is left.
+-- The result of one call of `next`. If some code from the iterator's position on is the least code of a range, the
+-- result is the range of the first such code. Otherwise the result is `None`.
 abbrev pub ReturnsNextRange : Offered → Option (ℕ × ℕ) → Offered → Type 0
 ReturnsNextRange old (Some (start, len)) new = IsNextRange old start len new
 ReturnsNextRange old None new = IsAtEnd old new
 
--- the iterator at its start, for a chip of this size
+-- Holds for an iterator at its start, for a chip of `chip_size` bytes.
 pub record IsStart (chip_size : ℕ) (walk : Offered) : Type 0 where
   pub size : size_of walk ≡ chip_size
   pub first : next_code walk ≡ 0

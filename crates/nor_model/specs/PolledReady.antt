@@ -1,30 +1,31 @@
--- The result of the last poll: whether the chip was ready. (W25Q64FV datasheet, Read Status Register-1.)
+-- Whether the last poll showed that the chip is ready. (W25Q64FV datasheet, Read Status Register-1.)
 use Rattle.std.specs.Prelude.{◌-◌, ◌%◌, ◌==◌, ◌&&◌, ℕ, Bool, false, List, [], ◌∷◌, Option, Some, None, length, nat_lt, slice_index, if◌then◌else◌}
 use Rattle.nor_model.specs.Exchange.{Exchange}
 
--- true if a transaction that sends these bytes is a poll
+-- true if a transaction that sends the given bytes is a poll
 abbrev pub is_poll : List ℕ → Bool
 is_poll [] = false
 is_poll (opcode ∷ []) = opcode == 0x05
 is_poll (opcode ∷ next ∷ rest) = false
 
--- true if BUSY, bit 0, is clear in the last byte of the reply; also true for a reply without bytes
+-- true if BUSY (bit 0) is clear in the last byte of `answer`, or if `answer` is empty
 abbrev pub shows_ready : (answer : List ℕ) → Bool
 shows_ready answer = slice_index answer (length answer - 1) % 2 == 0
 
--- True if the last poll showed that the chip is ready, after a transaction that sent `out` and received `answer`. A
--- poll with at least one reply byte decides this; any other transaction keeps the result `before`.
+-- The value of `polled_ready` after a transaction that sent `out` and received `answer`, if the value was `before`. A
+-- poll with at least one reply byte sets the value to whether its last byte shows that the chip is ready. Any other
+-- transaction keeps the value.
 abbrev pub polled_ready_after : (out answer : List ℕ) → (before : Bool) → Bool
 polled_ready_after out answer before = if is_poll out && nat_lt 0 (length answer) then shows_ready answer else before
 
--- true if the last poll showed that the chip is ready, after a transaction that sent `out` and received this reply; if
--- the bus stopped (`None`), the result is `before`
+-- The value of `polled_ready` after a transaction that sent `out`, if the value was `before`. If the bus stopped
+-- (`None`), the value stays; otherwise it is as `polled_ready_after` says.
 abbrev pub polled_ready_by : (out : List ℕ) → (reply : Option (List ℕ)) → (before : Bool) → Bool
 polled_ready_by out (Some answer) before = polled_ready_after out answer before
 polled_ready_by out None before = before
 
--- True if the last poll of this history that received at least one reply byte showed that the chip is ready. False
--- without such a poll.
+-- True if, in this history, the last poll that received at least one reply byte showed that the chip is ready. False if
+-- there is no such poll.
 abbrev pub polled_ready_in : List Exchange → Bool
 polled_ready_in [] = false
 polled_ready_in (exchange ∷ earlier) = polled_ready_by exchange.out exchange.reply (polled_ready_in earlier)

@@ -4,37 +4,38 @@ use Rattle.nor_model.specs.declared.running.Running.{Running}
 use Rattle.nor_model.specs.declared.running.Running.TheVariants.{Program, Erase, StatusWrite, Unknown}
 use Rattle.nor_model.specs.Chip.{Chip, IsSame, KeptBits}
 
--- true if the operation works on the address `a`; for an unknown operation true for every address
+-- True if the operation works on the byte at the address `a`. An unknown operation counts as working on every byte.
 abbrev pub is_in_work : Running → (a : ℕ) → Bool
 is_in_work (Program page) a = a / 256 == page
 is_in_work (Erase start len) a = nat_le start a && nat_lt a (start + len)
 is_in_work (StatusWrite one two) a = false
 is_in_work Unknown a = true
 
--- true if the operation in progress is known
+-- true if the operation isn't `Unknown`
 abbrev pub is_known_running : Running → Bool
 is_known_running Unknown = false
 is_known_running _ = true
 
--- The page or erase block of the operation in progress lies on the chip, and the old status bits that a status write
--- holds are in range.
+-- Holds if the page or erase block of the operation lies on a chip of `size` bytes, and if the non-volatile bits that a
+-- status write carries from before it are in range.
 pub record RunsInside (size : ℕ) (running : Running) : Type 0 where
   pub page : (p : ℕ) → running ≡ Program p → 256 * p + 256 ≤ size
   pub unit : (start len : ℕ) → running ≡ Erase start len → start + len ≤ size
   pub kept1 : (one two : ℕ) → running ≡ StatusWrite one two → one < 64
   pub kept2 : (one two : ℕ) → running ≡ StatusWrite one two → two < 128
 
--- The non-volatile status bits of a chip that lost its power during this operation. During a status write, they are
--- those that the write set, or those from before it. During a program or an erase, they stay. During an unknown
--- operation, they may change in any way.
+-- The non-volatile status bits after a power failure during the operation, which were `old` just before the failure.
+-- During a status write, `old` are the bits that the write set; after the failure they are still set, or are as before
+-- the write. During a program or an erase, the bits stay. During an unknown operation, they may change in any way.
 abbrev pub KeptCut : Running → (old new : KeptBits) → Type 0
 KeptCut (StatusWrite one two) old new = (new ≡ old) ⊎ (new ≡ record { one = one; two = two })
 KeptCut Unknown old new = ⊤
 KeptCut _ old new = new ≡ old
 
--- The chip lost its power: its configuration is as it was, the write enable latch is clear, and nothing runs. An idle
--- chip keeps its bytes and its non-volatile bits. On a busy chip, each byte that the operation works on may have any
--- value, and all other bytes are as they were. `KeptCut` describes the non-volatile bits of a busy chip.
+-- The effect of a power failure. The configuration is as it was, the write enable latch is clear, and no operation is
+-- in progress. An idle chip keeps its bytes and its non-volatile bits. On a busy chip, each byte on which the operation
+-- works may have any value, and all other bytes are as they were. `KeptCut` describes the non-volatile bits of a busy
+-- chip.
 pub record PowerLost (old new : Chip) : Type 0 where
   pub config : new.config ≡ old.config
   pub latch : new.latch ≡ false
@@ -43,17 +44,19 @@ pub record PowerLost (old new : Chip) : Type 0 where
   pub kept : KeptCut old.running old.kept new.kept
   pub idle : old.busy ≡ 0 → IsSame old new
 
--- true if a known operation is in progress and works on the address `a`
+-- true if `chip` is busy with a known operation that works on the address `a`
 abbrev pub is_interrupted : Chip → ℕ → Bool
 is_interrupted chip a = not (chip.busy == 0) && is_known_running chip.running && is_in_work chip.running a
 
--- the non-volatile status bits: those from before the operation if `running` is a status write, otherwise the chip's
+-- the non-volatile status bits from before the operation: those that `running` carries if it is a status write,
+-- otherwise those of the chip
 abbrev pub kept_before : Chip → KeptBits
 kept_before chip = elim chip.running [ StatusWrite one two ↦ record { one = one; two = two } | _ ↦ chip.kept ]
 
--- The power failure of a simulated chip, which is idle afterwards, with a clear write enable latch. If the chip was
--- busy, each byte that its operation worked on is `fill`; a status write was undone if `fill` is even, and completed if
--- it is odd. If the chip was idle or its operation is unknown, bytes and non-volatile bits are as they were.
+-- The effect of a power failure on a simulated chip, which is then idle with a clear write enable latch. If the chip
+-- was busy, each byte on which its operation worked is `fill`. A status write in progress is undone if `fill` is even,
+-- and completed if it is odd. If the chip was idle or its operation is unknown, bytes and non-volatile bits are as they
+-- were.
 pub record PowerLostWith (fill : ℕ) (old new : Chip) : Type 0 where
   pub config : new.config ≡ old.config
   pub latch : new.latch ≡ false

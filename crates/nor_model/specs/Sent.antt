@@ -1,33 +1,35 @@
--- The transactions over a bus that may modify a chip: modifying commands, and transactions that the model does not
--- know. Whether a transaction is one of these depends only on the bytes that it sends, even if the chip ignores it.
--- (W25Q64FV datasheet, instruction set table.)
+-- The transactions that may modify a chip: modifying commands, and transactions that the model does not know. Whether a
+-- transaction is one of them depends only on the bytes that it sends, not on whether the chip carries it out. (W25Q64FV
+-- datasheet, instruction set table.)
 use Rattle.std.specs.Prelude.{◌≡◌, ◌+◌, ◌*◌, ◌/◌, ◌==◌, ◌&&◌, ◌||◌, not, ℕ, Bool, true, false, List, [], ◌∷◌, nat_le, nat_lt, if◌then◌else◌}
 use Rattle.nor_model.specs.Exchange.{Exchange}
 use Rattle.nor_model.specs.Command.{begins_change, begins_quiet, is_change, is_erase_opcode}
 
--- consecutive sectors: the first of them, and their number
+-- A range of consecutive sectors.
 pub record TargetedSectors : Type 0 where
+  -- The first sector.
   pub first : ℕ
+  -- The number of sectors.
   pub count : ℕ
 
 -- all 4,096 sectors that a 24-bit address can lie in
 abbrev pub all_targeted : TargetedSectors
 all_targeted = record { first = 0; count = 4096 }
 
--- no sector
+-- an empty range of sectors
 abbrev pub none_targeted : TargetedSectors
 none_targeted = record { first = 0; count = 0 }
 
--- the aligned block of `count` sectors that contains this sector
+-- the aligned block of `count` sectors that contains `sector`
 abbrev pub block_targeted : (count sector : ℕ) → TargetedSectors
 block_targeted count sector = record { first = sector / count * count; count = count }
 
--- the sectors that an opcode targets if it is sent without an address: all for C7h (chip erase), none for any other
--- opcode
+-- The sectors that a transaction targets if it sends `opcode` without an address: all of them for C7h (chip erase),
+-- none for any other opcode.
 abbrev pub bare_targeted : (opcode : ℕ) → TargetedSectors
 bare_targeted opcode = if opcode == 0xC7 then all_targeted else none_targeted
 
--- the sectors that an opcode targets if it is sent with an address in this sector
+-- the sectors that a transaction targets if it sends `opcode` with an address that lies in `sector`
 abbrev pub addressed_targeted : (opcode sector : ℕ) → TargetedSectors
 addressed_targeted opcode sector =
     if opcode == 0x02 || opcode == 0x20 then block_targeted 1 sector
@@ -35,7 +37,7 @@ addressed_targeted opcode sector =
     else if opcode == 0xD8 then block_targeted 16 sector
     else bare_targeted opcode
 
--- the sectors that a transaction targets with an erase or a program, by the bytes `out` that it sends
+-- the sectors that a transaction that sends `out` targets with an erase or a program
 abbrev pub targeted_by : (out : List ℕ) → TargetedSectors
 targeted_by [] = none_targeted
 targeted_by (opcode ∷ []) = bare_targeted opcode
@@ -43,7 +45,7 @@ targeted_by (opcode ∷ x ∷ []) = bare_targeted opcode
 targeted_by (opcode ∷ x ∷ y ∷ []) = bare_targeted opcode
 targeted_by (opcode ∷ x ∷ y ∷ z ∷ rest) = addressed_targeted opcode ((65536 * x + 256 * y + z) / 4096)
 
--- true if the sector `s` is one of these consecutive sectors
+-- true if the sector `s` is in the range `sectors`
 abbrev pub is_in_targeted : TargetedSectors → ℕ → Bool
 is_in_targeted sectors s = nat_le sectors.first s && nat_lt s (sectors.first + sectors.count)
 
@@ -51,49 +53,49 @@ is_in_targeted sectors s = nat_le sectors.first s && nat_lt s (sectors.first + s
 abbrev pub targets : (out : List ℕ) → ℕ → Bool
 targets out s = is_in_targeted (targeted_by out) s
 
--- true if the transaction begins with the opcode of an erase
+-- true if `out` begins with the opcode of an erase
 abbrev pub begins_erase : (out : List ℕ) → Bool
 begins_erase [] = false
 begins_erase (opcode ∷ rest) = is_erase_opcode opcode
 
--- true if the transaction begins with the opcode of a page program
+-- true if `out` begins with the opcode of a page program
 abbrev pub begins_program : (out : List ℕ) → Bool
 begins_program [] = false
 begins_program (opcode ∷ rest) = opcode == 0x02
 
--- true if the transaction begins with the opcode of a status write
+-- true if `out` begins with the opcode of a status write
 abbrev pub begins_status_write : (out : List ℕ) → Bool
 begins_status_write [] = false
 begins_status_write (opcode ∷ rest) = opcode == 0x01
 
--- true if the transaction is a status write with exactly these two bytes
+-- true if `out` is a status write with exactly the bytes `one` and `two`
 abbrev pub writes_status : (out : List ℕ) → (one two : ℕ) → Bool
 writes_status (opcode ∷ x ∷ y ∷ []) one two = opcode == 0x01 && x == one && y == two
 writes_status _ one two = false
 
--- True if the model does not know the transaction. The model knows each transaction that sends nothing, that begins
--- with a quiet opcode, or that has the form of a modifying command. A real chip may carry out others: 60h erases the
--- chip, 31h writes status 2, and 01h with one data byte clears bits of status 2.
+-- True if the model does not know a transaction that sends `out`. The model knows each transaction that sends nothing,
+-- that begins with a quiet opcode, or that has the form of a modifying command. A real chip may carry out others: 60h
+-- erases the chip, 31h writes status 2, and 01h with one data byte clears bits of status 2.
 abbrev pub is_unknown_to_model : (out : List ℕ) → Bool
 is_unknown_to_model out = not (begins_quiet out || is_change out)
 
--- ---- what was sent
+-- ---- the list of transactions that may modify a chip
 
--- the bytes of each transaction that was sent, or that the bus was asked to send, except for those that are empty or
--- begin with a quiet opcode; the last one first
+-- The bytes of each transaction that the bus was asked to send, the last one first. Transactions that send nothing or
+-- begin with a quiet opcode are left out.
 abbrev pub Sent : Type 0
 Sent = List (List ℕ)
 
--- the list `Sent` after one more transaction, which sends `out`
+-- the list `before` with one more transaction, which sends `out`
 abbrev pub with_sent : (out : List ℕ) → Sent → Sent
 with_sent out before = if begins_quiet out then before else out ∷ before
 
--- the list `Sent` of a history
+-- the list `Sent` that belongs to a history
 abbrev pub sent_in : List Exchange → Sent
 sent_in [] = []
 sent_in (exchange ∷ earlier) = with_sent exchange.out (sent_in earlier)
 
--- true if some transaction of the list `Sent` satisfies the test `is`
+-- true if some transaction of the list satisfies `is`
 abbrev pub has_sent : (is : List ℕ → Bool) → Sent → Bool
 has_sent is [] = false
 has_sent is (out ∷ before) = has_sent is before || is out
@@ -102,41 +104,42 @@ has_sent is (out ∷ before) = has_sent is before || is out
 abbrev pub counted_once : (is : Bool) → (before : ℕ) → ℕ
 counted_once is before = if is then before + 1 else before
 
--- the number of transactions of the list `Sent` that satisfy the test `is`
+-- the number of transactions of the list that satisfy `is`
 abbrev pub times_sent : (is : List ℕ → Bool) → Sent → ℕ
 times_sent is [] = 0
 times_sent is (out ∷ before) = counted_once (is out) (times_sent is before)
 
--- true if a transaction was sent that begins with a modifying opcode
+-- true if some transaction of the list begins with a modifying opcode
 abbrev pub is_stirred : Sent → Bool
 is_stirred sent = has_sent begins_change sent
 
--- true if a transaction was sent that the model does not know
+-- true if the model does not know some transaction of the list
 abbrev pub has_unknown : Sent → Bool
 has_unknown sent = has_sent is_unknown_to_model sent
 
--- true if a transaction was sent that targets the sector `s` with an erase or a program
+-- true if some transaction of the list targets the sector `s` with an erase or a program
 abbrev pub is_targeted : Sent → ℕ → Bool
 is_targeted sent s = has_sent (λ (out : List ℕ). targets out s) sent
 
--- true if a status write with these two bytes was sent
+-- true if some transaction of the list is a status write with the bytes `one` and `two`
 abbrev pub has_written : Sent → (one two : ℕ) → Bool
 has_written sent one two = has_sent (λ (out : List ℕ). writes_status out one two) sent
 
--- the number of transactions that were sent and begin with the opcode of an erase
+-- the number of transactions of the list that begin with the opcode of an erase
 abbrev pub erases_of : Sent → ℕ
 erases_of sent = times_sent begins_erase sent
 
--- the number of transactions that were sent and begin with the opcode of a page program
+-- the number of transactions of the list that begin with the opcode of a page program
 abbrev pub programs_of : Sent → ℕ
 programs_of sent = times_sent begins_program sent
 
--- the number of transactions that were sent and begin with the opcode of a status write
+-- the number of transactions of the list that begin with the opcode of a status write
 abbrev pub status_writes_of : Sent → ℕ
 status_writes_of sent = times_sent begins_status_write sent
 
--- The effect of one transaction that sends `out` on each property of the list `Sent`, which is `old` before the
--- transaction and `new` after it. A transaction that is empty or begins with a quiet opcode leaves the list as it was.
+-- The effect of one transaction, which sends `out`, on each property of the list `Sent`. The list is `old` before the
+-- transaction and `new` after it. A transaction that sends nothing or begins with a quiet opcode leaves the list as it
+-- was.
 pub record RecordsSent (out : List ℕ) (old new : Sent) : Type 0 where
   pub quiet : begins_quiet out ≡ true → new ≡ old
   pub stirred : is_stirred new ≡ (is_stirred old || begins_change out)

@@ -1,7 +1,7 @@
--- One step of the chip: the reply to a transaction that is carried out, and its effect. (W25Q64FV datasheet,
--- instruction descriptions.) In this model an operation has its whole effect at once, and the chip is then busy for any
--- number of polls below 65,536. While it is busy, it carries out only status reads, so no read of data shows when the
--- effect took place.
+-- One step of the chip: its reply to a transaction that is carried out, and the effect on the chip. (W25Q64FV
+-- datasheet, instruction descriptions.) In this model an operation has its whole effect at once, and the chip is then
+-- busy for any number of polls below 65,536. While the chip is busy, it carries out only status reads, so no read of
+-- data shows when the effect took place.
 use Rattle.std.specs.Prelude.{◌≡◌, ◌<◌, ◌+◌, ◌-◌, ◌*◌, ◌/◌, ◌%◌, ◌==◌, ◌&&◌, ℕ, Bool, true, false, not, Option, None, Some, List, [], ◌∷◌, length, drop, slice_index, slice_index_or, bit_and, bit_or, nat_lt, nat_le, if◌then◌else◌}
 use Rattle.nor_model.specs.declared.command.Command.{Command}
 use Rattle.nor_model.specs.declared.command.Command.TheVariants.{WriteEnable, WriteDisable, Poll, ReadStatus2, WriteStatus, Program, Erase, ReadData, ReadId, ReadSfdp, ReadUnique, Ignored}
@@ -11,14 +11,14 @@ use Rattle.nor_model.specs.Chip.{Chip, KeptBits, status1_of, status2_of, is_lock
 use Rattle.nor_model.specs.Guard.{is_protected, is_block_protected}
 use Rattle.nor_model.specs.Command.{command_of}
 
--- true if no operation is running
+-- true if no operation is in progress
 abbrev pub is_idle : Chip → Bool
 is_idle chip = chip.busy == 0
 
 -- True if the chip carries the command out. A busy chip carries out only the two status reads. An operation also needs
--- the write enable latch set; a status write needs SRP0 and SRP1 clear. A program or an erase is ignored if an address
--- that it covers is protected. For a program one address is tested: protected ranges begin and end at whole KiB, and a
--- program stays within one page of 256 bytes.
+-- the write enable latch to be set, and a status write needs SRP0 and SRP1 to be clear. A program or an erase is
+-- ignored if some address that it covers is protected. For a program only the address `at` is tested. This is enough,
+-- because protected ranges begin and end at whole KiB, and a program stays within one page of 256 bytes.
 abbrev pub is_carried_out : Chip → Command → Bool
 is_carried_out chip Poll = true
 is_carried_out chip ReadStatus2 = true
@@ -28,14 +28,14 @@ is_carried_out chip (Erase start len) = is_idle chip && chip.latch && not (is_bl
 is_carried_out chip Ignored = false
 is_carried_out chip _ = is_idle chip
 
--- the command that the chip carries out at a transaction that sends `out` and reads `replies` bytes, or `Ignored` if it
--- carries out none
+-- The command that the chip carries out for a transaction that sends `out` and reads `replies` bytes, or `Ignored` if
+-- the chip carries out none.
 abbrev pub done_of : Chip → (out : List ℕ) → (replies : ℕ) → Command
 done_of chip out replies =
     let command = command_of chip.config out replies in if is_carried_out chip command then command else Ignored
 
--- The reply byte with index `i`. A read of data continues at address 0 after the chip's end. Past the end of the ID, of
--- the SFDP bytes and of the unique ID, and for a command that reads nothing, the reply is FFh.
+-- Byte `i` of the reply to the command. A read of data that reaches the end of the chip continues at address 0. The
+-- reply is FFh past the end of the ID, of the SFDP bytes or of the unique ID, and for a command that reads nothing.
 abbrev pub reply_byte : Chip → Command → (i : ℕ) → ℕ
 reply_byte chip Poll i = status1_of chip
 reply_byte chip ReadStatus2 i = status2_of chip
@@ -45,9 +45,9 @@ reply_byte chip (ReadSfdp at) i = sfdp_byte chip.config (at + i)
 reply_byte chip ReadUnique i = slice_index_or chip.config.unique i 255
 reply_byte chip _ i = 255
 
--- The last byte sent for the address `a` of the page of `at`, or `None` if no byte is sent for it. The first byte sent
--- is for the address `at`, each further one for the next address; after the last address of the page comes its first
--- one.
+-- The last byte of `sent` that a program at the address `at` stores at the address `a` of the same page, or `None` if
+-- it stores no byte there. The first byte is for `at`, and each further byte for the next address. After the last
+-- address of the page, the program continues at the first address of the page.
 unfoldable pub last_for : (at : ℕ) → (sent : List ℕ) → (a : ℕ) → Option ℕ
 last_for at [] a = None
 last_for at (byte ∷ sent) a = elim (last_for (at + 1) sent a) [
@@ -55,33 +55,33 @@ last_for at (byte ∷ sent) a = elim (last_for (at + 1) sent a) [
   | None ↦ (if at % 256 == a % 256 then Some byte else None)
 ]
 
--- the byte `old` after a program: ANDed with the byte that was sent for its address, or unchanged if no byte was sent
--- for it
+-- The byte `old` after a program: ANDed with the byte that was sent for its address, or unchanged if no byte was sent
+-- for this address.
 abbrev pub lowered : (old : ℕ) → Option ℕ → ℕ
 lowered old None = old
 lowered old (Some byte) = bit_and old byte
 
--- the byte at the address `a` after the command; `sent` is the data of a program
+-- the byte at the address `a` after the command; `sent` has the data of a program
 abbrev pub byte_after : Chip → Command → (sent : List ℕ) → (a : ℕ) → ℕ
 byte_after chip (Program at) sent a =
     if a / 256 == at / 256 then lowered (chip.bytes a) (last_for at sent a) else chip.bytes a
 byte_after chip (Erase start len) sent a = if nat_le start a && nat_lt a (start + len) then 255 else chip.bytes a
 byte_after chip _ sent a = chip.bytes a
 
--- CMP, QE and SRP1 in status 2
+-- the mask of CMP, QE and SRP1 in status 2
 abbrev pub cmp_qe_srp1 : ℕ
 cmp_qe_srp1 = 0b1000011
 
--- the one-time bits LB3, LB2 and LB1 in status 2
+-- the mask of the one-time programmable bits LB3, LB2 and LB1 in status 2
 abbrev pub lb3_to_lb1 : ℕ
 lb3_to_lb1 = 0b0111000
 
--- LB3, LB2, LB1 and the reserved bit in status 2
+-- the mask of LB3, LB2, LB1 and the reserved bit in status 2
 abbrev pub lb3_to_reserved : ℕ
 lb3_to_reserved = 0b0111100
 
--- The non-volatile status bits after the command. A status write sets BP, TB, SEC, SRP0, SRP1, QE and CMP as sent. It
--- can set an LB bit but not clear it, and does not change the reserved bit.
+-- The non-volatile status bits after the command. A status write sets BP, TB, SEC, SRP0, SRP1, QE and CMP to the values
+-- sent. A status write can set an LB bit but not clear it, and does not change the reserved bit.
 abbrev pub kept_after : Chip → Command → KeptBits
 kept_after chip (WriteStatus one two) = record {
   one = one / 4;
@@ -89,15 +89,15 @@ kept_after chip (WriteStatus one two) = record {
 }
 kept_after chip _ = chip.kept
 
--- true if the command is an operation, after which the chip may be busy
+-- true if the command is an operation, which may leave the chip busy
 abbrev pub is_operation : Command → Bool
 is_operation (WriteStatus one two) = true
 is_operation (Program at) = true
 is_operation (Erase start len) = true
 is_operation _ = false
 
--- `busy` after the command: any number below 65,536 after an operation, one less after a poll (0 stays 0), otherwise
--- unchanged
+-- Holds if `busy` may be the number of polls that will still show BUSY after the command: any number below 65,536 after
+-- an operation, one less than before after a poll (0 stays 0), and otherwise the number from before.
 abbrev pub BusyAfter : Chip → Command → (busy : ℕ) → Type 0
 BusyAfter chip (WriteStatus one two) busy = busy < 65536
 BusyAfter chip (Program at) busy = busy < 65536
@@ -105,8 +105,9 @@ BusyAfter chip (Erase start len) busy = busy < 65536
 BusyAfter chip Poll busy = busy ≡ chip.busy - 1
 BusyAfter chip _ busy = busy ≡ chip.busy
 
--- The write enable latch after a command that leaves the chip with this `busy`. 06h sets the latch, and 04h clears it.
--- An operation clears it when it ends: at once if `busy` is 0, otherwise with the poll that shows the last BUSY.
+-- The write enable latch after the command, if the chip then shows BUSY for `busy` polls. 06h sets the latch, and 04h
+-- clears it. An operation clears the latch when it ends: at once if `busy` is 0, otherwise at the poll that shows the
+-- last BUSY.
 abbrev pub latch_after : Chip → Command → (busy : ℕ) → Bool
 latch_after chip WriteEnable busy = true
 latch_after chip WriteDisable busy = false
@@ -116,14 +117,15 @@ latch_after chip (Erase start len) busy = not (busy == 0)
 latch_after chip Poll busy = if chip.busy == 1 then false else chip.latch
 latch_after chip _ busy = chip.latch
 
--- the operation in progress after the command: the command, if it is an operation, otherwise the one from before
+-- The operation in progress after the command: the command itself if it is an operation, otherwise the operation from
+-- before.
 abbrev pub running_after : Chip → Command → Running
 running_after chip (WriteStatus one two) = Runs.StatusWrite chip.kept.one chip.kept.two
 running_after chip (Program at) = Runs.Program (at / 256)
 running_after chip (Erase start len) = Runs.Erase start len
 running_after chip _ = chip.running
 
--- The effect of a command that is carried out, or of `Ignored`: its reply, and the chip after it.
+-- The effect of a command that is carried out, or of `Ignored`: its reply `answer`, and the chip `new` after it.
 pub record Does (command : Command) (sent : List ℕ) (old : Chip) (answer : List ℕ) (new : Chip) : Type 0 where
   pub replies : (i : ℕ) → i < length answer → slice_index answer i ≡ reply_byte old command i
   pub config : new.config ≡ old.config
@@ -133,11 +135,12 @@ pub record Does (command : Command) (sent : List ℕ) (old : Chip) (answer : Lis
   pub latch : new.latch ≡ latch_after old command new.busy
   pub running : new.running ≡ running_after old command
 
--- One step of the chip: `out` was sent and `answer` received. The data of a program follow its three address bytes.
+-- Holds if a transaction that sent `out` and received `answer` took the chip from `old` to `new`. The data of a program
+-- follow the opcode and the three address bytes, so they begin at byte 4.
 abbrev pub Step : (old : Chip) → (out answer : List ℕ) → (new : Chip) → Type 0
 Step old out answer new = Does (done_of old out (length answer)) (drop 4 out) old answer new
 
--- true if the command is an erase of an erase block that holds this sector
+-- true if the command erases `sector`: it is an erase, and the sector begins in the range that it erases
 abbrev pub wears : Command → (sector : ℕ) → Bool
 wears (Erase start len) sector = nat_le start (4096 * sector) && nat_lt (4096 * sector) (start + len)
 wears _ sector = false

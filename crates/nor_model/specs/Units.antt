@@ -1,25 +1,25 @@
--- Tests of addresses that are true in one range at an end of the chip, such as the test whether an address is
+-- Tests of addresses that hold in one range at one end of a chip. An example is the test whether an address is
 -- protected.
 use Rattle.std.specs.Prelude.{◌≡◌, ◌<◌, ◌≤◌, ◌+◌, ◌%◌, ◌⊎◌, ℕ, Bool, true, nat_lt, nat_le}
 
--- The test holds at some address from `start` to `start + len - 1`.
+-- Holds if `test` is true for some address from `start` to `start + len - 1`.
 pub record HoldsSomewhere (test : ℕ → Bool) (start len : ℕ) : Type 0 where
   pub place : ℕ
   pub from : start ≤ place
   pub before : place < start + len
   pub holds : test place ≡ true
 
--- among the addresses of the chip, the test holds exactly at those below the border
+-- holds if, among the addresses below `size`, `test` is true exactly for those below `border`
 abbrev pub OnFirst : ℕ → (ℕ → Bool) → ℕ → Type 0
 OnFirst size test border = (a : ℕ) → a < size → test a ≡ nat_lt a border
 
--- among the addresses of the chip, the test holds exactly at those from the border on
+-- holds if, among the addresses below `size`, `test` is true exactly for those from `border` on
 abbrev pub OnLast : ℕ → (ℕ → Bool) → ℕ → Type 0
 OnLast size test border = (a : ℕ) → a < size → test a ≡ nat_le border a
 
--- The test holds on one side of a border and nowhere else on the chip: at each address below the border, or at each
--- address of the chip from the border on. The border is a multiple of 1 KiB. If the chip's size is a multiple of 256
--- KiB, the border is a multiple of 4 KiB (a sector).
+-- Holds if, on a chip of `size` bytes, `test` is true on one side of a border and false on the other: exactly for the
+-- addresses below the border, or exactly for those from the border on. The border is a multiple of 1 KiB. If the size
+-- is a multiple of 256 KiB, the border is a multiple of 4 KiB (a sector).
 pub record LieAtAnEnd (size : ℕ) (test : ℕ → Bool) : Type 0 where
   pub border : ℕ
   pub within : border ≤ size

@@ -1,13 +1,13 @@
-//! The properties of a chip that never change, and those of the emulated chips.
+//! The properties of a chip that never change, and these properties of the emulated chips.
 ghost use Rattle.std.specs.Prelude.{◌≡◌, ◌≤◌, ◌-◌, ◌*◌, ◌++◌, ◌↔◌, true, length, replicate, IsTrue, IsSome, IfSome};
 ghost use Rattle.nor_model.specs.Size.{is_chip_size};
 ghost use Rattle.nor_model.specs.Sfdp.{sfdp_with};
 
 use nor_geometry::is_chip_size;
 
-/// The SFDP bytes of `TINY64`, from address 0: the header, one parameter header, and double words 1 to 9 of the basic
-/// flash parameter table (JESD216). The other emulated chips have the same bytes, except for the size in double word 2.
-/// These bytes were made for this project; a real Winbond chip has others.
+/// The SFDP bytes of `TINY64`, from address 0 on: the header, one parameter header, and double words 1 to 9 of the
+/// basic flash parameter table (JESD216). The other emulated chips have the same bytes, except for the size in double
+/// word 2. These bytes were made for this project; a real Winbond chip has others.
 pub const TINY64_SFDP: [u8; 52] = [
     0x53, 0x46, 0x44, 0x50, 0x00, 0x01, 0x00, 0xFF, // signature, revision 1.0, one header
     0x00, 0x00, 0x01, 0x09, 0x10, 0x00, 0x00, 0xFF, // basic table, nine double words, at 10h
@@ -19,7 +19,7 @@ pub const TINY64_SFDP: [u8; 52] = [
     0x10, 0xD8, 0x00, 0x00, // 9: erases of 64 KiB
 ];
 
-/// The erase types of a chip in addition to 4 KiB (20h) and the whole chip (C7h), which every chip has.
+/// The erase types that a chip has in addition to 4 KiB (20h) and the whole chip (C7h). Every chip has these two.
 #[derive(Clone, Copy, Debug, PartialEq, Eq)]
 pub struct Kinds {
     /// True if 52h erases 32 KiB.
@@ -34,15 +34,20 @@ pub const ALL_KINDS: Kinds = Kinds {
     k64: true,
 };
 
-/// The properties of a chip that never change: the ID (9Fh), the size in bytes, the erase types, whether the chip has
-/// block protection (`scheme`), the unique ID (4Bh), and the SFDP bytes. Past these 256 bytes, the SFDP reads as FFh.
+/// The properties of a chip that never change.
 #[derive(Clone, Copy)]
 pub struct Config {
+    /// The ID, which 9Fh reads.
     pub id: [u8; 3],
+    /// The size in bytes, a power of two from 65,536 to 16,777,216.
     pub size: u32,
+    /// The erase types in addition to 4 KiB and the whole chip.
     pub kinds: Kinds,
+    /// True if the chip has block protection.
     pub scheme: bool,
+    /// The unique ID, which 4Bh reads.
     pub unique: [u8; 8],
+    /// The first 256 SFDP bytes. 5Ah reads all later ones as FFh.
     pub sfdp: [u8; 256],
     pub ghost sized: { IsTrue (is_chip_size size) },
 }
@@ -50,8 +55,8 @@ pub struct Config {
 impl Config {
     ghost use Rattle.nor_model.specs.Makers.{HasParts, IsEmulatedWith, IsTiny64, IsW25q64fv, IsW25q128fv};
 
-    /// Returns a configuration with these properties and a unique ID of zeros; `sfdp` has the SFDP bytes from address
-    /// 0, and is padded with FFh to 256 bytes. The function allocates no memory.
+    /// Returns a configuration with these properties and a unique ID of zeros. `sfdp` has the SFDP bytes from address 0
+    /// on, and is padded with FFh to 256 bytes. The function allocates no memory.
     ///
     /// Returns `None` if the size is not a power of two from 65,536 to 16,777,216, or if there are more than 256 SFDP
     /// bytes.
@@ -80,7 +85,7 @@ impl Config {
     }
 
     /// Returns the emulated chip `TINY64`: 64 KiB, ID `FE 10 10`, all erase types, no block protection. The table of
-    /// chips has no row for its ID; only its SFDP bytes describe the chip.
+    /// chips has no row for this ID, so a probe identifies the chip by its SFDP bytes.
     pub fn tiny64() -> Config
         ensures { IsTiny64 result }
     {
@@ -103,8 +108,9 @@ impl Config {
         Self::emulated([0xEF, 0x40, 0x18], 16_777_216, ALL_KINDS, true)
     }
 
-    /// Returns the emulated chip with these properties. Its unique ID is zero. Its SFDP bytes describe this size and
-    /// all erase types, even those that `kinds` lacks. The size must be a power of two from 65,536 to 16,777,216.
+    /// Returns an emulated chip with the given properties. Its unique ID is zero. Its SFDP bytes describe the given
+    /// size and all erase types, even those that `kinds` lacks. `size` must be a power of two from 65,536 to
+    /// 16,777,216.
     pub fn emulated(id: [u8; 3], size: u32, kinds: Kinds, scheme: bool) -> Config
         requires { IsTrue (is_chip_size size) }
         ensures { IsEmulatedWith id size kinds scheme result }
@@ -119,7 +125,7 @@ impl Config {
         }
     }
 
-    /// Returns this configuration with its unique ID replaced. (W25Q64FV datasheet, Read Unique ID Number.)
+    /// Returns this configuration with its unique ID replaced by `unique`. (W25Q64FV datasheet, Read Unique ID Number.)
     pub fn with_unique(self, unique: [u8; 8]) -> Config
         ensures { result ≡ record self { unique = unique } }
     {
@@ -129,7 +135,7 @@ impl Config {
     }
 }
 
-// Returns the SFDP bytes of an emulated chip of this size.
+// Returns the SFDP bytes of an emulated chip with `size` bytes.
 fn sfdp_of(size: u32) -> [u8; 52]
     requires { IsTrue (is_chip_size size) }
     ensures { result ≡ sfdp_with (8 * size - 1) }
@@ -139,7 +145,7 @@ fn sfdp_of(size: u32) -> [u8; 52]
     bytes
 }
 
-// Returns the SFDP bytes, of which there must be at most 256, padded with FFh to 256 bytes.
+// Returns `sfdp`, which must have at most 256 bytes, padded with FFh to 256 bytes.
 fn padded(sfdp: &[u8]) -> [u8; 256]
     requires { length sfdp.now ≤ 256 }
     ensures { result ≡ sfdp.now ++ replicate (256 - length sfdp.now) 255 }

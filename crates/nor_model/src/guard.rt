@@ -1,5 +1,5 @@
 //! The addresses that the block protection bits protect from programs and erases. (W25Q64FV and W25Q128FV datasheets,
-//! status register memory protection.)
+//! status register memory protection.) A *code* is a value of the six protection bits.
 ghost use Rattle.std.specs.Prelude.{◌≡◌, ◌≤◌, ◌<◌, ◌+◌, ◌-◌, ◌*◌, ◌/◌, ◌%◌, ◌==◌, ◌||◌, ◌↔◌, ℕ, true, false, if◌then◌else◌, IsTrue, IfSome, IfNone, MatchOption};
 ghost use Rattle.nor_model.specs.Chip.{kept_in};
 ghost use Rattle.nor_model.specs.Size.{is_chip_size};
@@ -14,45 +14,45 @@ use walk::Offered;
 
 pub(crate) mod walk;
 
-// The number of protection codes. A code has six bits: CMP, SEC, TB, BP2, BP1 and BP0, the highest first.
+// The number of codes. A code consists of the bits CMP, SEC, TB, BP2, BP1 and BP0, the highest first.
 const CODES: u8 = 64;
 
-// A range of addresses: the first one, and the length in bytes.
+// A range of addresses, given by its first address and its length in bytes.
 #[derive(Clone, Copy)]
 struct AddressRange {
     start: u32,
     len: u32,
 }
 
-// True if TB is set: the selected range is at the start of the chip, not at the end.
+// Returns whether TB is set. Then the selected range is at the start of the chip, otherwise at the end.
 fn is_bottom(code: u8) -> bool
     ensures { result ≡ is_bottom code }
 {
     code / 8 % 2 == 1
 }
 
-// True if SEC is set: BP counts sectors, not blocks.
+// Returns whether SEC is set. Then BP 001 to 101 select 4 to 32 KiB, otherwise a fraction of the chip.
 fn is_sector(code: u8) -> bool
     ensures { result ≡ names_sectors code }
 {
     code / 16 % 2 == 1
 }
 
-// True if CMP is set: the protected addresses are those outside the selected range, if the code is defined.
+// Returns whether CMP is set. Then a code that is defined protects the addresses outside the selected range.
 fn is_complement(code: u8) -> bool
     ensures { result ≡ is_complement code }
 {
     code / 32 % 2 == 1
 }
 
-// True if the datasheets don't define the code.
+// Returns whether the datasheets leave this code undefined.
 pub(crate) fn is_undefined(code: u8) -> bool
     ensures { result ≡ is_undefined code }
 {
     is_sector(code) && code % 8 == 6
 }
 
-// Returns the length in bytes of the range that the code selects at one end of the chip.
+// Returns the length in bytes of the range that `code` selects at one end of a chip of `size` bytes.
 fn named_length(size: u32, code: u8) -> u32
     ensures { result ≡ named_length size code }
 {
@@ -69,8 +69,8 @@ fn named_length(size: u32, code: u8) -> u32
     }
 }
 
-// True if the address is in the range that the code selects. At the end of the chip that includes addresses past the
-// end.
+// Returns whether the address `at` is in the range that `code` selects. A range at the end of the chip includes all
+// addresses past the end.
 fn is_named(size: u32, code: u8, at: u32) -> bool
     ensures { result ≡ is_address_named size code at }
 {
@@ -82,8 +82,9 @@ fn is_named(size: u32, code: u8, at: u32) -> bool
     }
 }
 
-/// Returns whether the protection bits `code` protect this address, on a chip of this size that has block protection.
-/// Bits that the datasheets don't define protect every address of the chip. An address past the end is not protected.
+/// Returns whether the protection bits `code` protect the address `at`, on a chip of `size` bytes that has block
+/// protection. A code that the datasheets don't define protects every address of the chip. An address past the end is
+/// not protected.
 #[tactic(auto, unfolding(crate::specs::Guard::protected_by))]
 pub fn is_protected(size: u32, code: u8, at: u32) -> bool
     ensures { result ≡ protected_by size code at }
@@ -91,11 +92,12 @@ pub fn is_protected(size: u32, code: u8, at: u32) -> bool
     at < size && (is_undefined(code) || is_named(size, code, at) != is_complement(code))
 }
 
-/// Returns whether these two status bytes protect this address, on a chip of this size that has block protection.
-/// `size` must be a power of two from 65,536 to 16,777,216. An address past the end is not protected.
+/// Returns whether the protection bits in the two status bytes protect the address `at`, on a chip of `size` bytes that
+/// has block protection. `size` must be a power of two from 65,536 to 16,777,216. An address past the end is not
+/// protected.
 ///
-/// The protected addresses are at one end of the chip. If one address of a page is protected, all are; the chip then
-/// ignores every program of that page.
+/// The protected addresses are at one end of the chip. If one address of a page is protected, all addresses of the page
+/// are, so the chip ignores every program of that page.
 pub fn protected(status: [u8; 2], size: u32, at: u32) -> bool
     requires { IsTrue (is_chip_size size) }
     ensures value { result ≡ protected_by size (code_of (kept_in status)) at }
@@ -106,12 +108,13 @@ pub fn protected(status: [u8; 2], size: u32, at: u32) -> bool
     is_protected(size, Status::of(status).code(), at)
 }
 
-/// Returns whether these two status bytes protect some address from `start` to `start + len - 1`, on a chip of this
-/// size that has block protection. If that range is an erase block with a protected address, the chip ignores its
-/// erase. The range must not be empty and must lie on the chip, and `size` must be a power of two from 65,536 to
-/// 16,777,216.
+/// Returns whether the protection bits in the two status bytes protect some address from `start` to `start + len - 1`,
+/// on a chip of `size` bytes that has block protection. A chip ignores the erase of a block if this function returns
+/// true for the block. The range must not be empty and must lie on the chip, and `size` must be a power of two from
+/// 65,536 to 16,777,216.
 ///
-/// Only the first and the last address are tested, because the protected addresses are at one end of the chip.
+/// The function tests only the first and the last address. This is enough, because the protected addresses are at one
+/// end of the chip.
 pub fn unit_protected(status: [u8; 2], size: u32, start: u32, len: u32) -> bool
     requires sized { IsTrue (is_chip_size size) }
     requires some { 0 < len }
@@ -123,7 +126,7 @@ pub fn unit_protected(status: [u8; 2], size: u32, start: u32, len: u32) -> bool
     protected(status, size, start) || protected(status, size, start + len - 1)
 }
 
-// Returns the number of addresses that a defined code protects, if `size` is a chip's.
+// Returns the number of addresses that a defined code protects on a chip of `size` bytes.
 fn protected_length(size: u32, code: u8) -> u32
     ensures { result ≡ (if is_complement code then size - named_length size code else named_length size code) }
 {
@@ -135,8 +138,8 @@ fn protected_length(size: u32, code: u8) -> u32
     }
 }
 
-// Returns the first address of a range of this length at the start (`is_first`) or at the end of the chip; an empty
-// range starts at 0.
+// Returns the first address of a range of `len` bytes, which is at the start of the chip if `is_first` is true, and
+// otherwise at its end. An empty range starts at 0.
 fn start_of(size: u32, len: u32, is_first: bool) -> u32
     requires { len ≤ size }
     ensures { result ≡ (if is_first || len == 0 then 0 else size - len) }
@@ -144,7 +147,7 @@ fn start_of(size: u32, len: u32, is_first: bool) -> u32
     if is_first || len == 0 { 0 } else { size - len }
 }
 
-// Returns the range that a defined code protects, which starts at 0 if it is empty.
+// Returns the range that a defined code protects. An empty range starts at 0.
 fn addresses_of(size: u32, code: u8) -> AddressRange
     requires sized { IsTrue (is_chip_size size) }
     requires defined { is_undefined code ≡ false }
@@ -156,9 +159,10 @@ fn addresses_of(size: u32, code: u8) -> AddressRange
     AddressRange { start, len }
 }
 
-/// Returns the range that this status protects on a chip of this size that has block protection: its first address and
-/// its length, or two zeros if nothing is protected. Returns `None` if the datasheets don't define the status's
-/// protection bits; the model then protects every address. `size` must be a power of two from 65,536 to 16,777,216.
+/// Returns the range that the protection bits in `status` protect, on a chip of `size` bytes that has block protection.
+/// The result is the first address and the length of the range, or two zeros if nothing is protected. Returns `None` if
+/// the datasheets don't define the protection bits; the model then protects every address. `size` must be a power of
+/// two from 65,536 to 16,777,216.
 pub fn protected_range(status: Status, size: u32) -> Option<(u32, u32)>
     requires { IsTrue (is_chip_size size) }
     ensures { MatchOption result (is_undefined (code_of (kept_in (bytes_of status))) ≡ true)
@@ -172,7 +176,7 @@ pub fn protected_range(status: Status, size: u32) -> Option<(u32, u32)>
     Some((range.start, range.len))
 }
 
-// True if a defined code protects exactly this range.
+// Returns whether a defined code protects exactly the range of `len` bytes from `start`.
 fn protects_exactly(size: u32, code: u8, start: u32, len: u32) -> bool
     requires sized { IsTrue (is_chip_size size) }
     requires defined { is_undefined code ≡ false }
@@ -182,9 +186,9 @@ fn protects_exactly(size: u32, code: u8, start: u32, len: u32) -> bool
     range.len == len && (len == 0 || range.start == start)
 }
 
-/// Returns the least defined protection code that protects exactly the range of `len` bytes from `start`, on a chip of
-/// this size. The bits of a code are CMP, SEC, TB, BP2, BP1 and BP0, the highest first. Returns `None` if no defined
-/// code protects exactly this range. `size` must be a power of two from 65,536 to 16,777,216. The function allocates no
+/// Returns the least defined code that protects exactly the range of `len` bytes from `start`, on a chip of `size`
+/// bytes. The bits of a code are CMP, SEC, TB, BP2, BP1 and BP0, the highest first. Returns `None` if no defined code
+/// protects exactly this range. `size` must be a power of two from 65,536 to 16,777,216. The function allocates no
 /// memory.
 pub fn code_for(start: u32, len: u32, size: u32) -> Option<u8>
     requires { IsTrue (is_chip_size size) }
@@ -199,8 +203,8 @@ pub fn code_for(start: u32, len: u32, size: u32) -> Option<u8>
     None
 }
 
-// Returns the range that a code, which must be below 64, protects. Returns `None` if the code is undefined or a lesser
-// defined code protects the same range. An empty range starts at 0.
+// Returns the range that `code`, which must be below 64, protects. Returns `None` if the code is undefined or if a
+// lesser defined code protects the same range. An empty range starts at 0.
 fn least_at(size: u32, code: u8) -> Option<AddressRange>
     requires sized { IsTrue (is_chip_size size) }
     requires six_bits { code < 64 }
@@ -219,9 +223,9 @@ fn least_at(size: u32, code: u8) -> Option<AddressRange>
     }
 }
 
-/// Returns an iterator over the ranges that defined codes protect on a chip of this size, each range once, in the order
-/// of its least code. An item is the first address and the length; the empty range starts at 0. `size` must be a power
-/// of two from 65,536 to 16,777,216. The iterator allocates no memory.
+/// Returns an iterator over the ranges that defined codes protect on a chip of `size` bytes. The iterator yields each
+/// range once, in the order of the ranges' least codes. An item is the first address and the length of a range; the
+/// empty range starts at 0. `size` must be a power of two from 65,536 to 16,777,216. The iterator allocates no memory.
 pub fn offered(size: u32) -> Offered
     requires { IsTrue (is_chip_size size) }
     ensures { IsStart size result }

@@ -6,10 +6,11 @@ ghost use Rattle.nor_model.specs.Exchange.{Exchange, exchanges_code, numbers_cod
 
 use std::marker::Model;
 
-/// The transactions over a bus with their replies, and the allowances that were set. The last of each comes first.
+/// The history of a bus: the transactions over it with their replies, and the allowances that were set. In both lists
+/// the last entry comes first.
 ///
-/// A bus has one `History`. The bus adds each transaction that it is asked to carry out, and each allowance. A wrapper
-/// whose state is that of the bus inside needs no `History` of its own. Only contracts can read the history.
+/// Each bus has one `History`, to which it adds each transaction that it is asked to carry out and each allowance. A
+/// wrapper that takes its state from an inner bus needs no `History` of its own. Only contracts can read the history.
 #[derive(Drop)]
 pub struct History {
     pub ghost exchanges: { List Exchange } by { exchanges_code },
@@ -20,7 +21,8 @@ impl Model for History {
     ghost also_owns = { λ _. ftrue };
 }
 
-// An event that is added to a history.
+// An event that a bus adds to its history: a transaction with its reply, a transaction at which the bus stopped, or an
+// allowance.
 #[derive(Clone, Copy)]
 enum Event<'a> {
     Replied(&'a [u8], &'a [u8]),
@@ -31,14 +33,14 @@ enum Event<'a> {
 impl History {
     ghost use Rattle.nor_model.specs.History.{replied, stopped, exchanges_with, allowances_with};
 
-    /// Returns the history of a bus over which nothing was sent, and for which no allowance was set.
+    /// Returns the history of a new bus: nothing was sent over it, and no allowance was set.
     pub fn new() -> History
         ensures { (result.exchanges ≡ []) × (result.allowances ≡ []) }
     {
         History {}
     }
 
-    /// Returns this history after one more transaction, which sent `out` and received `reply`.
+    /// Returns this history with one more transaction, which sent `out` and received `reply`.
     pub fn replied(&self, out: &[u8], reply: &[u8]) -> History
         ensures exchanges { result.exchanges ≡ replied out.now reply.now ∷ self.now.exchanges }
         ensures allowances { result.allowances ≡ self.now.allowances }
@@ -46,7 +48,7 @@ impl History {
         self.with(&Event::Replied(out, reply))
     }
 
-    /// Returns this history after one more transaction, which sends `out` and at which the bus stopped.
+    /// Returns this history with one more transaction, which was to send `out`, and at which the bus stopped.
     pub fn stopped(&self, out: &[u8]) -> History
         ensures exchanges { result.exchanges ≡ stopped out.now ∷ self.now.exchanges }
         ensures allowances { result.allowances ≡ self.now.allowances }
@@ -54,7 +56,7 @@ impl History {
         self.with(&Event::Stopped(out))
     }
 
-    /// Returns this history after one more allowance, of `n` transactions.
+    /// Returns this history with one more allowance, which is `n`.
     pub fn allowed(&self, n: u64) -> History
         ensures exchanges { result.exchanges ≡ self.now.exchanges }
         ensures allowances { result.allowances ≡ n ∷ self.now.allowances }
@@ -62,7 +64,7 @@ impl History {
         self.with(&Event::Allowed(n))
     }
 
-    // Returns this history after one more event. (Nothing happens at run time: the proof names the lists.)
+    // Returns this history with one more event. Nothing happens at run time, because the lists exist only in the proof.
     #[inline(always)]
     fn with(&self, _event: &Event<'_>) -> History
         ensures { (result.exchanges ≡ exchanges_with _event.now self.now.exchanges)

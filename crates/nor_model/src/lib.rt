@@ -1,4 +1,4 @@
-//! The model of an SPI NOR flash chip, and the contract of a bus that carries transactions to it.
+//! The model of an SPI NOR flash chip, and the contract of a bus that carries transactions to the chip.
 //!
 //! ```rust
 //! use nor_model::{Config, code_for, protected};
@@ -10,19 +10,20 @@
 //! assert!(rt; !protected([0x04, 0x00], chip.size, 0x7DFFFF));
 //! ```
 //!
-//! `specs/` defines what the chip does at each transaction (`Chip`, `Guard`, `Command`, `Step`) and when its power
-//! fails (`Power`). It also defines the history of a bus (`Exchange`, `History`), what contracts compute from a history
-//! (`Sent`, `PolledReady`), and the contract of a bus (`Bus`). The contracts of the other crates describe chips and
-//! buses by these definitions.
+//! The files in `specs/` define what the chip does at each transaction (`Chip`, `Guard`, `Command`, `Step`), and what a
+//! power failure does to it (`Power`). They also define the history of a bus (`Exchange`, `History`), what contracts
+//! compute from a history (`Sent`, `PolledReady`), and the contract of a bus (`Bus`). The contracts of the other crates
+//! describe chips and buses by these definitions.
 //!
 //! - `bus.rt`: the traits `Bus` and `Meter`, and the error `Stopped`
-//! - `config.rt`: the properties of a chip that never change; the three emulated chips
-//! - `status.rt`: the status registers, their bits by name
+//! - `config.rt`: the properties of a chip that never change, and the three emulated chips
+//! - `status.rt`: the status registers and the names of their bits
 //! - `command.rt`: decodes the bytes of a transaction
-//! - `guard.rt`: the ranges that block protection protects
-//! - `guard/walk.rt`: an iterator over the ranges that can be protected
-//! - `running.rt`: the operation that a busy chip carries out
-//! - `history.rt`: the transactions over a bus with their replies, and the allowances, which only contracts can read
+//! - `guard.rt`: the address ranges that block protection protects
+//! - `guard/walk.rt`: an iterator over the address ranges that can be protected
+//! - `running.rt`: the operation that a busy chip executes
+//! - `history.rt`: the history of a bus, which only contracts can read: the transactions with their replies, and the
+//!   allowances
 #![tactic(auto)]
 
 mod bus;

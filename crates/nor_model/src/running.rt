@@ -1,13 +1,14 @@
-//! The operation that a busy chip carries out.
+//! The operation that a busy chip executes.
 
-/// The operation that runs while a chip is busy. A power failure interrupts it.
+/// The operation in progress on a busy chip. A power failure interrupts this operation.
 #[derive(Clone, Copy, Debug, PartialEq, Eq)]
 pub enum Running {
-    /// A program of the page with this number; page 0 is the first 256 bytes.
+    /// A program of the page with this number. Page 0 has the first 256 bytes of the chip.
     Program(u32),
-    /// An erase: its first address, and its length in bytes.
+    /// An erase, given by its first address and its length in bytes.
     Erase(u32, u32),
-    /// A status write. The fields are status 1 / 4 and status 2 % 128 from before it: the non-volatile bits.
+    /// A status write. The fields are the non-volatile bits from before the write: status 1 divided by 4, and the low
+    /// seven bits of status 2.
     StatusWrite(u8, u8),
     /// An operation about which nothing is known.
     Unknown,

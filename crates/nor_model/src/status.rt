@@ -1,4 +1,4 @@
-//! The status registers and their bits by name. (W25Q64FV datasheet, status registers.)
+//! The status registers and the names of their bits. (W25Q64FV datasheet, status registers.)
 ghost use Rattle.std.specs.Prelude.{⊤, ◌≡◌, ◌+◌, ◌*◌, ◌/◌, ◌%◌, ◌<◌, [], ◌∷◌, codes, bit_and, bit_or, if◌then◌else◌};
 ghost use Rattle.nor_model.specs.Chip.{kept_in, is_locked};
 ghost use Rattle.nor_model.specs.Guard.{is_undefined, code_of};
@@ -25,9 +25,10 @@ bitflag_items! {
         const BP2 = 0x10;
         /// Set if the range that BP selects is at the start of the chip, clear if it is at the end.
         const TB = 0x20;
-        /// Set if BP counts sectors, clear if it counts blocks.
+        /// Set if BP 001 to 101 select 4 to 32 KiB, clear if they select a fraction of the chip.
         const SEC = 0x40;
-        /// Locks the status registers if set. The model assumes that the WP# pin is low.
+        /// Locks the status registers if set. (A real chip does so only while its WP# pin is low; the model assumes
+        /// that it is low.)
         const SRP0 = 0x80;
     }
     impl Status2: u8 {
@@ -38,7 +39,7 @@ bitflag_items! {
         const LB1 = 0x08;
         const LB2 = 0x10;
         const LB3 = 0x20;
-        /// Set if the protected addresses are those outside the selected range, clear if those inside it. If the
+        /// If set, the protected addresses are those outside the selected range; if clear, those inside it. If the
         /// datasheets don't define the protection bits, the model protects every address.
         const CMP = 0x40;
         /// Set while an operation is suspended.
@@ -96,8 +97,8 @@ impl Status1 {
     /// The non-volatile bits: all except BUSY and WEL.
     pub const KEPT: Status1 = Status1(!(Self::BUSY.0 | Self::WEL.0));
 
-    // The low five protection bits, BP0 to SEC. They are two positions higher here than in the number that `code`
-    // returns.
+    // The low five protection bits, BP0 to SEC. They are two positions higher in this register than in the number that
+    // `Status::code` returns.
     const CODE: Status1 = Status1(
         Self::BP0.0 | Self::BP1.0 | Self::BP2.0 | Self::TB.0 | Self::SEC.0,
     );
@@ -105,7 +106,8 @@ impl Status1 {
     // The non-volatile bits that are not protection bits.
     const FIXED: Status1 = Status1(Self::KEPT.0 & !Self::CODE.0);
 
-    /// Returns these bits, in which WEL and BUSY must be clear, with WEL set if `latch` is true and BUSY if `busy` is.
+    /// Returns these bits with WEL set if `latch` is true, and with BUSY set if `busy` is true. WEL and BUSY must be
+    /// clear before.
     #[tactic(auto, using(crate::proofs::StatusBits::or_latch, crate::proofs::StatusBits::or_busy))]
     pub fn with(self, latch: bool, busy: bool) -> Status1
         requires { self.0 % 4 ≡ 0 }
@@ -126,16 +128,17 @@ impl Status2 {
     /// The non-volatile bits: all except SUS.
     pub const KEPT: Status2 = Status2(!Self::SUS.0);
 
-    // The highest protection bit, CMP. It is one position higher here than in the number that `code` returns.
+    // The highest protection bit, CMP. It is one position higher in this register than in the number that
+    // `Status::code` returns.
     const CODE: Status2 = Self::CMP;
 
     // The non-volatile bits that are not protection bits.
     const FIXED: Status2 = Status2(Self::KEPT.0 & !Self::CODE.0);
 
-    // The bits that a status write sets or clears as sent: SRP1, QE and CMP.
+    // The bits that a status write sets to the value sent: SRP1, QE and CMP.
     const WRITTEN: Status2 = Status2(Self::SRP1.0 | Self::QE.0 | Self::CMP.0);
 
-    // The one-time programmable bits: a status write can set them but not clear them.
+    // The one-time programmable bits LB1 to LB3. A status write can set them but not clear them.
     const LB: Status2 = Status2(Self::LB1.0 | Self::LB2.0 | Self::LB3.0);
 
     // The bits that a status write doesn't clear: LB1 to LB3 and the reserved bit.
@@ -162,7 +165,7 @@ pub struct Status {
 impl Status {
     ghost use Rattle.nor_model.specs.Status.{bytes_of, bytes_with_code};
 
-    /// Returns the registers with these bytes, status 1 first.
+    /// Returns the registers that have the given bytes, status 1 first.
     pub fn of(bytes: [u8; 2]) -> Status
         ensures { bytes_of result ≡ bytes }
     {
@@ -217,15 +220,15 @@ impl Status {
         }
     }
 
-    /// True if the datasheets don't define the protection bits. On a chip with block protection, the model then
-    /// protects every address.
+    /// Returns whether the datasheets leave the protection bits of this status undefined. On a chip with block
+    /// protection, the model then protects every address.
     pub fn is_undefined(self) -> bool
         ensures { result ≡ is_undefined (code_of (kept_in (bytes_of self))) }
     {
         guard::is_undefined(self.code())
     }
 
-    /// Returns the non-volatile bits: all except BUSY, WEL and SUS.
+    /// Returns this status with only its non-volatile bits: BUSY, WEL and SUS are clear.
     pub fn kept(self) -> Status
         ensures one { result.one.0 ≡ self.one.0 / 4 * 4 }
         ensures two { result.two.0 ≡ self.two.0 % 128 }
@@ -236,8 +239,8 @@ impl Status {
         }
     }
 
-    /// Returns the non-volatile bits after a status write of `sent`: BP, TB, SEC, SRP0, SRP1, QE and CMP as sent. The
-    /// write can set an LB bit but not clear it, and does not change the reserved bit.
+    /// Returns the non-volatile bits after a status write of `sent` to this status. BP, TB, SEC, SRP0, SRP1, QE and CMP
+    /// become as sent. An LB bit is set if it was set before or is sent as 1, and the reserved bit stays as it was.
     #[tactic(auto, using(crate::proofs::StatusBits::written_lt))]
     pub fn written(self, sent: Status) -> Status
         ensures one { result.one.0 ≡ sent.one.0 / 4 * 4 }
@@ -252,7 +255,7 @@ impl Status {
         }
     }
 
-    /// True if SRP0 or SRP1 is set. The model then ignores status writes.
+    /// Returns whether SRP0 or SRP1 is set. A modelled chip then ignores status writes.
     pub fn is_locked(self) -> bool
         ensures { result ≡ is_locked (kept_in (bytes_of self)) }
     {

@@ -1,4 +1,4 @@
--- The proof, from the laws of `Logic`, that `History::with` returns the history with the event added. The proof names
+-- The proof, from the laws of `Logic`, that `History::with` returns the history with the event added. The proof states
 -- the new lists, because no code computes them.
 use Rattle.std.proofs.Common.{List, [], ◌∷◌, ◌++◌, refl}
 use seplogic.Ra.Ura.{Ura}
