@@ -1,4 +1,4 @@
--- A simulated bus stops as the contract of a bus allows.
+-- The stop of a simulated bus satisfies the contract of a bus.
 use Rattle.std.proofs.Common.{◌≡◌, ◌∙◌, ℕ, true≢false, List, [], Option, None, Some, is_none, refl, arith, inl, inr, subst, sym}
 use Rattle.std.specs.Prelude.{◌&&◌}
 use Rattle.std.proofs.Math.Bool.{or-false}
@@ -10,7 +10,8 @@ use Rattle.nor_model.specs.Bus.{BusState, AtStop}
 use Rattle.nor_chip.specs.declared.sim.SimBus.{SimBus}
 use Rattle.nor_chip.specs.Sim.{sim_state, TornTo, WornTo, LostTo}
 
--- a simulated power failure (`PowerLostWith`) is one that the contract of a bus allows (`PowerLost`)
+-- the power failure of a simulated chip (`PowerLostWith`) is a power failure as the contract of a bus describes it
+-- (`PowerLost`)
 pub power_lost : (fill : ℕ) (old new : Chip) → PowerLostWith fill old new → PowerLost old new
 power_lost fill old new lost = grind (arith, lost.bytes)
 
@@ -58,7 +59,7 @@ stops_at (Some count) (Some fill) out old new reached steady torn lost worn = re
   unsent = λ is. absurd (true≢false (sym is ∙ steady));
 }
 
--- what `AtStop` states for a simulated bus doesn't depend on the history of the bus before the stop
+-- `AtStop` for a simulated bus doesn't depend on the history that the bus has before the stop
 pub stops_as : (out : List ℕ) (old : SimBus) (history : History) (new : BusState)
     → AtStop out (sim_state (record old { history = history })) new → AtStop out (sim_state old) new
 stops_as out old history new stop = record {

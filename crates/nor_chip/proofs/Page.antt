@@ -1,4 +1,4 @@
--- The effect of a program of the simulated chip.
+-- The effect of a program on the bytes of the simulated chip.
 use Rattle.std.proofs.Common.{◌≡◌, ℕ, ◌+◌, ◌-◌, ◌*◌, ◌/◌, ◌%◌, ◌<◌, ◌≤◌, min, List, length, arith, ◌∙◌, inl, inr}
 use Rattle.std.specs.Prelude.{Bool, true, Option, Some, slice_index, bit_and, ◌==◌, if◌then◌else◌}
 use Rattle.std.proofs.lemmas.Bool.Decides.{eqb_tells}
@@ -8,15 +8,17 @@ use Rattle.nor_model.specs.Step.{last_for, lowered}
 use Rattle.nor_model.proofs.PageBytes.{last_for-apart, last_for-at}
 use Rattle.nor_chip.specs.Cells.{HasPageProgrammed}
 
--- the first `done` bytes of `sent` were ANDed into the list from index `from`; all other items are as they were
+-- Holds if the first `done` bytes of `sent` were ANDed into the list from index `from` on, and all other items are as
+-- they were.
 pub record ClearsFrom (from done : ℕ) (sent old new : List ℕ) : Type 0 where
   pub inside : (i : ℕ) → i < done
       → slice_index new (from + i) ≡ bit_and (slice_index old (from + i)) (slice_index sent i)
   pub below : (a : ℕ) → a < from → slice_index new a ≡ slice_index old a
   pub above : (a : ℕ) → from + done ≤ a → slice_index new a ≡ slice_index old a
 
--- `skipped` is the number of bytes of `sent` that have no effect: those before the last 256. `front` has the next
--- bytes, up to the end of the page. `back` has the last bytes, from the start of the page on.
+-- Holds if `sent` is divided as the function `program` divides it. `skipped` is the number of bytes before the last
+-- 256, which have no effect. `front` has the bytes after these, up to the end of the page. `back` has the remaining
+-- bytes, which go to the start of the page.
 pub record IsParted (at : ℕ) (sent : List ℕ) (skipped : ℕ) (front back : List ℕ) : Type 0 where
   pub skips : skipped ≡ length sent - 256
   pub front_len : length front ≡ min (length sent - skipped) (256 - (at + skipped) % 256)
@@ -28,7 +30,8 @@ module _ (at : ℕ) (sent : List ℕ) (skipped : ℕ) (front back old mid new : 
     (parted : IsParted at sent skipped front back)
     (first : ClearsFrom (at / 256 * 256 + (at + skipped) % 256) (length front) front old mid)
     (second : ClearsFrom (at / 256 * 256) (length back) back mid new) where
-  -- the byte at an address of the page, after both parts were programmed
+  -- After `front` and `back` were programmed, the byte at the address `a` of the page is the old byte ANDed with the
+  -- last byte that was sent for `a`, if any.
   in_page : (a : ℕ) → a / 256 ≡ at / 256 → slice_index new a ≡ lowered (slice_index old a) (last_for at sent a)
   in_page a here =
       let p = a % 256 in let start = (at + skipped) % 256 in
@@ -50,7 +53,7 @@ module _ (at : ℕ) (sent : List ℕ) (skipped : ℕ) (front back old mid new : 
         ]
       ]
 
-  -- ANDing `front` and then `back` into the list has the effect of one program of the page
+  -- ANDing `front` and then `back` into the bytes has the effect of one program of the page.
   pub programmed : HasPageProgrammed at sent old new
   programmed a = elim (eqb_tells (a / 256) (at / 256)) [
     | inl same ↦ rw same.0 (in_page a same.1)
@@ -60,7 +63,7 @@ module _ (at : ℕ) (sent : List ℕ) (skipped : ℕ) (front back old mid new : 
     ])
   ]
 
--- after a program each byte of the list is at most its old value (`HasPageProgrammed-le`)
+-- after a program, each byte is at most its old value (`HasPageProgrammed-le`)
 lowered-le : (here : Bool) (old : ℕ) (sent : Option ℕ) → (if here then lowered old sent else old) ≤ old
 lowered-le true old (Some byte) = and_le_l old byte
 lowered-le _ old _ = omega arith

@@ -2,13 +2,14 @@
 use Rattle.std.specs.Prelude.{◌≡◌, ◌/◌, ◌+◌, ◌==◌, ◌&&◌, ℕ, List, nat_lt, nat_le, slice_index, if◌then◌else◌}
 use Rattle.nor_model.specs.Step.{last_for, lowered}
 
--- The page that holds `at` was programmed with the bytes `sent`, from `at` on. All other bytes are as they were.
+-- Holds if `new` is `old` after a program of the bytes `sent` from `at` on, within the page that contains `at`. All
+-- bytes outside the page are as they were.
 abbrev pub HasPageProgrammed : ℕ → (sent old new : List ℕ) → Type 0
 HasPageProgrammed at sent old new =
     (a : ℕ) → slice_index new a
     ≡ (if a / 256 == at / 256 then lowered (slice_index old a) (last_for at sent a) else slice_index old a)
 
--- The items from `start` to `start + len - 1` are `byte`, and all other items are as they were.
+-- Holds if the items from `start` to `start + len - 1` are `byte` in `new`, and all other items are as in `old`.
 abbrev pub IsFilled : (byte start len : ℕ) → (old new : List ℕ) → Type 0
 IsFilled byte start len old new =
     (a : ℕ) → slice_index new a ≡ (if nat_le start a && nat_lt a (start + len) then byte else slice_index old a)

@@ -11,8 +11,8 @@ use Rattle.nor_model.specs.Sent.{sent_in}
 use Rattle.nor_model.specs.PolledReady.{polled_ready_in}
 use Rattle.nor_model.specs.Bus.{BusState}
 
--- The state of a simulated bus. The bus is always well-behaved, and takes transactions of any length. The bus is steady
--- if and only if the settings of `lose` and `tear` are both `None`.
+-- The state of a simulated bus. The bus is always well-behaved, and takes transactions of any length. It is steady if
+-- and only if both `lose` and `tear` are set to `None`.
 abbrev pub sim_state : SimBus → BusState
 sim_state bus = record {
   chip = chip_of bus.flash;
@@ -27,31 +27,33 @@ sim_state bus = record {
   polled_ready = polled_ready_in bus.history.exchanges;
 }
 
--- the setting of `lose`: the fill of a power failure at a stop, or `None` if a stop keeps the power
+-- the value that `lose` set: the fill byte of the power failure at a stop, or `None` if the chip keeps its power at a
+-- stop
 abbrev pub fill_of : SimBus → Option ℕ
 fill_of bus = bus.fill
 
--- the setting of `tear`: how many bytes of its transaction a stop sends (`count`), or `None` if it sends none
+-- the value that `tear` set: the number of bytes that are sent of the transaction at which the bus stops, or `None` for
+-- no byte
 abbrev pub torn_of : SimBus → Option ℕ
 torn_of bus = bus.torn
 
--- how many polls show BUSY after each operation
+-- the number of polls that show BUSY after each operation
 abbrev pub pace_of : SimBus → ℕ
 pace_of bus = bus.flash.each
 
--- The chip `new` after a stop, before any power failure: with `None` nothing of the transaction was sent, with
--- `Some count` the first `count` bytes.
+-- Holds if `new` is the chip after a stop, before any power failure. `torn` is the value that `tear` set: with `None`
+-- no byte of the transaction `out` was sent, with `Some count` its first `count` bytes were.
 abbrev pub TornTo : (torn : Option ℕ) → (out : List ℕ) → (old new : Chip) → Type 0
 TornTo None out old new = new ≡ old
 TornTo (Some count) out old new = Step old (take count out) [] new
 
--- The chip `new` after a stop, which was `old` before any power failure: with `None` it kept its power, with
--- `Some fill` it lost its power with this fill.
+-- Holds if `new` is the chip after a stop at which the transaction's bytes had taken it to `old`. `fill` is the value
+-- that `lose` set: with `None` the chip kept its power, with `Some fill` it lost its power with this fill byte.
 abbrev pub LostTo : (fill : Option ℕ) → (old new : Chip) → Type 0
 LostTo None old new = new ≡ old
 LostTo (Some fill) old new = PowerLostWith fill old new
 
--- The settings of the bus, the number of transactions left and the history are as they were.
+-- Holds if the settings of the bus, the number of transactions left and the history are as they were.
 pub record KeepsBus (old new : SimBus) : Type 0 where
   pub fill : fill_of new ≡ fill_of old
   pub torn : torn_of new ≡ torn_of old
@@ -59,23 +61,23 @@ pub record KeepsBus (old new : SimBus) : Type 0 where
   pub left : new.left ≡ old.left
   pub history : new.history ≡ old.history
 
--- The sectors that are recorded as erased after a stop: those recorded before the stop, and with `Some count` also
--- those that the first `count` bytes of the transaction erased.
+-- Holds if `new` has the sectors that are recorded as erased after a stop. With `None` these are the sectors of `old`.
+-- With `Some count` they also include those that the first `count` bytes of the transaction erased.
 abbrev pub WornTo : (torn : Option ℕ) → (out : List ℕ) → Chip → (old new : ℕ → Bool) → Type 0
 WornTo None out chip old new = (s : ℕ) → new s ≡ old s
 WornTo (Some count) out chip old new = (s : ℕ) → new s ≡ (old s || wears (done_of chip (take count out) 0) s)
 
--- The effect of a stop on the chip: `torn` sets how many bytes of the transaction are sent to the chip, and `fill`
--- whether and how the chip then loses its power.
+-- The effect of a stop on the chip. `torn` says how many bytes of the transaction were sent to the chip, and `fill`
+-- says whether and how the chip then lost its power.
 pub record TearsOff (torn fill : Option ℕ) (out : List ℕ) (old new : Chip) : Type 0 where
   pub reached : Chip
   pub torn_off : TornTo torn out old reached
   pub lost : LostTo fill reached new
 
--- The effect of a transaction of a simulated bus, in addition to the contract of a bus. The settings stay. After a
--- transaction that succeeded and began an operation, the chip is busy for `pace_of` polls. After a stop the chip is as
--- the settings of `tear` and `lose` state (`TearsOff`), and the sectors that the first bytes erased are recorded, even
--- if the chip then lost its power (`WornTo`).
+-- The effect of a transaction over a simulated bus, in addition to the contract of a bus. The settings stay as they
+-- were. If the transaction succeeded and began an operation, the next `pace_of` polls will show BUSY. After a stop the
+-- chip is as `TearsOff` says for the settings of `tear` and `lose`. The sectors that the first bytes of the transaction
+-- erased are recorded, even if the chip then lost its power (`WornTo`).
 pub record Simulates (out answer : List ℕ) (outcome : Result Unit Stopped) (old new : SimBus) : Type 0 where
   pub fill : fill_of new ≡ fill_of old
   pub torn : torn_of new ≡ torn_of old

@@ -9,7 +9,7 @@ use Rattle.nor_model.specs.Sent.{sent_in}
 use Rattle.nor_model.specs.PolledReady.{is_poll, polled_ready_in}
 use Rattle.nor_model.specs.Bus.{BusState, IsHonestFor, Stops, Carries}
 
--- the bus inside
+-- the inner bus
 abbrev pub bus_in : {B : Type 0} → SpoiltBus B → B
 bus_in bus = bus.bus
 
@@ -17,18 +17,18 @@ bus_in bus = bus.bus
 abbrev pub spoil_of : {B : Type 0} → SpoiltBus B → Spoil
 spoil_of bus = bus.spoil
 
--- the transactions that the faulty bus was asked to carry out, each with the reply that the faulty bus returned, or
--- without a reply if the bus inside stopped
+-- The transactions that the faulty bus was asked to carry out, each with the reply that the faulty bus returned, or
+-- without a reply if the inner bus stopped.
 abbrev pub history_of : {B : Type 0} → SpoiltBus B → List Exchange
 history_of bus = bus.history.exchanges
 
--- the number of transactions that succeeded; a count that reaches the greatest u64 stays there
+-- the number of transactions that succeeded, or the greatest u64 if there were more
 abbrev pub succeeded_of : {B : Type 0} → SpoiltBus B → ℕ
 succeeded_of bus = bus.sent
 
 -- The state of a faulty bus, which isn't well-behaved. Its history has each transaction that it was asked to carry out,
--- even a dropped one, with the reply that the faulty bus returned. `sent` and `polled_ready` follow from this history.
--- The allowances are those that were set on the faulty bus. All else is the state of the bus inside.
+-- even a dropped one, with the reply that it returned. `sent` and `polled_ready` follow from this history. The
+-- allowances are those that were set on the faulty bus. All else is the state of the inner bus.
 abbrev pub spoilt_state : {B : Type 0} → (B → BusState) → SpoiltBus B → BusState
 spoilt_state state bus = record (state bus.bus) {
   honest = false;
@@ -38,52 +38,53 @@ spoilt_state state bus = record (state bus.bus) {
   polled_ready = polled_ready_in (history_of bus);
 }
 
--- After `sent` transactions that succeeded: the value of each reply byte of the next transaction if the bus drops it,
--- otherwise `None`.
+-- The byte that each reply byte of the next transaction has if the faulty bus drops this transaction, otherwise `None`.
+-- `sent` is the number of transactions that succeeded before.
 abbrev pub withheld : Spoil → ℕ → Option ℕ
 withheld (Fill byte) sent = Some byte
 withheld (BusyFrom first) sent = None
 withheld (Drop number) sent = if sent + 1 == number then Some 255 else None
 withheld (Low bit) sent = None
 
--- if the bus drops the next transaction, the value of each of its reply bytes; otherwise `None`
+-- the byte that each reply byte of the next transaction has if the faulty bus drops this transaction, otherwise `None`
 abbrev pub withheld_of : {B : Type 0} → SpoiltBus B → Option ℕ
 withheld_of bus = withheld (spoil_of bus) (succeeded_of bus)
 
--- after `sent` transactions that succeeded: the reply byte that the bus returns in place of `byte` in the next
--- transaction, if it passes this transaction on
+-- The reply byte that the faulty bus returns in place of `byte` in the next transaction, which sends `out` and isn't
+-- dropped. `sent` is the number of transactions that succeeded before.
 abbrev pub spoilt_byte : Spoil → ℕ → List ℕ → ℕ → ℕ
 spoilt_byte (Fill fill) sent out byte = byte
 spoilt_byte (BusyFrom first) sent out byte = if nat_le first (sent + 1) && is_poll out then bit_or byte 1 else byte
 spoilt_byte (Drop number) sent out byte = byte
 spoilt_byte (Low bit) sent out byte = if nat_lt bit 8 then bit_and byte (255 - 2 ^ bit) else byte
 
--- The transaction was dropped: it succeeded, the bus inside is as it was, and each reply byte is `byte`.
+-- Holds if the transaction was dropped: it succeeded, the inner bus is as it was, and each reply byte is `byte`.
 pub record IsWithheld {B : Type 0} (byte : ℕ) (asked answer : List ℕ) (outcome : Result Unit Stopped)
     (old new : B) : Type 0 where
   pub answered : IsOk outcome
   pub inner : new ≡ old
   pub replies : answer ≡ replicate (length asked) byte
 
--- The transaction was passed on to the bus inside. Each reply byte is `byte_for` of the byte of `replied` at its index.
--- If that bus is well-behaved and takes a transaction of this length, it carried the transaction out and replied
--- `replied`.
+-- Holds if the transaction was passed on to the inner bus. `replied` has the bytes of the inner bus's reply, and each
+-- reply byte of the faulty bus is `byte_for` of the byte of `replied` at the same index. If the inner bus is
+-- well-behaved and takes a transaction of this length, it carried the transaction out with the reply `replied`.
 pub record IsPassedOn (byte_for : ℕ → ℕ) (out asked answer : List ℕ) (old new : BusState) : Type 0 where
   pub replied : List ℕ
   pub as_many : length answer ≡ length replied
   pub replies : (i : ℕ) → i < length answer → slice_index answer i ≡ byte_for (slice_index replied i)
   pub inner : IsHonestFor out (length asked) old → Carries out replied old new
 
--- A transaction that is passed on succeeds (`IsPassedOn`), or the bus inside stops. If that bus is well-behaved and
--- takes a transaction of this length, a stop leaves the reply buffer as it was, and the chip as `Stops` allows.
+-- The effect of a transaction that was not dropped: it succeeded (`IsPassedOn`), or the inner bus stopped. If the inner
+-- bus is well-behaved and takes a transaction of this length, a stop leaves the reply buffer as it was, and the chip as
+-- `Stops` says.
 abbrev pub GoesThrough : (ℕ → ℕ) → (out asked answer : List ℕ) → Result Unit Stopped → (old new : BusState) → Type 0
 GoesThrough byte_for out asked answer (Ok done) old new = IsPassedOn byte_for out asked answer old new
 GoesThrough byte_for out asked answer (Err stopped) old new =
     IsHonestFor out (length asked) old → (answer ≡ asked) × Stops out old new
 
--- The effect of a transaction of a faulty bus: the way in which the bus fails is as it was, and the transaction was
--- dropped (`IsWithheld`) or passed on (`GoesThrough`). A transaction that succeeds is counted; a count that reaches the
--- greatest u64 stays there. A transaction at which the bus inside stops isn't counted.
+-- The effect of a transaction over a faulty bus. The way in which the bus fails is as it was, and the transaction was
+-- dropped (`IsWithheld`) or passed on (`GoesThrough`). A transaction that succeeds is counted, up to the greatest u64.
+-- A transaction at which the inner bus stops isn't counted.
 pub record Spoils {B : Type 0} (state : B → BusState) (out asked answer : List ℕ) (outcome : Result Unit Stopped)
     (old new : SpoiltBus B) : Type 0 where
   pub spoil : spoil_of new ≡ spoil_of old

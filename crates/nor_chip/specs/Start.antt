@@ -1,4 +1,4 @@
--- The state of a simulated bus at its start, and the contents of its chip.
+-- The state of a new simulated bus, and the contents of a chip.
 use Rattle.std.specs.Prelude.{◌≡◌, ◌<◌, ◌/◌, ◌%◌, ◌==◌, [], ℕ, List, true, false, length, slice_index}
 use Rattle.nor_model.specs.declared.config.Config.{Config}
 use Rattle.nor_chip.specs.declared.sim.Delays.{Delays}
@@ -6,10 +6,10 @@ use Rattle.nor_model.specs.declared.running.Running.TheVariants.{Unknown}
 use Rattle.nor_model.specs.Chip.{Chip, kept_in}
 use Rattle.nor_model.specs.Bus.{BusState}
 
--- The state of a simulated bus at its start. Its chip has this configuration, these bytes, and the non-volatile bits
--- and latch of these two status bytes. The given number of polls will show BUSY, and the operation in progress is
--- unknown. The bus is well-behaved and steady, and has no transaction left. No transaction was sent, no allowance was
--- set, no sector was erased, and no poll showed that the chip is ready.
+-- The state of a new simulated bus. Its chip has the configuration `setup`, the bytes `image`, and the non-volatile
+-- bits and latch of the two status bytes `flags`. The first `delays.now` polls will show BUSY, and the operation in
+-- progress is unknown. The bus is well-behaved and steady, and has no transaction left. No transaction was sent, no
+-- allowance was set, no sector was erased, and no poll showed that the chip is ready.
 pub record Starts (setup : Config) (image flags : List ℕ) (delays : Delays) (state : BusState) : Type 0 where
   pub config : state.chip.config ≡ setup
   pub bytes : (a : ℕ) → state.chip.bytes a ≡ slice_index image a
@@ -26,7 +26,7 @@ pub record Starts (setup : Config) (image flags : List ℕ) (delays : Delays) (s
   pub steady : state.steady ≡ true
   pub polled_ready : state.polled_ready ≡ false
 
--- the list has exactly the bytes of the chip, from address 0 on
+-- Holds if `bytes` has exactly the bytes of the chip, from address 0 on.
 pub record AreChipBytes (chip : Chip) (bytes : List ℕ) : Type 0 where
   pub len : length bytes ≡ chip.config.size
   pub at : (a : ℕ) → a < chip.config.size → slice_index bytes a ≡ chip.bytes a

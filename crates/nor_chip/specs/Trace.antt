@@ -5,7 +5,7 @@ use Rattle.hex.specs.Hex.{encode_lower}
 use Rattle.nor_chip.specs.declared.trace.TraceBus.{TraceBus}
 use Rattle.nor_model.specs.declared.bus.Stopped.{Stopped}
 
--- the bus inside
+-- the inner bus
 abbrev pub traced_by : {B L : Type 0} → TraceBus B L → B
 traced_by traced = traced.bus
 
@@ -13,25 +13,26 @@ traced_by traced = traced.bus
 abbrev pub log_of : {B L : Type 0} → TraceBus B L → L
 log_of traced = traced.log
 
--- true if a line was lost or a flush failed
+-- true if a line was lost, because it could not be written completely, or a flush failed
 abbrev pub has_lost : {B L : Type 0} → TraceBus B L → Bool
 has_lost traced = traced.lost
 
--- The end of a line: empty if no byte was received, otherwise ` > ` and the hexadecimal digits of the bytes received.
--- If these are more than three, their number and ` bytes` replace the digits.
+-- The end of a line without the line feed. It is empty if no byte was received. If one to three bytes were received, it
+-- is ` > ` and their hexadecimal digits. If more were received, it is ` > `, their number and ` bytes`.
 abbrev pub reply_digits : List ℕ → List ℕ
 reply_digits answer =
     if length answer == 0 then []
     else if nat_lt 3 (length answer) then codes " > " ++ decimal (length answer) ++ codes " bytes"
     else codes " > " ++ encode_lower answer
 
--- the line of a transaction: the digits of the bytes sent, then the end for the bytes received
+-- the line of a transaction: the hexadecimal digits of the bytes sent, then the end for the bytes received, then a line
+-- feed
 abbrev pub traced_line : (out answer : List ℕ) → List ℕ
 traced_line out answer = encode_lower out ++ reply_digits answer ++ codes "\n"
 
--- The effect of a transaction on the log. If the bus inside stops, the log and `has_lost` are as they were. If the
--- transaction succeeded and `has_lost` is false after it, the line was appended to the log's contents, if these are
--- known. Once true, `has_lost` stays true.
+-- The effect of a transaction on the log. If the inner bus stops, the log and `has_lost` are as they were. If the
+-- transaction succeeded and `has_lost` is false after it, the line was appended to the log's contents, provided that
+-- these are known. Once true, `has_lost` stays true.
 pub record Traces {B L : Type 0} (contents : L → Option (List ℕ)) (out answer : List ℕ) (outcome : Result Unit Stopped)
     (old new : TraceBus B L) : Type 0 where
   pub still_lost : has_lost old ≡ true → has_lost new ≡ true

@@ -1,5 +1,6 @@
-//! Buses for emulation and tests: a simulated chip in memory, a bus that logs, and a faulty bus. The model of the chip
-//! and the contract of a bus are in nor_model, whose items are exported here too, except `is_protected` and `Kinds`.
+//! Buses for emulation and tests: a simulated chip in memory, a bus that logs transactions, and a faulty bus. This
+//! crate also exports the items of nor_model (the model of the chip and the contract of a bus), except `is_protected`
+//! and `Kinds`.
 //!
 //! ```rust
 //! use nor_chip::{Bus, Config, Delays, Meter, SimBus};
@@ -15,9 +16,9 @@
 //!
 //! - `sim.rt`: the simulated bus
 //! - `sim/flash.rt`: the modelled chip in memory
-//! - `sim/cells.rt`: reads, programs and fills plain slices
+//! - `sim/cells.rt`: reads, programs and fills of plain slices
 //! - `trace.rt`: a bus that logs each transaction that succeeds
-//! - `spoilt.rt`: a faulty bus
+//! - `spoilt.rt`: a faulty bus, for tests
 #![tactic(auto)]
 
 mod sim;

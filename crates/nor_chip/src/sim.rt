@@ -1,4 +1,4 @@
-//! A simulated bus: the modelled chip in memory.
+//! A simulated bus, whose chip is a modelled chip in memory.
 ghost use Rattle.std.specs.Prelude.{◌≡◌, ◌≢◌, ◌<◌, ◌||◌, ◌&&◌, ◌↔◌, ℕ, true, false, length, slice_index_or, vec_len};
 ghost use Rattle.std.specs.Prelude.{IsErr, IfOk, OnOk, OnErr};
 ghost use Rattle.nor_model.specs.Addresses.{HasValidAddress};
@@ -13,14 +13,16 @@ use std::fmt;
 mod cells;
 mod flash;
 
-/// The numbers of polls that show BUSY: at the start (`now`) and after each operation (`each`).
+/// The numbers of polls that show BUSY on a simulated chip.
 #[derive(Clone, Copy, Debug, PartialEq, Eq)]
 pub struct Delays {
+    /// The number of polls that show BUSY at the start.
     pub now: u16,
+    /// The number of polls that show BUSY after each operation.
     pub each: u16,
 }
 
-/// The number of bytes differs from the chip's size.
+/// The error that the number of bytes differs from the chip's size.
 #[derive(Clone, Copy, Debug, PartialEq, Eq)]
 pub struct WrongLength;
 
@@ -32,8 +34,8 @@ impl fmt::Display for WrongLength {
 
 impl std::error::Error for WrongLength {}
 
-/// A well-behaved bus (`honest`) to a chip that is simulated in memory. After the bus has carried out the number of
-/// transactions that the last `allow` set, it stops at each further one.
+/// A well-behaved bus (`honest`) to a chip that is simulated in memory. The last call of `allow` sets the number of
+/// transactions that the bus carries out; it stops at each further one.
 #[derive(Drop)]
 pub struct SimBus {
     flash: Flash,
@@ -52,12 +54,12 @@ impl SimBus {
     ghost use Rattle.nor_model.specs.Bus.{AtStop};
     ghost use Rattle.nor_chip.specs.Sim.{sim_state, fill_of, torn_of, pace_of, TornTo, WornTo, TearsOff, KeepsBus};
 
-    /// Returns a bus to a chip with this configuration, these contents and these two status bytes. BUSY (bit 0 of the
-    /// first) and SUS (bit 7 of the second) are ignored. The first `delays.now` polls show BUSY, unless a stop makes
-    /// the chip lose its power before. The operation in progress at the start is unknown. The bus carries out no
-    /// transaction before `allow` is called.
+    /// Returns a bus to a chip with the configuration `config`, the contents `bytes` and the two bytes `status`, status
+    /// 1 first. BUSY (bit 0 of status 1) and SUS (bit 7 of status 2) are ignored. The first `delays.now` polls show
+    /// BUSY, unless the chip loses its power at a stop before that. The operation in progress at the start is unknown.
+    /// The bus carries out no transaction before `allow` is called.
     ///
-    /// Returns `WrongLength` if the number of bytes differs from the chip's size.
+    /// Returns `WrongLength` if the length of `bytes` differs from the chip's size.
     pub fn new(
         config: Config,
         bytes: Vec<u8>,
@@ -93,19 +95,20 @@ impl SimBus {
         })
     }
 
-    /// Returns the chip's contents, from address 0.
+    /// Returns the chip's contents, from address 0 on.
     pub fn bytes(&self) -> &[u8]
         ensures { AreChipBytes (⟦<SimBus as Bus>⟧.state self.now).chip result.now }
     {
         &self.flash.bytes
     }
 
-    /// Sets whether a stop makes the chip lose its power, and the effect of that. With `None`, as after `new`, a stop
-    /// keeps the power.
+    /// Sets whether the chip loses its power at a stop, and the effect of the loss. With `None`, as after `new`, the
+    /// chip keeps its power.
     ///
-    /// With `Some(fill)`, each byte that a running program or erase works on becomes `fill`. A running status write is
-    /// undone if `fill` is even, and completed if it is odd. The write enable latch is cleared, and nothing runs any
-    /// more. If the running operation is unknown, the contents and the non-volatile status bits stay.
+    /// With `Some(fill)`, each byte on which a program or erase in progress works becomes `fill`. A status write in
+    /// progress is undone if `fill` is even, and completed if it is odd. The write enable latch is cleared, and no
+    /// operation is in progress any more. If the operation in progress is unknown, the contents and the non-volatile
+    /// status bits stay as they were.
     pub fn lose(&mut self, fill: Option<u8>)
         ensures state { ⟦<SimBus as Bus>⟧.state self.new
             ≡ record (⟦<SimBus as Bus>⟧.state self.old) { steady = is_none fill && is_none (torn_of self.old) } }
@@ -116,9 +119,10 @@ impl SimBus {
         self.fill = fill;
     }
 
-    /// Sets after how many bytes a stop interrupts its transaction. With `Some(count)` the first `count` bytes are sent
-    /// (all of them, if there are fewer), the chip does what these ask for, and no reply is read. With `None`, as after
-    /// `new`, no byte is sent. In both cases the chip then loses its power, if `lose` set that.
+    /// Sets how many bytes of a transaction are sent before the bus stops at it. With `Some(count)`, the first `count`
+    /// bytes are sent (all bytes, if there are fewer), the chip carries out the command for which these bytes ask, and
+    /// no reply is read. With `None`, as after `new`, no byte is sent. In both cases the chip then loses its power if
+    /// `lose` was called with `Some`.
     pub fn tear(&mut self, count: Option<u32>)
         ensures state { ⟦<SimBus as Bus>⟧.state self.new
             ≡ record (⟦<SimBus as Bus>⟧.state self.old) { steady = is_none (fill_of self.old) && is_none count } }
@@ -129,14 +133,14 @@ impl SimBus {
         self.torn = count;
     }
 
-    /// Returns the two status bytes, as 05h and 35h read them.
+    /// Returns the two status bytes, as 05h and 35h would read them.
     pub fn status(&self) -> [u8; 2]
         ensures { result ≡ status_of (⟦<SimBus as Bus>⟧.state self.now).chip }
     {
         self.flash.status().bytes()
     }
 
-    // Sends the first bytes of a transaction at which the bus stops, if `tear` set that.
+    // Sends the first bytes of the transaction at which the bus stops, if `tear` was called with `Some`.
     fn tear_off(&mut self, out: &[u8])
         ensures torn { TornTo (torn_of self.old) out.now (chip_of self.old.flash) (chip_of self.new.flash) }
         ensures worn { WornTo (torn_of self.old) out.now (chip_of self.old.flash)
@@ -150,8 +154,8 @@ impl SimBus {
         }
     }
 
-    // Performs a stop: sends the first bytes of the transaction if `tear` set that, and then makes the chip lose its
-    // power if `lose` set that.
+    // Performs a stop: sends the first bytes of the transaction if `tear` was called with `Some`, and then makes the
+    // chip lose its power if `lose` was called with `Some`.
     fn cut(&mut self, out: &[u8])
         ensures at_stop { AtStop out.now (sim_state self.old) (sim_state self.new) }
         ensures torn_off { TearsOff (torn_of self.old) (fill_of self.old) out.now
@@ -219,7 +223,7 @@ impl Meter for SimBus {
     }
 }
 
-// Marks the sectors that an erase covers; any other command marks none.
+// Marks in `worn` the sectors that `command` erases. Any command other than an erase marks none.
 fn wear(worn: &mut [bool], command: Command)
     requires length { length worn.old ≡ 4096 }
     requires targeted { HasValidAddress 16777216 command }

@@ -7,22 +7,22 @@ ghost use Rattle.nor_chip.specs.Spoilt.{bus_in, spoil_of, succeeded_of, history_
 
 use nor_model::{Bus, History, Meter, Stopped};
 
-/// The way in which a faulty bus fails. The number of a transaction is one more than the number of transactions that
-/// succeeded before it (`SpoiltBus::sent`), so it is at least 1.
+/// The way in which a faulty bus fails. Transactions are numbered from 1: the number of a transaction is one more than
+/// the number of transactions that succeeded before it (`SpoiltBus::sent`).
 #[derive(Clone, Copy, Debug, PartialEq, Eq)]
 pub enum Spoil {
-    /// No transaction is carried out. Each transaction succeeds, and each reply byte is this one.
+    /// No transaction is carried out. Each transaction succeeds, and each of its reply bytes is the given byte.
     Fill(u8),
-    /// In the transaction with this number and in each later one, bit 0 (BUSY) is set in each reply byte of a poll.
+    /// From the transaction with the given number on, each reply byte of a poll has bit 0 (BUSY) set.
     BusyFrom(u64),
-    /// The transaction with this number isn't carried out. It succeeds, and each of its reply bytes is FFh. The number
-    /// 0 has no effect.
+    /// The transaction with the given number isn't carried out. It succeeds, and each of its reply bytes is FFh. The
+    /// number 0 has no effect.
     Drop(u64),
-    /// The bit with this number is clear in each reply byte. A number above 7 has no effect.
+    /// In each reply byte, the bit with the given number is clear. A number above 7 has no effect.
     Low(u8),
 }
 
-/// A faulty bus: it drops transactions of the bus inside or changes its replies, in one fixed way, to test how callers
+/// A faulty bus. It drops transactions to an inner bus or changes the replies, in one fixed way, to test how callers
 /// react.
 #[derive(Drop)]
 pub struct SpoiltBus<B> {
@@ -33,8 +33,8 @@ pub struct SpoiltBus<B> {
 }
 
 impl<B: Bus> SpoiltBus<B> {
-    /// Returns a bus that applies `spoil` to the transactions of `inner`. The new bus isn't well-behaved (`honest`),
-    /// and its own history begins empty.
+    /// Returns a bus that passes transactions on to `inner` and fails as `spoil` says. The new bus isn't well-behaved
+    /// (`honest`), and its own history begins empty.
     pub fn new(inner: B, spoil: Spoil) -> SpoiltBus<B>
         ensures inner { bus_in result ≡ inner }
         ensures spoil { spoil_of result ≡ spoil }
@@ -57,14 +57,14 @@ impl<B: Bus> SpoiltBus<B> {
     }
 
     /// Returns the number of transactions that succeeded so far, whether they were carried out or dropped. A
-    /// transaction at which the bus inside stops isn't counted. A count that reaches the greatest `u64` stays there.
+    /// transaction at which the inner bus stops isn't counted. The count stays at the greatest `u64` after reaching it.
     pub fn sent(&self) -> u64
         ensures { result ≡ succeeded_of self.now }
     {
         self.sent
     }
 
-    /// Returns the bus inside, in its present state.
+    /// Returns the inner bus, in its present state.
     pub fn into_inner(self) -> B
         ensures { result ≡ bus_in self }
     {
@@ -124,8 +124,8 @@ impl<B: Meter> Meter for SpoiltBus<B> {
     }
 }
 
-// Returns the value of each reply byte if the next transaction is dropped, and `None` if it isn't. `sent` is the number
-// of transactions counted before it.
+// Returns the byte that each reply byte of the next transaction has if this transaction is dropped, or `None` if it
+// isn't dropped. `sent` is the number of transactions that succeeded before.
 fn withheld(spoil: Spoil, sent: u64) -> Option<u8>
     ensures { result ≡ withheld spoil sent }
 {
@@ -136,8 +136,8 @@ fn withheld(spoil: Spoil, sent: u64) -> Option<u8>
     }
 }
 
-// Returns the reply byte that replaces `byte` in the next transaction that is passed on. `sent` is the number of
-// transactions counted before it.
+// Returns the reply byte that replaces `byte` in the next transaction that isn't dropped. `sent` is the number of
+// transactions that succeeded before.
 fn spoilt_byte(spoil: Spoil, sent: u64, out: &[u8], byte: u8) -> u8
     ensures { result ≡ spoilt_byte spoil sent out.now byte }
 {

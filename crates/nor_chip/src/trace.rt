@@ -8,18 +8,18 @@ ghost use Rattle.nor_chip.specs.Trace.{traced_by, log_of, has_lost, traced_line,
 use nor_model::{Bus, Meter, Stopped};
 use std::io::{self, Write};
 
-// The greatest number of bytes that are converted to digits at a time.
+// The greatest number of bytes that are converted to hexadecimal digits in one step.
 const PIECE: usize = 64;
 
-/// A bus that writes one line to a log for each transaction that succeeds over the bus inside. A line has the bytes
-/// sent, as lower-case hexadecimal digits. If one to three bytes were received, ` > ` and their digits follow; if more
-/// were received, ` > `, their number and ` bytes`.
+/// A bus that passes transactions on to an inner bus, and writes one line to a log for each transaction that succeeds.
+/// The line has the bytes sent, as lower-case hexadecimal digits. If one to three bytes were received, ` > ` and their
+/// digits follow. If more were received, ` > `, their number and ` bytes` follow.
 ///
-/// A transaction at which the bus inside stops has no line, even if some or all of its bytes were sent to the chip. A
-/// line that can't be written completely counts as `lost`; the transaction still succeeds.
+/// A transaction at which the inner bus stops has no line, even if some or all of its bytes were sent to the chip. If a
+/// line can't be written completely, the transaction still succeeds, but the line counts as lost (`lost`).
 ///
-/// The bus allocates no memory and buffers nothing. If each write costs a system call, use a log with a buffer, such as
-/// `BufWriter`.
+/// The bus allocates no memory and buffers nothing. If each write to the log costs a system call, use a log with a
+/// buffer, such as `BufWriter`.
 #[derive(Drop)]
 pub struct TraceBus<B, L> {
     bus: B,
@@ -28,7 +28,7 @@ pub struct TraceBus<B, L> {
 }
 
 impl<B: Bus + Drop, L: Write + Drop> TraceBus<B, L> {
-    /// Returns a bus that carries transactions over `bus` and logs them to `log`.
+    /// Returns a bus that passes transactions on to `bus` and logs them to `log`.
     pub fn new(bus: B, log: L) -> TraceBus<B, L>
         ensures state { ⟦<TraceBus<B, L> as Bus>⟧.state result ≡ B.state bus }
         ensures log { log_of result ≡ log }
@@ -41,14 +41,14 @@ impl<B: Bus + Drop, L: Write + Drop> TraceBus<B, L> {
         }
     }
 
-    /// Returns whether a line could not be written completely, or a flush failed. Once true, it stays true.
+    /// Returns whether some line could not be written completely, or a flush failed. Once true, the result stays true.
     pub fn lost(&self) -> bool
         ensures { result ≡ has_lost self.now }
     {
         self.lost
     }
 
-    /// Flushes the log's own buffer. If that fails, a line counts as lost.
+    /// Flushes the log's own buffer. If the flush fails, `lost` returns true from then on.
     pub fn flush(&mut self)
         ensures state { ⟦<TraceBus<B, L> as Bus>⟧.state self.new ≡ ⟦<TraceBus<B, L> as Bus>⟧.state self.old }
         ensures log { Keeps (L.contents (log_of self.old)) (L.contents (log_of self.new)) }
@@ -59,8 +59,8 @@ impl<B: Bus + Drop, L: Write + Drop> TraceBus<B, L> {
         }
     }
 
-    /// Returns the bus inside, in its present state. The log is dropped, and its type determines whether bytes that it
-    /// still buffers are written.
+    /// Returns the inner bus, in its present state. The log is dropped; its type determines whether bytes that it still
+    /// buffers are written.
     pub fn into_inner(self) -> B
         ensures { B.state result ≡ ⟦<TraceBus<B, L> as Bus>⟧.state self }
     {

@@ -1,10 +1,10 @@
-//! Reads, programs and fills plain slices.
+//! Reads, programs and fills of plain slices.
 ghost use Rattle.std.specs.Prelude.{◌≡◌, ℕ, ◌+◌, ◌*◌, ◌/◌, ◌%◌, ◌<◌, ◌≤◌, length, slice_index, slice_index_or, bit_and};
 ghost use Rattle.nor_chip.specs.Cells.{HasPageProgrammed, IsFilled};
 
 use nor_geometry::PAGE_LEN;
 
-// ANDs the sent bytes into `bytes`, from index `from` on. They must not reach past the end of `bytes`.
+// ANDs the bytes of `sent` into `bytes`, from index `from` on. They must not reach past the end of `bytes`.
 fn clear_bits(bytes: &mut [u8], from: usize, sent: &[u8])
     requires { from + length sent.now ≤ length bytes.old }
     ensures inside { (i : ℕ) → i < length sent.now
@@ -17,8 +17,9 @@ fn clear_bits(bytes: &mut [u8], from: usize, sent: &[u8])
     }
 }
 
-// Programs within one page, which must lie in `bytes`: starts at `at` and wraps around at the end of the page. Each
-// byte for which at least one byte was sent is ANDed with the last of these.
+// Programs the bytes of `sent` into one page, which must lie in `bytes`. The first byte is for index `at`, and after
+// the last byte of the page comes its first one. Each byte of the page for which some byte was sent is ANDed with the
+// last one sent for it.
 pub(crate) fn program(bytes: &mut [u8], at: usize, sent: &[u8])
     requires { at / 256 * 256 + 256 ≤ length bytes.old }
     ensures { HasPageProgrammed at sent.now bytes.old bytes.new }
@@ -32,7 +33,7 @@ pub(crate) fn program(bytes: &mut [u8], at: usize, sent: &[u8])
     clear_bits(bytes, page, back);
 }
 
-// Sets `len` bytes, from index `start` on, to `byte`. They must lie in `bytes`.
+// Sets the `len` bytes from index `start` on, which must lie in `bytes`, to `byte`.
 pub(crate) fn fill(bytes: &mut [u8], start: usize, len: usize, byte: u8)
     requires { start + len ≤ length bytes.old }
     ensures { IsFilled byte start len bytes.old bytes.new }
@@ -40,7 +41,8 @@ pub(crate) fn fill(bytes: &mut [u8], start: usize, len: usize, byte: u8)
     bytes[start..start + len].fill(byte);
 }
 
-// Reads from index `at`, which must be an index of `bytes`, and continues at index 0 after the last byte.
+// Fills `reply` with bytes read from index `at` on, which must be an index of `bytes`. After the last byte, the read
+// continues at index 0.
 pub(crate) fn read_round(bytes: &[u8], at: usize, reply: &mut [u8])
     requires { at < length bytes.now }
     ensures { (i : ℕ) → i < length reply.new
@@ -56,7 +58,7 @@ pub(crate) fn read_round(bytes: &[u8], at: usize, reply: &mut [u8])
     }
 }
 
-// Reads from index `at`; past the end every byte reads as FFh.
+// Fills `reply` with bytes read from index `at` on. Past the end of `bytes` every byte reads as FFh.
 pub(crate) fn read_padded(bytes: &[u8], at: usize, reply: &mut [u8])
     ensures { (i : ℕ) → i < length reply.new → slice_index reply.new i ≡ slice_index_or bytes.now (at + i) 255 }
 {

@@ -1,4 +1,4 @@
-//! The modelled chip in memory, and the effect of a transaction on it.
+//! The modelled chip in memory, and the effect of transactions on it.
 ghost use Rattle.std.specs.Prelude.{◌≡◌, ◌%◌, ◌<◌, ◌+◌, ◌/◌, ◌^◌, ◌==◌, ◌&&◌, ◌-◌, not, if◌then◌else◌, false, ℕ, [], length, slice_index, bit_and, bit_or};
 ghost use Rattle.nor_model.specs.Power.{RunsInside};
 
@@ -6,8 +6,8 @@ use super::cells;
 use nor_geometry::PAGE_LEN;
 use nor_model::{Command, Config, Running, Status, is_protected};
 
-// A simulated chip. `kept` has the non-volatile status bits, `latch` is WEL, and `busy` is the number of further polls
-// that will show BUSY. `each` is the value of `busy` after each operation, and `running` is the operation in progress.
+// A simulated chip. `kept` has the non-volatile status bits, `latch` is WEL, and `busy` is the number of polls that
+// will still show BUSY. An operation sets `busy` to `each`. `running` is the operation in progress.
 #[derive(Drop)]
 pub(crate) struct Flash {
     pub(crate) config: Config,
@@ -65,7 +65,7 @@ impl Flash {
         self.is_protected(start) || self.is_protected((start + len).saturating_sub(1))
     }
 
-    // True if the chip is idle and its write enable latch is set.
+    // Returns whether the chip is idle and its write enable latch is set.
     fn is_ready(&self) -> bool
         ensures { result ≡ (((chip_of self.now).busy == 0) && self.now.latch) }
     {
@@ -86,7 +86,8 @@ impl Flash {
         }
     }
 
-    // Returns the command that the chip carries out at a transaction, or `Ignored` if it carries out none.
+    // Returns the command that the chip carries out for a transaction that sends `out` and reads `replies` bytes, or
+    // `Ignored` if it carries out none.
     pub(crate) fn command(&self, out: &[u8], replies: usize) -> Command
         ensures done { result ≡ done_of (chip_of self.now) out.now replies }
         ensures targeted { HasValidAddress self.now.config.size result }
@@ -99,7 +100,7 @@ impl Flash {
         }
     }
 
-    // Writes the command's reply to `reply`.
+    // Fills `reply` with the chip's reply to `command`.
     fn answer(&self, command: Command, reply: &mut [u8])
         requires { HasValidAddress self.now.config.size command }
         ensures { (i : ℕ) → i < length reply.new → slice_index reply.new i ≡ reply_byte (chip_of self.now) command i }
@@ -115,8 +116,7 @@ impl Flash {
         }
     }
 
-    // Begins the operation `running`: the chip is busy for `each` polls. If `each` is 0, the operation has ended
-    // already.
+    // Begins the operation `running`: the next `each` polls show BUSY. If `each` is 0, the operation ends at once.
     fn begin(&mut self, running: Running)
         requires { RunsInside self.old.config.size running }
         ensures begins { Begins running self.old.each (chip_of self.old) (chip_of self.new) }
@@ -127,7 +127,7 @@ impl Flash {
         self.latch = self.each != 0;
     }
 
-    // Updates the chip for a poll. The poll that shows the last BUSY also clears the write enable latch.
+    // Updates the chip after a poll. The poll that shows the last BUSY also clears the write enable latch.
     fn tick(&mut self)
         ensures does { Does Command.Poll [] (chip_of self.old) [] (chip_of self.new) }
         ensures paces { Paces Command.Poll self.old self.new }
@@ -166,7 +166,7 @@ impl Flash {
         self.begin(Running::Erase(start, len));
     }
 
-    // Carries out the command, except for its reply.
+    // Changes the chip as `command` does. `sent` has the data of a program.
     fn change(&mut self, command: Command, sent: &[u8])
         requires { HasValidAddress self.old.config.size command }
         ensures does { Does command sent.now (chip_of self.old) [] (chip_of self.new) }
@@ -183,8 +183,9 @@ impl Flash {
         }
     }
 
-    // Makes the chip lose its power. If the chip is busy, its operation is interrupted, with the effect of `fill` that
-    // `PowerLostWith` describes. Then the write enable latch is clear, and nothing runs.
+    // Makes the chip lose its power. If the chip is busy, the operation in progress is interrupted, with the effect
+    // that `PowerLostWith` describes for `fill`. Afterwards the write enable latch is clear, and no operation is in
+    // progress.
     pub(crate) fn lose_power(&mut self, fill: u8)
         ensures cut { PowerLostWith fill (chip_of self.old) (chip_of self.new) }
         ensures pace { self.new.each ≡ self.old.each }
@@ -196,9 +197,9 @@ impl Flash {
         self.busy = 0;
     }
 
-    // Leaves bytes and status bits as a power failure during the operation `running` leaves them. Each byte that a
-    // program or an erase works on becomes `fill`. A status write is undone if `fill` is even; otherwise the bits that
-    // it wrote stay. If the operation is unknown, bytes and bits stay.
+    // Changes bytes and status bits as a power failure during the operation `running` does. Each byte on which a
+    // program or erase works becomes `fill`. A status write is undone if `fill` is even; otherwise the bits that it
+    // wrote stay. If the operation is unknown, bytes and bits stay as they were.
     fn cut(&mut self, fill: u8)
         ensures cut { CutsOff fill (chip_of self.old) (chip_of self.new) }
         ensures pace { self.new.each ≡ self.old.each }
@@ -219,7 +220,8 @@ impl Flash {
         }
     }
 
-    // Performs one transaction. Returns the command that the chip carried out, or `Ignored` if it carried out none.
+    // Performs one transaction that sends `out` and fills `reply`. Returns the command that the chip carried out, or
+    // `Ignored` if it carried out none.
     pub(crate) fn step(&mut self, out: &[u8], reply: &mut [u8]) -> Command
         ensures steps { Step (chip_of self.old) out.now reply.new (chip_of self.new) }
         ensures done { result ≡ done_of (chip_of self.old) out.now (length reply.new) }
