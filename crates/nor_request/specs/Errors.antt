@@ -1,4 +1,4 @@
--- The meaning of errors from the identification of a chip, and the last transaction before an error.
+-- What an error during identification means, and which transaction is the last one before an error.
 use Rattle.std.specs.Prelude.{◌≡◌, ℕ, true, Option, List, ⊤}
 use Rattle.nor_model.specs.Exchange.{Exchange}
 use Rattle.nor_model.specs.History.{EndsStopped, EndsBusy, EndsReading}
@@ -10,10 +10,11 @@ use Rattle.nor_probe.specs.Found.{ProbeErrors}
 use Rattle.nor_request.specs.declared.refusal.Refusal.{Refusal}
 use Rattle.nor_request.specs.declared.refusal.Refusal.TheVariants.{NoChip, UnknownChip, OtherName, Stopped, Timeout, Mismatch}
 
--- The meaning of an error from a probe or the reads that follow it, which have at most `most` transactions together. On
--- a well-behaved bus (`honest`) `NoChip`, `UnknownChip` and `OtherName` mean the same as the probe's faults, a stop
--- occurs only with fewer than `most` transactions left, and a timeout doesn't occur. On any bus nothing is sent after a
--- stop or a timeout, the address of a timeout is 0, and only these five errors occur.
+-- The meaning of an error that identification returned. Identification is a probe and the reads that follow it, which
+-- need at most `most` transactions together. On a well-behaved bus (`honest`), `NoChip`, `UnknownChip` and `OtherName`
+-- mean the same as the faults of the probe, a stop occurs only if fewer than `most` transactions are left, and a
+-- timeout doesn't occur. On every bus, nothing is sent after a stop or a timeout, the address of a timeout is 0, and no
+-- errors other than these five occur.
 abbrev pub IdentificationErrors : (most : ℕ) → Option ChipName → (old new : BusState) → Refusal → Type 0
 IdentificationErrors most named old new NoChip = old.honest ≡ true → ProbeErrors named old new Probes.NoChip
 IdentificationErrors most named old new (UnknownChip fault) =
@@ -24,9 +25,9 @@ IdentificationErrors most named old new (Timeout address) =
     (address ≡ 0) × EndsBusy new.history × (old.honest ≡ true → ⊥)
 IdentificationErrors most named old new _ = ⊥
 
--- Holds for the history of a bus after a call that returned this error. After error 12 the last transaction is one at
--- which the bus stopped. After error 13 it is a poll that showed BUSY, and after error 14 a read of the sector that
--- contains the address of the error. For any other error nothing is said.
+-- Holds for the history of a bus after a call that returned the given error. After error 12 the last transaction is one
+-- at which the bus stopped. After error 13 it is a poll that showed BUSY, and after error 14 a read of the sector that
+-- contains the address of the error. For any other error the definition says nothing.
 abbrev pub EndsAtError : Refusal → List Exchange → Type 0
 EndsAtError Stopped history = EndsStopped history
 EndsAtError (Timeout address) history = EndsBusy history

@@ -1,4 +1,4 @@
--- The numbers of errors, and the error of a call for a probe's fault and for an operation or wait that failed.
+-- The numbers of errors. Also the errors that a call returns if a probe, an operation or a wait failed.
 use Rattle.std.specs.Prelude.{ℕ}
 use Rattle.nor_driver.specs.declared.waits.OperationError.{OperationError}
 use Rattle.nor_driver.specs.declared.waits.OperationError.TheVariants as OperationFails
@@ -7,7 +7,7 @@ use Rattle.nor_probe.specs.declared.probes.ProbeFault.TheVariants as Probes
 use Rattle.nor_request.specs.declared.refusal.Refusal.{Refusal}
 use Rattle.nor_request.specs.declared.refusal.Refusal.TheVariants.{NoChip, UnknownChip, OtherName, ImageSize, RegionOutside, NoProtection, UndefinedProtection, RangeNotOffered, StatusLocked, Protected, Vault, Stopped, Timeout, Mismatch, BadJournal, OtherChip, StatusDiffers, Memory, Output, OtherUnit}
 
--- the number that messages show for an error
+-- the number of an error, which messages show
 abbrev pub refusal_number : Refusal → ℕ
 refusal_number NoChip = 1
 refusal_number (UnknownChip fault) = 2
@@ -30,8 +30,8 @@ refusal_number Memory = 18
 refusal_number (Output written) = 19
 refusal_number OtherUnit = 20
 
--- the error of a call for a probe's fault; the address of a timeout is 0, because a probe sends no modifying command
--- before its wait
+-- The error that a call returns for a probe's fault. The address of a timeout is 0, because the wait of a probe follows
+-- no modifying command.
 abbrev pub of_probe : ProbeFault → Refusal
 of_probe Probes.NoChip = NoChip
 of_probe (Probes.UnknownChip fault) = UnknownChip fault
@@ -39,7 +39,7 @@ of_probe Probes.OtherName = OtherName
 of_probe Probes.Stopped = Stopped
 of_probe Probes.Timeout = Timeout 0
 
--- the error of a call for an operation or a wait that failed
+-- the error that a call returns for an operation or a wait that failed
 abbrev pub of_operation : OperationError → Refusal
 of_operation OperationFails.Stopped = Stopped
 of_operation (OperationFails.Timeout address) = Timeout address

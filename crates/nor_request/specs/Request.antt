@@ -1,4 +1,4 @@
--- The meaning of a request for a chip.
+-- What a request asks of a chip.
 use Rattle.std.specs.Prelude.{◌≡◌, ◌&&◌, ℕ, Bool, true, false, nat_lt, List, None, slice_index, if◌then◌else◌}
 use Rattle.nor_model.specs.Chip.{Chip}
 use Rattle.nor_model.specs.Guard.{code_of}
@@ -8,7 +8,8 @@ use Rattle.nor_request.specs.declared.request.Request.{Request}
 use Rattle.nor_request.specs.declared.request.What.{What}
 use Rattle.nor_request.specs.declared.request.What.TheVariants.{Write, WpRange}
 
--- the request for this change on a chip of any name: each address is included, and neither `unlock` nor `verify` is set
+-- The request for the change `wish` on a chip of any name. All addresses are included, and neither `unlock` nor
+-- `verify` is set.
 abbrev pub plain : What → Request
 plain wish = record { what = wish; named = None; included = None; unlock = false; verify = false }
 
@@ -17,28 +18,28 @@ abbrev pub is_data : What → Bool
 is_data (WpRange start len) = false
 is_data _ = true
 
--- the byte that a write or erase stores at an included address; it isn't used for a protection range, which changes no
--- byte
+-- The byte that a write or erase stores at the included address `a`. For a protection range, which changes no byte,
+-- this value isn't used.
 abbrev pub target : What → (image : List ℕ) → (a : ℕ) → ℕ
 target Write image a = slice_index image a
 target _ image a = 255
 
--- true if the request may change this address, on a chip of this size
+-- true if the request may change the byte at the address `a`, on a chip of `size` bytes
 abbrev pub is_requested : Request → (size a : ℕ) → Bool
 is_requested request size a = is_data request.what && (nat_lt a size && includes request.included a)
 
--- The target byte at an address of a chip: the one that the request asks for if it may change the address, else the
--- chip's own.
+-- The target byte at the address `a`: the byte for which the request asks if it may change this address, otherwise the
+-- chip's own byte.
 abbrev pub wanted : Request → (image : List ℕ) → Chip → (a : ℕ) → ℕ
 wanted request image chip a =
     if is_requested request chip.config.size a then target request.what image a else chip.bytes a
 
--- the number of sectors that a session scans, on a chip of this size
+-- the number of sectors that a session scans on a chip of `size` bytes
 abbrev pub scanned_sectors : Request → (size : ℕ) → ℕ
 scanned_sectors request size = if is_data request.what then sectors_included request.included size else 0
 
--- The target protection bits: for a protection range the least defined value that protects exactly this range, else the
--- chip's own.
+-- Holds if `code` is the target value of the protection bits. For a protection range this is the least defined value
+-- that protects exactly the range. For a write or an erase it is the chip's own value.
 abbrev pub IsWantedCode : What → Chip → (code : ℕ) → Type 0
 IsWantedCode (WpRange start len) chip code = IsLeastCode chip.config.size start len code
 IsWantedCode _ chip code = code ≡ code_of chip.kept

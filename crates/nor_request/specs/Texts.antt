@@ -1,4 +1,4 @@
--- The texts of errors, which messages show after the number.
+-- The texts of errors. Messages show the text after the number.
 use Rattle.std.specs.Prelude.{ℕ, ◌-◌, false, List, [], ◌∷◌, ◌++◌, codes, decimal, length, replicate}
 use Rattle.std.specs.Fmt.{digits}
 use Rattle.std.specs.List.{concat}
@@ -7,11 +7,11 @@ use Rattle.nor_probe.specs.Sfdp.{sfdp_fault_number as sfdp_number}
 use Rattle.nor_request.specs.declared.refusal.Refusal.{Refusal}
 use Rattle.nor_request.specs.declared.refusal.Refusal.TheVariants.{NoChip, UnknownChip, OtherName, ImageSize, RegionOutside, NoProtection, UndefinedProtection, RangeNotOffered, StatusLocked, Protected, Vault, Stopped, Timeout, Mismatch, BadJournal, OtherChip, StatusDiffers, Memory, Output, OtherUnit}
 
--- a number in lower-case hexadecimal digits, with leading zeros up to `width` digits
+-- the lower-case hexadecimal digits of `number`, with leading zeros if there are fewer than `width` digits
 abbrev pub hex_digits : (width number : ℕ) → List ℕ
 hex_digits width number = replicate (width - length (digits 16 false number)) 48 ++ digits 16 false number
 
--- the text of an address: `0x` and at least six lower-case hexadecimal digits
+-- the text of the address `place`: `0x` and at least six lower-case hexadecimal digits
 abbrev pub address : ℕ → List ℕ
 address place = codes "0x" ++ hex_digits 6 place
 

@@ -1,8 +1,8 @@
-//! Defines what a session is asked for and what calls return: requests, reports, and errors with their numbers and
-//! texts.
+//! Defines the requests that a session can be asked to perform, the reports that calls return on success, and the
+//! errors that they return on failure, with their numbers and texts.
 //!
 //! - `request.rt`: requests for a session
-//! - `report.rt`: what a call did
+//! - `report.rt`: what a call that succeeded did
 //! - `refusal.rt`: the errors of calls, their numbers and their texts
 //!
 //! ```rust
@@ -17,8 +17,8 @@
 //! assert_eq!(rt; text.as_str(), "protected at 0x001000");
 //! ```
 //!
-//! `specs/Request.antt` defines what a request asks of a chip, `specs/Refusal.antt` the numbers of errors,
-//! `specs/Texts.antt` their texts, and `specs/Errors.antt` what an error during identification means.
+//! `specs/Request.antt` defines what a request asks of a chip, and `specs/Refusal.antt` the numbers of errors.
+//! `specs/Texts.antt` defines the texts of errors, and `specs/Errors.antt` what an error during identification means.
 #![tactic(auto)]
 
 mod refusal;

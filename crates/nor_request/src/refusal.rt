@@ -1,4 +1,4 @@
-//! The errors of calls.
+//! The errors of calls, with their numbers and texts.
 ghost use Rattle.std.specs.Prelude.{◌≡◌, ◌↔◌, IsTrue, Some};
 ghost use Rattle.nor_request.specs.declared.refusal.Refusal.TheVariants as Refusals;
 ghost use Rattle.nor_request.specs.Refusal.{of_probe, of_operation};
@@ -11,58 +11,59 @@ use std::error::Error;
 use std::fmt;
 
 /// The reason why a call failed. `number` returns the number of the error, which is different for each variant. A
-/// session checks errors 1 to 10 in the order of their numbers, and returns the first that holds.
+/// session checks errors 1 to 10 in the order of their numbers, and returns the first one that applies.
 #[derive(Clone, Copy, Debug, PartialEq, Eq)]
 pub enum Refusal {
     /// 1: the ID reads `FF FF FF` or `00 00 00`, as it does if nothing drives the bus.
     NoChip,
-    /// 2: the ID isn't in the table, and the chip's SFDP is refused for this reason.
+    /// 2: the ID isn't in the table of chips, and the chip's SFDP is refused for the given reason.
     UnknownChip(SfdpFault),
-    /// 3: the chip has another name than the one given.
+    /// 3: the name of the chip differs from the requested one.
     OtherName,
-    /// 4: the image and the chip have different lengths, in bytes.
+    /// 4: the image and the chip have different lengths. `chip` and `image` are the two lengths in bytes.
     ImageSize { chip: u32, image: usize },
     /// 5: an included address isn't on the chip.
     RegionOutside,
-    /// 6: a request for a protection range, or a call of `wp_status` (nor_read), on a chip without block protection.
+    /// 6: the chip has no block protection, and the call is a request for a protection range or a call of `wp_status`
+    /// (nor_read).
     NoProtection,
-    /// 7: the datasheets don't define which range the chip's protection bits select.
+    /// 7: the chip has block protection, and the datasheets don't define which range its protection bits select.
     UndefinedProtection,
-    /// 8: no setting of the protection bits that the datasheets define protects exactly the requested range.
+    /// 8: no value of the protection bits that the datasheets define protects exactly the requested range.
     RangeNotOffered,
-    /// 9: the status registers must be written, and they are locked (SRP0 or SRP1 is set).
+    /// 9: the status registers must be written, but they are locked, because SRP0 or SRP1 is set.
     StatusLocked,
-    /// 10: a sector that would change has a protected address, and the request doesn't lift protection. The address is
-    /// that of the lowest such sector.
+    /// 10: a sector that would change contains a protected address, and the request doesn't lift protection. `address`
+    /// is the first address of the lowest such sector.
     Protected { address: u32 },
-    /// 11: the vault refused a piece of the journal, or refused to be sealed.
+    /// 11: the vault refused a piece of the journal, or it refused to be sealed.
     Vault,
     /// 12: the bus stopped.
     Stopped,
-    /// 13: 65,536 polls in a row showed BUSY. The address is that of the command that was waited for; it is 0 during
-    /// identification, for an erase of the whole chip, and for a status write.
+    /// 13: status 1 showed BUSY in 65,536 polls in a row. `address` is the address of the command for whose completion
+    /// the call waited. It is 0 during identification, for an erase of the whole chip, and for a status write.
     Timeout { address: u32 },
-    /// 14: bytes that were read differ from the expected ones, first at this address.
+    /// 14: bytes that were read differ from the expected ones. `address` is the first address at which they differ.
     Mismatch { address: u32 },
-    /// 15: the bytes aren't a journal.
+    /// 15: the given bytes aren't a journal, for the given reason.
     BadJournal(JournalFault),
     /// 16: the chip's ID or size differs from the journal's.
     OtherChip,
-    /// 17: a status bit that flashnor never changes differs from the journal's; on a chip without block protection, any
-    /// non-volatile status bit.
+    /// 17: a status bit differs from the journal's. The bit is one that flashnor never changes or, on a chip without
+    /// block protection, any non-volatile status bit.
     StatusDiffers,
     /// 18: out of memory.
     Memory,
-    /// 19: the output failed after `written` bytes.
+    /// 19: the output failed after `written` bytes had been written.
     Output { written: u64 },
-    /// 20: the chip is another device than the journal's: the unique IDs differ.
+    /// 20: the chip's unique ID differs from the journal's, so the chip is another device.
     OtherUnit,
 }
 
 impl Refusal {
     ghost use Rattle.nor_request.specs.Refusal.{refusal_number};
 
-    /// Returns the error's number, which messages show: 1 to 20.
+    /// Returns the number of the error, from 1 to 20, which messages show.
     pub fn number(self) -> u8
         ensures { result ≡ refusal_number self }
     {
@@ -90,7 +91,7 @@ impl Refusal {
         }
     }
 
-    /// True if the bus stopped (error 12).
+    /// Returns whether the error is that the bus stopped (error 12).
     pub fn is_stopped(self) -> bool
         ensures { IsTrue result ↔ (self ≡ Refusals.Stopped) }
     {
@@ -98,7 +99,7 @@ impl Refusal {
     }
 }
 
-// Implemented by hand, because a derived `Display` has no contract.
+// This implementation is written by hand, because a derived `Display` has no contract.
 impl fmt::Display for Refusal {
     ghost use Rattle.nor_request.specs.Texts.{refusal_text};
 

@@ -1,13 +1,17 @@
 //! The report of a call that succeeded.
 use nor_probe::Found;
 
-/// The report of a call that succeeded: the chip that was found, the number of touched sectors, the numbers of erases
-/// and page programs, and the number of all transactions that were sent.
+/// The report of a call that succeeded.
 #[derive(Clone, Copy, Debug, PartialEq, Eq)]
 pub struct Report {
+    /// The chip that was identified.
     pub found: Found,
+    /// The number of touched sectors.
     pub touched: u32,
+    /// The number of erases that were sent.
     pub erases: u32,
+    /// The number of page programs that were sent.
     pub programs: u32,
+    /// The number of all transactions that were sent.
     pub transactions: u64,
 }

@@ -6,60 +6,63 @@ ghost use Rattle.nor_request.specs.declared.request.What.TheVariants as Whats;
 use nor_layout::Ranges;
 use nor_probe::ChipName;
 
-/// The change that a session is asked for.
+/// The change for which a session is asked. For a write and for an erase, the image must be as long as the chip.
 #[derive(Clone, Copy, Debug, PartialEq, Eq)]
 pub enum What {
-    /// A write: each included byte becomes the image's byte at its address. The image must be as long as the chip.
+    /// A write: each included byte becomes the image's byte at the same address.
     Write,
     /// An erase: each included byte becomes FFh.
     Erase,
-    /// A change of the protection bits: exactly the `len` addresses from `start` on are protected.
+    /// A change of the protection bits: afterwards exactly the `len` addresses from `start` on are protected.
     WpRange { start: u32, len: u32 },
 }
 
-/// A request for a session. `write`, `erase` and `protect` construct one; `named`, `included`, `unlocked` and
-/// `verified` set its other fields. An example is `Request::write().named(ChipName::W25Q64FV).verified()`.
+/// A request for a session. `write`, `erase` and `protect` return a request with default values for the other fields,
+/// which `named`, `included`, `unlocked` and `verified` set. An example is
+/// `Request::write().named(ChipName::W25Q64FV).verified()`.
 #[derive(Clone, Debug, Drop)]
 pub struct Request {
+    /// The change for which the session is asked.
     pub what: What,
     /// The name that the chip must have, or `None` for any chip.
     pub named: Option<ChipName>,
     /// The addresses whose bytes may change, or `None` for the whole chip. A protection range ignores this field.
     pub included: Option<Ranges>,
-    /// Whether protection that is in the way of a change is lifted, and set again at the end. A protection range
-    /// ignores this field.
+    /// Whether the session lifts protection that is in the way of a change, and sets it again at the end. A protection
+    /// range ignores this field.
     pub unlock: bool,
-    /// Whether the touched sectors are read back and compared at the end. A protection range touches none.
+    /// Whether the session reads the touched sectors back at the end and compares them with the target. A protection
+    /// range touches no sector.
     pub verify: bool,
 }
 
 impl Request {
-    /// Returns a request to make the whole chip equal to the image. It accepts a chip of any name, doesn't lift
-    /// protection, and reads nothing back.
+    /// Returns a request to write the whole image to the chip. The request accepts a chip of any name, doesn't lift
+    /// protection, and doesn't verify.
     pub const fn write() -> Request
         ensures { result ≡ plain Whats.Write }
     {
         Request::plain(What::Write)
     }
 
-    /// Returns a request to make the whole chip FFh. It accepts a chip of any name, doesn't lift protection, and reads
-    /// nothing back.
+    /// Returns a request to set all bytes of the chip to FFh. The request accepts a chip of any name, doesn't lift
+    /// protection, and doesn't verify.
     pub const fn erase() -> Request
         ensures { result ≡ plain Whats.Erase }
     {
         Request::plain(What::Erase)
     }
 
-    /// Returns a request to protect exactly the `len` addresses from `start` on. It accepts a chip of any name, and
-    /// reads no sector back.
+    /// Returns a request to protect exactly the `len` addresses from `start` on. The request accepts a chip of any
+    /// name.
     pub const fn protect(start: u32, len: u32) -> Request
         ensures { result ≡ plain (Whats.WpRange start len) }
     {
         Request::plain(What::WpRange { start, len })
     }
 
-    // Returns a request for this change on a chip of any name. Each address is included, and neither `unlock` nor
-    // `verify` is set.
+    // Returns a request for the change `what` on a chip of any name. All addresses are included, and neither `unlock`
+    // nor `verify` is set.
     const fn plain(what: What) -> Request
         ensures { result ≡ plain what }
     {
@@ -72,7 +75,7 @@ impl Request {
         }
     }
 
-    /// Returns the request for a chip that must have this name.
+    /// Returns this request, restricted to a chip with the given name.
     pub fn named(self, name: ChipName) -> Request
         ensures { result ≡ record self { named = Some name } }
     {
@@ -82,7 +85,8 @@ impl Request {
         }
     }
 
-    /// Returns the request with changes limited to these addresses, instead of any that were set before.
+    /// Returns this request, restricted to changes at the addresses of `ranges`. They replace ranges that were set
+    /// before.
     pub fn included(self, ranges: Ranges) -> Request
         ensures { result ≡ record self { included = Some ranges } }
     {
@@ -92,7 +96,8 @@ impl Request {
         }
     }
 
-    /// Returns the request with protection that is in the way of a change lifted, and set again at the end.
+    /// Returns this request with `unlock` set: protection that is in the way of a change is lifted, and set again at
+    /// the end.
     pub fn unlocked(self) -> Request
         ensures { result ≡ record self { unlock = true } }
     {
@@ -102,7 +107,7 @@ impl Request {
         }
     }
 
-    /// Returns the request with the touched sectors read back and compared at the end.
+    /// Returns this request with `verify` set: the touched sectors are read back and compared at the end.
     pub fn verified(self) -> Request
         ensures { result ≡ record self { verify = true } }
     {
@@ -112,7 +117,7 @@ impl Request {
         }
     }
 
-    /// True if the request changes bytes (write or erase), false if it sets a protection range.
+    /// Returns whether the request changes bytes (write or erase). The result is false for a protection range.
     pub fn is_data(&self) -> bool
         ensures { result ≡ is_data self.now.what }
     {
