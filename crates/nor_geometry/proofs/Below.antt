@@ -1,16 +1,16 @@
--- Lemmas about `any_below` and `count_below`: whether any number below a bound passes a test, and how many of them do.
+-- Lemmas about `any_below` (whether any number below a bound passes a test) and `count_below` (how many of them do).
 use Rattle.std.proofs.Common.{◌≡◌, ◌<◌, ◌≤◌, ◌+◌, ℕ, zero, suc, Bool, true, false, add-one, refl, sym, ap, ◌∙◌, inl, inr, arith}
 use Rattle.std.specs.Prelude.{MatchBool, if◌then◌else◌}
 use Rattle.std.proofs.lemmas.Bool.{cases_Bool, cases_eq, or_left, or_right, or_cases, both_ways, false_from_ne_true}
 use Rattle.nor_geometry.specs.Below.{any_below, count_below}
 
--- two truth values are equal if each implies the other
+-- if each of the truth values `p` and `q` implies the other one, they are equal
 pub same_tests : (p q : Bool) → (p ≡ true → q ≡ true) → (q ≡ true → p ≡ true) → p ≡ q
 same_tests true q to from = sym (to refl)
 same_tests false true to from = from refl
 same_tests false false to from = refl
 
--- `any_below` is true if some number below n passes
+-- if `k` is below `n` and passes `test`, `any_below n test` is true
 pub any_below-some : (n k : ℕ) (test : ℕ → Bool) → k < n → test k ≡ true → any_below n test ≡ true
 unfolding any_below
 any_below-some zero k test below passes = absurd (omega arith)
@@ -20,7 +20,7 @@ any_below-some (suc n) k test below passes =
       | inr other ↦ or_left _ _ (any_below-some n k test (omega arith) passes)
     ]
 
--- if `any_below` is true, some number below n passes
+-- if `any_below n test` is true, some number `k` below `n` passes `test`
 pub any_below-found : (n : ℕ) (test : ℕ → Bool) → any_below n test ≡ true → (k : ℕ) × (k < n) × (test k ≡ true)
 unfolding any_below
 any_below-found zero test some = absurd cc
@@ -38,7 +38,7 @@ any_below-cases n test =
           false_from_ne_true _ (λ passes. both_ways _ none (any_below-some n k test below passes)))
     ]
 
--- the count below 0 is 0; the count below n + 1 is that below n, plus 1 if n passes
+-- `count_below` is 0 for the bound 0. For the bound `n + 1` it is the count for `n`, plus 1 if `n` passes `test`.
 pub count_below-zero : (test : ℕ → Bool) → count_below 0 test ≡ 0
 unfolding count_below
 count_below-zero test = refl

@@ -1,5 +1,5 @@
--- Two ways to count the numbers below n that pass a test have the same result: in the list of all numbers below n, and
--- step by step (`IsCount`).
+-- There are two ways to count the numbers below `n` that pass a test: in the list of all numbers below `n`, and step by
+-- step (`IsCount`). Both have the same result.
 use Rattle.std.proofs.Common.{ℕ, zero, suc, ◌≡◌, ◌+◌, Bool, cond, sym, ap, ◌∙◌, add-one, arith}
 use Rattle.std.specs.Prelude.{count_by}
 use Rattle.std.specs.List.{range_with_len}
@@ -7,7 +7,8 @@ use Rattle.std.proofs.lemmas.List.FromFn.{sum_by-map-range_with_len_more}
 use Rattle.std.proofs.lemmas.List.Sums.{sum-map}
 use Rattle.nor_geometry.specs.Counts.{IsCount}
 
--- the count in the list of the numbers below n + 1: the count for n, plus 1 if n passes
+-- The count in the list of all numbers below `n + 1` is the count in the list of those below `n`, plus 1 if `n` passes
+-- `test`.
 count_by-more : (test : ℕ → Bool) (n : ℕ)
     → count_by test (range_with_len 0 (n + 1)) ≡ count_by test (range_with_len 0 n) + cond (test n) 1 0
 count_by-more test n =

@@ -1,4 +1,4 @@
--- More lemmas about `any_below` and `count_below`: steps, equal tests, and sums.
+-- More lemmas about `any_below` and `count_below`: steps from `n` to `n + 1`, tests that agree, and sums.
 use Rattle.std.proofs.Common.{◌≡◌, ◌<◌, ◌≤◌, ◌+◌, ◌||◌, ◌∙◌, ℕ, zero, suc, Bool, true, false, refl, ap, arith, add-one}
 use Rattle.std.specs.Prelude.{if◌then◌else◌}
 use Rattle.std.proofs.lemmas.Bool.{both_ways, false_from_ne_true}
@@ -6,7 +6,8 @@ use Rattle.nor_geometry.specs.Below.{any_below, count_below}
 use Rattle.nor_geometry.proofs.Below.{any_below-found}
 pub use Rattle.nor_geometry.proofs.Below.{any_below-some, count_below-zero, count_below-more, count_below-most}
 
--- if n passes, the count below n + 1 is greater by 1 than that below n; if n fails, both are equal
+-- if `n` passes `test`, the count below `n + 1` is the count below `n` plus 1 (`-with`); if `n` fails, the counts are
+-- equal (`-without`)
 pub count_below-with : (n : ℕ) (test : ℕ → Bool) → test n ≡ true → count_below (n + 1) test ≡ count_below n test + 1
 count_below-with n test passes = count_below-more n test ∙ rw passes
 
@@ -15,7 +16,7 @@ count_below-without n test fails =
     let step : count_below (n + 1) test ≡ count_below n test + 0 = count_below-more n test ∙ rw fails in
     omega arith
 
--- `any_below` for n + 1: some number below n passes, or n does
+-- some number below `n + 1` passes `test` if and only if some number below `n` passes it or `n` does
 pub any_below-more : (n : ℕ) (test : ℕ → Bool) → any_below (n + 1) test ≡ (any_below n test || test n)
 unfolding any_below
 any_below-more n test = ap (λ (m : ℕ). any_below m test) (add-one n)
@@ -24,17 +25,17 @@ pub any_below-zero : (test : ℕ → Bool) → any_below 0 test ≡ false
 unfolding any_below
 any_below-zero test = refl
 
--- if `any_below` is false, each number below n fails
+-- if `any_below n test` is false, each number below `n` fails `test`
 pub any_below-false : (n : ℕ) (test : ℕ → Bool) → any_below n test ≡ false → (k : ℕ) → k < n → test k ≡ false
 any_below-false n test none k below =
     false_from_ne_true _ (λ passes. both_ways _ none (any_below-some n k test below passes))
 
--- if each number below n fails, `any_below` is false
+-- if each number below `n` fails `test`, `any_below n test` is false
 pub any_below-all : (n : ℕ) (test : ℕ → Bool) → ((k : ℕ) → k < n → test k ≡ false) → any_below n test ≡ false
 any_below-all n test each = false_from_ne_true _ (λ some.
     let found = any_below-found n test some in both_ways _ (each found.0 found.1) found.2)
 
--- for two tests that agree below n, `any_below` is the same, and so is `count_below`
+-- if the tests `p` and `q` agree below `n`, `any_below` is the same for both, and so is `count_below`
 pub any_below-same : (n : ℕ) (p q : ℕ → Bool) → ((k : ℕ) → k < n → p k ≡ q k) → any_below n p ≡ any_below n q
 unfolding any_below
 any_below-same zero p q same = refl

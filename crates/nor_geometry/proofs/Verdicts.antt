@@ -1,4 +1,4 @@
--- When a test result equals `any_below`, and what one more number that passes adds to a count.
+-- A test result that is equal to `any_below`, and a count after one more number passes.
 use Rattle.std.proofs.Common.{◌≡◌, ◌<◌, ◌+◌, ◌||◌, ◌∙◌, ℕ, zero, suc, Bool, true, false, ap, sym, arith, inl, inr}
 use Rattle.std.specs.Prelude.{MatchBool, ◌==◌}
 use Rattle.std.proofs.lemmas.Bool.{cases_eq, or_left, ne_eqb, eq-eqb}
@@ -6,15 +6,15 @@ use Rattle.nor_geometry.specs.Below.{any_below, count_below}
 use Rattle.nor_geometry.proofs.Below.{any_below-some}
 use Rattle.nor_geometry.proofs.Counting.{any_below-all, count_below-same}
 
--- `verdict` equals `any_below` if a true `verdict` implies that some number below n passes, and a false `verdict`
--- implies that all numbers below n fail
+-- Suppose that a true `verdict` implies that some number below `n` passes `test`, and a false `verdict` implies that
+-- all numbers below `n` fail it. Then `verdict` is equal to `any_below n test`.
 pub any_below-decided : (n : ℕ) (verdict : Bool) (test : ℕ → Bool) (P Q : ℕ → Type 0) → ((k : ℕ) → P k → test k ≡ true) → ((k : ℕ) → Q k → test k ≡ false)
     → MatchBool verdict ((k : ℕ) × (k < n) × P k) ((k : ℕ) → k < n → Q k) → verdict ≡ any_below n test
 any_below-decided n true test P Q passes fails some = sym (any_below-some n some.0 test some.1 (passes some.0 some.2))
 any_below-decided n false test P Q passes fails none = sym (any_below-all n test (λ k below. fails k (none k below)))
 
--- if k is below n, `p` rejects k, and `q` accepts exactly k and the numbers that `p` accepts, then the count of `q`
--- below n is greater by 1 than that of `p`
+-- Suppose that `k` is below `n` and fails `p`, and that exactly `k` and the numbers that pass `p` pass `q`. Then the
+-- count of the numbers below `n` that pass `q` is the count of those that pass `p`, plus 1.
 pub count_below-insert : (n k : ℕ) (p q : ℕ → Bool) → k < n → p k ≡ false → ((s : ℕ) → q s ≡ ((s == k) || p s)) → count_below n q ≡ count_below n p + 1
 unfolding count_below
 count_below-insert zero k p q below fails inserted = absurd (omega arith)

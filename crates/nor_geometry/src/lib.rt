@@ -1,10 +1,11 @@
-//! The sizes of chips and of their parts, and definitions about numbers that the contracts of the other crates use.
+//! The sizes of chips, sectors and pages, and definitions about counting that the contracts of the other crates use.
 //!
 //! - `limits.rt`: the lengths of sectors and pages, and the sizes that a chip may have
-//! - `specs/Below.antt`: `any_below` and `count_below`, whether any number below a bound passes a test, and how many do
-//! - `specs/Counts.antt`: `sector_count`, the size of a set of sectors, and `IsCount`, a count given by its value at 0
-//!   and by its steps
-//! - `specs/Size.antt`: `is_chip_size`, the sizes that a chip may have
+//! - `specs/Below.antt`: whether any number below a bound passes a test (`any_below`), and how many of them do
+//!   (`count_below`)
+//! - `specs/Counts.antt`: the number of sectors in a set (`sector_count`), and counts that are given by their value at
+//!   0 and by their steps (`IsCount`)
+//! - `specs/Size.antt`: the sizes that a chip may have (`is_chip_size`)
 #![tactic(auto)]
 
 mod limits;

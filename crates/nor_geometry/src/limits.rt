@@ -1,17 +1,18 @@
-//! The lengths of sectors and pages, and the sizes of chips.
+//! The lengths of sectors and pages, and the sizes that a chip may have.
 ghost use Rattle.std.specs.Prelude.{◌≡◌};
 ghost use Rattle.nor_geometry.specs.Size.{is_chip_size};
 
-/// The length of a sector in bytes, the smallest erase block.
+/// The length of a sector in bytes. A sector is the smallest erase block.
 pub const SECTOR_LEN: u32 = 4096;
 
-/// The greatest number of sectors of a chip: three address bytes reach 16 MiB.
+/// The greatest number of sectors that a chip may have. Three address bytes reach 16 MiB, which is 4,096 sectors.
 pub const MOST_SECTORS: u32 = 4096;
 
 /// The length of a page in bytes. One program command writes within one page.
 pub const PAGE_LEN: usize = 256;
 
-/// Returns whether the size in bytes is a power of two from 64 KiB to 16 MiB, the most that three address bytes reach.
+/// Returns whether a chip may have `size` bytes: a power of two from 64 KiB to 16 MiB, the most that three address
+/// bytes reach.
 pub fn is_chip_size(size: u32) -> bool
     ensures { result ≡ is_chip_size size }
 {
