@@ -1,5 +1,5 @@
--- Each prefix of the bytes that an operation sends as its command is decoded as the same command as all of these bytes,
--- or as `Ignored`.
+-- A chip decodes each prefix of the bytes of an operation's command as the same command as all of these bytes, or as
+-- `Ignored`.
 use Rattle.std.proofs.Common.{◌≡◌, ◌<◌, ◌≤◌, ◌∙◌, ◌⊎◌, ℕ, zero, suc, true, false, List, length, [], ◌∷◌, take, refl, sym, arith, inl, inr}
 use Rattle.std.proofs.Math.Seq.{take-nil}
 use Rattle.std.proofs.lemmas.Bool.Decides.{nat_tests}
@@ -12,13 +12,13 @@ use Rattle.nor_driver.specs.declared.units.EraseBlock.TheVariants as Units
 use Rattle.nor_driver.specs.Operations.{is_operation_or_none, IsCommandAt, AsksForOperation}
 use Rattle.nor_driver.proofs.Erasing.{erase_bytes}
 
--- The first `count` bytes of `out`, with `replies` reply bytes, are decoded as `Ignored`, or as the same command as all
--- bytes of `out` without reply bytes.
+-- The first `count` bytes of `out`, with `replies` reply bytes, are decoded as the same command as all bytes of `out`
+-- without reply bytes, or as `Ignored`.
 abbrev AsksAlike : Config → List ℕ → (count replies : ℕ) → Type 0
 AsksAlike config out count replies = (command_of config (take count out) replies ≡ Ignored)
     ⊎ (command_of config (take count out) replies ≡ command_of config out 0)
 
--- ---- a program
+-- ---- the command of a page program
 
 programs : (config : Config) (x y z byte : ℕ) (rest : List ℕ)
     → command_of config (2 ∷ x ∷ y ∷ z ∷ byte ∷ rest) 0 ≡ Program (address_of config x y z)
@@ -61,7 +61,7 @@ asks_program at sent command some few sends = rw sends.4 record {
   short = omega (arith, few);
 }
 
--- ---- an erase
+-- ---- the command of an erase
 
 erase_whole : (unit : EraseBlock) (config : Config) (x y z : ℕ)
     → is_operation_or_none (command_of config (erase_bytes unit x y z) 0) ≡ true
@@ -99,7 +99,7 @@ asks_erase unit x y z command is = rw is record {
   short = erase_short unit x y z;
 }
 
--- ---- a status write
+-- ---- the command of a status write
 
 status_begun : (config : Config) (one two count replies : ℕ) → AsksAlike config (1 ∷ one ∷ two ∷ []) count replies
 status_begun config one two zero replies = inl refl

@@ -39,8 +39,8 @@ then_done out old ready asks enabling = elim (eqb_tells old.chip.busy 0) [
   | inr busy ↦ grind (arith, asks.whole old.chip.config)
 ]
 
--- If the chip receives only a prefix of `out` after a write enable, it carries out the same command as for all of
--- `out`, or nothing.
+-- If `out` satisfies `AsksForOperation`, and the chip receives only a prefix of `out` after a write enable, it carries
+-- out the same command as for all of `out`, or nothing.
 pub part_done : (out : List ℕ) (old ready : BusState) (count replies : ℕ) → AsksForOperation out
     → IsEnabled old ready → (done_of ready.chip (take count out) replies ≡ Ignored)
     ⊎ (done_of ready.chip (take count out) replies ≡ operation_of old.chip out)
@@ -51,18 +51,19 @@ part_done out old ready count replies asks enabling =
       | inr same ↦ inr (ap does same ∙ then_done out old ready asks enabling)
     ]
 
--- if `operation_of chip out` is no operation, it is `Ignored`
+-- If `out` satisfies `AsksForOperation`, and `operation_of chip out` is no operation, it is `Ignored`.
 pub operation-ignored : (chip : Chip) (out : List ℕ) → AsksForOperation out
     → is_operation (operation_of chip out) ≡ false → operation_of chip out ≡ Ignored
 operation-ignored chip out asks none = grind (arith, asks.whole chip.config)
 
--- if `operation_of chip out` is an operation, `chip` is idle
+-- If `out` satisfies `AsksForOperation`, and `operation_of chip out` is an operation, then `chip` is idle, because a
+-- busy chip carries out no operation.
 pub idle-takes : (chip : Chip) (out : List ℕ) → AsksForOperation out → is_operation (operation_of chip out) ≡ true
     → chip.busy ≡ 0
 idle-takes chip out asks is = grind (arith, asks.whole chip.config, nat_tests)
 
--- The effect of a command that begins an operation: bytes and non-volatile bits are already as after `command`. The
--- chip will show BUSY for any number of polls, or not at all.
+-- The effect of a command that begins an operation. Bytes, non-volatile bits and erased sectors are already as after
+-- `command`, and the operation is in progress. The chip will show BUSY for any number of polls, or not at all.
 pub record HasBegun (command : Command) (sent : List ℕ) (old new : BusState) : Type 0 where
   pub config : new.chip.config ≡ old.chip.config
   pub bytes : (a : ℕ) → new.chip.bytes a ≡ byte_after old.chip command sent a
@@ -89,8 +90,7 @@ kept-cut : (command : Command) (old : Chip) (begun new : KeptBits) → is_operat
     → (new ≡ old.kept) ⊎ (new ≡ kept_after old command)
 kept-cut command old begun new is kept cut = grind arith
 
--- If `old.chip` is idle and a call satisfies `KeepsChip`, because it began no operation, it also satisfies `MayOperate`
--- for each command.
+-- If `old.chip` is idle, a call that satisfies `KeepsChip` also satisfies `MayOperate`, for each command.
 pub may-before : (command : Command) (sent : List ℕ) (old new : BusState) → old.chip.busy ≡ 0 → KeepsChip old new
     → MayOperate command sent old new
 may-before command sent old new idle stays = grind (arith, stays.steady_or_idle (inr idle))

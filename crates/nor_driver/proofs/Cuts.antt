@@ -6,7 +6,7 @@ use Rattle.nor_model.specs.Power.{KeptCut}
 use Rattle.nor_model.specs.Bus.{BusState}
 use Rattle.nor_driver.specs.OnlyReads.{Unchanged, KeepsChip}
 
--- if the non-volatile bits stay as they were, they satisfy `KeptCut`
+-- non-volatile bits that stay as they were satisfy `KeptCut`
 pub kept_cut-stay : (running : Running) (old new : KeptBits) → new ≡ old → KeptCut running old new
 kept_cut-stay running old new stay = grind arith
 

@@ -80,8 +80,8 @@ loud Units.Sector x y z = refl
 loud Units.Block32 x y z = refl
 loud Units.Block64 x y z = refl
 
--- After a write enable, a chip carries out an erase if it is idle, has the erase type (`has`), and protects no address
--- of the block. Otherwise it ignores the erase.
+-- After a write enable, a chip carries out an erase if it is idle, has the erase type (`has`), and `is_block_protected`
+-- is false for the block. Otherwise the chip ignores the erase.
 erased_where : (chip : Chip) (has : Bool) (start start' len len' : ℕ) → start ≡ start' → len ≡ len'
     → (let command = cond has (Commands.Erase start len) Commands.Ignored in
     cond (is_carried_out (record chip { latch = true }) command) command Commands.Ignored)

@@ -1,5 +1,5 @@
--- The effect of an operation at each of its exits. The bus may stop at the write enable or at the command, the wait may
--- fail, or the operation succeeds.
+-- The effect of an operation at each of its exits: the bus stops at the write enable or at the command, the wait fails,
+-- or the operation succeeds.
 use Rattle.std.proofs.Common.{◌≡◌, ◌+◌, ◌∙◌, ◌⊎◌, ℕ, true, false, List, [], ◌∷◌, length, drop, take, ap, sym, subst, arith, inl, inr}
 use Rattle.std.proofs.Math.Bool.{or-true}
 use Rattle.nor_model.specs.declared.command.Command.{Command}
@@ -20,8 +20,8 @@ use Rattle.nor_driver.proofs.Torn.{Wore, IsAsBefore, still_or_torn, still_stays,
 use Rattle.nor_driver.proofs.Readings.{carried_ignored}
 use Rattle.nor_driver.proofs.Begun.{IsEnabled, enabled, then_done, part_done, operation-ignored, idle-takes, HasBegun, operation-begins, may-before, may-after, may-unsteady, operated, latch-kept}
 
--- Holds at an exit of an operation, on every bus. `KeepsNature` holds, and `SendsWithin` holds for `limits`. A
--- transaction that begins with a modifying opcode was sent, in this call or before it.
+-- Holds at an exit of an operation, on every bus. `KeepsNature` holds, and what was sent is within `limits`
+-- (`SendsWithin`). A transaction that begins with a modifying opcode was sent, in this call or before it.
 record Stirs (limits : Limits) (old new : BusState) : Type 0 where
   pub nature : KeepsNature old new
   pub stirred : is_stirred new.sent ≡ true
@@ -56,7 +56,7 @@ module _ (out : List ℕ) (asks : AsksForOperation out) (old : BusState) where
   enabled_stirs : (new : BusState) → Sends (6 ∷ []) old new → is_stirred new.sent ≡ true
   enabled_stirs new sends = sends.sent.stirred ∙ or-true (is_stirred old.sent)
 
-  -- if the bus stops at the write enable, the exit satisfies `LeavesOperation`
+  -- if the bus stops at the write enable, `LeavesOperation` holds
   pub leaves-at_enable : (new : BusState) → Sends (6 ∷ []) old new
       → (IsHonestFor (6 ∷ []) 0 old → Stops (6 ∷ []) old new)
       → LeavesOperation (command_operation out) old new

@@ -123,8 +123,8 @@ sends_one out old new known sends = record {
   unknown = grind (arith, or-false, sends.sent.unknown);
 }
 
--- The list of transactions that a transaction with the bytes `out` adds to the list `sent`: only `out`, or nothing if
--- `out` is empty or begins with a quiet opcode.
+-- What a transaction with the bytes `out` adds to the list `sent`: the transaction itself, or nothing if `out` is empty
+-- or begins with a quiet opcode.
 added_by : (out : List ℕ) → Sent
 added_by out = if begins_quiet out then [] else out ∷ []
 

@@ -9,7 +9,7 @@ use Rattle.nor_model.specs.Exchange.{Exchange}
 use Rattle.nor_model.specs.History.{Continues, Answered, names, replied, last_reply, bytes_or_none}
 use Rattle.nor_driver.specs.ReadBack.{sector_read, IsSectorRead, AddsSectorReads, HaveBeenRead}
 
--- a transaction that has the opcode `opcode` and the address `at` doesn't have this opcode and another address
+-- if `out` has the opcode `opcode` and the address `at`, it doesn't have this opcode and another address `other`
 pub names_other : (opcode at other : ℕ) → at ≢ other → (out : List ℕ) → names opcode at out ≡ true
     → names opcode other out ≡ false
 names_other opcode at other differs [] is = refl
@@ -21,8 +21,8 @@ names_other opcode at other differs (first ∷ x ∷ y ∷ z ∷ rest) is = grin
 pub adds_none : (history : List Exchange) → AddsSectorReads history history
 adds_none history = record { later = []; is = refl; each = All-nil IsSectorRead }
 
--- After a read of sector `n`, the last reply to a read of the sector of `a` is the reply to this read if `a` lies in
--- sector `n`, and otherwise an earlier reply.
+-- After a read of sector `n` with the reply `bytes`, the last reply to a read of the sector that contains `a` is
+-- `bytes` if `a` lies in sector `n`. Otherwise it is the last such reply in the history `earlier`.
 module _ {n : ℕ} (out bytes : List ℕ) (reads : names 0x03 (4096 * n) out ≡ true)
     (earlier : List Exchange) (a : ℕ) where
   pub read_other : a / 4096 ≢ n → sector_read (replied out bytes ∷ earlier) a ≡ sector_read earlier a

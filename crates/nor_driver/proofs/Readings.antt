@@ -94,8 +94,8 @@ pub read_does : {T E : Type 0} (outcome : Result T E) (out answer : List ℕ) (o
 read_does outcome out answer old new is history carries =
     grind (arith, history, carries, carried_reading out answer old new is)
 
--- If the bus stopped at a transaction, it was the last one in the history, and a well-behaved bus had no transaction
--- left.
+-- If the bus stopped at a transaction, `HasStopped` holds: this transaction is the last one in the history, and a
+-- well-behaved bus had no transaction left.
 pub read_fails : (outcome : Result Unit Stopped) (out answer : List ℕ) (old new : BusState)
     → Records out answer outcome old new → (old.honest ≡ true → OnErr outcome (Stops out old new))
     → OnErr outcome (HasStopped 1 old new)

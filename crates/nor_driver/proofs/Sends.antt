@@ -9,7 +9,7 @@ use Rattle.nor_model.proofs.Nature.{nature_by}
 use Rattle.nor_model.proofs.RecordedSent.{records_sent}
 
 -- The effect of one transaction on every bus. It satisfies `KeepsNature`, and the list `sent` changed as `RecordsSent`
--- says: the transaction was added to this list, unless it is empty or begins with a quiet opcode.
+-- says: `out` was added to this list, unless `out` is empty or begins with a quiet opcode.
 pub record Sends (out : List ℕ) (old new : BusState) : Type 0 where
   pub nature : KeepsNature old new
   pub sent : RecordsSent out old.sent new.sent
@@ -29,7 +29,7 @@ pub answered_by : (outcome : Result Unit Stopped) (out answer : List ℕ) (old n
 answered_by (Ok done) out answer old new records = records.history
 answered_by (Err stop) out answer old new records = tt
 
--- if a transaction returned `Stopped`, it is the last one in the history, recorded as one at which the bus stopped
+-- if a transaction returned `Stopped`, it is the last one in the history, which records that the bus stopped at it
 pub stopped_by : (outcome : Result Unit Stopped) (out answer : List ℕ) (old new : BusState)
     → Records out answer outcome old new → OnErr outcome (EndsStopped new.history)
 stopped_by (Ok done) out answer old new records = tt

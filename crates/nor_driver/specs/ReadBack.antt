@@ -47,8 +47,9 @@ pub record ReadsBack (addresses : ℕ → Bool) (target : ℕ → ℕ) (old new 
   pub reads : AddsSectorReads old new
   pub each : (a : ℕ) → addresses a ≡ true → IsReadAs (target a) reads.later a
 
--- Holds if only sectors were read after the history `old`, and `address` is the first address in `addresses` at which
--- the bytes read differ from `target`. The bytes read are those of the last reply to a read of the address's sector.
+-- Holds if only sectors were read after the history `old`, and `address` is the lowest address in `addresses` at which
+-- the bytes read differ from `target`. The bytes read at an address are those of the last reply to a read of its
+-- sector.
 pub record ReadsOther (addresses : ℕ → Bool) (target : ℕ → ℕ) (address : ℕ) (old new : List Exchange) : Type 0 where
   pub reads : AddsSectorReads old new
   pub is : addresses address ≡ true
@@ -63,7 +64,7 @@ EndsReadBack addresses target old new =
     (before : List Exchange) × Continues old before × ReadsBack addresses target before new
 
 -- Holds if the history `new` continues `old` and ends with reads of sectors for which `ReadsOther` holds: `address` is
--- the first of `addresses` at which the byte read isn't that of `target`.
+-- the lowest address in `addresses` at which the byte read isn't that of `target`.
 abbrev pub EndsReadOther : (addresses : ℕ → Bool) → (target : ℕ → ℕ) → (address : ℕ) → (old new : List Exchange)
     → Type 0
 EndsReadOther addresses target address old new =

@@ -59,8 +59,8 @@ pub struct Waited {
 
 /// Polls until a reply shows that the chip is ready, at most 65,536 times.
 ///
-/// Returns `Stopped` if the bus stopped, and `Timeout` with `address` if all 65,536 polls showed BUSY. As `address`,
-/// pass the address of the command whose completion the wait awaits, or 0. On a well-behaved bus there is no timeout.
+/// Returns `Stopped` if the bus stopped, and `Timeout` with `address` if all 65,536 polls showed BUSY. Pass as
+/// `address` the address of the command that the wait follows, or 0. On a well-behaved bus there is no timeout.
 pub fn wait<B: Bus>(bus: &mut B, address: u32) -> Result<Waited, OperationError>
     ensures leaves { OnlyReads 65536 (B.state bus.old) (B.state bus.new) }
     ensures does { IfOk result (Waits (B.state bus.old) (B.state bus.new)) }

@@ -31,8 +31,8 @@ lane_le start [] i = omega arith
 lane_le start (x ∷ xs) zero = omega (arith, le_or_r start x, front_le (bit_or start x) xs)
 lane_le start (x ∷ xs) (suc i) = lane_le (bit_or start x) xs i
 
--- If the OR of `start` and all numbers of `xs` isn't 0, `start` or some number of `xs` isn't 0. The lemma takes a proof
--- of `P` for each of these cases.
+-- Proves `P` by cases: if the OR of `start` and all numbers of `xs` isn't 0, then `start` or some number of `xs` isn't
+-- 0.
 some_lane : (P : Type 0) (start : ℕ) (xs : List ℕ) → (start ≢ 0 → P) → ((i : ℕ) → i < length xs → get_or xs i 0 ≢ 0 → P)
     → fold_l bit_or start xs ≢ 0 → P
 some_lane P start [] front lane some = front some
@@ -45,7 +45,8 @@ some_lane P start (x ∷ xs) front lane some =
     (λ i within other. lane (suc i) (omega arith) other) some
 
 module _ (a b : List ℕ) where
-  -- the XOR of the 32 bytes from `at` on in `a` with those in `b` shows their differences
+  -- the XOR of the 32 bytes from `at` on in `a` with those in `b` shows in which bytes `a` and `b` differ
+  -- (`ShowsDifferences`)
   pub ShowsDifferences-xor : (at : ℕ) → at + 32 ≤ length a → at + 32 ≤ length b
       → ShowsDifferences a b at 32 (zip2 bit_xor (chunk at 32 a) (chunk at 32 b))
   ShowsDifferences-xor at a_room b_room =

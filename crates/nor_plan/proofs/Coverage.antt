@@ -15,8 +15,8 @@ use Rattle.nor_plan.specs.Erase.{is_offered, IsErase, Covers}
 use Rattle.nor_plan.specs.Planned.{holds_run, planned_block, begins_block, erase_at, planned_from}
 use Rattle.nor_plan.proofs.Units.{holds_run-at, first_of, first_of-once, first_of-aligned, first_of-holds, IsLargest, planned_block-largest, planned_block-first}
 
--- Holds if erases can be planned for `set` with this `whole` on a chip with `total` sectors. `whole` is true if and
--- only if all sectors below `total` are in the set, and each sector of the set is below `total` and below 4,096.
+-- Holds if `whole` is true exactly if all sectors below `total` are in `set`, and if each sector of `set` is below
+-- `total` and below 4,096. These are the premises of a plan of erases.
 pub record IsPlannable (whole : Bool) (total : ℕ) (set : ℕ → Bool) : Type 0 where
   pub whole_is : whole ≡ holds_run set 0 total
   pub below : (s : ℕ) → set s ≡ true → s < total

@@ -1,4 +1,4 @@
--- A set of sectors as the bits of its 64 words.
+-- A set of sectors is stored as the bits of 64 words.
 use Rattle.std.proofs.Common.{ℕ, zero, suc, ◌≡◌, ◌<◌, ◌≤◌, ◌*◌, ◌/◌, ◌%◌, ◌^◌, Bool, false, nat_eq, ◌||◌, List, length, get_or, set, replicate, bit_or, get_or-set_other, refl, ap, inl, inr, arith, w64}
 use Rattle.std.specs.Int.{bit_at}
 use Rattle.std.proofs.lemmas.Bool.{cases_eq, eq-eqb, ne_eqb}
@@ -7,7 +7,7 @@ use Rattle.std.proofs.lemmas.Nat.Bits.{bit_at-zero, bit_at_set_same, bit_at_set_
 use Rattle.nor_plan.specs.declared.set.SectorSet.{SectorSet}
 use Rattle.nor_plan.specs.SectorSet.{has}
 
--- true if the bit of `sector` is set in the words
+-- true if the bit of `sector` is set in `words`
 abbrev pub bit_of : List ℕ → ℕ → Bool
 bit_of words sector = nat_eq (bit_at (get_or words (sector / 64) 0) (sector % 64)) 1
 
@@ -19,7 +19,7 @@ zeros (suc n) (suc k) = zeros n k
 pub none-set : (sector : ℕ) → bit_of (replicate 64 0) sector ≡ false
 none-set sector = rw (zeros 64 (sector / 64), bit_at-zero)
 
--- the words with the bit of `sector` set
+-- the words after the bit of `sector` was set in `words`
 abbrev pub with_bit : List ℕ → ℕ → List ℕ
 with_bit words sector =
     set words (sector / 64) (bit_or (get_or words (sector / 64) 0) (1 * 2 ^ (sector % 64) % 2 ^ 64))

@@ -2,7 +2,7 @@
 -- chip must have afterwards.
 use Rattle.std.specs.Prelude.{ℕ, ◌≡◌, ◌≢◌, ◌<◌, ◌≤◌, bit_and, List, length, slice_index, SomeIndex, EachIndex}
 
--- holds if the slices `a` and `b` differ at no position of `a`
+-- holds if the slices `a` and `b` agree at each position of `a`
 abbrev pub AllAgree : (a b : List ℕ) → Type 0
 AllAgree a b = EachIndex a (λ k. slice_index a k ≡ slice_index b k)
 

@@ -36,6 +36,6 @@ members set = members_from set 0
 abbrev pub member_count : SectorSet → ℕ
 member_count set = length (members set)
 
--- the empty set of sectors as a test, which is false for each sector
+-- the empty set of sectors, as a test that is false for each sector
 abbrev pub none : ℕ → Bool
 none s = false

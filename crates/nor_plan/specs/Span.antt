@@ -1,5 +1,5 @@
--- The spans of a sector. The span of a page is the range to program: from the first to the last byte of the page that
--- differs. A page has 256 bytes.
+-- The spans of a sector. The span of a page is the range to program: from the first differing byte of the page to the
+-- last one. A page has 256 bytes.
 use Rattle.std.specs.Prelude.{ℕ, ◌≡◌, ◌==◌, ◌-◌, ◌*◌, min, not, Bool, List, [], ◌∷◌, Option, Some, None, MatchOption, length, filter, count_by, slice_index}
 use Rattle.std.specs.List.{filter_map, list_any, range_with_len}
 use Rattle.std.specs.Int.{div_ceil}
@@ -20,7 +20,7 @@ abbrev pub ends : List ℕ → Option PageSpan
 ends [] = None
 ends (k ∷ ks) = Some (record { first = k; last = last_of k ks })
 
--- The span of the page with the number `page`, from its first to its last byte that differs, or `None` if no byte of it
+-- The span of the page with the number `page`, from its first to its last differing byte, or `None` if no byte of it
 -- differs. The last page of a slice may have fewer than 256 bytes.
 abbrev pub page_span : (old target : List ℕ) → ℕ → Option PageSpan
 page_span old target page = ends (differences old target (page * 256) (min 256 (length old - page * 256)))
@@ -41,8 +41,8 @@ spans_from old target page = spans_in old target page (page_count old - page)
 abbrev pub spans_of : (old target : List ℕ) → List PageSpan
 spans_of old target = spans_from old target 0
 
--- `head` is a pair: the first span on the page `page` or a later one, and the number of a page on or after which the
--- remaining spans lie. It is `None` if the page `page` and all later pages have no span.
+-- Holds if `head` is a pair: the first span on the page `page` or a later one, and the number of a page on or after
+-- which the remaining spans lie. If the page `page` and all later pages have no span, `head` is `None`.
 abbrev pub HeadsSpans : (old target : List ℕ) → ℕ → Option (PageSpan × ℕ) → Type 0
 HeadsSpans old target page head =
     MatchOption head (spans_from old target page ≡ [])

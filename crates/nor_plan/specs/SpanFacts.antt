@@ -1,13 +1,13 @@
--- Properties of spans. Every position at which the slices differ lies in a span, and each span reaches from the first
--- to the last such position of one page. A page has 256 bytes.
+-- Properties of spans. Each differing byte lies in a span, and each span reaches from the first to the last differing
+-- byte of one page. A page has 256 bytes.
 use Rattle.std.specs.Prelude.{ℕ, ◌≡◌, ◌<◌, ◌≤◌, ◌/◌, Bool, false, ◌&&◌, nat_le, List, length, slice_index, All, Any, AllPairs}
 use Rattle.std.specs.List.{list_any}
 use Rattle.nor_plan.specs.declared.page.PageSpan.{PageSpan}
 use Rattle.nor_plan.specs.Bytes.{DifferAt}
 use Rattle.nor_plan.specs.Span.{pages_changed}
 
--- Holds if `span` lies in one page, and reaches from the first to the last position of the page at which `old` and
--- `target` differ.
+-- Holds if `span` lies in one page, and reaches from the first to the last byte of the page in which `old` and `target`
+-- differ.
 pub record IsSpan (old target : List ℕ) (span : PageSpan) : Type 0 where
   pub one_page : span.first / 256 ≡ span.last / 256
   pub order : span.first ≤ span.last

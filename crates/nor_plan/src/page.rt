@@ -1,4 +1,4 @@
-//! Finds the spans of a sector. A span reaches from the first to the last byte of a page that differs, and one page
+//! Finds the spans of a sector. A span reaches from the first to the last differing byte of a page, and one page
 //! program writes it.
 
 ghost use Rattle.std.specs.Prelude.{◌≡◌, ◌*◌, ◌<◌, length};
@@ -21,8 +21,8 @@ pub struct PageSpan {
 }
 
 /// Returns the spans of two slices of equal length, in ascending order. The slices are divided into pages of 256 bytes,
-/// from their start. A page in which the slices differ has one span, from its first to its last byte that differs. A
-/// page in which they agree has none.
+/// from their start. A page in which the slices differ has one span, from its first to its last differing byte. A page
+/// in which they agree has none.
 pub fn spans<'a>(old: &'a [u8], target: &'a [u8]) -> Spans<'a>
     requires { length old.now ≡ length target.now }
     ensures pages { spans_left result ≡ spans_of old.now target.now }

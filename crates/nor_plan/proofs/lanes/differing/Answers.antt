@@ -1,4 +1,4 @@
--- The returned mask is the one for comparing the lanes of the two slices.
+-- The returned mask is the mask of the comparison of the two slices' lanes.
 use Rattle.std.proofs.Common.{not, nat_eq}
 use lib.Lanes.{chunk}
 use Rattle.std.proofs.lemmas.Simd.{length-chunk, get_or-chunk}
