@@ -47,8 +47,9 @@ abbrev pub TornTo : (torn : Option ℕ) → (out : List ℕ) → (old new : Chip
 TornTo None out old new = new ≡ old
 TornTo (Some count) out old new = Step old (take count out) [] new
 
--- Holds if `new` is the chip after a stop at which the transaction's bytes had taken it to `old`. `fill` is the value
--- that `lose` set: with `None` the chip kept its power, with `Some fill` it lost its power with this fill byte.
+-- `old` is the chip after the bytes that were sent of a stopped transaction, before any power failure, and `new` is the
+-- chip after the stop. `fill` is the value that `lose` set: with `None` the chip kept its power, with `Some fill` it
+-- lost its power with this fill byte.
 abbrev pub LostTo : (fill : Option ℕ) → (old new : Chip) → Type 0
 LostTo None old new = new ≡ old
 LostTo (Some fill) old new = PowerLostWith fill old new

@@ -33,7 +33,8 @@ written_within a xs ys zs i fits later within =
     get_or-append_right (take a xs) (ys ++ zs) a i 0 (length-take-le a xs fits) later
     ∙ get_or_append_left ys zs 0 (i - a) (omega arith)
 
--- item `i` of a list of `n` copies of `x` is `x`, and so is the default past its end
+-- Item `i` of a list of `n` copies of `x` is `x`, for every `i`, because the default past the end of the list is `x`
+-- too.
 pub get_or-replicate_all : {A : Type 0} (n i : ℕ) (x : A) → get_or (replicate n x) i x ≡ x
 get_or-replicate_all n i x = elim (cases_lt i n) [
   | inl within ↦ get_or-replicate n i x x within

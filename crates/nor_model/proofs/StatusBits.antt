@@ -38,7 +38,8 @@ fixed_one n small = omega (arith, and_pow n 7)
 pub fixed_two : (n : ℕ) → bit_and n 63 ≡ n % 64
 fixed_two n = and_mask n 6
 
--- The status bytes that combine the bits that flashnor never changes (`fixed`) with the protection bits `code`.
+-- Computes the status bytes that combine the bits that flashnor never changes (`fixed`) with the protection bits
+-- `code`: status 1 (`coded_one`) and status 2 (`coded_two`).
 pub coded_one : (fixed code : ℕ) → code < 64
     → bit_or (128 * fixed) (bit_and (code * 4 % 256) 124) ≡ 128 * fixed + 4 * (code % 32)
 coded_one fixed code small =

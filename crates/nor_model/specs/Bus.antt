@@ -35,18 +35,17 @@ pub record BusState : Type 0 where
   -- Whether the last poll that received at least one reply byte showed that the chip is ready.
   pub polled_ready : Bool
 
--- Holds if the bus is well-behaved, steady or unlimited after a call exactly if it was so before the call. On a
--- well-behaved bus, the chip's configuration (its ID, size, SFDP and all else that no command changes) is also as
--- before.
+-- Holds if a call did not change whether the bus is well-behaved, steady or unlimited. On a well-behaved bus, the
+-- chip's configuration (its ID, size, SFDP and all else that no command changes) must also be as before the call.
 pub record SameNature (old new : BusState) : Type 0 where
   pub honest : new.honest ≡ old.honest
   pub steady : new.steady ≡ old.steady
   pub unlimited : new.unlimited ≡ old.unlimited
   pub config : old.honest ≡ true → new.chip.config ≡ old.chip.config
 
--- Holds for every sequence of transactions, on every bus. The bus is well-behaved, steady or unlimited exactly if it
--- was so before, and the chip of a well-behaved bus has the same configuration as before. The history continues the
--- earlier one, and no allowance was set.
+-- Holds for every sequence of transactions, on every bus. The transactions don't change whether the bus is
+-- well-behaved, steady or unlimited, and on a well-behaved bus they don't change the chip's configuration. The history
+-- continues the earlier one, and no allowance was set.
 pub record KeepsNature (old new : BusState) : Type 0 where
   pub honest : new.honest ≡ old.honest
   pub steady : new.steady ≡ old.steady

@@ -6,8 +6,8 @@ use Rattle.nor_model.specs.Guard.{protected_by, is_undefined}
 abbrev pub ProtectsExactly : (size code start len : ℕ) → Type 0
 ProtectsExactly size code start len = (a : ℕ) → (protected_by size code a ≡ true) ↔ ((start ≤ a) × (a < start + len))
 
--- Holds if `code` is defined and protects exactly the range of `len` bytes from `start`, and if the range starts at 0
--- in case it is empty.
+-- Holds if `code` is defined and protects exactly the range of `len` bytes from `start`. The start of an empty range
+-- must be 0.
 pub record IsRangeOf (size code start len : ℕ) : Type 0 where
   pub defined : is_undefined code ≡ false
   pub exactly : ProtectsExactly size code start len

@@ -24,9 +24,9 @@ pub record RunsInside (size : ℕ) (running : Running) : Type 0 where
   pub kept1 : (one two : ℕ) → running ≡ StatusWrite one two → one < 64
   pub kept2 : (one two : ℕ) → running ≡ StatusWrite one two → two < 128
 
--- The non-volatile status bits after a power failure during the operation, which were `old` just before the failure.
--- During a status write, `old` are the bits that the write set; after the failure they are still set, or are as before
--- the write. During a program or an erase, the bits stay. During an unknown operation, they may change in any way.
+-- Holds if a power failure during the operation may change the non-volatile status bits from `old` to `new`. During a
+-- status write, `old` are already the bits that were written: `new` are these bits, or those from before the write.
+-- During a program or an erase, the bits stay. During an unknown operation, they may change in any way.
 abbrev pub KeptCut : Running → (old new : KeptBits) → Type 0
 KeptCut (StatusWrite one two) old new = (new ≡ old) ⊎ (new ≡ record { one = one; two = two })
 KeptCut Unknown old new = ⊤

@@ -45,9 +45,9 @@ reply_byte chip (ReadSfdp at) i = sfdp_byte chip.config (at + i)
 reply_byte chip ReadUnique i = slice_index_or chip.config.unique i 255
 reply_byte chip _ i = 255
 
--- The last byte of `sent` that a program at the address `at` stores at the address `a` of the same page, or `None` if
--- it stores no byte there. The first byte is for `at`, and each further byte for the next address. After the last
--- address of the page, the program continues at the first address of the page.
+-- The last byte of `sent` that is meant for the address `a`, if a program of `sent` begins at the address `at` of the
+-- same page. The result is `None` if no byte is meant for `a`. The first byte is meant for `at`, and each further byte
+-- for the next address; after the last address of the page comes its first one.
 unfoldable pub last_for : (at : ℕ) → (sent : List ℕ) → (a : ℕ) → Option ℕ
 last_for at [] a = None
 last_for at (byte ∷ sent) a = elim (last_for (at + 1) sent a) [

@@ -12,9 +12,9 @@ pub enum Command {
     WriteEnable,
     /// 04h: clears the write enable latch.
     WriteDisable,
-    /// 05h: reads status 1, which every reply byte has.
+    /// 05h: polls. Every reply byte is status 1.
     Poll,
-    /// 35h: reads status 2, which every reply byte has.
+    /// 35h: reads status 2. Every reply byte is status 2.
     ReadStatus2,
     /// 01h: writes status 1 and status 2. The fields are the two bytes, status 1 first.
     WriteStatus(u8, u8),

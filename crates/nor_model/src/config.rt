@@ -1,4 +1,4 @@
-//! The properties of a chip that never change, and these properties of the emulated chips.
+//! The properties of a chip that never change, and their values for the emulated chips.
 ghost use Rattle.std.specs.Prelude.{◌≡◌, ◌≤◌, ◌-◌, ◌*◌, ◌++◌, ◌↔◌, true, length, replicate, IsTrue, IsSome, IfSome};
 ghost use Rattle.nor_model.specs.Size.{is_chip_size};
 ghost use Rattle.nor_model.specs.Sfdp.{sfdp_with};
