@@ -38,7 +38,7 @@ spoilt_state state bus = record (state bus.bus) {
   polled_ready = polled_ready_in (history_of bus);
 }
 
--- The byte that each reply byte of the next transaction has if the faulty bus drops this transaction, otherwise `None`.
+-- The value of each reply byte of the next transaction if the faulty bus drops this transaction, otherwise `None`.
 -- `sent` is the number of transactions that succeeded before.
 abbrev pub withheld : Spoil → ℕ → Option ℕ
 withheld (Fill byte) sent = Some byte
@@ -46,7 +46,7 @@ withheld (BusyFrom first) sent = None
 withheld (Drop number) sent = if sent + 1 == number then Some 255 else None
 withheld (Low bit) sent = None
 
--- the byte that each reply byte of the next transaction has if the faulty bus drops this transaction, otherwise `None`
+-- the value of each reply byte of the next transaction if the faulty bus drops this transaction, otherwise `None`
 abbrev pub withheld_of : {B : Type 0} → SpoiltBus B → Option ℕ
 withheld_of bus = withheld (spoil_of bus) (succeeded_of bus)
 

@@ -120,9 +120,9 @@ impl SimBus {
     }
 
     /// Sets how many bytes of a transaction are sent before the bus stops at it. With `Some(count)`, the first `count`
-    /// bytes are sent (all bytes, if there are fewer), the chip carries out the command for which these bytes ask, and
-    /// no reply is read. With `None`, as after `new`, no byte is sent. In both cases the chip then loses its power if
-    /// `lose` was called with `Some`.
+    /// bytes are sent (all bytes, if there are fewer). The chip treats them as a whole transaction, and no reply is
+    /// read. With `None`, as after `new`, no byte is sent. In both cases the chip then loses its power if `lose` was
+    /// called with `Some`.
     pub fn tear(&mut self, count: Option<u32>)
         ensures state { ⟦<SimBus as Bus>⟧.state self.new
             ≡ record (⟦<SimBus as Bus>⟧.state self.old) { steady = is_none (fill_of self.old) && is_none count } }
@@ -154,8 +154,8 @@ impl SimBus {
         }
     }
 
-    // Performs a stop: sends the first bytes of the transaction if `tear` was called with `Some`, and then makes the
-    // chip lose its power if `lose` was called with `Some`.
+    // Performs a stop. Sends the first bytes of the transaction if `tear` was called with `Some`. Then makes the chip
+    // lose its power if `lose` was called with `Some`.
     fn cut(&mut self, out: &[u8])
         ensures at_stop { AtStop out.now (sim_state self.old) (sim_state self.new) }
         ensures torn_off { TearsOff (torn_of self.old) (fill_of self.old) out.now

@@ -39,8 +39,8 @@ then_done out old ready asks enabling = elim (eqb_tells old.chip.busy 0) [
   | inr busy ↦ grind (arith, asks.whole old.chip.config)
 ]
 
--- If `out` satisfies `AsksForOperation`, and the chip receives only a prefix of `out` after a write enable, it carries
--- out the same command as for all of `out`, or nothing.
+-- Suppose that `out` satisfies `AsksForOperation`, and that the chip receives only a prefix of `out` after a write
+-- enable. Then the chip carries out the same command as for all of `out`, or nothing.
 pub part_done : (out : List ℕ) (old ready : BusState) (count replies : ℕ) → AsksForOperation out
     → IsEnabled old ready → (done_of ready.chip (take count out) replies ≡ Ignored)
     ⊎ (done_of ready.chip (take count out) replies ≡ operation_of old.chip out)
@@ -104,8 +104,8 @@ may-after command sent old begun new is steady has stays =
     let kept = kept-cut command old.chip begun.chip.kept new.chip.kept is has.kept in
     grind (arith, stays.steady_or_idle, has.bytes, stays.bytes, outside, stays.worn, has.worn, or-false, kept)
 
--- On a bus that isn't steady, `MayOperate` holds for any data `sent` if it holds for some data `part`, because each
--- byte on which the command works may then have any value.
+-- On a bus that isn't steady, `MayOperate` for some data `part` implies `MayOperate` for any data `sent`. The reason is
+-- that each byte on which the command works may then have any value.
 pub may-unsteady : (command : Command) (sent part : List ℕ) (old new : BusState) → old.steady ≡ false
     → MayOperate command part old new → MayOperate command sent old new
 may-unsteady command sent part old new unsteady may = grind (arith, may.bytes, may.worn)

@@ -24,7 +24,7 @@ use Rattle.nor_driver.proofs.Programming.{same_address}
 use Rattle.nor_driver.proofs.Taken.{IsFor, asked_at, leaves_as, does_as}
 
 -- The bytes that are sent to erase a block: the opcode of the block, followed by the three address bytes `x`, `y` and
--- `z`, except that the erase of the whole chip sends only its opcode.
+-- `z`. The erase of the whole chip has no address bytes.
 abbrev pub erase_bytes : EraseBlock → ℕ → ℕ → ℕ → List ℕ
 erase_bytes Units.Chip x y z = 0xC7 ∷ []
 erase_bytes unit x y z = opcode_of unit ∷ x ∷ y ∷ z ∷ []
@@ -88,8 +88,8 @@ erased_where : (chip : Chip) (has : Bool) (start start' len len' : ℕ) → star
     ≡ cond (is_idle chip && has && not (is_block_protected chip start' len')) (Commands.Erase start' len') Commands.Ignored
 erased_where chip has start start' len len' same long = grind (arith, and-false)
 
--- The first address of an aligned block on the chip stays the same if it is taken modulo the chip's size and then
--- rounded down to a multiple of the block's length.
+-- Suppose that `4096 * sector` is on the chip and is a multiple of `len`. Then it stays the same if it is taken modulo
+-- the chip's size and rounded down to a multiple of `len`.
 unit_start : (config : Config) (x y z sector len : ℕ) → 65536 * x + 256 * y + z ≡ 4096 * sector
     → 4096 * sector < config.size → 4096 * sector / len * len ≡ 4096 * sector
     → address_of config x y z / len * len ≡ 4096 * sector

@@ -85,8 +85,8 @@ module _ (out : List ℕ) (asks : AsksForOperation out) (old : BusState) where
           sends = command_sends out old ready new asks.known sends sends';
         }
 
-    -- The effect on the chip of a stop at the command: for the bytes that were sent before the stop, the chip carried
-    -- out the operation of the whole command, or no operation.
+    -- The effect on the chip of a stop at the command. For the bytes that were sent before the stop, the chip carried
+    -- out the same operation as for the whole command, or none.
     module _ (honest : old.honest ≡ true) (new : BusState) where
       stays-before : KeepsChip ready new → KeepsChip old new
       stays-before stays = stays_after old ready new sends.nature.steady (enabling honest).unchanged stays

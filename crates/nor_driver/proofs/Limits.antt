@@ -123,8 +123,8 @@ sends_one out old new known sends = record {
   unknown = grind (arith, or-false, sends.sent.unknown);
 }
 
--- What a transaction with the bytes `out` adds to the list `sent`: the transaction itself, or nothing if `out` is empty
--- or begins with a quiet opcode.
+-- The list that a transaction with the bytes `out` adds to the list `sent`. It contains `out`, or nothing if `out` is
+-- empty or begins with a quiet opcode.
 added_by : (out : List ℕ) → Sent
 added_by out = if begins_quiet out then [] else out ∷ []
 

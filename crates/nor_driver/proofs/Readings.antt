@@ -46,8 +46,9 @@ carried_ignored out answer old new ignored carries = carried_by out answer old n
 pub honest_reads_by : (old new : BusState) (most : ℕ) → Rested old new → old.left ≡ new.left + most → OnlyReadsHonest most old new
 honest_reads_by old new most rested count = search (arith, unchanged_stays old new rested.unchanged)
 
--- If two successive calls satisfy `OnlyReadsHonest` with the bounds `m` and `n`, and the first one didn't change
--- whether the bus is steady, the two calls together satisfy `OnlyReadsHonest` with the bound `m + n`.
+-- Suppose that two successive calls satisfy `OnlyReadsHonest` with the bounds `m` and `n`, and that the first one
+-- didn't change whether the bus is steady. Then the two calls together satisfy `OnlyReadsHonest` with the bound `m +
+-- n`.
 pub honest_reads_then : (m n : ℕ) (old mid new : BusState) → mid.steady ≡ old.steady → OnlyReadsHonest m old mid
     → OnlyReadsHonest n mid new → OnlyReadsHonest (m + n) old new
 honest_reads_then m n old mid new steady first second =

@@ -24,8 +24,8 @@ pub record IsOnChip (erase : Erase) (chip : Chip) : Type 0 where
   pub aligned : is_aligned erase.unit erase.sector ≡ true
   pub within : erase.sector + sectors_in (sectors_of chip) erase.unit ≤ sectors_of chip
 
--- Holds if `chip` is idle and can carry out `erase` after a write enable: the block is aligned and lies on the chip,
--- and the chip has the erase type and protects no address of the block.
+-- Holds if `chip` is idle and can carry out `erase` after a write enable. For this, the block must be aligned and lie
+-- on the chip, and the chip must have the erase type and protect no address of the block.
 pub record CanErase (erase : Erase) (chip : Chip) : Type 0 where
   pub on_chip : IsOnChip erase chip
   pub idle : chip.busy ≡ 0

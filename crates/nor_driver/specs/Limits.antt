@@ -5,8 +5,9 @@ use Rattle.nor_model.specs.Sent.{Sent, targets, begins_erase, begins_program, be
 use Rattle.nor_model.specs.Bus.{BusState, KeepsNature}
 use Rattle.nor_driver.specs.OnlyReads.{Falls}
 
--- Limits on modifying commands: the sectors that erases and page programs may target, the two bytes that a status write
--- may have, and the greatest numbers of erases, page programs and status writes. Write enables are not limited.
+-- Limits on modifying commands. They limit the sectors that erases and page programs may target, and the two bytes that
+-- a status write may send. They also limit the numbers of erases, page programs and status writes. Write enables are
+-- not limited.
 pub record Limits : Type 0 where
   pub sectors : ℕ → Bool
   pub status : (one two : ℕ) → Bool
@@ -58,10 +59,9 @@ pub record SendsWithin (limits : Limits) (old new : BusState) : Type 0 where
   pub status_writes : status_writes_of new.sent ≤ status_writes_of old.sent + limits.status_writes
   pub unknown : has_unknown new.sent ≡ has_unknown old.sent
 
--- Holds if, since the state `old`, the bus was asked to send exactly `erases` transactions that begin with the opcode
--- of an erase, `programs` that begin with the opcode of a page program, and `status_writes` that begin with the opcode
--- of a status write. `later` lists all transactions that were sent since `old` and may modify a chip, the last one
--- first.
+-- Holds if, since the state `old`, the bus was asked to send exactly these numbers of transactions. `erases` of them
+-- begin with the opcode of an erase, `programs` with that of a page program, and `status_writes` with that of a status
+-- write. `later` lists all transactions that were sent since `old` and may modify a chip, the last one first.
 pub record SendsExactly (erases programs status_writes : ℕ) (old new : BusState) : Type 0 where
   pub later : Sent
   pub added : new.sent ≡ later ++ old.sent

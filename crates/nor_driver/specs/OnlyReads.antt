@@ -21,7 +21,7 @@ pub record Unchanged (old new : BusState) : Type 0 where
 
 -- The effect, on a well-behaved bus and at every exit, of a call that began no operation. If `IsSteadyOrIdle` held
 -- before the call, bytes and non-volatile bits are as they were. Otherwise a stop may have interrupted the operation in
--- progress: the bytes on which that operation works may then have any value, and the non-volatile bits are as `KeptCut`
+-- progress. The bytes on which that operation works may then have any value, and the non-volatile bits are as `KeptCut`
 -- states. Erased sectors are as they were. A chip that is still busy executes the same operation, and the number of
 -- polls that will still show BUSY did not grow.
 pub record KeepsChip (old new : BusState) : Type 0 where

@@ -66,8 +66,8 @@ pub record EndsWaiting (old new : BusState) (sent : ℕ) : Type 0 where
   pub count : old.honest ≡ true → old.left ≡ new.left + sent
   pub idle : old.honest ≡ true → new.chip.busy ≡ 0
 
--- the command that `chip` carries out if it receives `out` after a write enable, or `Ignored` if it carries out none;
--- the write enable sets the latch of an idle chip
+-- The command that `chip` carries out if it receives `out` after a write enable, or `Ignored` if it carries out none.
+-- The write enable sets the latch of an idle chip.
 abbrev pub operation_of : Chip → List ℕ → Command
 operation_of chip out = done_of (record chip { latch = true }) out 0
 
@@ -84,7 +84,7 @@ pub record MayOperate (command : Command) (sent : List ℕ) (old new : BusState)
   pub runs : new.chip.busy ≢ 0 → new.chip.running ≡ running_after old.chip command
   pub worn : (s : ℕ) → wears command s ≡ false → new.worn s ≡ old.worn s
 
--- Holds if, on a well-behaved bus, an operation has ended with these results: the chip has the bytes `content` and the
+-- Holds if, on a well-behaved bus, an operation has ended with these results. The chip has the bytes `content` and the
 -- non-volatile bits `bits`, and exactly the sectors of `erased` are recorded as erased. The configuration is as it was,
 -- and the write enable latch is clear.
 pub record HasEnded (content : ℕ → ℕ) (bits : KeptBits) (erased : ℕ → Bool) (old new : BusState) : Type 0 where

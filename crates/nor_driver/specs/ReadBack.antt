@@ -41,14 +41,14 @@ pub record HaveBeenRead (Addresses : (a : ℕ) → Type 0) (old new : List Excha
   pub is : new ≡ later ++ old
   pub whole : (a : ℕ) → Addresses a → length (sector_read later a) ≡ 4096
 
--- Holds if only sectors were read after the history `old`, and for each address in `addresses` the last reply to a read
--- of its sector has the byte of `target` there.
+-- Holds if only sectors were read after the history `old`, and the bytes read at the addresses in `addresses` are those
+-- of `target`. The byte read at an address is the one in the last reply to a read of its sector.
 pub record ReadsBack (addresses : ℕ → Bool) (target : ℕ → ℕ) (old new : List Exchange) : Type 0 where
   pub reads : AddsSectorReads old new
   pub each : (a : ℕ) → addresses a ≡ true → IsReadAs (target a) reads.later a
 
 -- Holds if only sectors were read after the history `old`, and `address` is the lowest address in `addresses` at which
--- the bytes read differ from `target`. The bytes read at an address are those of the last reply to a read of its
+-- the byte read isn't that of `target`. The byte read at an address is the one in the last reply to a read of its
 -- sector.
 pub record ReadsOther (addresses : ℕ → Bool) (target : ℕ → ℕ) (address : ℕ) (old new : List Exchange) : Type 0 where
   pub reads : AddsSectorReads old new
@@ -63,8 +63,8 @@ abbrev pub EndsReadBack : (addresses : ℕ → Bool) → (target : ℕ → ℕ) 
 EndsReadBack addresses target old new =
     (before : List Exchange) × Continues old before × ReadsBack addresses target before new
 
--- Holds if the history `new` continues `old` and ends with reads of sectors for which `ReadsOther` holds: `address` is
--- the lowest address in `addresses` at which the byte read isn't that of `target`.
+-- Holds if the history `new` continues `old` and ends with reads of sectors for which `ReadsOther` holds. `address` is
+-- the lowest of `addresses` at which the byte read isn't that of `target`.
 abbrev pub EndsReadOther : (addresses : ℕ → Bool) → (target : ℕ → ℕ) → (address : ℕ) → (old new : List Exchange)
     → Type 0
 EndsReadOther addresses target address old new =

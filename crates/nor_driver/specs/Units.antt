@@ -26,8 +26,8 @@ has_block config Block32 = config.kinds.k32
 has_block config Block64 = config.kinds.k64
 has_block config Chip = true
 
--- True if the block may begin at the sector with the number `sector`: a 32 or 64 KiB block at a multiple of its size,
--- the whole chip only at sector 0, and a 4 KiB block at any sector.
+-- True if the block may begin at the sector with the number `sector`. A 4 KiB block may begin at any sector, a 32 or 64
+-- KiB block at a multiple of its size, and the whole chip only at sector 0.
 abbrev pub is_aligned : EraseBlock → (sector : ℕ) → Bool
 is_aligned Sector sector = true
 is_aligned Block32 sector = sector % 8 == 0

@@ -45,7 +45,7 @@ pub fn program_page<B: Bus>(bus: &mut B, address: u32, bytes: &[u8]) -> Result<u
 /// Erases an erase block (20h, 52h, D8h or C7h), and waits until the chip is ready. Returns the number of transactions.
 ///
 /// `erase.sector` must be below 4,096, and the block must be aligned (`Erase::is_aligned`). On a well-behaved bus, a
-/// chip on which the block lies ignores the erase if the chip is busy, lacks this erase type or protects an address of
+/// chip on which the block lies may ignore the erase: if it is busy, lacks this erase type or protects an address of
 /// the block. The function succeeds even if the chip ignores the erase, unless the bus stops.
 ///
 /// Returns `Stopped` if the bus stopped, and `Timeout` with the block's first address after 65,536 polls that showed

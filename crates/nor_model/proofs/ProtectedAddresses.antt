@@ -10,8 +10,8 @@ use Rattle.nor_model.specs.Offer.{ProtectsExactly}
 use Rattle.nor_model.specs.Guard.{protected_by, named_length, is_undefined, is_complement, is_bottom, names_sectors, bp_of}
 use Rattle.nor_model.specs.Units.{LieAtAnEnd, HoldsSomewhere, OnFirst, OnLast}
 
--- Holds if `n` is at most `size`, is a multiple of 1 KiB and, if `size` is a multiple of 256 KiB, is a multiple of 4
--- KiB (a sector).
+-- Holds if `n` is at most `size` and a multiple of 1 KiB. If `size` is a multiple of 256 KiB, `n` must also be a
+-- multiple of 4 KiB (a sector).
 pub record IsPart (size n : ℕ) : Type 0 where
   pub within : n ≤ size
   pub whole : n % 1024 ≡ 0
@@ -67,8 +67,8 @@ address_test-end size named false false true blocks part =
 address_test-end size named false false false blocks part =
     ends_at (size - named) (part-rest size named blocks part) (inr (λ a below. rw (lt-ltb a size below) refl))
 
--- On a chip of an allowed size (`IsInBlocks`), `code` protects only the first or only the last addresses of the chip,
--- and the border between protected and unprotected addresses is at a whole KiB.
+-- On a chip of an allowed size (`IsInBlocks`), `code` protects only the first or only the last addresses of the chip.
+-- The border between protected and unprotected addresses is at a whole KiB.
 pub protected_by-end : (size code : ℕ) → IsInBlocks size → LieAtAnEnd size (protected_by size code)
 unfolding protected_by address_test
 protected_by-end size code are =
@@ -80,8 +80,8 @@ pub protected_by-past : (size code a : ℕ) → size ≤ a → protected_by size
 unfolding protected_by
 protected_by-past size code a past = rw (le-ltb a size past) refl
 
--- If `test` is true exactly in a range of whole KiB at one end of the chip (`LieAtAnEnd`), it has the same value for
--- any two addresses of one page of the chip.
+-- Suppose that `test` is true exactly in a range of whole KiB at one end of the chip (`LieAtAnEnd`). Then it has the
+-- same value for any two addresses of one page of the chip.
 alike : (size : ℕ) (test : ℕ → Bool) (a b : ℕ) → LieAtAnEnd size test → a < size → b < size → a / 256 ≡ b / 256
     → test a ≡ test b
 alike size test a b ends below_a below_b page =

@@ -35,8 +35,8 @@ quiet_is opcode quiet P p3 p4 p5 p35 p4b p5a p9f =
 in_none : (s : ℕ) → is_in_targeted none_targeted s ≡ false
 in_none s = grind (arith, nat_tests)
 
--- if `opcode` targets no sector, neither without nor with an address, no transaction that begins with it targets a
--- sector
+-- If the definitions `bare_targeted` and `addressed_targeted` are empty for `opcode`, a transaction that begins with
+-- `opcode` targets no sector.
 targets_none : (opcode : ℕ) (rest : List ℕ) → bare_targeted opcode ≡ none_targeted
     → ((sector : ℕ) → addressed_targeted opcode sector ≡ none_targeted) → (s : ℕ) → targets (opcode ∷ rest) s ≡ false
 targets_none opcode [] bare at s = rw bare (in_none s)

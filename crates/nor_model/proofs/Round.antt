@@ -20,8 +20,8 @@ run_round at done from n place within =
     let split : at + (done + (n - from)) ≡ 0 + n * ((at + done) / n + 1) = omega (arith, mod-add-div (at + done) n) in
     rw (split, add-mul-mod_self_left) (mod-eq_of_lt (omega arith))
 
--- If the items of `ys` replace those of `xs` from index `a` on, the items before index `a` are those of `xs`
--- (`written_before`), and the items from index `a` on are those of `ys`, up to its length (`written_within`).
+-- Suppose that the items of `ys` replace those of `xs` from index `a` on. Then the items before index `a` are those of
+-- `xs` (`written_before`). The next items are those of `ys` (`written_within`).
 pub written_before : (a : ℕ) (xs ys zs : List ℕ) (i : ℕ) → a ≤ length xs → i < a
     → slice_index (take a xs ++ (ys ++ zs)) i ≡ slice_index xs i
 written_before a xs ys zs i fits before =

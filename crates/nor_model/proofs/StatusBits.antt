@@ -22,8 +22,8 @@ written_lt old sent =
 pub wel_set : (n : ℕ) → (bit_and n 2 == 2) ≡ (n / 2 % 2 == 1)
 wel_set n = let bit = and_pow n 1 in grind (arith, nat_tests)
 
--- The protection bits of the status bytes `one` and `two` as a number: bit 6 of `two` is the highest bit, and bits 6 to
--- 2 of `one` are the low five bits.
+-- The protection bits of the status bytes `one` and `two` as a number. Its highest bit is bit 6 of `two`, and its low
+-- five bits are bits 6 to 2 of `one`.
 pub code_bits : (one two : ℕ) → bit_or (bit_and two 64 / 2) (bit_and one 124 / 4) ≡ 32 * (two / 64 % 2) + one / 4 % 32
 code_bits one two =
     let low : bit_and one 124 / 4 ≡ one / 4 % 32 = omega (arith, and_high one 5 2) in

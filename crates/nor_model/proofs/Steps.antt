@@ -21,7 +21,7 @@ carried-agrees x y _ same = cc
 pub done-agrees : (x y : Chip) (out : List ℕ) (replies : ℕ) → Agrees x y → done_of y out replies ≡ done_of x out replies
 done-agrees x y out replies same = cc (carried-agrees x y (command_of y.config out replies) same)
 
--- If a chip receives no byte and none is read from it, it makes a step in which nothing changes. A bus that stops
--- before the first byte therefore satisfies `AtStop`.
+-- If no byte is sent to a chip or read from it, the chip makes a step that changes nothing. A bus that stops before the
+-- first byte therefore satisfies `AtStop`.
 pub nothing_sent : (chip : Chip) → Step chip [] [] chip
 nothing_sent chip = search arith

@@ -93,8 +93,8 @@ pub record Stops (out : List ℕ) (old new : BusState) : Type 0 where
   pub left : new.left ≡ old.left
   pub at_stop : AtStop out old new
 
--- Holds if the transaction was carried out: the chip made one step, one transaction fewer is left, and the sectors that
--- the chip erased in this step are recorded as erased.
+-- The effect of a transaction that was carried out. The chip made one step, and one transaction fewer is left. The
+-- sectors that the chip erased in this step are recorded as erased.
 pub record Carries (out answer : List ℕ) (old new : BusState) : Type 0 where
   pub left : old.left ≡ new.left + 1
   pub step : Step old.chip out answer new.chip
@@ -112,7 +112,7 @@ pub record Allows (n : ℕ) (old new : BusState) : Type 0 where
   pub polled_ready : new.polled_ready ≡ old.polled_ready
   pub worn : (s : ℕ) → new.worn s ≡ old.worn s
 
--- An arbitrary chip. It stands for the chip of a bus about whose chip nothing is promised.
+-- An arbitrary chip, which `unknown_bus` uses because nothing is known about the chip of that bus.
 abbrev pub unknown_chip : Chip
 unknown_chip = record {
   config = record {

@@ -23,8 +23,8 @@ names_sectors code = code / 16 % 2 == 1
 abbrev pub is_complement : (code : ℕ) → Bool
 is_complement code = code / 32 % 2 == 1
 
--- True if SEC is set and BP is 110. The datasheets don't define these codes, whatever CMP and TB are. The model then
--- protects all addresses.
+-- True if SEC is set and BP is 110. The datasheets don't define these codes, for any values of CMP and TB. The model
+-- then protects all addresses.
 abbrev pub is_undefined : (code : ℕ) → Bool
 is_undefined code = names_sectors code && bp_of code == 6
 
@@ -59,8 +59,8 @@ protected_by size code a =
 abbrev pub is_protected : Chip → (a : ℕ) → Bool
 is_protected chip a = chip.config.scheme && protected_by chip.config.size (code_of chip.kept) a
 
--- True if the first or the last of the `len` bytes from `start` is protected. If the range isn't empty and lies on the
--- chip, this is true if and only if some address of the range is protected, because the protected addresses are at one
--- end of the chip.
+-- True if the first or the last of the `len` bytes from `start` is protected. For a range that isn't empty and lies on
+-- the chip, this means that some address of the range is protected. The reason is that the protected addresses are at
+-- one end of the chip.
 abbrev pub is_block_protected : Chip → (start len : ℕ) → Bool
 is_block_protected chip start len = is_protected chip start || is_protected chip (start + len - 1)

@@ -58,8 +58,8 @@ abbrev pub names : (opcode address : ℕ) → (out : List ℕ) → Bool
 names opcode address (first ∷ x ∷ y ∷ z ∷ rest) = first == opcode && 65536 * x + 256 * y + z == address
 names opcode address _ = false
 
--- Holds if the last reply to a transaction that satisfies `is` is the same in both histories, for each test `is` that
--- is false for every transaction that satisfies `may`.
+-- Holds if, for each test `is` that is false for every transaction that satisfies `may`, the last reply is the same in
+-- both histories. The last reply is the one to the last transaction that satisfies `is`.
 pub record KeepsReplies (may : List ℕ → Bool) (old new : List Exchange) : Type 0 where
   pub same : (is : List ℕ → Bool) → ((out : List ℕ) → may out ≡ true → is out ≡ false)
       → last_reply is new ≡ last_reply is old

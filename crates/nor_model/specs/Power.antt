@@ -16,8 +16,8 @@ abbrev pub is_known_running : Running → Bool
 is_known_running Unknown = false
 is_known_running _ = true
 
--- Holds if the page or erase block of the operation lies on a chip of `size` bytes, and if the non-volatile bits that a
--- status write carries from before it are in range.
+-- Holds if the page or erase block of the operation lies on a chip of `size` bytes. For a status write, the
+-- non-volatile bits from before the write must be in range.
 pub record RunsInside (size : ℕ) (running : Running) : Type 0 where
   pub page : (p : ℕ) → running ≡ Program p → 256 * p + 256 ≤ size
   pub unit : (start len : ℕ) → running ≡ Erase start len → start + len ≤ size

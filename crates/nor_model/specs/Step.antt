@@ -1,7 +1,7 @@
--- One step of the chip: its reply to a transaction that is carried out, and the effect on the chip. (W25Q64FV
--- datasheet, instruction descriptions.) In this model an operation has its whole effect at once, and the chip is then
--- busy for any number of polls below 65,536. While the chip is busy, it carries out only status reads, so no read of
--- data shows when the effect took place.
+-- One step of the chip: its reply to a transaction that is carried out, and the effect on the chip. In this model an
+-- operation has its whole effect at once, and the chip is then busy for any number of polls below 65,536. While the
+-- chip is busy, it carries out only status reads, so no read of data shows when the effect took place. (W25Q64FV
+-- datasheet, instruction descriptions.)
 use Rattle.std.specs.Prelude.{◌≡◌, ◌<◌, ◌+◌, ◌-◌, ◌*◌, ◌/◌, ◌%◌, ◌==◌, ◌&&◌, ℕ, Bool, true, false, not, Option, None, Some, List, [], ◌∷◌, length, drop, slice_index, slice_index_or, bit_and, bit_or, nat_lt, nat_le, if◌then◌else◌}
 use Rattle.nor_model.specs.declared.command.Command.{Command}
 use Rattle.nor_model.specs.declared.command.Command.TheVariants.{WriteEnable, WriteDisable, Poll, ReadStatus2, WriteStatus, Program, Erase, ReadData, ReadId, ReadSfdp, ReadUnique, Ignored}
@@ -96,8 +96,8 @@ is_operation (Program at) = true
 is_operation (Erase start len) = true
 is_operation _ = false
 
--- Holds if `busy` may be the number of polls that will still show BUSY after the command: any number below 65,536 after
--- an operation, one less than before after a poll (0 stays 0), and otherwise the number from before.
+-- Holds if `busy` polls may still show BUSY after the command. After an operation this is any number below 65,536, and
+-- after a poll one less than before (0 stays 0). After any other command it is the number from before.
 abbrev pub BusyAfter : Chip → Command → (busy : ℕ) → Type 0
 BusyAfter chip (WriteStatus one two) busy = busy < 65536
 BusyAfter chip (Program at) busy = busy < 65536

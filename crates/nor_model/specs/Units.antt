@@ -17,9 +17,9 @@ OnFirst size test border = (a : ℕ) → a < size → test a ≡ nat_lt a border
 abbrev pub OnLast : ℕ → (ℕ → Bool) → ℕ → Type 0
 OnLast size test border = (a : ℕ) → a < size → test a ≡ nat_le border a
 
--- Holds if, on a chip of `size` bytes, `test` is true on one side of a border and false on the other: exactly for the
--- addresses below the border, or exactly for those from the border on. The border is a multiple of 1 KiB. If the size
--- is a multiple of 256 KiB, the border is a multiple of 4 KiB (a sector).
+-- Holds if, on a chip of `size` bytes, `test` is true on one side of a border and false on the other side. The
+-- addresses for which it is true are either those below the border or those from the border on. The border is a
+-- multiple of 1 KiB. If the size is a multiple of 256 KiB, the border is a multiple of 4 KiB (a sector).
 pub record LieAtAnEnd (size : ℕ) (test : ℕ → Bool) : Type 0 where
   pub border : ℕ
   pub within : border ≤ size

@@ -25,9 +25,9 @@ impl std::error::Error for Stopped {}
 /// other well-behaved bus it holds for transactions that send at most 260 bytes (a page program) and read at most 4,096
 /// (a sector). For a longer transaction on such a bus, `transfer` promises only its clauses `nature` and `records`.
 ///
-/// If a *steady* well-behaved bus stops, it sends no byte of the transaction and keeps the chip's power. If any other
-/// well-behaved bus stops, it may have sent the first bytes of the transaction (none, some or all) and may have read
-/// and lost bytes of the reply. The chip may then have lost its power.
+/// If a *steady* well-behaved bus stops, it sends no byte of the transaction and keeps the chip's power. Any other
+/// well-behaved bus that stops may have sent the first bytes of the transaction: none, some or all. Such a bus may also
+/// have read and lost bytes of the reply, and the chip may have lost its power.
 ///
 /// A faulty bus, which isn't well-behaved, may do anything that the clauses `nature` and `records` allow, because these
 /// clauses hold for every bus. `nature` says that a transaction doesn't change whether a bus is well-behaved, steady or
@@ -53,7 +53,8 @@ pub trait Bus {
     ghost reaches: { (bus : Self) → (state bus).honest ≡ true → IsChip (state bus).chip };
 }
 
-/// A bus that can be told to stop after a given number of transactions.
+/// A bus whose allowance can be set. The allowance is the number of transactions that the bus carries out before it
+/// stops.
 pub trait Meter: Bus {
     /// Sets the allowance to `n` and records it. A well-behaved bus then has `n` transactions left; for any other bus
     /// the contract doesn't say how many are left. Nothing else changes.

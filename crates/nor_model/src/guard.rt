@@ -108,8 +108,8 @@ pub fn protected(status: [u8; 2], size: u32, at: u32) -> bool
     is_protected(size, Status::of(status).code(), at)
 }
 
-/// Returns whether the protection bits in the two status bytes protect some address from `start` to `start + len - 1`,
-/// on a chip of `size` bytes that has block protection. A chip ignores the erase of a block if this function returns
+/// Returns whether the protection bits in the two status bytes protect some address from `start` to `start + len - 1`.
+/// The chip has `size` bytes and has block protection. A chip ignores the erase of a block if this function returns
 /// true for the block. The range must not be empty and must lie on the chip, and `size` must be a power of two from
 /// 65,536 to 16,777,216.
 ///

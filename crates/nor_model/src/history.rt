@@ -9,7 +9,7 @@ use std::marker::Model;
 /// The history of a bus: the transactions over it with their replies, and the allowances that were set. In both lists
 /// the last entry comes first.
 ///
-/// Each bus has one `History`, to which it adds each transaction that it is asked to carry out and each allowance. A
+/// A bus has one `History`, to which it adds each transaction that it is asked to carry out and each allowance. A
 /// wrapper that takes its state from an inner bus needs no `History` of its own. Only contracts can read the history.
 #[derive(Drop)]
 pub struct History {

@@ -108,9 +108,8 @@ module _ (a b : List ℕ) where
       → AgreeWithin a b at (at + count)
   ShowsDifferences-none at count xs shows none = shows.none (λ i lane. omega (arith, none, lane_le 0 xs i))
 
-  -- If `xs` shows the differences of the first `count` bytes, one test of the OR of its lanes decides about the slices:
-  -- if the OR isn't 0, some byte of them differs; if it is 0, none of the first `end` bytes differs, for each `end` of
-  -- at most `count`.
+  -- Suppose that `xs` shows the differences of the first `count` bytes, and `end` is at most `count`. If the OR of the
+  -- lanes of `xs` isn't 0, some byte of the slices differs. If the OR is 0, none of the first `end` bytes differs.
   pub ShowsDifferences-tested : (count end : ℕ) (xs : List ℕ) → ShowsDifferences a b 0 count xs → end ≤ count
       → MatchBool (not (nat_eq (fold_l bit_or 0 xs) 0)) (SomeDiffer a b) (AgreeWithin a b 0 end)
   ShowsDifferences-tested count end xs shows within =

@@ -1,4 +1,4 @@
--- The planned erases cover a set of sectors that lies on the chip and below sector 4,096 (`IsPlannable`): the chip can
+-- The planned erases cover a set of sectors that lies on the chip and below sector 4,096 (`IsPlannable`). The chip can
 -- carry out each planned erase, the sectors of each erase lie in the set, and each sector of the set lies in an erase.
 use Rattle.std.proofs.Common.{ℕ, ◌≡◌, ◌<◌, ◌≤◌, ◌+◌, ◌-◌, ◌%◌, Bool, true, ◌&&◌, ◌||◌, List, [], ◌∷◌, map, filter, get_or, refl, sym, ap, ◌∙◌, inl, inr, arith}
 use Rattle.std.specs.List.{list_any, range_with_len}
@@ -15,8 +15,8 @@ use Rattle.nor_plan.specs.Erase.{is_offered, IsErase, Covers}
 use Rattle.nor_plan.specs.Planned.{holds_run, planned_block, begins_block, erase_at, planned_from}
 use Rattle.nor_plan.proofs.Units.{holds_run-at, first_of, first_of-once, first_of-aligned, first_of-holds, IsLargest, planned_block-largest, planned_block-first}
 
--- Holds if `whole` is true exactly if all sectors below `total` are in `set`, and if each sector of `set` is below
--- `total` and below 4,096. These are the premises of a plan of erases.
+-- Holds if `whole` says whether all sectors below `total` are in `set`, and each sector of `set` is below `total` and
+-- below 4,096. These are the premises of a plan of erases.
 pub record IsPlannable (whole : Bool) (total : ℕ) (set : ℕ → Bool) : Type 0 where
   pub whole_is : whole ≡ holds_run set 0 total
   pub below : (s : ℕ) → set s ≡ true → s < total

@@ -33,8 +33,8 @@ ends_like P Q (Some s) to from are = (to s.first are.0, to s.last are.1, λ k is
 abbrev pub Passes : (test : ℕ → Bool) → (from count k : ℕ) → Type 0
 Passes test from count k = (from ≤ k) × (k < from + count) × (test k ≡ true)
 
--- If `from` passes the test, and `ends others` is the span of the positions after `from` that pass it, then `ends (from
--- ∷ others)` is the span of the positions from `from` on that pass it.
+-- Suppose that `from` passes the test, and that `ends others` is the span of the later positions that pass it. Then
+-- `ends (from ∷ others)` is the span of all positions from `from` on that pass it.
 in_front : (test : ℕ → Bool) (from count : ℕ) (others : List ℕ) → test from ≡ true
     → AreEnds (Passes test (from + 1) count) (ends others)
     → AreEnds (Passes test from (suc count)) (ends (from ∷ others))

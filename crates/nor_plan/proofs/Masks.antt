@@ -10,8 +10,8 @@ use Rattle.std.proofs.lemmas.Nat.Bits.{bit_at-zero, bit_at-trailing_zeros, bit_a
 use Rattle.nor_plan.specs.Mask.{IsMask}
 use Rattle.std.proofs.lemmas.Simd.{tops_compared, mask_l-lt, mask_l-mod, bit_mask_l, length-zip2, get_or-zip2}
 
--- The mask that vector code computes for the comparison `t`: each lane becomes all ones if `t` holds for it and
--- otherwise 0, and the mask has the top bit of each lane.
+-- The mask that vector code computes for the comparison `t`. Each lane becomes all ones if `t` holds for it, and
+-- otherwise 0. The mask has the top bit of each lane.
 abbrev pub compared : (ℕ → ℕ → Bool) → List ℕ → List ℕ → ℕ
 compared t xs ys = mask_l (map (top 7) (zip2 (λ a b. cond (t a b) (2 ^ 8 - 1) 0) xs ys)) % 2 ^ 64
 
@@ -37,7 +37,7 @@ other_from_test x y e same = grind (arith, nat_tests)
 pub test_from_other : (x y : ℕ) → x ≢ y → not (nat_eq x y) ≡ true
 test_from_other x y differ = grind (arith, nat_tests)
 
--- if the bit that stands for `not (nat_eq x y)` is 0, `x` and `y` are equal
+-- if the bit that encodes `not (nat_eq x y)` is 0, `x` and `y` are equal
 same_from_bit : (x y : ℕ) → ◌≡◌ {A = ℕ} (cond (not (nat_eq x y)) 1 0) 0 → x ≡ y
 same_from_bit x y e = grind (arith, nat_tests)
 
@@ -82,8 +82,8 @@ module _ (f g : ℕ → ℕ) (at mask : ℕ) (is : IsMask mask (λ i. not (nat_e
       let first = set_lane (trailing_zeros w64 mask) lowest.1 in
       (first.0, first.1, λ k low before. clear_lane k low (omega (arith, first.0)) (lowest.2 (k - at) (omega arith)))
 
-  -- If `mask` isn't 0 and its highest set bit is bit `r`, `at + r` is the last of the 32 positions from `at` on at
-  -- which `f` and `g` differ.
+  -- Suppose that `mask` isn't 0, and that its highest set bit is bit `r`. Then `at + r` is the last of the 32 positions
+  -- from `at` on at which `f` and `g` differ.
   pub last_in_block : (r : ℕ) → 2 ^ r ≤ mask → mask < 2 * 2 ^ r
       → (r < 32) × (f (at + r) ≢ g (at + r)) × ((k : ℕ) → at + r < k → k < at + 32 → f k ≡ g k)
   last_in_block r least most =

@@ -1,5 +1,5 @@
--- What must change to turn the content `old` into the target `wanted`: touched and raised sectors, and pages to
--- program. A content is a function from addresses to bytes.
+-- The changes that turn the content `old` into the target `wanted`: touched and raised sectors, and pages to program. A
+-- content is a function from addresses to bytes.
 use Rattle.std.specs.Prelude.{ℕ, ◌+◌, ◌*◌, ◌/◌, ◌==◌, ◌&&◌, Bool, not, bit_and, if◌then◌else◌}
 use Rattle.nor_geometry.specs.Below.{any_below}
 

@@ -15,8 +15,8 @@ is_offered kinds Block32 = kinds.k32
 is_offered kinds Block64 = kinds.k64
 is_offered kinds Chip = true
 
--- Holds if a chip with the erase types `kinds` and `total` sectors can carry out `erase`: it has the erase block, and
--- the block is aligned and ends on the chip.
+-- Holds if a chip with the erase types `kinds` and `total` sectors can carry out `erase`. For this, it must have the
+-- erase block, and the block must be aligned and end on the chip.
 pub record IsErase (kinds : Kinds) (total : ℕ) (erase : Erase) : Type 0 where
   pub offered : is_offered kinds erase.unit ≡ true
   pub aligned : is_aligned erase.unit erase.sector ≡ true

@@ -39,8 +39,8 @@ unfoldable pub planned_from : Bool → Kinds → (ℕ → Bool) → ℕ → List
 planned_from whole kinds set from =
     map (erase_at whole kinds set) (filter (begins_block whole kinds set) (range_with_len from (4096 - from)))
 
--- Holds if `head` is a pair: the first planned erase that begins at or after the sector `from`, and a sector at or
--- after which the remaining planned erases begin. If no planned erase begins at or after `from`, `head` is `None`.
+-- Holds if `head` is the first planned erase that begins at or after the sector `from`, paired with a sector at or
+-- after which the remaining ones begin. If no planned erase begins at or after `from`, `head` is `None`.
 abbrev pub HeadsPlanned : Bool → Kinds → (ℕ → Bool) → ℕ → Option (Erase × ℕ) → Type 0
 HeadsPlanned whole kinds set from head =
     MatchOption head (planned_from whole kinds set from ≡ [])

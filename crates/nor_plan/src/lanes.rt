@@ -78,8 +78,8 @@ fn first_from(a: &[u8], b: &[u8], from: usize) -> Option<usize>
     None
 }
 
-/// Returns a position before which `a` and `b` agree: the start of the first 256-byte block in which they differ, or
-/// the end of the whole blocks if they differ in none.
+/// Returns a position before which `a` and `b` agree: the start of the first 256-byte block in which they differ. If
+/// they differ in none of these blocks, the result is the end of the last one.
 fn agreeing(a: &[u8], b: &[u8]) -> usize
     requires { length a.now ≡ length b.now }
     ensures within { result ≤ length a.now }
@@ -157,8 +157,8 @@ fn changes_32(a: &[u8], b: &[u8], at: usize) -> u8x32
     u8x32::from_slice(&a[at..]) ^ u8x32::from_slice(&b[at..])
 }
 
-/// Returns a mask whose bit `i` is set if and only if `a` and `b` differ in the byte at `at + i`, for each `i` below
-/// 32.
+/// Returns a mask with one bit for each of the 32 bytes from `at` on. Bit `i` is set if and only if `a` and `b` differ
+/// in the byte at `at + i`.
 #[inline(always)]
 fn differing(a: &[u8], b: &[u8], at: usize) -> u64
     requires a_within { at + 32 ≤ length a.now }
@@ -170,8 +170,8 @@ fn differing(a: &[u8], b: &[u8], at: usize) -> u64
         .to_bitmask()
 }
 
-/// Returns a mask whose bit `i` is set if and only if some bit of the byte at `at + i` is 1 in `target` and 0 in `old`,
-/// for each `i` below 32.
+/// Returns a mask with one bit for each of the 32 bytes from `at` on. Bit `i` is set if and only if some bit of the
+/// byte at `at + i` is 1 in `target` and 0 in `old`.
 #[inline(always)]
 fn rising(old: &[u8], target: &[u8], at: usize) -> u64
     requires old_within { at + 32 ≤ length old.now }

@@ -1,4 +1,4 @@
--- What an error during identification means, and which transaction is the last one before an error.
+-- The meaning of errors during identification, and the last transaction before an error.
 use Rattle.std.specs.Prelude.{◌≡◌, ℕ, true, Option, List, ⊤}
 use Rattle.nor_model.specs.Exchange.{Exchange}
 use Rattle.nor_model.specs.History.{EndsStopped, EndsBusy, EndsReading}
@@ -12,7 +12,7 @@ use Rattle.nor_request.specs.declared.refusal.Refusal.TheVariants.{NoChip, Unkno
 
 -- The meaning of an error that identification returned. Identification is a probe and the reads that follow it, which
 -- need at most `most` transactions together. On a well-behaved bus (`honest`), `NoChip`, `UnknownChip` and `OtherName`
--- mean the same as the faults of the probe, a stop occurs only if fewer than `most` transactions are left, and a
+-- mean the same as the faults of the probe. There a stop occurs only if fewer than `most` transactions are left, and a
 -- timeout doesn't occur. On every bus, nothing is sent after a stop or a timeout, the address of a timeout is 0, and no
 -- errors other than these five occur.
 abbrev pub IdentificationErrors : (most : ℕ) → Option ChipName → (old new : BusState) → Refusal → Type 0

@@ -1,4 +1,4 @@
--- What a request asks of a chip.
+-- The change that a request asks of a chip.
 use Rattle.std.specs.Prelude.{◌≡◌, ◌&&◌, ℕ, Bool, true, false, nat_lt, List, None, slice_index, if◌then◌else◌}
 use Rattle.nor_model.specs.Chip.{Chip}
 use Rattle.nor_model.specs.Guard.{code_of}

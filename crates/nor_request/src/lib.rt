@@ -1,5 +1,5 @@
 //! Defines the requests that a session can be asked to perform, the reports that calls return on success, and the
-//! errors that they return on failure, with their numbers and texts.
+//! errors that they return on failure. Each error has a number and a text.
 //!
 //! - `request.rt`: requests for a session
 //! - `report.rt`: what a call that succeeded did

@@ -99,7 +99,7 @@ impl Refusal {
     }
 }
 
-// This implementation is written by hand, because a derived `Display` has no contract.
+// `Display` is implemented by hand, because a derived `Display` has no contract.
 impl fmt::Display for Refusal {
     ghost use Rattle.nor_request.specs.Texts.{refusal_text};
 
