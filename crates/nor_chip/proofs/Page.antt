@@ -30,8 +30,8 @@ module _ (at : ℕ) (sent : List ℕ) (skipped : ℕ) (front back old mid new : 
     (parted : IsParted at sent skipped front back)
     (first : ClearsFrom (at / 256 * 256 + (at + skipped) % 256) (length front) front old mid)
     (second : ClearsFrom (at / 256 * 256) (length back) back mid new) where
-  -- After `front` and `back` were programmed, the byte at the address `a` of the page is as `lowered` says: ANDed with
-  -- the last byte that was sent for `a`, if any.
+  -- After `front` and `back` were programmed, the byte at the address `a` of the page is ANDed with the last byte that
+  -- was sent for `a`, if any.
   in_page : (a : ℕ) → a / 256 ≡ at / 256 → slice_index new a ≡ lowered (slice_index old a) (last_for at sent a)
   in_page a here =
       let p = a % 256 in let start = (at + skipped) % 256 in

@@ -47,7 +47,7 @@ abbrev pub TornTo : (torn : Option ℕ) → (out : List ℕ) → (old new : Chip
 TornTo None out old new = new ≡ old
 TornTo (Some count) out old new = Step old (take count out) [] new
 
--- `old` is the chip after the bytes that were sent of a stopped transaction, before any power failure, and `new` is the
+-- `old` is the chip after the bytes of a stopped transaction that were sent, and before any power failure. `new` is the
 -- chip after the stop. `fill` is the value that `lose` set: with `None` the chip kept its power, with `Some fill` it
 -- lost its power with this fill byte.
 abbrev pub LostTo : (fill : Option ℕ) → (old new : Chip) → Type 0

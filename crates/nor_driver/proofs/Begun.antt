@@ -51,7 +51,7 @@ part_done out old ready count replies asks enabling =
       | inr same ↦ inr (ap does same ∙ then_done out old ready asks enabling)
     ]
 
--- If `out` satisfies `AsksForOperation`, and `operation_of chip out` is no operation, it is `Ignored`.
+-- if `out` satisfies `AsksForOperation`, the command `operation_of chip out` is an operation or `Ignored`
 pub operation-ignored : (chip : Chip) (out : List ℕ) → AsksForOperation out
     → is_operation (operation_of chip out) ≡ false → operation_of chip out ≡ Ignored
 operation-ignored chip out asks none = grind (arith, asks.whole chip.config)

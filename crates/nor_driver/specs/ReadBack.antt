@@ -57,7 +57,7 @@ pub record ReadsOther (addresses : ℕ → Bool) (target : ℕ → ℕ) (address
   pub differs : bytes_read reads.later address ≢ target address
   pub before : (a : ℕ) → a < address → addresses a ≡ true → IsReadAs (target a) reads.later a
 
--- Holds if the history `new` continues `old` and ends with reads of sectors for which `ReadsBack` holds: the bytes read
+-- Holds if the history `new` continues `old` and ends with reads of sectors for which `ReadsBack` holds. The bytes read
 -- at `addresses` are those of `target`.
 abbrev pub EndsReadBack : (addresses : ℕ → Bool) → (target : ℕ → ℕ) → (old new : List Exchange) → Type 0
 EndsReadBack addresses target old new =

@@ -24,7 +24,7 @@ const WRITE_ENABLE: u8 = 0x06;
 /// Programs `bytes` from `address` on (02h), and waits until the chip is ready. Returns the number of transactions.
 ///
 /// `bytes` must not be empty and must lie in one page of 256 bytes, and `address` must fit in three bytes. On a
-/// well-behaved bus, a chip on which `address` lies ignores the program if the chip is busy or protects `address`. The
+/// well-behaved bus whose chip has the address, the chip ignores the program if it is busy or protects `address`. The
 /// function succeeds even if the chip ignores the program, unless the bus stops.
 ///
 /// Returns `Stopped` if the bus stopped, and `Timeout` with `address` after 65,536 polls that showed BUSY. On a
@@ -44,8 +44,8 @@ pub fn program_page<B: Bus>(bus: &mut B, address: u32, bytes: &[u8]) -> Result<u
 
 /// Erases an erase block (20h, 52h, D8h or C7h), and waits until the chip is ready. Returns the number of transactions.
 ///
-/// `erase.sector` must be below 4,096, and the block must be aligned (`Erase::is_aligned`). On a well-behaved bus, a
-/// chip on which the block lies may ignore the erase: if it is busy, lacks this erase type or protects an address of
+/// `erase.sector` must be below 4,096, and the block must be aligned (`Erase::is_aligned`). On a well-behaved bus whose
+/// chip contains the block, the chip ignores the erase if it is busy, lacks this erase type or protects an address of
 /// the block. The function succeeds even if the chip ignores the erase, unless the bus stops.
 ///
 /// Returns `Stopped` if the bus stopped, and `Timeout` with the block's first address after 65,536 polls that showed

@@ -11,7 +11,7 @@ abbrev pub AreEnds : (ℕ → Type 0) → Option PageSpan → Type 0
 AreEnds P o =
     MatchOption o ((k : ℕ) → ¬ P k) (λ s. P s.first × P s.last × ((k : ℕ) → P k → (s.first ≤ k) × (k ≤ s.last)))
 
--- if `o` and `p` both have the first and last number that satisfy `P`, they are equal
+-- for each `P` there is at most one span from the first to the last number that satisfies `P`
 pub ends_once : (P : ℕ → Type 0) (o p : Option PageSpan) → AreEnds P o → AreEnds P p → o ≡ p
 ends_once P None None a b = refl
 ends_once P None (Some t) a b = absurd (a t.first b.0)

@@ -109,8 +109,8 @@ planned_few whole kinds set from =
     both_le true false = omega arith
     both_le false b = omega arith
 
--- If all sectors of the set lie on the chip, and the chip has at most 4,096 sectors, no list of erases that covers the
--- set is shorter than that of the planned erases, which covers it.
+-- The list of planned erases covers the set, and no list of erases that covers the set is shorter. The premises are
+-- that all sectors of the set lie on the chip, and that the chip has at most 4,096 sectors.
 pub fewest_least : (kinds : Kinds) (total : ℕ) (set : ℕ → Bool) → total ≤ 4096 → ((s : ℕ) → set s ≡ true → s < total)
     → IsLeastLength kinds total set (fewest_erases kinds total set)
 fewest_least kinds total set few below =

@@ -12,9 +12,9 @@ use Rattle.nor_request.specs.declared.refusal.Refusal.TheVariants.{NoChip, Unkno
 
 -- The meaning of an error that identification returned. Identification is a probe and the reads that follow it, which
 -- need at most `most` transactions together. On a well-behaved bus (`honest`), `NoChip`, `UnknownChip` and `OtherName`
--- mean the same as the faults of the probe. There a stop occurs only if fewer than `most` transactions are left, and a
--- timeout doesn't occur. On every bus, nothing is sent after a stop or a timeout, the address of a timeout is 0, and no
--- errors other than these five occur.
+-- mean the same as the faults of the probe. On such a bus, a stop occurs only if fewer than `most` transactions are
+-- left, and a timeout doesn't occur. On every bus, nothing is sent after a stop or a timeout, the address of a timeout
+-- is 0, and no errors other than these five occur.
 abbrev pub IdentificationErrors : (most : ℕ) → Option ChipName → (old new : BusState) → Refusal → Type 0
 IdentificationErrors most named old new NoChip = old.honest ≡ true → ProbeErrors named old new Probes.NoChip
 IdentificationErrors most named old new (UnknownChip fault) =
