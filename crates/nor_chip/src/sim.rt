@@ -22,7 +22,7 @@ pub struct Delays {
     pub each: u16,
 }
 
-/// The error that the number of bytes differs from the chip's size.
+/// The error of `SimBus::new` if the number of bytes differs from the chip's size.
 #[derive(Clone, Copy, Debug, PartialEq, Eq)]
 pub struct WrongLength;
 

@@ -158,7 +158,9 @@ impl Status2 {
 /// The two status registers.
 #[derive(Clone, Copy, Debug, PartialEq, Eq)]
 pub struct Status {
+    /// Status register 1.
     pub one: Status1,
+    /// Status register 2.
     pub two: Status2,
 }
 

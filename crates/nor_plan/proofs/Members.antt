@@ -9,7 +9,7 @@ use Rattle.nor_geometry.specs.Counts.{IsCount}
 use Rattle.nor_geometry.proofs.CountedRanges.{count_by-range}
 use Rattle.nor_plan.proofs.Words.{none_past}
 
--- each sector of a set is below 4,096, because the set has 64 words
+-- each sector of a set is below 4,096, because the set has 64 words of 64 bits
 pub has-small : (set : SectorSet) → length set.words ≡ 64 → LiesBelow set 4096
 has-small set long s member =
     let small : ¬ (4096 ≤ s) = λ past. both_ways _ (none_past set long s past) member in omega arith

@@ -13,10 +13,12 @@ mod iter;
 
 pub use iter::Spans;
 
-/// A range of bytes within one page, given by the positions of its first and its last byte in the slice.
+/// A range of bytes within one page. Both positions count from the start of the slice.
 #[derive(Clone, Copy, Debug, PartialEq, Eq)]
 pub struct PageSpan {
+    /// The position of the first byte of the range.
     pub first: usize,
+    /// The position of the last byte of the range.
     pub last: usize,
 }
 
