@@ -35,7 +35,7 @@ impl fmt::Display for WrongLength {
 impl std::error::Error for WrongLength {}
 
 /// A well-behaved bus (`honest`) to a chip that is simulated in memory. The last call of `allow` sets the number of
-/// transactions that the bus carries out; it stops at each further one.
+/// transactions that the bus carries out. It stops at each later transaction.
 #[derive(Drop)]
 pub struct SimBus {
     flash: Flash,

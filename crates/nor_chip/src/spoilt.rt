@@ -124,8 +124,8 @@ impl<B: Meter> Meter for SpoiltBus<B> {
     }
 }
 
-// Returns the byte that each reply byte of the next transaction has if this transaction is dropped, or `None` if it
-// isn't dropped. `sent` is the number of transactions that succeeded before.
+// Returns the value of each reply byte of the next transaction if this transaction is dropped, otherwise `None`. `sent`
+// is the number of transactions that succeeded before.
 fn withheld(spoil: Spoil, sent: u64) -> Option<u8>
     ensures { result ≡ withheld spoil sent }
 {
