@@ -22,7 +22,7 @@ pub adds_none : (history : List Exchange) → AddsSectorReads history history
 adds_none history = record { later = []; is = refl; each = All-nil IsSectorRead }
 
 -- Sector `n` is read with the reply `bytes`, after the history `earlier`. If `a` lies in sector `n`, the last reply to
--- a read of the sector of `a` is `bytes`. Otherwise it is the last such reply in `earlier`.
+-- a read of the sector of `a` is `bytes`. Otherwise it is the same as in `earlier`.
 module _ {n : ℕ} (out bytes : List ℕ) (reads : names 0x03 (4096 * n) out ≡ true)
     (earlier : List Exchange) (a : ℕ) where
   pub read_other : a / 4096 ≢ n → sector_read (replied out bytes ∷ earlier) a ≡ sector_read earlier a

@@ -100,9 +100,9 @@ abbrev pub HasOperated : Command → (sent : List ℕ) → (old new : BusState) 
 HasOperated command sent old =
     HasEnded (byte_after old.chip command sent) (kept_after old.chip command) (λ s. old.worn s || wears command s) old
 
--- An operation. A chip carries it out if `can` holds for the chip, and ignores it if `ignores` holds. What the
--- operation sends is within `limits`. On a well-behaved bus whose chip satisfies `can`, `may` relates the states before
--- and after the operation at every exit, and `has` relates them after success.
+-- An operation. A chip carries it out if `can` holds for the chip, and ignores it if `ignores` holds. The modifying
+-- commands of the operation are within `limits`. On a well-behaved bus whose chip satisfies `can`, `may` relates the
+-- states before and after the operation at every exit, and `has` relates them after success.
 pub record ChipOperation : Type 1 where
   pub limits : Limits
   pub can : Chip → Type 0

@@ -4,8 +4,8 @@ use Rattle.std.specs.List.{All}
 use Rattle.nor_model.specs.Exchange.{Exchange}
 use Rattle.nor_model.specs.History.{Continues, last_reply, names}
 
--- the last reply to a read (03h) from the start of the sector in which the address `a` lies; empty if there was no such
--- read
+-- The last reply to a read (03h) from the start of the sector in which the address `a` lies. The reply is empty if this
+-- sector was not read.
 abbrev pub sector_read : List Exchange → (a : ℕ) → List ℕ
 sector_read history a = last_reply (names 0x03 (4096 * (a / 4096))) history
 
@@ -28,14 +28,14 @@ pub record AddsSectorReads (old new : List Exchange) : Type 0 where
   pub is : new ≡ later ++ old
   pub each : All IsSectorRead later
 
--- Holds if the sector in which `a` lies was read, the last reply to such a read has 4,096 bytes, and that reply has
--- `byte` at the address `a`.
+-- Holds if the sector in which `a` lies was read, and the last reply to a read of it has 4,096 bytes, with `byte` at
+-- the address `a`.
 pub record IsReadAs (byte : ℕ) (history : List Exchange) (a : ℕ) : Type 0 where
   pub whole : length (sector_read history a) ≡ 4096
   pub same : bytes_read history a ≡ byte
 
--- Holds if, for each address in `Addresses`, the sector of the address was read after the history `old`, and the last
--- reply to such a read has 4,096 bytes.
+-- Holds if, for each address in `Addresses`, the sector of the address was read after the history `old`. The last reply
+-- to a read of this sector has 4,096 bytes.
 pub record HaveBeenRead (Addresses : (a : ℕ) → Type 0) (old new : List Exchange) : Type 0 where
   pub later : List Exchange
   pub is : new ≡ later ++ old

@@ -18,7 +18,7 @@ impl fmt::Display for Stopped {
 
 impl std::error::Error for Stopped {}
 
-/// A bus to a chip. A transaction sends the bytes `out`, and then reads as many bytes as `reply` has.
+/// A bus to a chip. A transaction sends the bytes `out`, and then fills `reply` with the bytes that it reads.
 ///
 /// Contracts see a bus as a `BusState`. A *well-behaved* bus (`honest`) stops if and only if it has no transaction
 /// left; otherwise the chip makes one step. On an *unlimited* well-behaved bus this holds for every transaction. On any

@@ -91,8 +91,8 @@ module _ (whole : Bool) (kinds : Kinds) (total : ℕ) (set : ℕ → Bool) (can 
       some_begins others covers q (and_parts (list_any (nat_eq q) sectors) (begins q) (sym kept ∙ member)).1) in
       omega (arith, length-map others sector, length-map (filter begins sectors) (erase_at whole kinds set))
 
--- From each sector on, there are at most as many planned erases as sectors of the set, because the erases begin at
--- different sectors of the set.
+-- From each sector on, the number of planned erases is at most the number of sectors of the set, because the erases
+-- begin at different sectors of the set.
 pub planned_few : (whole : Bool) (kinds : Kinds) (set : SectorSet) (from : ℕ)
     → length (planned_from whole kinds (has set) from) ≤ length (members_from set from)
 unfolding planned_from members_from

@@ -113,8 +113,8 @@ fn last_difference(a: &[u8], b: &[u8]) -> Option<usize>
     None
 }
 
-/// Returns whether some bit is 1 in `target` and 0 in `old`. Only an erase can set such a bit. The slices must have
-/// equal lengths.
+/// Returns whether some bit is 1 in `target` and 0 in `old`. Only an erase can set this bit. The slices must have equal
+/// lengths.
 pub fn raises(old: &[u8], target: &[u8]) -> bool
     requires { length old.now ≡ length target.now }
     ensures { MatchBool result (SomeRise old.now target.now) (NoneRises old.now target.now) }
