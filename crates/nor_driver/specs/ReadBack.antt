@@ -4,13 +4,13 @@ use Rattle.std.specs.List.{All}
 use Rattle.nor_model.specs.Exchange.{Exchange}
 use Rattle.nor_model.specs.History.{Continues, last_reply, names}
 
--- The last reply to a read (03h) from the start of the sector in which the address `a` lies. The reply is empty if this
--- sector was not read.
+-- The reply to the last read (03h) from the start of the sector in which the address `a` lies. It is empty if there was
+-- no such read, or if the bus stopped at the last one.
 abbrev pub sector_read : List Exchange → (a : ℕ) → List ℕ
 sector_read history a = last_reply (names 0x03 (4096 * (a / 4096))) history
 
--- the byte of the address `a` in the last reply to a read (03h) from the start of its sector; 0 if the reply has no
--- such byte
+-- The byte of the address `a` in the reply to the last read (03h) from the start of its sector. The byte is 0 if the
+-- reply doesn't reach the address.
 abbrev pub bytes_read : List Exchange → (a : ℕ) → ℕ
 bytes_read history a = slice_index (sector_read history a) (a % 4096)
 

@@ -34,7 +34,7 @@ pub enum Refusal {
     /// 9: the status registers must be written, but they are locked, because SRP0 or SRP1 is set.
     StatusLocked,
     /// 10: a sector that would change contains a protected address, and the request doesn't lift protection. `address`
-    /// is the first address of the lowest such sector.
+    /// is the first address of the lowest of these sectors.
     Protected { address: u32 },
     /// 11: the vault refused a piece of the journal, or it refused to be sealed.
     Vault,
