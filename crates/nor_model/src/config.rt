@@ -34,20 +34,16 @@ pub const ALL_KINDS: Kinds = Kinds {
     k64: true,
 };
 
-/// The properties of a chip that never change.
+/// The properties of a chip that never change: the ID (9Fh), the size in bytes, the erase types, whether the chip has
+/// block protection (`scheme`), the unique ID (4Bh), and the first 256 SFDP bytes. 5Ah reads all later SFDP bytes as
+/// FFh.
 #[derive(Clone, Copy)]
 pub struct Config {
-    /// The ID, which 9Fh reads.
     pub id: [u8; 3],
-    /// The size in bytes, a power of two from 65,536 to 16,777,216.
     pub size: u32,
-    /// The erase types in addition to 4 KiB and the whole chip.
     pub kinds: Kinds,
-    /// True if the chip has block protection.
     pub scheme: bool,
-    /// The unique ID, which 4Bh reads.
     pub unique: [u8; 8],
-    /// The first 256 SFDP bytes. 5Ah reads all later ones as FFh.
     pub sfdp: [u8; 256],
     pub ghost sized: { IsTrue (is_chip_size size) },
 }
