@@ -1,4 +1,4 @@
--- The facts about the chip that a restore has established before it changes anything.
+-- Lemmas about what a restore knows about the chip before it changes anything.
 use Rattle.std.proofs.Common.{◌≡◌, ◌<◌, ◌+◌, ◌/◌, ◌∙◌, ◌||◌, ℕ, Bool, true, false, length, ap, sym, refl, arith, rules, inl, inr}
 use Rattle.std.specs.Prelude.{None}
 use Rattle.std.proofs.lemmas.Bool.{cases_Bool, both_ways, true_from_ne_false}
@@ -41,8 +41,7 @@ use Rattle.nor_session.proofs.ReadyChip.{status1_if_idle, opening_of}
 use Rattle.nor_session.proofs.Rescanned.{restored_saved}
 use Rattle.nor_session.proofs.RestoredBytes.{unraised_byte}
 
--- The results of a restore's identification (from `old` to `mid`) and of the choice of its sectors (from `mid` to
--- `new`).
+-- The facts after a restore identified the chip (from `old` to `mid`) and chose its sectors (from `mid` to `new`).
 pub record AreRead (choice : Choice) (journal : Content) (identity : Identity) (scanned : Scanned) (old mid new : BusState) : Type 0 where
   pub only_reads : OnlyReads most_identity old mid
   pub opens : ReadsIdentity None old mid identity
@@ -52,7 +51,7 @@ pub record AreRead (choice : Choice) (journal : Content) (identity : Identity) (
   pub small : old.honest ≡ true → old.chip.kept.two < 128
   pub scans : MarksChosen choice journal mid new scanned
 
--- ---- a status that is locked
+-- ---- if the status is locked
 
 module _ {choice : Choice} {journal : Content} {identity : Identity} {scanned : Scanned} {old mid new : BusState}
     (read : AreRead choice journal identity scanned old mid new) where
@@ -60,7 +59,8 @@ module _ {choice : Choice} {journal : Content} {identity : Identity} {scanned : 
   rested_all honest =
       rested_then old mid new (read.opens.rested honest) (read.scans.honest_reads.rested (read.only_reads.nature.honest ∙ honest))
 
-  -- on a modelled bus the scan's marks are right for the chip as it was before the restore
+  -- on a modelled bus, the touched and raised sectors of the scan are those that `choice` gives for the chip as it was
+  -- before the restore
   marks_old : IsModelled old
       → (has scanned.touched ≡ choice.touched journal old.chip.bytes)
       × (has scanned.raised ≡ choice.raised journal old.chip.bytes)
@@ -84,7 +84,7 @@ module _ {choice : Choice} {journal : Content} {identity : Identity} {scanned : 
         (read.fits old.chip (read.small modelled.honest) is, is_shut.locked, is_shut.needs);
   }
 
--- ---- the changes can be made
+-- ---- the changes can be made (`CanApply`)
 
 -- if the journal fits the chip and a status write is needed, the chip has block protection
 scheme_for : (journal : Content) (touched : ℕ → Bool) (chip : Chip) → FitsJournal journal chip

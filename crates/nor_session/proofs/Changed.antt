@@ -1,4 +1,4 @@
--- The numbers of operations of the changes, and their result after the check.
+-- Bounds on the operations of the changes, and the result of the changes and their check.
 use Rattle.std.proofs.Common.{◌≡◌, ◌<◌, ◌≤◌, ◌/◌, ◌||◌, ◌∙◌, ℕ, Bool, true, false, sym, subst, arith}
 use Rattle.std.specs.Prelude.{◌≢◌}
 use Rattle.std.proofs.lemmas.Bool.Decides.{nat_tests}
@@ -29,7 +29,7 @@ two_writes changes = grind (arith, nat_tests)
 pub no_write : (changes : Changes) → ¬ ((changes.unlock || writes_code changes) ≡ true) → status_writes changes ≤ 0
 no_write changes never = grind (arith, nat_tests)
 
--- if no protection is lifted, the status is written at most once
+-- if the changes lift no protection, they need at most one status write
 pub write_once : (changes : Changes) → changes.unlock ≡ false → status_writes changes ≤ 1
 write_once changes off = grind (arith, nat_tests)
 
@@ -40,15 +40,16 @@ writes_other changes off writes same = grind (arith, nat_tests)
 pub touched_most : (changes : Changes) → touched_count changes ≤ 4096
 touched_most changes = count_below-most 4096 (touched_in changes)
 
--- if the raised sectors are touched, changes that succeeded sent at most as many transactions as the bound for the
--- largest chip
+-- If every raised sector is touched and the changes succeeded, the number of their transactions is at most the bound
+-- for the largest chip.
 pub fits_work : (changes : Changes) (wanted : ℕ → ℕ) (old new : BusState) (work : Work) → ((s : ℕ) → raised_in changes s ≡ true → touched_in changes s ≡ true)
     → DoesApply changes wanted old new work → work.transactions ≤ most_applied 4096
 fits_work changes wanted old new work inside does =
     let most = touched_most changes in let raised = raised_few changes inside in let writes = two_writes changes in
     omega arith
 
--- if the sectors lie on the chip, the number of planned erases (`fewest_erases`) is the least possible
+-- If the sectors lie on the chip, `count` is the least possible number of erases for them, provided that it is the
+-- number of planned erases (`fewest_erases`).
 pub fewest_at : (config : Config) (sectors : ℕ → Bool) (count : ℕ) → ((s : ℕ) → sectors s ≡ true → s < config.size / 4096)
     → count ≡ fewest_erases config.kinds (config.size / 4096) sectors → IsLeastLength config.kinds (config.size / 4096) sectors count
 fewest_at config sectors count below is =

@@ -23,9 +23,9 @@ use Rattle.nor_scan.specs.Saving.{header_of}
 use Rattle.nor_session.proofs.JudgedAgain.{accepted_free}
 use Rattle.nor_session.proofs.WrittenBack.{read_back, read_kept, session_over}
 
--- ---- a chip that is already equal to the saved one
+-- ---- the chip is already the one that the journal saves
 
--- if the journal saves the chip as it is, a restore's target byte at each address is the byte that is there
+-- If the journal saves the chip as it is now, a restore's target byte at each address is the chip's own byte.
 as_saved : (journal : Content) (first chip : Chip) (a : ℕ) → SavesChip journal first → IsSame first chip → restored journal chip.bytes a ≡ chip.bytes a
 as_saved journal first chip a saves same = search (arith, saved_byte-is)
 
@@ -45,7 +45,8 @@ changes_nothing journal first old new report saves same done =
     let untouched = λ (s : ℕ). none_touched journal first old.chip s saves same in
     let never = never_needed journal first old.chip saves same in
     let touched = done.reported.sectors ∙ count_below-none 4096 _ (λ s below. untouched s) in
-    -- the empty list of erases covers exactly the raised sectors, since there are none; so the report counts no erase
+    -- There are no raised sectors, so the empty list of erases covers exactly the raised sectors. The report has the
+    -- least number of erases, so it counts none.
     let least = done.reported.erases.least [] record {
       units = λ k any below. absurd (omega arith);
       union = λ s. sym (none_raised journal first old.chip s saves same);
@@ -62,9 +63,9 @@ changes_nothing journal first old new report saves same done =
 
 -- ---- one session after the other
 
--- Holds if the journal saves the original chip `first`, and the two chips have the same configuration and agree at all
--- addresses that a restore can't write. An operation may be in progress. A restore of `chip` from the journal that
--- succeeds then leaves the original chip (`restored_same`).
+-- Holds if the journal saves the original chip `first`, and if `chip` has the same configuration and the same bytes at
+-- all addresses that a restore can't write. An operation may be in progress. After a restore of `chip` from the journal
+-- that succeeds, the chip is the original one (`restored_same`).
 record CanRestoreChip (journal : Content) (first chip : Chip) : Type 0 where
   saves : SavesChip journal first
   config : chip.config ≡ first.config
@@ -73,8 +74,8 @@ record CanRestoreChip (journal : Content) (first chip : Chip) : Type 0 where
 can_restore_chip : (journal : Content) (first : Chip) (state : BusState) → CanRestore journal first state → CanRestoreChip journal first state.chip
 can_restore_chip journal first state can = record { saves = can.saves; config = can.within.config; bytes = can.within.bytes }
 
--- `CanRestoreChip` depends only on the configuration and the bytes of the chip, so it holds for the same chip on
--- another bus
+-- If `CanRestoreChip` holds for the chip `new`, it holds for the same chip on another bus (`taken`), since it depends
+-- only on configuration and bytes.
 can_restore_same : (journal : Content) (first new taken : Chip) → CanRestoreChip journal first new → IsSame new taken → CanRestoreChip journal first taken
 can_restore_same journal first new taken can same = search arith
 
@@ -86,19 +87,19 @@ lost_can_restore journal first old new can loses = record {
   within = lost_within (open_addresses journal first) first old new loses.known loses.lost can.within;
 }
 
--- if a journal can restore the original chip (`CanRestore`), `CanRestoreChip` holds for the chip after it kept its
--- bytes and status bits, or lost its power
+-- If a journal can restore the original chip on the bus `new` (`CanRestore`), and the chip then kept its bytes and
+-- status bits or lost its power, `CanRestoreChip` holds for the chip that is left.
 can_restore_kept : (journal : Content) (first : Chip) (new taken : BusState) → CanRestore journal first new → MayLosePower new taken → CanRestoreChip journal first taken.chip
 can_restore_kept journal first new taken can (inl same) = can_restore_same journal first new.chip taken.chip (can_restore_chip journal first new can) same
 can_restore_kept journal first new taken can (inr loses) = can_restore_chip journal first taken (lost_can_restore journal first new taken can loses)
 
--- the journal of a session can restore the original chip from the chip that the session left (`left_can_restore`), and
--- `CanRestoreChip` holds for the chip with which the next run starts (`left_taken`)
+-- After a session that left its journal, this journal can restore the original chip (`left_can_restore`).
+-- `CanRestoreChip` holds for the chip with which the next run starts (`left_taken`).
 left_can_restore : (request : Request) (image : List ℕ) (old new : BusState) (journal : Content) → LeavesJournal request image old new journal → CanRestore journal old.chip new
 left_can_restore request image old new journal left = search (arith, read_back)
 
--- if the status of the original chip is locked, no sector that the journal of a session saves is protected on that chip
--- (`CanBeRewritten`)
+-- If the status of the original chip is locked, no sector that the journal of a session saves is protected on the
+-- original chip (`CanBeRewritten`).
 pub left_rewritable : (request : Request) (image : List ℕ) (old new : BusState) (journal : Content)
     → LeavesJournal request image old new journal → CanBeRewritten journal old.chip
 left_rewritable request image old new journal left = λ locked s.
@@ -114,20 +115,22 @@ left_taken request image old new taken journal left (inl kept) =
     can_restore_kept journal old.chip new taken (left_can_restore request image old new journal left) kept
 left_taken request image old new taken journal left (inr over) = search (arith, can_restore_chip, session_over)
 
--- for the journal of a session, `CanRestoreChip` holds for a chip that was taken up after the session (`IsTakenUp`),
--- and for one from which that journal can still restore the original chip (`CanRestore`)
+-- `CanRestoreChip` holds for the journal of a session and the chip `taken` if `taken` was taken up after the session
+-- (`IsTakenUp`), or if the journal can restore the original chip from it (`CanRestore`).
 left_reached : (request : Request) (image : List ℕ) (old new taken : BusState) (journal : Content) → LeavesJournal request image old new journal
     → IsTakenUp old new taken ⊎ CanRestore journal old.chip taken → CanRestoreChip journal old.chip taken.chip
 left_reached request image old new taken journal left (inl up) = left_taken request image old new taken journal left up
 left_reached request image old new taken journal left (inr can) = can_restore_chip journal old.chip taken can
 
--- if `CanRestoreChip` holds for the chip, a restore from the journal that succeeds leaves the original chip
+-- If `CanRestoreChip` holds for the chip at the start of a restore that succeeds, the chip after the restore is the
+-- original one.
 restored_same : (journal : Content) (first : Chip) (old new : BusState) (report : Report) → CanRestoreChip journal first old.chip → IsRestored journal old new report → IsSame first new.chip
 restored_same journal first old new report can done = search (arith, same_as_original)
 
--- ---- two sessions
+-- ---- two sessions, one after the other
 
--- `IsWithin` stays true if the chip keeps its bytes and status bits and is then idle, even on another bus
+-- If `IsWithin` holds for the bus `old`, it also holds for a bus whose chip has the same bytes and status bits and is
+-- idle.
 idle_again : (p : ℕ → Bool) (first : Chip) (old new : BusState) → IsWithin p first old → IsSame old.chip new.chip → new.chip.busy ≡ 0 → IsWithin p first new
 idle_again p first old new within same idle =
     let fixed = ap fixed_of same.kept ∙ within.fixed in

@@ -40,8 +40,8 @@ kept_code identity = omega arith
 
 -- ---- a session
 
--- if a journal has the header of this identification, the target protection bits of the session are among those that
--- the session may write
+-- If a journal has the header of this identification, the session's target protection bits are among the bits that the
+-- session may write.
 found_written : (what : What) (identity : Identity) (journal : Content) (code : ℕ) → SameHeader (header_found identity) journal
     → IsFoundCode what identity code → IsWrittenCode what journal code
 found_written (WpRange start len) identity journal code same is =
@@ -50,7 +50,8 @@ found_written _ identity journal code same is =
     let status = ap (λ (c : Content). c.status) same in
     inr (is ∙ sym (kept_code identity) ∙ ap (λ (bytes : List ℕ). code_of (kept_in bytes)) status)
 
--- if protection is lifted only for a write or an erase, and it is lifted, the session may write the protection bits 0
+-- If protection is lifted, the session may write the protection bits 0, because only a write or an erase lifts
+-- protection.
 lifted_written : (what : What) (journal : Content) (lifted : Bool) → (is_data what ≡ false → lifted ≡ false)
     → lifted ≡ true → IsWrittenCode what journal 0
 lifted_written (WpRange start len) journal lifted none lifts = absurd (true≢false (sym lifts ∙ none refl))
@@ -103,8 +104,8 @@ restore_of_journal is = record {
 
 -- ---- the report
 
--- the work counts the erases and page programs that were sent since the changes began, and since an earlier state
--- (`old`) if nothing that may modify a chip was sent in between
+-- The work counts the erases and page programs that were sent from `mid`, where the changes began, to `new`. If no
+-- modifying command was sent from `old` to `mid`, these are also those that were sent from `old` to `new`.
 pub counted : {changes : _} {wanted : ℕ → ℕ} {verify : Bool} (old : BusState) {mid new : BusState} {work : Work}
     → mid.sent ≡ old.sent → DoesChange changes wanted verify mid new work
     → SendsCounted work.erases work.programs old new

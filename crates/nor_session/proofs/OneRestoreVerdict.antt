@@ -1,5 +1,5 @@
--- A restore has one verdict: the first check of the code that fails returns the first error that applies, and if none
--- fails, no error applies.
+-- A restore has one verdict. If a check fails, the first one that fails returns the first error that applies. If no
+-- check fails, no error applies.
 use Rattle.std.proofs.Common.{◌≡◌, ◌<◌, ℕ, true, arith, rules}
 use Rattle.std.specs.Prelude.{◌≢◌, None, Err}
 use Rattle.nor_model.specs.Chip.{Chip, is_locked}
@@ -14,7 +14,7 @@ use Rattle.nor_session.specs.Headline.{IsOfType}
 use Rattle.nor_session.specs.Restore.{IsOfOtherDevice, FitsStatus, Choice, NeedsStatusBy, RestoreHolds, checked_in_order, index_in, IsRestoreVerdict, IsRestorable}
 use Rattle.nor_session.specs.PrepareRestore.{RestoreJudges, RestoreAccepts}
 
--- Holds if none of the errors before position `n` of `checked_in_order` applies.
+-- Holds if none of the first `n` errors in `checked_in_order` applies.
 record IsClear (choice : Choice) (journal : Content) (chip : Chip) (n : ℕ) : Type 0 where
   there : 0 < n → shown_as chip.config ≢ Err Probes.NoChip
   named : 1 < n → IsNamed None chip.config

@@ -1,4 +1,4 @@
--- The state of a session after the touched sectors are saved, on every bus, and bounds on the transactions and status
+-- The state of a session on every bus after it saved the touched sectors, and bounds on the transactions and status
 -- writes of the whole session.
 use Rattle.std.proofs.Common.{◌≡◌, ◌≤◌, ◌+◌, ◌/◌, ◌∙◌, ℕ, Bool, true, false, List, ap, sym, refl, arith, rules}
 use Rattle.std.specs.Prelude.{if◌then◌else◌}
@@ -37,7 +37,8 @@ use Rattle.nor_session.specs.Changing.{read_back, most_changed, DoesChange}
 use Rattle.nor_session.specs.Session.{most_status_writes, IsWithinBound}
 use Rattle.nor_session.proofs.Changed.{two_writes, write_once}
 
--- the changes to a chip with this identification, after a scan whose result is `kept` saved the touched sectors
+-- the changes of a session for a chip with this identification and status, the result `kept` of its scan, and the
+-- target protection bits
 abbrev pub changes_of : Identity → SavedScan → Status → ℕ → Changes
 changes_of identity kept status code =
     record {
@@ -101,7 +102,7 @@ spends_only_reads fits only_reads =
 
 -- ---- the number of status writes
 
--- if the scan of a request marked a sector as touched, the request is for a write or an erase
+-- If the scan of a request marked a sector `s` as touched, the request is for a write or an erase.
 pub touched_data : (request : Request) (size : ℕ) {scanned : Scanned} (s : ℕ) → size ≤ 16777216
     → AreMarks (size / 4096) scanned → scanned.count ≤ scanned.reads → scanned.reads ≡ scanned_sectors request size
     → has scanned.touched s ≡ true → is_data request.what ≡ true
@@ -118,7 +119,7 @@ writes_by _ unlock lifted writes two lifts none one = let zero = none refl in gr
 
 module _ {request : Request} {identity : Identity} {status : Status} {code : ℕ} {kept : SavedScan} {old mid : BusState}
     (is : Ready request identity status code kept old mid) where
-  -- if the changes are within their bound, the session is within its bound (`most_of`)
+  -- if the transactions of the changes are within `most_changed`, those of the whole session are within `most_of`
   pub spends_ready : {new : BusState} → Spends (most_changed (changes_of identity kept status code)) mid new
       → Spends (most_of (scanned_sectors request identity.found.size)) old new
   spends_ready {new} spends = record {
@@ -151,7 +152,7 @@ module _ {request : Request} {identity : Identity} {status : Status} {code : ℕ
 
 -- ---- the report
 
--- after success, the report is within the bound for `most` status writes, if the changes need at most that number
+-- After success, the report is within the bound for `most` status writes, if the changes need at most `most` of them.
 pub bounded_by : (request : Request) (identity : Identity) (status : Status) (code : ℕ) (kept : SavedScan) (old mid new : BusState) (wanted : ℕ → ℕ) (verify : Bool) (work : Work) (sent most : ℕ) → sent ≡ kept.scanned.reads
     → Ready request identity status code kept old mid → status_writes (changes_of identity kept status code) ≤ most
     → DoesChange (changes_of identity kept status code) wanted verify mid new work

@@ -1,4 +1,4 @@
--- A session's journal has what the bus replied before the seal.
+-- The journal of a session contains what the bus replied before the seal.
 use Rattle.std.proofs.Common.{ℕ, Bool, List}
 use Rattle.nor_model.specs.History.{KeepsReplies, begins_with}
 use Rattle.nor_model.specs.Bus.{BusState, KeepsNature}
@@ -14,7 +14,9 @@ use Rattle.nor_scan.proofs.Replied.{identified_later}
 use Rattle.nor_session.specs.Session.{IsJournalOfReplies}
 use Rattle.std.specs.Prelude.{Option}
 
--- `at_seal` is the state of the bus at the seal.
+-- `IsJournalOfReplies` holds from `old` to `new`, if the identification (from `old` to `opened`) and the scan (from
+-- `opened` to `at_seal`) only read, and the vault's bytes are a journal of the replies. `at_seal` is the state of the
+-- bus at the seal.
 pub replied_saved : {named : Option ChipName} {identity : Identity} {m n : ℕ} {old opened at_seal new : BusState}
     {sectors : ℕ → Bool} {bytes : List ℕ} → OnlyReads m old opened → ReadsIdentity named old opened identity
     → OnlyReads n opened at_seal → KeepsReplies (begins_with 0x03) opened.history at_seal.history

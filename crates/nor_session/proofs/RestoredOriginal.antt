@@ -1,4 +1,4 @@
--- How a restore restores the chip that the journal saves.
+-- A restore keeps a chip within the journal and, if it succeeds, leaves the chip that the journal saves.
 use Rattle.std.proofs.Common.{◌&&◌, ◌≡◌, ◌<◌, ◌+◌, ◌-◌, ◌*◌, ◌/◌, ◌%◌, ◌∙◌, ◌⊎◌, ℕ, Bool, true, false, true≢false, List, ap, sym, refl, arith, inl, inr}
 use Rattle.std.specs.Prelude.{not, ◌≢◌, Option, Some, None, IfSome, IsSomeAnd}
 use Rattle.std.proofs.lemmas.Bool.{cases_Bool, cases_lt, false_from_ne_true, and_left, and_parts, and_from, or_left, or_cases, both_ways, eqb-true}
@@ -38,14 +38,14 @@ use Rattle.nor_session.specs.Restore.{Choice, differing, every_saved, restored, 
 use Rattle.nor_session.proofs.Rescanned.{restored_saved, restored_other}
 use Rattle.nor_session.proofs.RestoredBytes.{touched_byte, touched_saved}
 
--- ---- calls that only read keep a chip within the journal (`IsWithin`)
+-- ---- after calls that only read, the chip is still within the journal (`IsWithin`)
 
 steady_or_idle_or_not : (state : BusState) → IsSteadyOrIdle state ⊎ ((state.steady ≡ false) × (state.chip.busy ≢ 0))
 steady_or_idle_or_not state = grind arith
 
--- An operation that changes only these addresses (`WorksIn`) was interrupted. The bits that are never changed were the
--- original ones, and still are. If the original chip's status can't be written and all non-volatile bits were the
--- original ones, all of them still are.
+-- An operation that changes only the addresses in `p` (`WorksIn`) was interrupted. If the bits that are never changed
+-- had the values of the original chip `first`, they still have them. If in addition the status of `first` can't be
+-- written, and all non-volatile bits had the values of `first`, all of them still have these values.
 cut_kept : (p : ℕ → Bool) (first : Chip) (old new : KeptBits) (running : Running) → KeptCut running old new
     → WorksIn p first running → fixed_of old ≡ fixed_of first.kept
     → (fixed_of new ≡ fixed_of first.kept) × (is_writable first ≡ false → old ≡ first.kept → new ≡ first.kept)
@@ -74,7 +74,7 @@ within_after_reads p first most old new steady honest_reads within =
           search (arith, narrower)
     ]
 
--- ---- a loss of power keeps a chip within the journal (`IsWithin`)
+-- ---- after a loss of power, the chip is still within the journal (`IsWithin`)
 
 idle_or_works : (state : BusState) → (state.steady ≡ false) ⊎ (state.chip.busy ≡ 0)
     → (state.chip.busy ≡ 0) ⊎ ((state.steady ≡ false) × (state.chip.busy ≢ 0))
@@ -97,7 +97,7 @@ lost_within p first old new known lost within =
 
 -- ---- protected ranges are whole sectors
 
--- the size of a genuine chip with block protection is a multiple of 256 KiB
+-- The size of a genuine chip with block protection is a multiple of 256 KiB (262,144 bytes).
 scheme_size_at : (config : Config) (row : Option Part) → part_with_id (id_of config) ≡ row → IsGenuine config → config.scheme ≡ true → config.size % 262144 ≡ 0
 scheme_size_at config (Some part) is genuine scheme = search (arith, eqb-true, row_has)
 scheme_size_at config None is genuine scheme = absurd (both_ways config.scheme (genuine.unlisted is) scheme)
@@ -122,8 +122,8 @@ pub touched_open : (journal : Content) (first chip : Chip) (a : ℕ) → IsKnown
 touched_open journal first chip a known saves same touched =
     search (arith, protected_same, saved_byte-is, touched_byte, touched_saved)
 
--- The journal can restore the original chip, and saves all touched sectors. If no touched sector is protected whenever
--- the status is locked, each address in a touched sector is open.
+-- Let the journal be able to restore the original chip, and save all touched sectors. If the status isn't locked or no
+-- touched sector is protected, each address in a touched sector is open (`open_addresses`).
 chosen_open : (journal : Content) (first : Chip) (touched : ℕ → Bool) (old : BusState) (a : ℕ) → CanRestore journal first old
     → ((s : ℕ) → touched s ≡ true → is_saved journal s ≡ true)
     → (is_locked old.chip.kept ≡ true → ¬ SomeProtected touched old.chip) → touched (a / 4096) ≡ true
@@ -141,8 +141,8 @@ chosen_open journal first touched old a can saved free hit =
     }) in
     and_from _ _ (saved (a / 4096) hit) (ap not shut)
 
--- if the journal could restore the original chip before a restore, the restore's changes leave a chip that is still
--- within the journal (`IsWithin`)
+-- Let the journal be able to restore the original chip `first` before a restore. Then the changes of the restore leave
+-- a chip that is still within the journal (`IsWithin`).
 pub change_within : (journal : Content) (first : Chip) (touched raised : ℕ → Bool) (wanted : ℕ → ℕ) (old mid new : BusState) → CanRestore journal first old → IsWithin (open_addresses journal first) first mid
     → ((s : ℕ) → touched s ≡ true → is_saved journal s ≡ true) → (is_locked old.chip.kept ≡ true → ¬ SomeProtected touched old.chip)
     → MayChange touched raised wanted mid new → IsWithin (open_addresses journal first) first new
@@ -151,7 +151,7 @@ change_within journal first touched raised wanted old mid new can within saved f
     (within_wider (addresses_of touched) (open_addresses journal first) mid.chip new
     (λ a hit. chosen_open journal first touched old a can saved free hit) change.within)
 
--- ---- a restore that ends leaves the original chip
+-- ---- a restore that succeeds leaves the original chip
 
 pub same_as_original : (journal : Content) (first old new : Chip) → SavesChip journal first → old.config ≡ first.config
     → ((a : ℕ) → open_addresses journal first a ≡ false → old.bytes a ≡ first.bytes a) → new.config ≡ old.config
@@ -162,8 +162,8 @@ same_as_original journal first old new saves config within config_now bytes kept
 
 -- ---- a restorable chip is never refused
 
--- if the journal has the original chip's status bits, and those of a chip differ from them at most in protection bits
--- that can be written, that chip's status fits the journal (`FitsStatus`)
+-- Let the journal have the status bits of the original chip `first`, and let the status bits of `chip` differ from them
+-- at most in protection bits that can be written. Then the status of `chip` fits the journal (`FitsStatus`).
 fixed_fits : (journal : Content) (first chip : Chip) → first.kept ≡ kept_in journal.status → chip.config ≡ first.config
     → fixed_of chip.kept ≡ fixed_of first.kept → (is_writable first ≡ false → chip.kept ≡ first.kept) → FitsStatus journal chip
 fixed_fits journal first chip bits config fixed kept =
@@ -173,8 +173,9 @@ code_locked : (journal : Content) (first chip : Chip) → first.kept ≡ kept_in
     → code_of chip.kept ≡ code_of (kept_in journal.status)
 code_locked journal first chip bits stay = ap code_of (stay ∙ bits)
 
--- The journal saves the original chip, which is known and whose status is locked. If another chip has its configuration
--- and non-volatile bits, and differs from it only at open addresses, no touched sector of that chip is protected.
+-- Let the journal save the original chip `first`, which is known and whose status is locked. If `chip` has the
+-- configuration and non-volatile bits of `first`, and differs from it only at open addresses, no touched sector of
+-- `chip` is protected.
 free_held : (journal : Content) (first chip : Chip) → IsKnown first.config → SavesChip journal first → chip.config ≡ first.config → chip.kept ≡ first.kept → is_locked first.kept ≡ true
     → ((b : ℕ) → open_addresses journal first b ≡ false → chip.bytes b ≡ first.bytes b) → ¬ SomeProtected (is_touched chip.bytes (restored journal chip.bytes)) chip
 free_held journal first chip known saves config stay locked same some =
@@ -194,8 +195,8 @@ unit_not : (unique : Option (List ℕ)) (of_first : List ℕ) → IfSome unique 
 unit_not (Some u) of_first same other = other same
 unit_not None of_first same other = other
 
--- Holds if no chosen sector is protected, provided that the original chip's status is locked and `chip` has the
--- original chip's non-volatile status bits.
+-- Holds if the choice touches no protected sector of `chip`, provided that the original chip's status is locked and
+-- `chip` has the original chip's non-volatile status bits.
 abbrev pub NeverHeld : Choice → Content → (first chip : Chip) → Type 0
 NeverHeld choice journal first chip = is_locked first.kept ≡ true → chip.kept ≡ first.kept
     → ¬ SomeProtected (choice.touched journal chip.bytes) chip
@@ -217,14 +218,14 @@ only_stopped_by choice journal first old new StatusLocked can free errors =
     ])
 only_stopped_by choice journal first old new _ can free errors = absurd errors.holds
 
--- On a modelled bus, if the journal can restore the original chip, the only error of `restore` is a stop.
+-- On a modelled bus, if the journal can restore the original chip, the only possible error of `restore` is a stop.
 pub only_stopped : (journal : Content) (first : Chip) (old new : BusState) (refusal : Refusal) → CanRestore journal first old → RestoreErrors journal old new refusal → refusal ≡ Stopped
 only_stopped journal first old new refusal can errors =
     only_stopped_by differing journal first old new refusal can
     (λ locked stay. free_held journal first old.chip can.known can.saves can.within.config stay locked can.within.bytes) errors
 
--- On a modelled bus, if the journal can restore the original chip, and no saved sector is protected on that chip by a
--- locked status (`CanBeRewritten`), the only error of `rewrite` is a stop.
+-- On a modelled bus, if the journal can restore the original chip, and a locked status protects no saved sector of that
+-- chip (`CanBeRewritten`), the only possible error of `rewrite` is a stop.
 pub only_stopped_rewriting : (journal : Content) (first : Chip) (old new : BusState) (refusal : Refusal)
     → CanRestore journal first old → CanBeRewritten journal first → ErrorsBy every_saved journal old new refusal
     → refusal ≡ Stopped

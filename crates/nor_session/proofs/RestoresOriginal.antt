@@ -1,4 +1,4 @@
--- The journal that a session wrote can restore the chip from before that session.
+-- The journal that a session wrote can restore the original chip of that session.
 use Rattle.std.proofs.Common.{◌≡◌, ◌<◌, ◌/◌, ◌∙◌, ℕ, Bool, true, false, List, [], ◌∷◌, ◌*◌, ap, sym, arith}
 use Rattle.std.specs.Prelude.{◌&&◌, not}
 use Rattle.std.proofs.lemmas.Bool.{and_parts, and_from, both_ways, false_from_ne_true}
@@ -26,8 +26,8 @@ use Rattle.nor_session.specs.Session.{CanBeUndone}
 use Rattle.nor_session.specs.Rehearsing.{CanUndo}
 use Rattle.nor_session.proofs.JudgedAgain.{accepted_named, accepted_free}
 
--- a journal with the header of a chip, which saves sectors of that chip (`Saves`), saves the chip (`SavesChip`), if the
--- non-volatile bits of status 2 are in range
+-- If a journal has the header of the chip `first`, saves sectors of it (`Saves`), and the non-volatile bits of status 2
+-- of `first` are in range (below 128), the journal saves `first` (`SavesChip`).
 pub saves_chip : (first : Chip) (saved : ℕ → Bool) (journal : Content) → first.kept.two < 128 → SameHeader (header_of first) journal
     → Saves first.bytes saved journal → SavesChip journal first
 saves_chip first saved journal small same saves =
@@ -36,15 +36,16 @@ saves_chip first saved journal small same saves =
     rw (← status) (kept_same first.kept (kept_in ((4 * first.kept.one) ∷ first.kept.two ∷ [])) (omega arith) (omega arith)) in
     search arith
 
--- if bytes can restore the original chip (`CanUndo`) and its status is locked, no address in a saved sector is
--- protected
+-- If bytes can restore the original chip `first` (`CanUndo`), and the status of `first` is locked, no address in a
+-- saved sector is protected.
 saved_free : (saved : ℕ → Bool) (first : Chip) (text : List ℕ) (state : BusState) (a : ℕ) → CanUndo saved first text state → saved (a / 4096) ≡ true → (is_locked first.kept && is_protected first a) ≡ false
 saved_free saved first text state a can_undo is = false_from_ne_true _ (λ both.
     let (locked, protected) = and_parts _ _ both in
     let inside = can_undo.inside (a / 4096) is in let blocks = (sized_bounds first.config).blocks in
     both_ways _ (is_protected-sector first a (omega arith) (rw is at (can_undo.free locked (a / 4096)))) protected)
 
--- If bytes can restore the original chip (`CanUndo`), the journal that is read from them can restore it (`CanRestore`).
+-- If the bytes `text` can restore the original chip (`CanUndo`), the journal that is read from them can restore it
+-- (`CanRestore`).
 pub can_restore_read : (saved : ℕ → Bool) (first : Chip) (text : List ℕ) (state : BusState) (journal : Content) → CanUndo saved first text state
     → SameHeader (header_of first) journal × Saves first.bytes saved journal → CanRestore journal first state
 can_restore_read saved first text state journal can_undo read = record {

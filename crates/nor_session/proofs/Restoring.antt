@@ -44,7 +44,7 @@ use Rattle.nor_session.proofs.Rescanned.{restored_saved}
 use Rattle.nor_session.proofs.RestoredBytes.{written_restored, pages_same}
 use Rattle.nor_session.proofs.RestoredOriginal.{within_after_reads, change_within, same_as_original}
 
--- ---- the errors before any change
+-- ---- the errors before the first change
 
 pub only_reads_spend : (few most : ℕ) (old new : BusState) → few ≤ most → OnlyReads few old new → Spends most old new
 only_reads_spend few most old new fits only_reads = search (arith, only_reads_most)
@@ -69,7 +69,7 @@ module _ (choice : Choice) (journal : Content) (most : ℕ) (old new : BusState)
   prepare_errors (Timeout address) fits modelled errors = absurd (errors.2 modelled.honest)
   prepare_errors refusal fits modelled errors = judged_verdict choice journal old.chip refusal (errors.verdict modelled)
 
-  -- nothing was sent after a stop or a timeout
+  -- after a stop or a timeout in the preparation, the last transaction is as `EndsAtError` says
   pub prepare_last : (refusal : Refusal) → PrepareErrors choice journal most old new refusal
       → EndsAtError refusal new.history
   prepare_last Stopped errors = errors.last
@@ -81,19 +81,21 @@ module _ (choice : Choice) (journal : Content) (most : ℕ) (old new : BusState)
   leaves_after_reads honest_reads =
       let fixed = λ (steady_or_idle : IsSteadyOrIdle old). ap fixed_of (honest_reads.stays.steady_or_idle steady_or_idle).kept in search arith
 
--- on a well-behaved bus, a journal that can restore a chip before a call that only reads can restore it after the call
+-- On a well-behaved bus, if a journal can restore a chip before a call that only reads, it can restore that chip after
+-- the call.
 pub can_restore_after_reads : (journal : Content) (first : Chip) (most : ℕ) (old new : BusState) → old.honest ≡ true → OnlyReads most old new → CanRestore journal first old → CanRestore journal first new
 can_restore_after_reads journal first most old new honest only_reads can =
     assumption (within_after_reads _ first most old new only_reads.nature.steady (only_reads.honest_reads honest) can.within)
 
 -- ---- the changes after the preparation
 
--- what the bus replied to the identification stays in its history, so the journal still fits it after the changes
+-- If the journal fits the replies to the identification after the preparation, it still fits them after the changes,
+-- since the replies stay in the history.
 pub changed_fits : {journal : Content} {old mid new : BusState} → FitsReplies journal old mid → KeepsNature mid new
     → FitsReplies journal old new
 changed_fits fits later = search (continues_then fits.after later.history)
 
--- The result of a restore's preparation (from `old` to `mid`), and what its changes left (from `mid` to `new`).
+-- The facts after a restore's preparation (from `old` to `mid`) and its changes (from `mid` to `new`).
 pub record AreChanged (choice : Choice) (journal : Content) (prepared : PreparedRestore) (old mid new : BusState) : Type 0 where
   pub sound : IsSoundChoice choice
   pub only_reads : OnlyReads (most_reads (choice.reads (length journal.saved))) old mid
@@ -121,7 +123,7 @@ module _ (choice : Choice) (journal : Content) (prepared : PreparedRestore) (old
       let fixed = λ (steady_or_idle : IsSteadyOrIdle old). may.within.fixed ∙ ap fixed_of (stays.steady_or_idle steady_or_idle).kept in
       search (arith, narrower)
 
-  -- ---- the changes weren't finished
+  -- ---- the changes failed
 
   pub change_fails : (refusal : Refusal) → AreChanged choice journal prepared old mid new → old.honest ≡ true
       → ChangeErrors prepared.changes (saved_byte journal) mid new refusal
@@ -141,7 +143,7 @@ module _ (choice : Choice) (journal : Content) (prepared : PreparedRestore) (old
       absurd (errors.1 (are.only_reads.nature.honest ∙ modelled.honest) (are.is.modelled modelled).can)
   change_errors _ are modelled errors = absurd errors
 
-  -- on a modelled bus the only error of the changes is a stop
+  -- on a modelled bus, the only possible error of the changes is a stop
   pub change_stops : (refusal : Refusal) → AreChanged choice journal prepared old mid new → IsModelled old
       → ChangeErrors prepared.changes (saved_byte journal) mid new refusal → refusal ≡ Stopped
   change_stops Stopped are modelled errors = refl
@@ -162,7 +164,7 @@ change_not_judged changes wanted old new (Timeout address) errors judged = true�
 change_not_judged changes wanted old new (Mismatch address) errors judged = true≢false (sym judged)
 change_not_judged changes wanted old new _ errors judged = errors
 
--- nothing was sent after a stop, a timeout or a mismatch
+-- After an error of the changes, the last transaction is as `EndsAtError` says.
 pub change_last : (changes : Changes) (wanted : ℕ → ℕ) (old new : BusState) (refusal : Refusal)
     → ChangeErrors changes wanted old new refusal → EndsAtError refusal new.history
 change_last changes wanted old new Stopped errors = errors.last
@@ -170,9 +172,9 @@ change_last changes wanted old new (Timeout address) errors = errors.0
 change_last changes wanted old new (Mismatch address) errors = errors.0
 change_last changes wanted old new _ errors = absurd errors
 
--- ---- the changes were finished
+-- ---- the changes succeeded
 
--- the report of the restore
+-- the report of a restore with this preparation and this work, which sent `sent` transactions
 abbrev pub report_of : PreparedRestore → Work → ℕ → Report
 report_of prepared work sent = record {
   found = prepared.found;
@@ -264,21 +266,22 @@ module _ (choice : Choice) (journal : Content) (prepared : PreparedRestore) (old
               does.unsent (omega arith) ∙ are.only_reads.sent;
         }
 
--- if the journal can restore the original chip, a restore that succeeds on a modelled bus leaves that chip
+-- If the journal can restore the original chip `first`, and a restore succeeded on a modelled bus (`IsRestoredBy`), the
+-- chip is the same as `first`.
 pub restored_original : (choice : Choice) (journal : Content) (first : Chip) (old new : BusState) (report : Report) → CanRestore journal first old → IsRestoredBy choice journal old new report → IsSame first new.chip
 restored_original choice journal first old new report can done = search (arith, same_as_original)
 
--- ---- from the state after the preparation to the state before it
+-- ---- from the preparation on, or from the start of the restore on
 
--- the transactions of the preparation and of the work fit in 64 bits
+-- The sum of the transactions of the preparation and of the work is below 2^64.
 pub work_fits : (prepared : PreparedRestore) {wanted : ℕ → ℕ} {old new : BusState} (work : Work)
     → prepared.transactions ≤ most_reads 4096 → DoesChange prepared.changes wanted true old new work
     → prepared.transactions + work.transactions < 2 ^ 64
 work_fits prepared work fits does =
     let most = touched_most prepared.changes in let writes = two_writes prepared.changes in omega arith
 
--- if `Announces` holds from `mid` to `new`, and nothing that may modify a chip was sent from `old` to `mid`,
--- `Announces` holds from `old` to `new`
+-- If `Announces` holds from `mid` to `new`, and no modifying command was sent from `old` to `mid`, `Announces` holds
+-- from `old` to `new`.
 pub announces_since : {Was : Announcement → Type 0} {old mid new : BusState} {result : Result Report Refusal}
     → mid.sent ≡ old.sent → Announces Was mid new result → Announces Was old new result
 announces_since unsent announces = record {
@@ -286,7 +289,7 @@ announces_since unsent announces = record {
   as_reported = announces.as_reported;
 }
 
--- `RewritesOriginal` follows from `RestoresOriginal`
+-- A call for which `RestoresOriginal` holds also satisfies `RewritesOriginal`.
 pub rewrites : {journal : Content} {old new : BusState} {result : Result Report Refusal}
     → RestoresOriginal journal old new result → RewritesOriginal journal old new result
 rewrites restores = record {
@@ -295,7 +298,8 @@ rewrites restores = record {
   only_stops = λ first can unprotected. restores.only_stops first can;
 }
 
--- erases that were sent since the preparation were sent since the start, if the preparation only read
+-- If no modifying command was sent from `old` to `mid`, the erases and programs from `mid` to `new` are those from
+-- `old` to `new`. So `ErasesFirst` holds from `old`, too.
 erased_since : {raised saved : ℕ → Bool} {old mid new : BusState} → mid.sent ≡ old.sent
     → ((s : ℕ) → raised s ≡ saved s) → ErasesFirst raised mid new → ErasesFirst saved old new
 erased_since unsent every first = record {

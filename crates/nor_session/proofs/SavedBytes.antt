@@ -1,4 +1,4 @@
--- The saved sectors of a journal: the bytes at the addresses of a chip, and the number of sectors.
+-- Lemmas about the sectors that a journal saves: their bytes by address, and their number.
 use Rattle.std.proofs.Common.{◌≡◌, ℕ, ◌+◌, ◌*◌, ◌/◌, ◌<◌, ◌≤◌, ◌∙◌, ◌||◌, Bool, true, false, length, List, [], ◌∷◌, slice_index, refl, sym, ap, arith, Some}
 use Rattle.std.specs.Prelude.{◌==◌}
 use Rattle.std.specs.Option.{is_some}
@@ -17,7 +17,7 @@ use Rattle.nor_geometry.proofs.Verdicts.{count_below-insert}
 pub sector_at : (s i : ℕ) → i < 4096 → (4096 * s + i) / 4096 ≡ s
 sector_at s i below = omega arith
 
--- the saved byte at an address is the byte at its position in the saved sector
+-- The saved byte at the address `4096 * s + i` is the byte with index `i` in the saved sector `s`.
 pub byte_at : (journal : Content) (s : ℕ) (bytes : List ℕ) (i : ℕ) → saved_in journal.saved s ≡ Some bytes → i < 4096 → slice_index bytes i ≡ saved_byte journal (4096 * s + i)
 byte_at journal s bytes i is below = search (arith, sector_at)
 
@@ -30,18 +30,18 @@ saved_room journal is = search (arith, is_chip_size-in_blocks, saved_few)
 
 -- ---- the number of saved sectors
 
--- true if one of these records has the sector
+-- true if one of the records in `saved` has the sector `s`
 abbrev has_record : List SavedSector → ℕ → Bool
 has_record saved s = is_some (saved_in saved s)
 
--- no record has a sector below the least number that the first record may have
+-- If the sector numbers of the records are at least `least`, no record has a sector below `least`.
 not_below : (sectors least : ℕ) (saved : List SavedSector) (s : ℕ) → AreRising sectors least saved → s < least → has_record saved s ≡ false
 unfolding saved_in
 not_below sectors least [] s rising below = refl
 not_below sectors least (first ∷ rest) s rising below =
     rw (ne_eqb first.number s (λ e. omega arith)) (not_below sectors (first.number + 1) rest s rising.2 (omega arith))
 
--- a list of records has the sector of its first record, and those of the others
+-- A list of records has a sector if its first record has that sector, or one of the others does.
 one_more : (first : SavedSector) (rest : List SavedSector) (s : ℕ) → has_record (first ∷ rest) s ≡ ((s == first.number) || has_record rest s)
 unfolding saved_in
 one_more first rest s = grind (arith, nat_tests)
@@ -56,7 +56,7 @@ counted n sectors least (first ∷ rest) upto rising =
     let later = counted n sectors (first.number + 1) rest upto rising.2 in
     omega arith
 
--- each saved sector has one record, so the number of records is the number of saved sectors
+-- The number of records in a journal is the number of saved sectors, since each saved sector has one record.
 pub saved_count : (chip : ℕ → ℕ) (saved : ℕ → Bool) (journal : Content) → Saves chip saved journal → length journal.saved ≡ sector_count saved
 saved_count chip saved journal saves =
     let most = (is_chip_size-in_blocks journal.size saves.is.size).small in

@@ -1,5 +1,5 @@
--- The changes of a session can be made on a modelled bus, and on a well-behaved bus their errors mean what a session
--- promises.
+-- The changes of a session can be made on a modelled bus. On a well-behaved bus, an error of the changes means what a
+-- session promises.
 use Rattle.std.proofs.Common.{◌≡◌, ◌≢◌, ◌<◌, ◌≤◌, ◌/◌, ◌∙◌, ℕ, Bool, true, false, List, ap, sym, refl, arith, bit_and}
 use Rattle.nor_probe.specs.Known.{shown_as}
 use Rattle.nor_probe.specs.Found.{part_in}
@@ -40,7 +40,7 @@ use Rattle.nor_session.proofs.RestoredBytes.{unraised_byte}
 use Rattle.nor_session.proofs.Ready.{Ready, changes_of, lifts_none, ran_out_ready, scanned_few}
 use Rattle.nor_session.proofs.ReadyChip.{most_sized}
 
--- Facts about the chip on a modelled bus after its touched sectors are saved.
+-- Facts about the chip of a modelled bus after a session saved its touched sectors.
 pub record ReadyChip (request : Request) (image image' : List ℕ) (identity : Identity) (code : ℕ) (kept : SavedScan) (old mid : BusState) : Type 0 where
   pub honest : old.honest ≡ true
   pub is : IsIdentityOf old.chip identity
@@ -56,7 +56,7 @@ pub record ReadyChip (request : Request) (image image' : List ℕ) (identity : I
   pub bytes : (a : ℕ) → slice_index image' a < 256
   pub small : old.chip.kept.two < 128
 
--- ---- the status is written only if it can be
+-- ---- the status is written only if that is possible
 
 needs_by : (what : What) (unlock lifted : Bool) (code : ℕ) (touched : ℕ → Bool) (chip : Chip)
     → (lifted ≡ true → (unlock ≡ true) × SomeProtected touched chip) → (is_data what ≡ false → lifted ≡ false)
@@ -70,7 +70,7 @@ scheme_needed : (what : What) (unlock : Bool) (code : ℕ) (touched : ℕ → Bo
 scheme_needed (WpRange start len) unlock code touched chip scheme need = scheme refl
 scheme_needed _ unlock code touched chip scheme need = held_scheme touched chip need.1
 
--- ---- the changes can be made
+-- ---- the changes can be made (`CanApply`)
 
 module _ (request : Request) (image image' : List ℕ) (identity : Identity) (status : Status) (code : ℕ)
     (kept : SavedScan) (old mid : BusState) (is : Ready request identity status code kept old mid)

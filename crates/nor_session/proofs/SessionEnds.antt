@@ -1,4 +1,4 @@
--- The state that a session leaves after the seal, and after success.
+-- What a session leaves after the seal, and after success.
 use Rattle.std.proofs.Common.{subst, ◌≡◌, ◌<◌, ◌+◌, ◌/◌, ◌∙◌, ℕ, Bool, true, List, ap, sym, arith}
 use mathlib.Core.Path.{fun_ext}
 use Rattle.std.specs.Prelude.{slice_index}
@@ -46,7 +46,7 @@ module _ (request : Request) (image image' : List ℕ) (identity : Identity) (st
   ready_chip new vault modelled only_reads opens is accepts keeps bytes small =
       search (arith, is_opening, named, shows, status1_if_idle)
 
-  -- ---- once the vault is sealed
+  -- ---- after the seal
 
   pub can_be_undone : (ready new : BusState) (vault : VaultState) → IsModelled old → OnlyReads most_identity old mid
       → ReadsIdentity request.named old mid identity → HasSaved request identity code image image' mid ready vault kept
@@ -62,7 +62,7 @@ module _ (request : Request) (image image' : List ℕ) (identity : Identity) (st
       record {
         accepted = of.scan.accepted;
         journal = chip.journal;
-        -- `MayChange` holds from the start of the session to its exit
+        -- `MayChange` holds from the start of the session to its exit.
         changes = change_then is.honest_reads.nature.steady (same_change unchanged.same of.idle unchanged.worn)
             (change_as (λ s hit. sym (of.touched s) ∙ hit) (λ s hit. sym (of.raised s) ∙ hit)
             (λ a plain hit. of.merged a hit) (leaves.reached honest can));
@@ -72,7 +72,7 @@ module _ (request : Request) (image image' : List ℕ) (identity : Identity) (st
             omega arith;
       }
 
-  -- ---- at the end
+  -- ---- after success
 
   pub done : (new : BusState) (verify : Bool) (work : Work) (sent : ℕ) → Ready request identity status code kept old mid
       → ReadyChip request image image' identity code kept old mid
@@ -98,7 +98,7 @@ module _ (request : Request) (image image' : List ℕ) (identity : Identity) (st
           status1 = of.is.one;
           replied = of.replied;
           sectors = is.marks.count ∙ ap sector_count touched;
-          -- a raised sector lies inside the chip
+          -- Each raised sector lies on the chip, so the number of erases is the least possible.
           erases = fewest_at old.chip.config _ work.erases
               (λ s hit. raised_inside request image old.chip.config.size old.chip.bytes s (sized_bounds old.chip.config).blocks hit)
               (let erases = does.erases in let kinds = of.is.config.kinds in let size = of.is.config.size in cc);
@@ -116,8 +116,8 @@ module _ (request : Request) (image image' : List ℕ) (identity : Identity) (st
             does.unsent (omega arith) ∙ is.honest_reads.same_sent;
       }
 
-  -- after success on a well-behaved bus, if the request asks for a check and the chip has the size that was found, the
-  -- touched sectors have the target bytes: they were read back and compared
+  -- After success on a well-behaved bus, the touched sectors have the target bytes, since they were read back and
+  -- compared. The premises are that the request asks for verification, and that the chip has the size that was found.
   pub session_checked : (opened new : BusState) (work : Work) → OnlyReads most_identity old opened
       → ReadsIdentity request.named old opened identity → Scans request identity.found.size image image' opened mid kept.scanned
       → Ready request identity status code kept old mid
@@ -151,7 +151,8 @@ module _ (request : Request) (image image' : List ℕ) (identity : Identity) (st
       let read = does.checked verifies (is.honest_reads.nature.honest ∙ honest) can a marked in
       read ∙ wanted_byte ∙ sym (ap (λ (n : ℕ). wanted_at request image n old.chip.bytes a) sized)
 
-  -- on a modelled bus, if the request needs no status write, the bound on the report's transactions includes none
+  -- On a modelled bus, if the request needs no status write, the bound on the transactions in the report allows for no
+  -- status write.
   pub spared : (new : BusState) (target_bytes : ℕ → ℕ) (verify : Bool) (work : Work) (sent : ℕ) → sent ≡ kept.scanned.reads
       → Ready request identity status code kept old mid → ReadyChip request image image' identity code kept old mid
       → ¬ NeedsStatusWrite request image old.chip

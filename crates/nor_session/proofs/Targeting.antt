@@ -21,7 +21,7 @@ use Rattle.nor_apply.proofs.ApplyingInTurn.{count_below-fewer}
 use Rattle.nor_session.specs.Changing.{LeavesChange}
 use Rattle.nor_session.specs.Session.{SendsSaved, SendsFew, WritesOnly, WritesStatusAtMost}
 
--- ---- no modifying command was sent
+-- ---- if no modifying command was sent
 
 pub none_written : (most : ℕ) (old new : BusState) → new.sent ≡ old.sent → WritesStatusAtMost most old new
 none_written most old new same = let count = ap status_writes_of same in omega (arith, count)
@@ -33,7 +33,7 @@ none_sent IsCode calls journal old new same = grind arith
 pub few_none : (old new : BusState) → new.sent ≡ old.sent → SendsFew old new
 few_none old new same = grind arith
 
--- ---- calls with one journal, one after another
+-- ---- successive calls with the same journal
 
 pub sends_then : (IsCode : ℕ → Type 0) (m n : ℕ) (journal : Content) (old mid new : BusState)
     → SendsSaved IsCode m journal old mid → SendsSaved IsCode n journal mid new
@@ -43,7 +43,7 @@ sends_then IsCode m n journal old mid new before after =
     let programs = add-mul m n (16 * sector_count (is_saved journal)) in
     grind (arith, before.targeted, after.targeted, before.written, after.written, erases, programs)
 
--- limits for `n` calls with a journal are also limits for more calls
+-- If `SendsSaved` holds for `n` calls, it holds for any greater number of calls.
 pub sends_most : (IsCode : ℕ → Type 0) (n most : ℕ) (journal : Content) (old new : BusState) → n ≤ most
     → SendsSaved IsCode n journal old new → SendsSaved IsCode most journal old new
 sends_most IsCode n most journal old new few sends =
@@ -57,7 +57,7 @@ sends_most IsCode n most journal old new few sends =
         let sum : most * k ≡ n * k + (most - n) * k = ap (λ (m : ℕ). m * k) split ∙ add-mul n (most - n) k in
         omega (arith, sum)
 
--- `SendsSaved` stays true if more protection bits are allowed
+-- If `SendsSaved` holds with the protection bits that `IsCode` allows, it holds with every wider set `IsWider`.
 pub sends_wider : (IsCode IsWider : ℕ → Type 0) (calls : ℕ) (journal : Content) (old new : BusState)
     → ((code : ℕ) → IsCode code → IsWider code) → SendsSaved IsCode calls journal old new
     → SendsSaved IsWider calls journal old new
@@ -65,9 +65,9 @@ sends_wider IsCode IsWider calls journal old new wider sends = grind (arith, sen
 
 -- ---- the bytes of a status write
 
--- A status write that sends the status that was read, with the protection bits `code`, is allowed (`WritesOnly`). The
+-- A status write of the status that was read, but with the protection bits `code`, is allowed (`WritesOnly`). The
 -- premises are that the bits that are never changed are the journal's, that `code` is below 64, and that `IsCode` holds
--- for it.
+-- for `code`.
 pub coded_only : (IsCode : ℕ → Type 0) (journal : Content) (status : Status) (code one two : ℕ) → code < 64
     → fixed_of (kept_in (bytes_of status)) ≡ fixed_of (kept_in journal.status) → IsCode code
     → is_status_with_code status code one two ≡ true → WritesOnly IsCode journal one two
@@ -84,11 +84,11 @@ coded_only IsCode journal status code one two small fixed is written =
       clear2 = omega (arith, second);
     }
 
--- ---- changes after calls that only read
+-- ---- the changes, after calls that only read
 
--- Holds if the changes are for a chip of the journal's size and touch only sectors that the journal saves, and the bits
--- that are never changed were read as the journal has them. The raised sectors are touched. The target protection bits
--- are below 64; `IsCode` holds for them and, if protection is lifted, for 0.
+-- Holds if the changes are for a chip of the journal's size and touch only sectors that the journal saves. In the
+-- status that was read, the bits that are never changed have the journal's values. The raised sectors are touched. The
+-- target protection bits are below 64; `IsCode` holds for them and, if protection is lifted, for 0.
 pub record AreOfJournal (IsCode : ℕ → Type 0) (journal : Content) (changes : Changes) : Type 0 where
   pub sized : journal.size ≡ changes.size
   pub saved : (s : ℕ) → touched_in changes s ≡ true → is_saved journal s ≡ true

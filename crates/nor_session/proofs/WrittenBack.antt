@@ -1,5 +1,5 @@
--- Proofs of the laws about a chip that is opened from files that were being overwritten (`IsWrittenOver`): the journal
--- can restore the original chip.
+-- Proofs of the laws about a chip that is opened from files that were being overwritten (`IsWrittenOver`). The journal
+-- can restore the original chip from such files.
 use Rattle.std.proofs.Common.{ap, arith, ◌/◌, ◌%◌, false, ◌≡◌, ◌∙◌, ◌⊎◌, ℕ, Bool, List, [], true, refl, sym, inl, inr}
 use Rattle.std.proofs.lemmas.List.{append-nil}
 use Rattle.nor_model.specs.Bus.{BusState}
@@ -22,15 +22,15 @@ use Rattle.nor_session.specs.Session.{CanBeUndone}
 use Rattle.nor_session.specs.WrittenOver.{IsWrittenOver}
 use Rattle.nor_session.proofs.RestoresOriginal.{can_restore_read, restorable}
 
--- ---- one chip written over with another
+-- ---- files that are overwritten with another chip
 
--- a property of two numbers holds for a number that is one of them
+-- If a property `P` holds for `x` and for `y`, and `z` is `x` or `y`, it holds for `z`.
 pub either : (P : ℕ → Type 0) (x y z : ℕ) → (z ≡ x) ⊎ (z ≡ y) → P x → P y → P z
 either P x y z (inl is) one two = rw is one
 either P x y z (inr is) one two = rw is two
 
--- if the chips before and after the overwriting have the non-volatile bits `first`, so does the chip that was opened
--- (`kept_over`); `fixed_over` says this for the bits that are never changed
+-- If the chips before and after the overwriting have the non-volatile bits `first`, so does the chip that was opened.
+-- `fixed_over` says the same of the bits that are never changed.
 kept_over : {old new opened : Chip} (first : KeptBits) → IsWrittenOver old new opened → old.kept ≡ first
     → new.kept ≡ first → opened.kept ≡ first
 kept_over {old} {new} {opened} first over before after =
@@ -49,7 +49,7 @@ fixed_over {old} {new} {opened} first over before after =
     (ap (λ (f : ℕ × ℕ). f.1) before) (ap (λ (f : ℕ × ℕ). f.1) after) in
     rw (one, two) refl
 
--- if `IsWithin` holds for the chips before and after the overwriting, it holds for the chip that was opened
+-- If `IsWithin` holds for the chips before and after the overwriting, it holds for the chip that was opened.
 pub within_both : (addresses : ℕ → Bool) (first : Chip) (old new opened : BusState) → IsWrittenOver old.chip new.chip opened.chip
     → IsWithin addresses first old → IsWithin addresses first new → IsWithin addresses first opened
 within_both addresses first old new opened over before after =
@@ -68,7 +68,8 @@ same_over old new opened same over = let kept = kept_over old.kept over refl sam
 
 -- ---- after a session
 
--- the journal that is read from the bytes has the header and the saved sectors of the journal that was written
+-- If the bytes `kept` are a journal with this header and these saved sectors, the journal that is read from them has
+-- the same header and saved sectors.
 pub read_kept : (head : Content) (bytes : ℕ → ℕ) (saved : ℕ → Bool) (journal : Content) (kept : List ℕ) → JournalSaves head bytes saved kept
     → IsContent journal → kept ≡ text journal → SameHeader head journal × Saves bytes saved journal
 read_kept head bytes saved journal kept saves is read =
@@ -85,7 +86,7 @@ read_back request image old new vault journal modelled is telling undone sound r
     (restorable request image old new vault is modelled.genuine telling undone)
     (read_kept (header_of old.chip) old.chip.bytes _ journal vault.bytes (undone.journal telling) sound read)
 
--- this bus, with its chip made idle
+-- the bus `state`, but with an idle chip
 abbrev idle : BusState → BusState
 idle state = record state { chip = record state.chip { busy = 0 } }
 

@@ -8,7 +8,8 @@ use Rattle.nor_request.specs.declared.report.Report.{Report}
 use Rattle.nor_request.specs.declared.refusal.Refusal.{Refusal}
 use Rattle.nor_session.specs.declared.announcement.Announcement.{Announcement}
 
--- the announcement of these changes: the given number of touched sectors, and the least number of erases
+-- the announcement of these changes: the given number of touched sectors, and the least number of erases that cover
+-- exactly the raised sectors
 abbrev pub announcement_of : Changes → (touched : ℕ) → Announcement
 announcement_of changes touched =
     record { touched = touched; erases = fewest_erases changes.kinds (changes.size / 4096) (raised_in changes) }
@@ -17,9 +18,9 @@ announcement_of changes touched =
 abbrev pub announcement_of_report : Report → Announcement
 announcement_of_report report = record { touched = report.touched; erases = report.erases }
 
--- Holds for a call with this result if an announcement was made, or no modifying command was sent. After success the
--- announcement has the report's numbers. `Was` holds for an announcement that was made. The definition doesn't say that
--- the announcement came before the first modifying command.
+-- `Was` is the property of an announcement that it was made. `Announces` holds for a call with this result if an
+-- announcement was made or no modifying command was sent, and if after success the announcement with the report's
+-- numbers was made. The definition doesn't say that the announcement came before the first modifying command.
 pub record Announces (Was : Announcement → Type 0) (old new : BusState) (result : Result Report Refusal) : Type 0 where
   pub announced_or_unsent : ((announcement : Announcement) × Was announcement) ⊎ (new.sent ≡ old.sent)
   pub as_reported : IfOk result (λ report. Was (announcement_of_report report))

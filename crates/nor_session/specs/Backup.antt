@@ -29,7 +29,7 @@ use Rattle.nor_session.specs.Headline.{SavesChip, CanRestoreFrom}
 
 -- ---- which chips a backup can restore
 
--- Holds if the journal saves this chip (`SavesChip`), with its unique ID and every sector of it.
+-- Holds if the journal saves this chip (`SavesChip`), and contains the chip's unique ID and every sector of the chip.
 pub record SavesWholeChip (journal : Content) (first : Chip) : Type 0 where
   pub chip : SavesChip journal first
   pub device : journal.unique ≡ Some (unique_of first.config)
@@ -40,15 +40,16 @@ pub record IsBackupOf (bytes : List ℕ) (first : Chip) : Type 0 where
   pub journal : IsJournal bytes
   pub saves : SavesWholeChip journal.content first
 
--- True at the addresses of a chip that a restore can write: all those on the chip, except the protected ones if the
--- status is locked.
+-- True at the addresses that a restore can write on this chip. These are all addresses of the chip or, if its status is
+-- locked, all addresses that aren't protected.
 abbrev pub writable_addresses : Chip → (a : ℕ) → Bool
 writable_addresses first a = nat_lt a first.config.size && not (is_locked first.kept && is_protected first a)
 
 -- ---- on every bus
 
--- Describes the report of a backup. The chip found has the requested name, if any, and nothing was changed. The
--- identification took at least four transactions, and each sector one.
+-- Describes the report of a backup. The chip that was found has the requested name, if any, and the counts of touched
+-- sectors, erases and programs are 0. The number of transactions is at least four (the shortest identification) plus
+-- one for each sector, and at most `most_reads`.
 pub record ReportsBackup (named : Option ChipName) (report : Report) : Type 0 where
   pub part : IsPart report.found
   pub has_name : IsWanted named report.found.name
@@ -58,19 +59,20 @@ pub record ReportsBackup (named : Option ChipName) (report : Report) : Type 0 wh
   pub least : 4 + report.found.size / 4096 ≤ report.transactions
   pub most : report.transactions ≤ most_reads (report.found.size / 4096)
 
--- Holds if the bytes are a journal that has what the bus replied during the backup. Its header has the ID, the unique
--- ID and the non-volatile status bits that the bus replied. The size in the header is that of the table's row of the ID
--- or, without a row, of the SFDP replies. Every sector of a chip of this size is saved, with the bytes of the last
--- reply to a read of it.
+-- Holds if the bytes are a journal that contains what the bus replied during the backup. Its header has the ID, the
+-- unique ID and the non-volatile status bits that the bus replied. The size in the header is the size in the table's
+-- row for the ID or, without a row, the size in the SFDP replies. Every sector of a chip of this size is saved, with
+-- the bytes of the last reply to a read of it.
 pub record IsBackupOfReplies (found : Found) (new : BusState) (bytes : List ℕ) : Type 0 where
   pub identity : Identity
   pub same : identity.found ≡ found
   pub replied : IsIdentifiedBy new.history identity
   pub saves : JournalSaves (header_found identity) (bytes_read new.history) (sectors_below (found.size / 4096)) bytes
 
--- Holds for the errors of a backup. After errors 1 to 3 and 13, from the identification, the vault is as it was. After
--- error 12 it refused nothing, and after error 11 it refused one call: in both cases it isn't sealed, because it wasn't
--- sealed before. A timeout has address 0.
+-- Holds if a backup may return this error and leave this vault. After errors 1 to 3 and 13, which come from the
+-- identification, the vault is as it was. After error 12 the vault has refused nothing, and after error 11 it has
+-- refused one call. In both cases the vault is sealed if and only if it was sealed at the start; a backup starts with
+-- an unsealed vault. Error 13 (timeout) names address 0.
 abbrev pub BackupReturns : (vault vault' : VaultState) → Refusal → Type 0
 BackupReturns vault vault' NoChip = vault' ≡ vault
 BackupReturns vault vault' (UnknownChip fault) = vault' ≡ vault
@@ -82,9 +84,9 @@ BackupReturns vault vault' _ = ⊥
 
 -- ---- on a well-behaved bus
 
--- The meaning of errors on a well-behaved bus. Errors 1 to 3 say what the chip shows. A stop occurs only if no
--- transaction is left and fewer than `most` were left at the start. A timeout does not occur. `BackupReturns` says when
--- error 11 occurs.
+-- The meaning of errors on a well-behaved bus. Error 1 means that the chip's ID reads as no chip, error 2 that the chip
+-- is unknown, and error 3 that its name isn't the requested one. A stop occurs only if no transaction is left and fewer
+-- than `most` were left at the start. A timeout does not occur. `BackupReturns` says when error 11 occurs.
 abbrev pub BackupErrors : (most : ℕ) → Option ChipName → (old new : BusState) → Refusal → Type 0
 BackupErrors most named old new NoChip = shown_as old.chip.config ≡ Err Probes.NoChip
 BackupErrors most named old new (UnknownChip fault) = shown_as old.chip.config ≡ Err (Probes.UnknownChip fault)
@@ -95,7 +97,7 @@ BackupErrors most named old new _ = ⊥
 
 -- ---- on a modelled bus
 
--- Holds if there are no bytes, or they are a prefix of the only journal that a backup of this chip can write.
+-- Holds if there are no bytes, or if the bytes are a prefix of the only journal that a backup of this chip can write.
 abbrev pub HoldsBackupBegun : Chip → (bytes : List ℕ) → Type 0
 HoldsBackupBegun chip bytes = (bytes ≡ [])
     ⊎ IsJournalPrefix (header_of chip) chip.bytes (sectors_below (chip.config.size / 4096)) bytes
@@ -105,27 +107,32 @@ HoldsBackupBegun chip bytes = (bytes ≡ [])
 -- The promises of a backup on every bus and with every vault.
 pub record BackupAlways (named : Option ChipName) (old new : BusState) (vault vault' : VaultState)
     (result : Result Report Refusal) : Type 0 where
-  -- No modifying command is sent, and on a well-behaved bus at most the transactions of identifying and reading the
-  -- largest chip. Bytes and non-volatile status bits are then as before, if the bus was steady or the chip idle.
+  -- No modifying command is sent. On a well-behaved bus, the number of transactions is at most that of identifying and
+  -- reading the largest chip. If this bus is steady, or its chip was idle at the start, then bytes and non-volatile
+  -- status bits are as they were before.
   pub only_reads : OnlyReads (most_reads 4096) old new
   -- after success the vault is sealed, and it refused nothing
   pub sealed : OnOk result (Completed vault vault')
-  -- an error is one that `BackupReturns` allows; the vault isn't sealed after it
+  -- after an error, the error and the vault are as `BackupReturns` allows; so the vault, which was unsealed at the
+  -- start, is still unsealed
   pub answers : IfErr result (BackupReturns vault vault')
-  -- after success a faithful vault holds a journal of every sector that has what the bus replied
+  -- after success a faithful vault holds a journal that has every sector as the bus replied it (`IsBackupOfReplies`)
   pub replied : IfOk result (λ report. vault'.telling ≡ true → IsBackupOfReplies report.found new vault'.bytes)
-  -- after success the report has a chip with the requested name, counts no change, and is within its bounds
+  -- after success the report has a chip with the requested name and counts no change, and its number of transactions is
+  -- within the bounds of `ReportsBackup`
   pub reported : IfOk result (ReportsBackup named)
   -- a backup succeeds only if the last poll showed that the chip is ready
   pub polled_ready : OnOk result (new.polled_ready ≡ true)
-  -- after error 12 the last transaction is the one at which the bus stopped, after 13 a poll that showed BUSY
+  -- after error 12 the last transaction is the one at which the bus stopped; after error 13 it is a poll that showed
+  -- BUSY
   pub last_transaction : IfErr result (λ refusal. EndsAtError refusal new.history)
 
 -- The promises of a backup on a well-behaved bus.
 pub record BackupHonest (named : Option ChipName) (old new : BusState) (result : Result Report Refusal) : Type 0 where
-  -- an error says what the chip shows, that the vault failed, or that too few transactions were left
+  -- an error means that the identification found no chip, an unknown chip or another name, that the vault failed, or
+  -- that too few transactions were left (`BackupErrors`)
   pub errors : IfErr result (BackupErrors (most_reads 4096) named old new)
-  -- after success bytes and non-volatile status bits are as before
+  -- after success bytes and non-volatile status bits are as they were before the backup
   pub same : OnOk result (IsSame old.chip new.chip)
   -- the report counts exactly the transactions that were sent
   pub counted : IfOk result (λ report. old.left ≡ new.left + report.transactions)
@@ -133,13 +140,14 @@ pub record BackupHonest (named : Option ChipName) (old new : BusState) (result :
 -- The promises of a backup on a modelled bus: a well-behaved one whose chip is what its ID or SFDP says.
 pub record BackupModelled (named : Option ChipName) (old new : BusState) (vault' : VaultState)
     (result : Result Report Refusal) : Type 0 where
-  -- a stop occurs only if fewer transactions were left than the bound for a chip of this size
+  -- an error means what `BackupErrors` says; a stop occurs only if fewer transactions were left at the start than the
+  -- bound for a chip of this size
   pub errors : IfErr result (BackupErrors (most_reads (old.chip.config.size / 4096)) named old new)
-  -- after success the report has the chip's configuration
+  -- after success the chip type in the report fits the chip's configuration (`IsConfigOf`)
   pub config : IfOk result (λ report. IsConfigOf old.chip.config report.found)
   -- after success a faithful vault holds a journal that saves the whole chip
   pub saves : OnOk result (vault'.telling ≡ true → IsBackupOf vault'.bytes old.chip)
-  -- after success that journal can restore the chip
+  -- after success the journal in a faithful vault can restore the chip
   pub restorable : OnOk result (vault'.telling ≡ true → CanRestoreFrom vault'.bytes old.chip new)
   -- after an error a faithful vault is empty, or holds a prefix of the only journal that the backup can write
   pub cut : vault'.telling ≡ true → OnErr result (HoldsBackupBegun old.chip vault'.bytes)

@@ -3,7 +3,7 @@ use Rattle.std.specs.Prelude.{◌+◌, ◌*◌, ℕ}
 use Rattle.nor_driver.specs.Operations.{most_operation}
 use Rattle.nor_scan.specs.Identity.{most_identity}
 
--- the most transactions of an identification and a scan of the given number of sectors
+-- a bound on the transactions of an identification and of a scan of the given number of sectors
 abbrev pub most_reads : (sectors : ℕ) → ℕ
 most_reads sectors = most_identity + sectors
 

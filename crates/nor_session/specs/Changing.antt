@@ -26,8 +26,8 @@ use Rattle.nor_request.specs.declared.refusal.Refusal.TheVariants.{Stopped, Time
 abbrev pub touched_count : Changes → ℕ
 touched_count changes = sector_count (touched_in changes)
 
--- a bound on the transactions of the changes and their check: that of the changes, and one more read of each touched
--- sector
+-- a bound on the transactions of the changes and of their check: the bound on those of the changes, plus one read of
+-- each touched sector
 abbrev pub most_changed : Changes → ℕ
 most_changed changes = most_applied (touched_count changes) + touched_count changes
 
@@ -37,10 +37,11 @@ read_back changes verify = if verify then touched_count changes else 0
 
 -- ---- the check, after all is written
 
--- Holds after the check succeeded. In addition to those of `written`, the work counts one transaction for each touched
--- sector if `verify` is set, otherwise none; a well-behaved bus carried out exactly that number. No modifying command
--- was sent. On a well-behaved bus contents and non-volatile status bits are as before. If in addition `verify` is set
--- and the chip can be checked (`CanCheck`), each byte of a touched sector is the target one.
+-- Holds after the check succeeded. `written` has the counts before the check, and `work` those after it. The check
+-- sends one transaction for each touched sector if `verify` is set, and otherwise none; `work` includes them. No
+-- modifying command was sent. On a well-behaved bus exactly these transactions were carried out, and contents and
+-- non-volatile status bits are as they were. If in addition `verify` is set and the chip was idle with the touched
+-- sectors on it (`CanCheck`), each byte of a touched sector is the target byte.
 pub record DoesCheck (changes : Changes) (wanted : ℕ → ℕ) (verify : Bool) (written : Work) (old new : BusState)
     (work : Work) : Type 0 where
   pub erases : work.erases ≡ written.erases
@@ -53,11 +54,11 @@ pub record DoesCheck (changes : Changes) (wanted : ℕ → ℕ) (verify : Bool) 
   pub same : verify ≡ true → old.honest ≡ true → CanCheck (touched_in changes) old.chip
       → (a : ℕ) → touched_in changes (a / 4096) ≡ true → old.chip.bytes a ≡ wanted a
 
--- The meaning of an error of the check. On every bus the last transaction is the one at which the bus stopped
--- (`Stopped`), or a read of the sector of the mismatch (`Mismatch`); no other error occurs. On a well-behaved bus
--- `Stopped` means that fewer transactions were left than there are touched sectors, and that none is left. If the chip
--- of such a bus can be checked (`CanCheck`), the address of `Mismatch` is that of the first difference in the touched
--- sectors.
+-- The meaning of an error of the check. On every bus `Stopped` means that the bus stopped at the last transaction, and
+-- `Mismatch` that the last transaction was a read of the sector that contains the address. No other error occurs. On a
+-- well-behaved bus `Stopped` means that fewer transactions were left at the start than there are touched sectors, and
+-- that none is left now. If the chip of such a bus can be checked (`CanCheck`), the address of `Mismatch` is that of
+-- the first difference in the touched sectors.
 abbrev pub CheckRefuses : Changes → (ℕ → ℕ) → (old new : BusState) → Refusal → Type 0
 CheckRefuses changes wanted old new Stopped = HasStopped (touched_count changes) old new
 CheckRefuses changes wanted old new (Mismatch address) = EndsReading address new.history
@@ -67,14 +68,15 @@ CheckRefuses changes wanted old new _ = ⊥
 
 -- ---- the changes and their check
 
--- Holds if each byte of these sectors is the target one.
+-- Holds if each byte of these sectors on the chip is the target byte.
 abbrev pub HasBytes : (sectors : ℕ → Bool) → (wanted : ℕ → ℕ) → Chip → Type 0
 HasBytes sectors wanted chip = (a : ℕ) → sectors (a / 4096) ≡ true → chip.bytes a ≡ wanted a
 
--- Holds at every exit of the changes and their check. On every bus the modifying commands that were sent are within
--- `most_sent` (`SendsWithin`). That limits the sectors targeted for the first time, the bytes that a status write has
--- for the first time, and the numbers of erases, page programs and status writes. On a well-behaved bus the number of
--- transactions is bounded, and if `CanApply` held at the start, the chip changes only as `MayChange` allows.
+-- Holds at every exit of the changes and their check. On every bus the modifying commands that were sent are within the
+-- limits `most_sent` (`SendsWithin`). These limit the numbers of erases, page programs and status writes. They also
+-- limit the sectors that are targeted and the bytes that a status write has, unless these sectors or bytes occurred
+-- before the changes. On a well-behaved bus at most `most_changed` transactions were carried out. If `CanApply` held at
+-- the start on such a bus, the chip changed only as `MayChange` allows.
 abbrev pub LeavesChange : Changes → (wanted : ℕ → ℕ) → (old new : BusState) → Type 0
 LeavesChange changes wanted =
     Leaves (most_changed changes) (most_sent changes) (CanApply changes wanted)
@@ -83,8 +85,8 @@ LeavesChange changes wanted =
 -- Holds after the changes and their check succeeded, with the counts of `work`. If there was nothing to change, no
 -- modifying command was sent. On every bus each raised sector was erased before anything was programmed. On a
 -- well-behaved bus, if `CanApply` held at the start, all changes were made (`HasApplied`). If `verify` is set on such a
--- bus, and the chip was idle with the touched sectors on it (`CanCheck`), each byte of a touched sector is the target
--- one, even if the chip ignored commands.
+-- bus, and the chip was idle with the touched sectors on it (`CanCheck`), then each byte of a touched sector is the
+-- target byte, even if the chip ignored commands.
 pub record DoesChange (changes : Changes) (wanted : ℕ → ℕ) (verify : Bool) (old new : BusState)
     (work : Work) : Type 0 where
   pub erases : work.erases ≡ fewest_erases changes.kinds (changes.size / 4096) (raised_in changes)
@@ -106,10 +108,11 @@ pub record DoesChange (changes : Changes) (wanted : ℕ → ℕ) (verify : Bool)
   pub checked : verify ≡ true → old.honest ≡ true → CanCheck (touched_in changes) old.chip
       → HasBytes (touched_in changes) wanted new.chip
 
--- Holds if the changes and their check may fail with this error: a stop, a timeout or a mismatch. On every bus the last
--- transaction is the one at which the bus stopped, a poll that showed BUSY (`Timeout`), or a read of the sector of the
--- mismatch. On a well-behaved bus `Stopped` means that fewer transactions were left than their bound (`most_changed`),
--- `Timeout` does not occur, and `Mismatch` does not occur if `CanApply` held at the start.
+-- Holds if the changes and their check may fail with this error: a stop, a timeout or a mismatch. On every bus,
+-- `Stopped` means that the bus stopped at the last transaction, `Timeout` that the last transaction was a poll that
+-- showed BUSY, and `Mismatch` that it was a read of the sector that contains the address. On a well-behaved bus,
+-- `Stopped` means that fewer than `most_changed` transactions were left at the start, `Timeout` does not occur, and
+-- `Mismatch` does not occur if `CanApply` held at the start.
 abbrev pub ChangeErrors : Changes → (ℕ → ℕ) → (old new : BusState) → Refusal → Type 0
 ChangeErrors changes wanted old new Stopped = HasStopped (most_changed changes) old new
 ChangeErrors changes wanted old new (Timeout address) = EndsBusy new.history × (old.honest ≡ true → ⊥)
@@ -118,8 +121,8 @@ ChangeErrors changes wanted old new (Mismatch address) =
 ChangeErrors changes wanted old new _ = ⊥
 
 -- Holds if the result fits what was read back, on every bus. After success with `verify` set, and after a mismatch, the
--- last transactions were reads of sectors. In the first case each byte of a touched sector was read as the target one.
--- The address of a mismatch is the first one in a touched sector whose byte was read otherwise.
+-- last transactions were reads of sectors. After success, each byte of a touched sector was read as its target byte.
+-- After a mismatch, its address is the first address in a touched sector whose byte was read otherwise.
 abbrev pub FitsReadBack : Changes → (wanted : ℕ → ℕ) → (verify : Bool) → (old new : List Exchange)
     → Result Work Refusal → Type 0
 FitsReadBack changes wanted verify old new (Ok work) =

@@ -33,14 +33,14 @@ pub record SavesChip (journal : Content) (first : Chip) : Type 0 where
   pub bits : first.kept ≡ kept_in journal.status
   pub sectors : Saves first.bytes (is_saved journal) journal
 
--- true at the addresses at which a chip may differ from the original one (`first`): those in saved sectors, except the
--- protected ones if the status of the original chip is locked
+-- True at the addresses at which a chip may differ from the original chip (`first`). These are the addresses in saved
+-- sectors, except the protected ones if the status of the original chip is locked.
 abbrev pub open_addresses : Content → Chip → ℕ → Bool
 open_addresses journal first a = is_saved journal (a / 4096) && not (is_locked first.kept && is_protected first a)
 
--- Holds if the journal can restore the original chip (`first`) on this bus. The journal saves that chip, which is
--- known. The bus's chip differs from the original one only in bytes and bits that a restore can write, in BUSY and in
--- WEL. On a bus that isn't steady, an operation in progress is limited too (`IsWithin`).
+-- Holds if the journal can restore the original chip (`first`) on this bus. The original chip is known (`IsKnown`), and
+-- the journal saves it. The bus's chip differs from the original chip only in bytes and bits that a restore can write,
+-- in BUSY and in WEL. On a bus that isn't steady, an operation in progress is limited too (`IsWithin`).
 pub record CanRestore (journal : Content) (first : Chip) (state : BusState) : Type 0 where
   pub known : IsKnown first.config
   pub saves : SavesChip journal first
@@ -55,35 +55,35 @@ pub record CanRestoreFrom (bytes : List ℕ) (first : Chip) (state : BusState) :
 
 -- The promise of a session at every exit, wherever the session ended or was stopped.
 pub record KeepsOriginal (old new : BusState) (vault : VaultState) : Type 0 where
-  -- if the vault isn't sealed, no modifying command was sent, on every bus
+  -- on every bus, if the vault isn't sealed, no modifying command was sent
   pub unsent : vault.sealed ≡ false → new.sent ≡ old.sent
-  -- if the vault isn't sealed, bytes and non-volatile status bits are as they were, on a well-behaved bus that is
-  -- steady or whose chip was idle
+  -- on a well-behaved bus that is steady or whose chip was idle at the start, if the vault isn't sealed, bytes and
+  -- non-volatile status bits are as they were
   pub same : vault.sealed ≡ false → old.honest ≡ true → IsSteadyOrIdle old → IsSame old.chip new.chip
-  -- if a faithful vault is sealed, its bytes are a journal that can restore the original chip, on a modelled bus
+  -- on a modelled bus, if a faithful vault is sealed, its bytes are a journal that can restore the original chip
   pub restorable : vault.sealed ≡ true → vault.telling ≡ true → IsModelled old → CanRestoreFrom vault.bytes old.chip new
 
 -- The promise of a restore on a modelled bus, for each chip `first` that the journal can restore at the start.
 pub record RestoresOriginal (journal : Content) (old new : BusState) (result : Result Report Refusal) : Type 0 where
-  -- at every exit the journal can still restore that chip
+  -- at every exit the journal can still restore `first`
   pub within : (first : Chip) → CanRestore journal first old → CanRestore journal first new
-  -- a restore that succeeds has restored that chip
+  -- after success the chip has the bytes and the non-volatile status bits of `first`
   pub back : (first : Chip) → CanRestore journal first old → OnOk result (IsSame first new.chip)
   -- the only possible error is a stop
   pub only_stops : (first : Chip) → CanRestore journal first old → IfErr result (λ refusal. refusal ≡ Stopped)
 
--- Holds if no saved sector is protected on the original chip, or its status isn't locked. That is so for the journal of
--- a session, which refuses to touch a protected sector unless it can lift the protection.
+-- Holds if no saved sector is protected on the original chip, or its status isn't locked. Every journal of a session
+-- has this property, because a session refuses to touch a protected sector unless it can lift the protection.
 abbrev pub CanBeRewritten : Content → Chip → Type 0
 CanBeRewritten journal first = is_locked first.kept ≡ true → NoneProtected (is_saved journal) first
 
 -- The promise of a restore that rewrites every saved sector, on a modelled bus, for each chip `first` that the journal
 -- can restore at the start.
 pub record RewritesOriginal (journal : Content) (old new : BusState) (result : Result Report Refusal) : Type 0 where
-  -- at every exit the journal can still restore that chip
+  -- at every exit the journal can still restore `first`
   pub within : (first : Chip) → CanRestore journal first old → CanRestore journal first new
-  -- a rewrite that succeeds has restored that chip
+  -- after success the chip has the bytes and the non-volatile status bits of `first`
   pub back : (first : Chip) → CanRestore journal first old → OnOk result (IsSame first new.chip)
-  -- the only possible error is a stop, if no saved sector is protected by a status that is locked
+  -- the only possible error is a stop, if no saved sector of `first` is protected by a locked status
   pub only_stops : (first : Chip) → CanRestore journal first old → CanBeRewritten journal first
       → IfErr result (λ refusal. refusal ≡ Stopped)

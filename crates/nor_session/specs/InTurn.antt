@@ -1,5 +1,5 @@
--- Definitions for sessions and restores that follow one another. Between two of them the chip may lose its power, or be
--- kept in files.
+-- Definitions for sessions and restores that follow one another. Between two of them the chip may lose its power, or
+-- its contents may be in files.
 use Rattle.std.specs.Prelude.{◌≡◌, ◌⊎◌, ℕ, true, false, List}
 use Rattle.nor_model.specs.Chip.{IsChip, IsSame}
 use Rattle.nor_model.specs.Power.{PowerLost}
@@ -13,8 +13,8 @@ use Rattle.nor_session.specs.Session.{CanBeUndone}
 use Rattle.nor_session.specs.Restore.{NeedsStatusFrom}
 use Rattle.nor_session.specs.WrittenOver.{IsWrittenOver}
 
--- Holds if a session on a modelled bus left this journal of its original chip in a faithful vault, and what a session
--- promises after the seal holds (`CanBeUndone`). The session ended, or was stopped anywhere after the seal.
+-- Holds if a session on a modelled bus left this journal in a faithful vault. The session ended, or was stopped
+-- anywhere after the seal, so what it promises after the seal holds (`CanBeUndone`).
 pub record LeavesJournal (request : Request) (image : List ℕ) (old new : BusState) (journal : Content) : Type 0 where
   pub modelled : IsModelled old
   pub is : IsChip old.chip
@@ -24,8 +24,8 @@ pub record LeavesJournal (request : Request) (image : List ℕ) (old new : BusSt
   pub whole : IsContent journal
   pub same : vault.bytes ≡ text journal
 
--- Holds if the chip lost its power between two runs. A chip that was busy is covered only if its bus isn't steady: only
--- then is the operation in progress known (`runs` in `IsWithin`).
+-- Holds if the chip lost its power between two runs. If the chip was busy, its bus must not be steady: only on such a
+-- bus is the operation in progress known (`runs` in `IsWithin`).
 pub record LosesPower (old new : BusState) : Type 0 where
   pub known : (old.steady ≡ false) ⊎ (old.chip.busy ≡ 0)
   pub lost : PowerLost old.chip new.chip
@@ -34,9 +34,9 @@ pub record LosesPower (old new : BusState) : Type 0 where
 abbrev pub MayLosePower : (old new : BusState) → Type 0
 MayLosePower old new = IsSame old.chip new.chip ⊎ LosesPower old new
 
--- Holds for the bus on which a run starts (`taken`), after a run that started on `old` and left `new`. Either its chip
--- is the one that was left, and may have lost its power since; or the chip was opened from files that held the chip of
--- `old` and were being overwritten with the chip of `new`.
+-- Holds if a run can start on the bus `taken` after an earlier run, which started on `old` and left `new`. Either the
+-- chip is the one that the earlier run left, which may have lost its power since. Or the chip was opened from files
+-- that held the chip of `old` and were being overwritten with the chip of `new`.
 abbrev pub IsTakenUp : (old new taken : BusState) → Type 0
 IsTakenUp old new taken = MayLosePower new taken ⊎ IsWrittenOver old.chip new.chip taken.chip
 

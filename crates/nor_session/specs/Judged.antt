@@ -19,8 +19,8 @@ use Rattle.nor_scan.specs.Verdict.{IsNamed, IdentityAccepts}
 use Rattle.nor_probe.specs.Known.{IsModelled}
 use Rattle.nor_session.specs.Session.{SessionAlways, SessionHonest, SessionModelled}
 
--- Holds if the identification found a chip type, and the checks accepted the request for an image of this length, with
--- these target protection bits.
+-- Holds if the identification found a chip type, and if the checks accepted the request for an image of `image` bytes,
+-- with the target protection bits `code`.
 pub record IsJudged (request : Request) (image : ℕ) (identity : Identity) (code : ℕ) : Type 0 where
   pub part : IsPart identity.found
   pub few : identity.transactions ≤ most_identity
@@ -31,13 +31,14 @@ pub record IsJudged (request : Request) (image : ℕ) (identity : Identity) (cod
   pub accepts : (chip : Chip) (bytes : List ℕ) → IsIdentityOf chip identity → IsNamed request.named chip.config
       → length bytes ≡ image → IdentityAccepts request bytes chip code
 
--- Holds if the promise is true for every state of the bus from which an identification with this result led to the
--- state `now`.
+-- Holds if `promise` holds for every state of the bus from which an identification with this result leads to the state
+-- `now`.
 abbrev pub SinceIdentity : Option ChipName → Identity → BusState → (BusState → Type 0) → Type 0
 SinceIdentity named identity now promise =
     (first : BusState) → OnlyReads most_identity first now → ReadsIdentity named first now identity → promise first
 
--- The promises of a session, from one state of the bus to another, except `KeepsOriginal`, which follows from these.
+-- The promises of a session that changed the bus from `old` to `new` and the vault from `vault` to `vault'`, except
+-- `KeepsOriginal`, which follows from these.
 pub record KeepsPromise (request : Request) (image : List ℕ) (old new : BusState) (vault vault' : VaultState)
     (result : Result Report Refusal) : Type 0 where
   pub always : SessionAlways request image old new vault vault' result

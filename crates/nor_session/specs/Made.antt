@@ -12,8 +12,8 @@ use Rattle.nor_geometry.specs.Counts.{sector_count}
 use Rattle.nor_plan.specs.Content.{is_touched, is_raised, once_erased, is_programmed}
 use Rattle.nor_request.specs.declared.report.Report.{Report}
 
--- Holds if this number of erases is the least possible: some list of that many erases covers exactly the raised sectors
--- of the chip, and no shorter list does.
+-- Holds if `erases` is the least possible number of erases: some list of `erases` erase blocks covers exactly the
+-- raised sectors of the chip, and no shorter list does.
 abbrev pub AreFewestErases : Config → (old wanted : ℕ → ℕ) → (erases : ℕ) → Type 0
 AreFewestErases config old wanted erases = IsLeastLength config.kinds (config.size / 4096) (is_raised old wanted) erases
 
@@ -22,8 +22,8 @@ abbrev pub pages_of : (old wanted : ℕ → ℕ) → ℕ
 pages_of old wanted =
     count_below 65536 (is_programmed (is_touched old wanted) (once_erased (is_raised old wanted) old) wanted)
 
--- Holds if the chip has the target bytes and is idle, and its configuration and the status bits that flashnor never
--- changes are as they were. The write enable latch is set only if it was set before. Nothing is said about the
+-- Holds if the chip has the target bytes and is idle. Its configuration, and the status bits that flashnor never
+-- changes, are as they were. The write enable latch is set only if it was set before. Nothing is said about the
 -- protection bits.
 pub record IsTargetChip (wanted : ℕ → ℕ) (old new : Chip) : Type 0 where
   pub config : new.config ≡ old.config
@@ -32,11 +32,12 @@ pub record IsTargetChip (wanted : ℕ → ℕ) (old new : Chip) : Type 0 where
   pub idle : new.busy ≡ 0
   pub latch : new.latch ≡ true → old.latch ≡ true
 
--- Holds if the erased sectors are those from before and the raised ones, and the report is right. The report has the
--- chip type that the chip's replies show, and the chip's status 1, of which BUSY and WEL are known only if the chip was
--- idle. The report counts the touched sectors, the erases and the programs. The number of erases is the least that
--- covers exactly the raised sectors. The number of programs is that of the pages of touched sectors that differ from
--- the target once the raised sectors are erased.
+-- Holds if the report is right, and if the erased sectors are those from before and the raised ones.
+--
+-- The report has the chip type that the chip's replies show, and the chip's status 1. BUSY and WEL in this status are
+-- known only if the chip was idle. The report counts the touched sectors, the erases and the programs. The number of
+-- erases is the least that covers exactly the raised sectors. The number of programs is the number of pages of touched
+-- sectors that differ from the target once the raised sectors are erased.
 pub record IsReportedFor (touched raised : ℕ → Bool) (wanted : ℕ → ℕ) (old new : BusState)
     (report : Report) : Type 0 where
   pub worn : (s : ℕ) → new.worn s ≡ (old.worn s || raised s)
@@ -48,8 +49,8 @@ pub record IsReportedFor (touched raised : ℕ → Bool) (wanted : ℕ → ℕ) 
   pub programs : report.programs
       ≡ count_below 65536 (is_programmed touched (once_erased raised old.chip.bytes) wanted)
 
--- Holds if `IsReportedFor` holds for these sectors: touched are those in which a byte differs from the target, and
--- raised are those in which a bit must go from 0 to 1.
+-- Holds if the report is right (`IsReportedFor`) for the following sectors: touched are the sectors in which a byte
+-- differs from the target, and raised those in which a bit must go from 0 to 1.
 abbrev pub IsReported : (wanted : ℕ → ℕ) → (old new : BusState) → Report → Type 0
 IsReported wanted old new report =
     IsReportedFor (is_touched old.chip.bytes wanted) (is_raised old.chip.bytes wanted) wanted old new report

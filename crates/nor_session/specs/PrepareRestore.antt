@@ -1,4 +1,4 @@
--- The facts about a chip that a restore finds out before it changes anything.
+-- What a restore finds out about a chip before it changes anything.
 use Rattle.std.specs.Prelude.{◌≡◌, ◌≢◌, ◌<◌, ◌≤◌, ◌+◌, ◌/◌, ◌||◌, ◌⊎◌, ℕ, Bool, true, List, Result, None, Ok, Err, IfErr, OnOk, OnErr, IfOk, MatchBool, length, slice_index, ⊤}
 use Rattle.nor_model.specs.Guard.{code_of}
 use Rattle.nor_model.specs.Chip.{Chip, IsSame, is_locked, status1_of, kept_in}
@@ -44,7 +44,7 @@ pub record FitsJournal (journal : Content) (chip : Chip) : Type 0 where
   pub unit : ¬ IsOfOtherDevice journal chip.config
   pub fixed : FitsStatus journal chip
 
--- Holds if a check of a restore fails with this error, and the checks before it, in the order of the code, passed.
+-- Holds if a check of a restore fails with this error, and all checks that precede it in the code pass.
 abbrev pub RestoreJudges : Choice → Content → Chip → Refusal → Type 0
 RestoreJudges choice journal chip NoChip = shown_as chip.config ≡ Err Probes.NoChip
 RestoreJudges choice journal chip (UnknownChip fault) = shown_as chip.config ≡ Err (Probes.UnknownChip fault)
@@ -71,41 +71,43 @@ IsDeviceRefusal OtherUnit = ⊤
 IsDeviceRefusal StatusDiffers = ⊤
 IsDeviceRefusal _ = ⊥
 
--- Holds if the journal fits each chip that has this identification, and whose status 2 bits are in range.
+-- Holds if the journal fits each chip that has this identification, and whose non-volatile bits of status 2 are in
+-- range (below 128).
 abbrev pub FitsIdentity : Content → Identity → Type 0
 FitsIdentity journal identity =
     (chip : Chip) → chip.kept.two < 128 → IsIdentityOf chip identity → FitsJournal journal chip
 
--- Holds if `shown` says correctly whether the status bits that a restore can't write are the journal's, for each chip
--- that has this identification, and whose status 2 bits are in range.
+-- Holds if `shown` is `true` exactly if the status bits that a restore can't write are the journal's. This holds for
+-- each chip that has this identification, and whose non-volatile bits of status 2 are in range (below 128).
 abbrev pub ShowsFixed : Content → Identity → Bool → Type 0
 ShowsFixed journal identity shown = (chip : Chip) → chip.kept.two < 128 → IsIdentityOf chip identity
     → MatchBool shown (FitsStatus journal chip) (¬ FitsStatus journal chip)
 
--- Holds if acceptance is right: if the check accepts the unique ID and status bits, the journal fits the chip. This
--- holds for each chip that has this identification and the journal's ID and size, and whose status 2 bits are in range.
+-- Holds if the check of the unique ID and the status bits accepts only chips that the journal fits. This holds for each
+-- chip that has this identification and the journal's ID and size, and whose non-volatile bits of status 2 are in range
+-- (below 128).
 abbrev pub AcceptsDevice : Content → Identity → Result Unit Refusal → Type 0
 AcceptsDevice journal identity judged = (chip : Chip) → chip.kept.two < 128 → IsIdentityOf chip identity
     → IsOfType journal chip.config → OnOk judged (FitsJournal journal chip)
 
--- Holds if a refusal is right. If the check refuses the unique ID or status bits, its error is that of the first failed
--- check. This holds for each chip that has this identification and the journal's ID and size, and whose status 2 bits
--- are in range.
+-- Holds if the check of the unique ID and the status bits refuses a chip only with the error of the first failed check.
+-- This holds for each chip that has this identification and the journal's ID and size, and whose non-volatile bits of
+-- status 2 are in range (below 128).
 abbrev pub RefusesDevice : Content → Identity → Result Unit Refusal → Type 0
 RefusesDevice journal identity judged = (choice : Choice) (chip : Chip) → chip.kept.two < 128
     → IsIdentityOf chip identity → IsOfType journal chip.config → IfErr judged (RestoreJudges choice journal chip)
 
--- Holds for the error of a failed check. On a well-behaved bus contents and non-volatile status bits are as they were,
--- and on a modelled bus the error is that of the first failed check.
+-- Holds for an error of a failed check of a restore. On a well-behaved bus contents and non-volatile status bits are as
+-- they were. On a modelled bus the error is that of the first failed check.
 pub record IsRefusedFor (choice : Choice) (journal : Content) (old new : BusState) (refusal : Refusal) : Type 0 where
   pub judged : IsCheckedFirst refusal
   pub same : old.honest ≡ true → IsSame old.chip new.chip
   pub verdict : IsModelled old → RestoreJudges choice journal old.chip refusal
 
--- The meaning of an error before the first change. After a stop, the last transaction is the one at which the bus
--- stopped; on a well-behaved bus fewer than `most` transactions were left at the start. After a timeout, the last
--- transaction is a poll that showed BUSY; a timeout names address 0, and does not occur on a well-behaved bus. Any
--- other error is that of a failed check.
+-- The meaning of an error before the first change. A stop means that the bus stopped at the last transaction; on a
+-- well-behaved bus fewer than `most` transactions were left at the start. A timeout means that the last transaction was
+-- a poll that showed BUSY; it names address 0, and does not occur on a well-behaved bus. Any other error is that of a
+-- failed check.
 abbrev pub PrepareErrors : Choice → Content → ℕ → (old new : BusState) → Refusal → Type 0
 PrepareErrors choice journal most old new Stopped = HasStopped most old new
 PrepareErrors choice journal most old new (Timeout address) =
@@ -114,8 +116,8 @@ PrepareErrors choice journal most old new refusal = IsRefusedFor choice journal 
 
 -- ---- the scan
 
--- Holds after a sector was read: `bytes` are what was read, and the plan says what is needed to turn contents with
--- these bytes into contents with the bytes `saved`.
+-- Holds after a sector was read. `bytes` are the bytes that were read. The plan says whether a byte must change to turn
+-- contents with `bytes` into contents with the bytes `saved`, and whether this needs an erase.
 pub record PlansSaved (sector : ℕ) (saved bytes : List ℕ) (old new : BusState) (plan : SectorPlan) : Type 0 where
   pub small : (k : ℕ) → slice_index saved k < 256
   pub read : ReadsSector sector old new bytes
@@ -125,9 +127,10 @@ pub record PlansSaved (sector : ℕ) (saved bytes : List ℕ) (old new : BusStat
   pub planned : (content wanted : ℕ → ℕ) → AreBytesOf content bytes → AreBytesOf wanted saved
       → IsPlan content wanted 4096 plan
 
--- Holds after the sectors of a restore were chosen, and the ones that the choice reads were read. Only saved sectors
--- are marked. On every bus the touched sectors are those of the choice for the bytes that were read. On a well-behaved
--- bus with an idle chip of the journal's size, touched and raised sectors are those of the choice for the chip's bytes.
+-- Holds after the sectors of a restore were chosen, which may need reads of the saved sectors. Only saved sectors are
+-- marked. On every bus the touched sectors are those that `choice` gives for the bytes that were read. On a
+-- well-behaved bus with an idle chip of the journal's size, touched and raised sectors are those that `choice` gives
+-- for the chip's bytes.
 pub record MarksChosen (choice : Choice) (journal : Content) (old new : BusState) (scanned : Scanned) : Type 0 where
   pub marks : AreMarks (journal.size / 4096) scanned
   pub saved : (s : ℕ) → has scanned.touched s ≡ true → is_saved journal s ≡ true
@@ -142,7 +145,7 @@ pub record MarksChosen (choice : Choice) (journal : Content) (old new : BusState
   pub raised : IsOpen journal.size old → (s : ℕ)
       → has scanned.raised s ≡ choice.raised journal old.chip.bytes s
 
--- the plan of each saved sector in a rewrite
+-- the plan of each saved sector in a rewrite: the sector is touched and raised, so it will be erased and programmed
 abbrev pub plan_of_rewritten : SectorPlan
 plan_of_rewritten = record { touched = true; raised = true }
 
@@ -154,7 +157,8 @@ pub record MarksSaved (journal : Content) (scanned : Scanned) : Type 0 where
 
 -- ---- the changes
 
--- Holds if the changes are those that the scan found, with the journal's protection bits as the target.
+-- Holds if the changes have the touched and raised sectors of the scan, the erase types, size and status of the
+-- identification, and the journal's protection bits as the target.
 pub record AreChanges (journal : Content) (identity : Identity) (scanned : Scanned) (changes : Changes) : Type 0 where
   pub touched : changes.touched ≡ scanned.touched
   pub raised : changes.raised ≡ scanned.raised
@@ -171,35 +175,34 @@ abbrev pub NeedsStatusWith : Content → (touched : ℕ → Bool) → Chip → T
 NeedsStatusWith journal touched chip =
     (code_of chip.kept ≢ code_of (kept_in journal.status)) ⊎ SomeProtected touched chip
 
--- Holds if both are true: protection is lifted if and only if a touched sector is protected; and if the status is
--- locked, no status write is needed.
+-- Holds if protection is lifted if and only if a touched sector is protected, and if no status write is needed when the
+-- status is locked.
 pub record MayChangeStatus (journal : Content) (touched : ℕ → Bool) (chip : Chip) (changes : Changes) : Type 0 where
   pub lifts : changes.unlock ≡ true → SomeProtected touched chip
   pub free : changes.unlock ≡ true ⊎ NoneProtected touched chip
   pub not_locked : is_locked chip.kept ≡ true → ¬ NeedsStatusWith journal touched chip
 
--- Holds if the status is locked, and would have to be written.
+-- Holds if the status is locked, but would have to be written.
 pub record IsShut (journal : Content) (touched : ℕ → Bool) (chip : Chip) : Type 0 where
   pub locked : is_locked chip.kept ≡ true
   pub needs : NeedsStatusWith journal touched chip
 
--- Holds if `MayChangeStatus` holds for each chip with this identification and for the changes that are returned, if
--- any.
+-- Holds if changes are returned only if `MayChangeStatus` holds for them and for each chip with this identification.
 abbrev pub MakesChanges : Content → Identity → (ℕ → Bool) → Result Changes Refusal → Type 0
 MakesChanges journal identity touched judged =
     (chip : Chip) → IsIdentityOf chip identity → IfOk judged (MayChangeStatus journal touched chip)
 
--- Holds if an error is returned only if the status of each chip with this identification is locked and would have to be
--- written.
+-- Holds if an error is returned only if the status of each chip with this identification is locked, but would have to
+-- be written.
 abbrev pub RefusesShut : Content → Identity → (ℕ → Bool) → Result Changes Refusal → Type 0
 RefusesShut journal identity touched judged =
     (chip : Chip) → IsIdentityOf chip identity → OnErr judged (IsShut journal touched chip)
 
 -- ---- the preparation as a whole
 
--- The result of the preparation on a modelled bus. All checks of the restore pass for the chip, the chip was identified
--- as what its ID or SFDP says, and the changes that the journal asks for can be made to the chip (`CanApply`). The
--- changes write the status only if that is needed.
+-- The result of a restore's preparation on a modelled bus. All checks of the restore pass, and the chip was identified
+-- as what its ID or SFDP says. The changes that the journal asks for can be made to the chip (`CanApply`), and they
+-- write the status only if that is needed.
 pub record IsPreparedFor (choice : Choice) (journal : Content) (old new : Chip)
     (prepared : PreparedRestore) : Type 0 where
   pub accepted : RestoreAccepts choice journal old
@@ -215,10 +218,11 @@ pub record IsPreparedFor (choice : Choice) (journal : Content) (old new : Chip)
   pub needed : (prepared.changes.unlock || writes_code prepared.changes) ≡ true
       → NeedsStatusBy choice journal old
 
--- The result of a restore's preparation on every bus. The changes fit the journal, the touched sectors are those of the
--- choice for the bytes that were read, and the counts are within their bounds. On a well-behaved bus the chip is as
--- before and idle, and if it has the journal's size, the touched sectors are those of the choice for its bytes. On a
--- modelled bus all checks pass, and the changes can be made (`IsPreparedFor`).
+-- The result of a restore's preparation on every bus. The changes fit the journal, the touched sectors are those that
+-- `choice` gives for the bytes that were read, and the counts are within their bounds. On a well-behaved bus the chip
+-- is idle, and contents and non-volatile status bits are as before. If the chip of such a bus has the journal's size,
+-- the touched sectors are those that `choice` gives for the chip's bytes. On a modelled bus all checks pass, and the
+-- changes can be made (`IsPreparedFor`).
 pub record IsPreparedRestore (choice : Choice) (journal : Content) (old new : BusState)
     (prepared : PreparedRestore) : Type 0 where
   pub consistent : AreConsistent prepared.changes
@@ -243,9 +247,9 @@ pub record IsPreparedRestore (choice : Choice) (journal : Content) (old new : Bu
 
 -- ---- the restore after its preparation
 
--- Holds for a choice with which a restore leaves the saved bytes. Each saved sector in which a byte differs is touched,
+-- Holds for a choice of sectors that is sufficient for a restore. Each saved sector in which a byte differs is touched,
 -- and each one in which a bit must go from 0 to 1 is raised. Only saved sectors are touched, and only touched sectors
--- are raised. Before the first change at most as many sectors are read as are saved.
+-- are raised. Before the first change no more sectors are read than are saved.
 pub record IsSoundChoice (choice : Choice) : Type 0 where
   pub saved : (journal : Content) (content : ℕ → ℕ) (s : ℕ) → choice.touched journal content s ≡ true
       → is_saved journal s ≡ true
@@ -257,7 +261,7 @@ pub record IsSoundChoice (choice : Choice) : Type 0 where
       → choice.touched journal content s ≡ true
   pub few : (saved : ℕ) → choice.reads saved ≤ saved
 
--- Holds if a restore that began in the state `old` has prepared its changes.
+-- Holds if a restore that began in the state `old` has prepared its changes, and left the state `new`.
 pub record HasPrepared (choice : Choice) (journal : Content) (old new : BusState)
     (prepared : PreparedRestore) : Type 0 where
   pub sound : IsSoundChoice choice
@@ -265,7 +269,7 @@ pub record HasPrepared (choice : Choice) (journal : Content) (old new : BusState
   pub is : IsPreparedRestore choice journal old new prepared
   pub replies : FitsReplies journal old new
 
--- The promises of a restore, however it chooses its sectors, after its preparation succeeded.
+-- The promises of a restore whose preparation succeeded, for any choice of its sectors.
 pub record KeepsPromises (choice : Choice) (journal : Content) (old new : BusState)
     (result : Result Report Refusal) : Type 0 where
   pub restores_original : IsModelled old → RestoresOriginal journal old new result

@@ -1,10 +1,10 @@
--- A chip that is kept in files, and what these may hold while they are overwritten.
+-- A chip whose contents are in files, and what these files may hold while they are overwritten.
 use Rattle.std.specs.Prelude.{◌≡◌, ◌⊎◌, ℕ}
 use Rattle.nor_model.specs.Chip.{Chip}
 
--- Holds for a chip that is opened from files that held the old chip and were being overwritten with the new one. Each
--- byte is the old or the new one, and so are the non-volatile bits of each status byte. The chip is idle, and has the
--- configuration of the old one.
+-- Holds if the chip `opened` can be opened from files that held the chip `old` and were being overwritten with the chip
+-- `new`. Each byte is that of `old` or of `new`, and so are the non-volatile bits of each status byte. The chip is
+-- idle, and has the configuration of `old`.
 pub record IsWrittenOver (old new opened : Chip) : Type 0 where
   pub config : opened.config ≡ old.config
   pub bytes : (a : ℕ) → (opened.bytes a ≡ old.bytes a) ⊎ (opened.bytes a ≡ new.bytes a)

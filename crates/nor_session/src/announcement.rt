@@ -6,16 +6,17 @@ ghost use Rattle.nor_session.specs.Announcing.{announcement_of};
 use nor_apply::Changes;
 use nor_plan::erases;
 
-/// The numbers that a session, restore or rewrite announces: touched sectors (for a rewrite, every saved sector), and
-/// erases to send.
+/// The numbers of touched sectors and of erases, which a session, restore or rewrite passes to a closure before it
+/// changes the chip. For a rewrite every saved sector counts as touched.
 #[derive(Clone, Copy, Debug, PartialEq, Eq)]
 pub struct Announcement {
     pub touched: u32,
     pub erases: u32,
 }
 
-/// Calls `announce` with `touched`, which must be the number of touched sectors, and the number of erases that
-/// `changes` needs. `announce` must accept every announcement.
+/// Calls `announce` with `touched`, the number of touched sectors, and with the least number of erases that cover
+/// exactly the raised sectors of `changes`. `changes` must be consistent (`AreConsistent`), and `announce` must accept
+/// every announcement.
 pub(crate) fn announce_changes<F: FnOnce(Announcement)>(
     announce: F,
     changes: &Changes,

@@ -1,4 +1,4 @@
-//! A backup: saves the whole chip, and changes nothing.
+//! The call `backup`, which saves the whole chip in a journal and changes nothing.
 ghost use Rattle.std.specs.Prelude.{◌≡◌, true};
 ghost use Rattle.nor_journal.specs.Vault.{IsFresh};
 ghost use Rattle.nor_probe.specs.Known.{IsModelled};
@@ -11,16 +11,18 @@ use nor_probe::ChipName;
 use nor_request::{Refusal, Report};
 use nor_scan::{identify, save_whole};
 
-/// Saves every sector of the chip, its protection bits and its unique ID to `vault`, and changes nothing. With `named`
-/// the chip must have this name. `vault` must be empty and unsealed.
+/// Saves every sector of the chip, its protection bits and its unique ID to `vault`, and changes nothing. If `named` is
+/// given, the chip must have that name. `vault` must be empty and unsealed.
 ///
 /// The journal of a session saves only the sectors that the session will change, and can undo only that session. If a
-/// faulty wire or chip changes another sector, the session's journal doesn't have its bytes. A backup has them. On a
-/// modelled bus, after success, a `telling` vault holds a journal from which `restore` and `rewrite` can restore the
-/// chip: now, and after any changes of bytes and protection bits that they can write (`backup_restores_any`).
+/// faulty wire or chip changes another sector, the session's journal doesn't contain the bytes of that sector, but a
+/// backup does. After success on a modelled bus, a `telling` vault holds a journal from which `restore` and `rewrite`
+/// can restore the chip. They can do so at once, and after any changes of bytes and protection bits that these two
+/// calls can write (`backup_restores_any`).
 ///
-/// On any bus no modifying command is sent, and the journal of a `telling` vault has what the bus replied. The vault is
-/// sealed if and only if the call succeeds. The report counts no change, and all transactions.
+/// On any bus no modifying command is sent, and the vault is sealed if and only if the call succeeds. After success on
+/// any bus, the journal of a `telling` vault contains what the bus replied. The report counts 0 touched sectors, erases
+/// and programs, and counts all transactions.
 ///
 /// Returns error 1 (no chip), 2 (unknown chip), 3 (other name), 11 (the vault failed), 12 (the bus stopped) or 13 (the
 /// chip stayed busy during the identification; not on a well-behaved bus). On any bus nothing is sent after the

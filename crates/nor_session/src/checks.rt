@@ -1,4 +1,5 @@
-//! Verifies the changed sectors at the end of a session or restore.
+//! The verification at the end of a session or restore: reads the touched sectors back, and compares them with the
+//! target bytes.
 ghost use Rattle.std.specs.Prelude.{◌≡◌, ◌<◌, ℕ, true, IfOk, IfErr, OnOk};
 ghost use Rattle.nor_driver.specs.OnlyReads.{OnlyReads};
 ghost use Rattle.nor_plan.specs.SectorSet.{has, LiesBelow};
@@ -19,7 +20,7 @@ use nor_request::Refusal;
 pub(crate) enum CheckFault {
     /// The bus stopped.
     Stopped,
-    /// A byte that was read back isn't the target byte. The address is that of the first difference.
+    /// A byte that was read back isn't the target byte. `address` is the first address at which this is so.
     Mismatch { address: u32 },
 }
 
@@ -46,8 +47,8 @@ impl From<CheckFault> for Refusal {
 /// touched sector. Returns the number of transactions.
 ///
 /// Returns `Stopped` if the bus stopped, and `Mismatch` if a byte differs. On any bus the address of a mismatch is in a
-/// touched sector. On a well-behaved bus, if the chip is idle and the touched sectors lie on it, the address is the
-/// first one in these sectors at which the chip differs from `source`.
+/// touched sector. On a well-behaved bus, if the chip is idle and the touched sectors lie on it, that address is the
+/// first address in the touched sectors at which the chip differs from `source`.
 pub(crate) fn check_all<B: Bus, S: Source>(
     bus: &mut B,
     source: &S,
@@ -74,7 +75,7 @@ pub(crate) fn check_all<B: Bus, S: Source>(
     Ok(sent)
 }
 
-// Reads a sector and compares it with its target bytes.
+// Reads the sector `sector` into `bytes`, and compares it with its target bytes `wanted`.
 fn check_sector<B: Bus>(
     bus: &mut B,
     sector: u32,

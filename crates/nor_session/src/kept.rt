@@ -1,4 +1,5 @@
-//! The states of a session or restore after the journal is complete: ready to change the chip, and ready for the check.
+//! The two states of a session or restore after its journal is complete: a `Kept` is ready to change the chip, and a
+//! `Done` is ready for the check of the result.
 //!
 //! Only `Kept` changes a chip, and it is constructed only with evidence of a sealed vault or of a journal that was
 //! read.
@@ -31,8 +32,8 @@ impl Restorer {
     }
 }
 
-/// The state after the vault was sealed, or the journal was read. A faithful vault then holds the journal. Only this
-/// state changes the chip. A `Kept` can't be dropped, so `finish` must consume it.
+/// The state after the vault was sealed, or the journal was read. In this state a faithful vault holds the journal.
+/// Only a `Kept` changes the chip. A `Kept` can't be dropped, so `finish` must consume it.
 pub(crate) struct Kept<'a, B: Bus, S: Source> {
     pub(crate) bus: &'a mut B,
     pub(crate) source: &'a S,
@@ -42,7 +43,8 @@ pub(crate) struct Kept<'a, B: Bus, S: Source> {
 
 impl<'a, B: Bus, S: Source> Kept<'a, B, S> {
     /// Makes the changes. If `verify` is set, reads the touched sectors back and compares them with their target bytes.
-    /// Returns the counts of the work, or error 12 (the bus stopped), 13 (the chip stayed busy) or 14 (a byte differs).
+    /// `changes` must be consistent (`AreConsistent`), and `source` must have every touched sector. Returns the counts
+    /// of the work, or error 12 (the bus stopped), 13 (the chip stayed busy) or 14 (a byte differs).
     pub(crate) fn finish(self, verify: bool) -> Result<Work, Refusal>
         requires consistent { AreConsistent self.changes.now }
         requires sourced { (s : ℕ) → has self.changes.now.touched s ≡ true → S.has self.source.now s ≡ true }
@@ -73,8 +75,8 @@ impl<'a, B: Bus, S: Source> Kept<'a, B, S> {
     }
 }
 
-/// The state in which all is written, and only the check is left. Only `Kept` constructs a `Done`, which can't be
-/// dropped.
+/// The state after everything was written, in which only the check is left. Only `Kept` constructs a `Done`, which
+/// can't be dropped.
 pub(crate) struct Done<'a, B: Bus, S: Source> {
     bus: &'a mut B,
     source: &'a S,
@@ -83,8 +85,8 @@ pub(crate) struct Done<'a, B: Bus, S: Source> {
 }
 
 impl<'a, B: Bus, S: Source> Done<'a, B, S> {
-    // If `verify` is set, reads the touched sectors back and compares them with their target bytes. Returns the work,
-    // which counts these reads too.
+    // If `verify` is set, reads the touched sectors back and compares them with their target bytes. Returns the counts
+    // of the work, including these reads.
     fn check(self, verify: bool) -> Result<Work, Refusal>
         requires fits { self.work.transactions ≤ most_applied 4096 }
         requires sourced { (s : ℕ) → has self.changes.now.touched s ≡ true → S.has self.source.now s ≡ true }

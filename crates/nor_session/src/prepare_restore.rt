@@ -1,5 +1,6 @@
-//! The steps of a restore before it changes anything: it identifies the chip, which the journal must fit, reads the
-//! saved sectors unless all of them are to be changed, and finds out which changes are needed.
+//! The steps of a restore or rewrite before it changes anything. Both identify the chip, and check that the journal
+//! fits it. A restore then reads the saved sectors; a rewrite doesn't, because it changes all of them. Both then
+//! determine which changes are needed.
 ghost use Rattle.std.specs.Prelude.{◌≡◌, ◌<◌, ◌≤◌, ℕ, true, None, length, IfOk, IfErr, OnOk, OnErr, MatchBool};
 ghost use Rattle.nor_driver.specs.OnlyReads.{OnlyReads, HasStopped};
 ghost use Rattle.nor_plan.specs.SectorSet.{has};
@@ -33,8 +34,8 @@ pub(crate) struct PreparedRestore {
     pub transactions: u64,
 }
 
-/// Identifies the chip, reads the sectors that the journal saved, and makes all checks of a restore that changes the
-/// sectors that differ. Returns error 1, 2, 16, 20, 17 or 9 (checked in this order), 12 or 13.
+/// Prepares `restore`: identifies the chip, checks that the journal fits it, and reads the saved sectors, to find those
+/// that differ from the journal. Returns error 1, 2, 16, 20, 17 or 9 (checked in this order), 12 or 13.
 #[tactic(auto, using(crate::proofs::SavedBytes::saved_room))]
 pub(crate) fn prepare_restore<B: Bus>(
     bus: &mut B,
@@ -58,8 +59,8 @@ pub(crate) fn prepare_restore<B: Bus>(
     })
 }
 
-/// Identifies the chip, and makes all checks of a restore that changes every sector that the journal saved. Returns
-/// error 1, 2, 16, 20, 17 or 9 (checked in this order), 12 or 13.
+/// Prepares `rewrite`: identifies the chip, checks that the journal fits it, and marks every saved sector for an erase,
+/// without reading it. Returns error 1, 2, 16, 20, 17 or 9 (checked in this order), 12 or 13.
 pub(crate) fn prepare_rewrite<B: Bus>(
     bus: &mut B,
     journal: &Journal<'_>,
@@ -81,7 +82,7 @@ pub(crate) fn prepare_rewrite<B: Bus>(
     })
 }
 
-// Identifies the chip, and checks that the journal fits it.
+// Identifies the chip, and checks that the journal fits its ID, size, unique ID and status bits.
 fn identify_saved<B: Bus>(bus: &mut B, journal: &Journal<'_>) -> Result<Identity, Refusal>
     ensures leaves { OnlyReads most_identity (B.state bus.old) (B.state bus.new) }
     ensures identifies { IfOk result (ReadsIdentity None (B.state bus.old) (B.state bus.new)) }
@@ -97,7 +98,8 @@ fn identify_saved<B: Bus>(bus: &mut B, journal: &Journal<'_>) -> Result<Identity
     Ok(identity)
 }
 
-// Identifies the chip, and checks that it has the journal's ID and size.
+// Identifies the chip, and returns error 16 if it doesn't have the journal's ID and size. The check precedes the reads
+// of status 2 and the unique ID.
 fn identify_type<B: Bus>(bus: &mut B, journal: &Journal<'_>) -> Result<Identity, Refusal>
     ensures leaves { OnlyReads most_identity (B.state bus.old) (B.state bus.new) }
     ensures identifies { IfOk result (ReadsIdentity None (B.state bus.old) (B.state bus.new)) }
@@ -120,7 +122,8 @@ fn is_of_type(journal: &Journal<'_>, found: &Found) -> bool
     journal.id() == found.id && journal.size() == found.size
 }
 
-// Checks the unique ID, and the status bits that a restore can't write.
+// Returns error 20 if the journal has a unique ID that isn't the chip's, and otherwise error 17 if the status bits that
+// a restore can't write differ from the journal's.
 fn judge_device(journal: &Journal<'_>, identity: &Identity) -> Result<(), Refusal>
     ensures faults { IfErr result IsDeviceRefusal }
     ensures fits { AcceptsDevice journal.now identity.now result }
@@ -140,8 +143,8 @@ fn judge_device(journal: &Journal<'_>, identity: &Identity) -> Result<(), Refusa
     }
 }
 
-// Returns whether the status bits that flashnor never changes are those of the journal; without block protection,
-// whether all non-volatile status bits are.
+// Returns whether the status bits that a restore can't write are those of the journal. With block protection these are
+// the bits that flashnor never changes, without it they are all non-volatile status bits.
 fn has_fixed(journal: &Journal<'_>, identity: &Identity) -> bool
     ensures shows { ShowsFixed journal.now identity.now result }
     ensures fixed { result ≡ true → HasFixedRead journal.now identity.now }
@@ -151,7 +154,8 @@ fn has_fixed(journal: &Journal<'_>, identity: &Identity) -> bool
     saved.kept() == read.kept() || identity.found.scheme && saved.fixed() == read.fixed()
 }
 
-// Reads each saved sector, in ascending order, and compares it with the journal's bytes.
+// Reads each saved sector, in ascending order, and compares it with the journal's bytes. Marks the sectors that differ
+// as touched, and those that need an erase as raised.
 fn scan_saved<B: Bus>(bus: &mut B, journal: &Journal<'_>) -> Result<Scanned, Stopped>
     ensures leaves { OnlyReads (length journal.now.saved) (B.state bus.old) (B.state bus.new) }
     ensures scans { IfOk result (MarksChosen differing journal.now (B.state bus.old) (B.state bus.new)) }
@@ -167,7 +171,7 @@ fn scan_saved<B: Bus>(bus: &mut B, journal: &Journal<'_>) -> Result<Scanned, Sto
     Ok(scanned)
 }
 
-// Marks every saved sector as one that is erased and programmed.
+// Marks every saved sector as touched and raised, so that it will be erased and programmed.
 fn mark_saved(journal: &Journal<'_>) -> Scanned
     ensures { MarksSaved journal.now result }
 {
@@ -180,8 +184,8 @@ fn mark_saved(journal: &Journal<'_>) -> Scanned
     scanned
 }
 
-// Returns what a rewrite does to the saved sector with these bytes, even if the chip has them already: an erase and
-// programs.
+// Returns the plan of a rewrite for a saved sector with these bytes. The sector is touched and raised, so it will be
+// erased and programmed, even if the chip has these bytes already.
 fn plan_rewritten(_saved: &[u8; SECTOR_LEN as usize]) -> SectorPlan
     ensures { result ≡ plan_of_rewritten }
 {
@@ -191,7 +195,8 @@ fn plan_rewritten(_saved: &[u8; SECTOR_LEN as usize]) -> SectorPlan
     }
 }
 
-// Reads a sector. Returns what is needed to turn it into the saved sector.
+// Reads the sector `sector` into `bytes`. Returns whether a byte must change to turn it into `saved`, and whether this
+// needs an erase.
 fn plan_saved<B: Bus>(
     bus: &mut B,
     sector: u32,
@@ -207,7 +212,8 @@ fn plan_saved<B: Bus>(
     Ok(Plan::of(&*bytes, saved))
 }
 
-// Returns what must be changed, or error 9 if the status is locked and would have to be written.
+// Returns the changes that turn the chip into what the journal saved, or error 9 if the status is locked and would have
+// to be written.
 fn judge_changes(
     journal: &Journal<'_>,
     identity: &Identity,

@@ -1,4 +1,5 @@
-//! A restore: writes the sectors and protection bits that a journal saved back to the chip.
+//! The calls `restore` and `rewrite`, which write the sectors and protection bits that a journal saved back to the
+//! chip.
 ghost use Rattle.std.specs.Prelude.{◌≡◌, ◌≤◌, ℕ, true, OnOk};
 ghost use Rattle.nor_model.specs.Bus.{BusState};
 ghost use Rattle.nor_plan.specs.SectorSet.{has};
@@ -20,22 +21,22 @@ use nor_journal::Journal;
 use nor_model::Bus;
 use nor_request::{Refusal, Report};
 
-/// Restores the saved sectors and the protection bits of `journal`, and verifies the sectors that it changed. Sectors
-/// that are read with their saved bytes are not written. Success on any bus means that each saved sector was read with
-/// its saved bytes, those that were changed after everything was written (`read_back`).
+/// Restores the saved sectors and the protection bits of `journal`, and verifies the sectors that it changed. A sector
+/// that already has its saved bytes is not written. After success on any bus, each saved sector was read with its saved
+/// bytes. If the sector was changed, that read followed all writes (`read_back`).
 ///
-/// A journal of format 2 is accepted only if the unique ID that is read from the chip is the one that it contains. A
+/// A journal of format 2 is accepted only if the unique ID that is read from the chip is the one in the journal. A
 /// journal of format 1 contains none, so a restore from it checks ID, size and status bits, but no unique ID.
 ///
 /// On a modelled bus a restore that is stopped can be run again: if the journal could restore a chip at the start, it
 /// can restore that chip at every exit. In this case success leaves that chip, and the only possible error is 12.
 ///
 /// Before anything is modified, returns error 1 (no chip), 2 (unknown chip), 16 (another ID or size), 20 (another
-/// device), 17 (other status bits) or 9 (locked status must be written). They are checked in this order. Error 17 is
-/// for the status bits that flashnor never changes and, without block protection, for all non-volatile ones. Also
-/// returns 12 (the bus stopped), 13 (the chip stayed busy; not on a well-behaved bus) or 14 (the bytes that were read
-/// back differ; not on a modelled bus). On any bus nothing is sent after the transaction that error 12, 13 or 14
-/// reports.
+/// device), 17 (other status bits) or 9 (the status is locked, but would have to be written). They are checked in this
+/// order. Error 17 is for the status bits that flashnor never changes and, without block protection, for all
+/// non-volatile ones. Also returns 12 (the bus stopped), 13 (the chip stayed busy; not on a well-behaved bus) or 14
+/// (the bytes that were read back differ; not on a modelled bus). On any bus nothing is sent after the transaction that
+/// error 12, 13 or 14 reports.
 pub fn restore<B: Bus>(bus: &mut B, journal: &Journal<'_>) -> Result<Report, Refusal>
     ensures restores_original { IsModelled (B.state bus.old)
         → RestoresOriginal journal.now (B.state bus.old) (B.state bus.new) result }
@@ -49,9 +50,9 @@ pub fn restore<B: Bus>(bus: &mut B, journal: &Journal<'_>) -> Result<Report, Ref
 }
 
 /// Runs a restore as `restore` does, with the same promises. `announce` must accept every announcement. Before the
-/// first modifying command it receives the numbers of touched sectors and of erases, even if both are 0. A saved sector
-/// is touched if its bytes, as read from the chip, are not the saved ones. A restore that refuses the chip makes no
-/// announcement.
+/// first modifying command `announce` receives the numbers of touched sectors and of erases, even if both are 0. A
+/// saved sector is touched if its bytes, as read from the chip, are not the saved ones. A restore that refuses the chip
+/// makes no announcement.
 ///
 /// The clause `announces` states for every bus that an announcement was made or no modifying command was sent. After
 /// success the announced numbers are those of the report. No clause states that the announcement comes first. A status
@@ -79,14 +80,15 @@ pub fn restore_announced<B: Bus, F: FnOnce(Announcement) + Drop>(
 /// Restores the saved sectors and the protection bits of `journal` as `restore` does, but erases and programs every
 /// saved sector, even if it has its saved bytes already, and then verifies it.
 ///
-/// After an erase or a program was interrupted, a memory cell may be left between 0 and 1: it may read right once and
-/// wrong later. `restore` doesn't write a sector that reads right, so it can leave such a cell. `rewrite` reads no
-/// sector before it writes it. After success on any bus, an erase was sent for each saved sector, and no erase was sent
-/// after the first page program (`thorough`). If a saved sector is protected, the protection is lifted first.
+/// After an erase or a program was interrupted, a memory cell may be left between 0 and 1: it may be read correctly
+/// once and wrongly later. `restore` doesn't write a sector that is read with its saved bytes, so it can leave such a
+/// cell. `rewrite` reads no sector before it writes it. After success on any bus, an erase was sent for each saved
+/// sector, and no erase was sent after the first page program (`thorough`). If a saved sector is protected, the
+/// protection is lifted first.
 ///
 /// If a rewrite is stopped, `rewrite` can be run again, or `restore` instead. The errors are those of `restore`, in the
-/// same order. Error 9 (locked status must be written) is also returned if the status is locked and protects a saved
-/// sector that reads right. No session saves such a sector.
+/// same order. Error 9 (the status is locked, but would have to be written) is also returned if a locked status
+/// protects a saved sector that has its saved bytes. No session saves such a sector.
 pub fn rewrite<B: Bus>(bus: &mut B, journal: &Journal<'_>) -> Result<Report, Refusal>
     ensures restores_original { IsModelled (B.state bus.old)
         → RewritesOriginal journal.now (B.state bus.old) (B.state bus.new) result }
@@ -101,8 +103,8 @@ pub fn rewrite<B: Bus>(bus: &mut B, journal: &Journal<'_>) -> Result<Report, Ref
 }
 
 /// Runs a restore as `rewrite` does, with the same promises. `announce` must accept every announcement. Before the
-/// first modifying command it receives the numbers of saved sectors and of erases, even if both are 0. A rewrite that
-/// refuses the chip makes no announcement.
+/// first modifying command `announce` receives the numbers of saved sectors and of erases, even if both are 0. A
+/// rewrite that refuses the chip makes no announcement.
 ///
 /// The clause `announces` states for every bus that an announcement was made or no modifying command was sent. After
 /// success the announced numbers are those of the report. No clause states that the announcement comes first.
@@ -127,8 +129,9 @@ pub fn rewrite_announced<B: Bus, F: FnOnce(Announcement) + Drop>(
     change_chip(bus, journal, &prepared, announce)
 }
 
-// Announces the prepared changes, makes them, and verifies them. The clause `keeps` has the promises of the restore
-// that began in the state `old` and prepared these changes, however it chose its sectors.
+// Announces the prepared changes, makes them, and verifies the result. The clause `keeps` states the promises of the
+// whole restore (`KeepsPromises`). It states them for every choice of sectors, and for every state `old` from which a
+// preparation with that choice can have led to the present state (`HasPrepared`).
 fn change_chip<B: Bus, F: FnOnce(Announcement) + Drop>(
     bus: &mut B,
     journal: &Journal<'_>,

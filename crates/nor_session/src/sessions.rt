@@ -1,4 +1,5 @@
-//! A session: saves what it will change, and then makes the chip what the request asks for.
+//! The calls `session` and `session_announced`, which save each sector that they will change, and then change the chip
+//! as the request asks.
 ghost use Rattle.std.specs.Prelude.{◌≡◌, ℕ, List, true};
 ghost use Rattle.nor_model.specs.Chip.{Chip};
 ghost use Rattle.nor_journal.specs.Vault.{IsFresh};
@@ -17,7 +18,7 @@ use nor_model::Bus;
 use nor_request::{Refusal, Report, Request};
 use nor_scan::{identify, judge_identity};
 
-/// Saves each sector that it will touch to `vault`, and then makes the chip what `request` asks for.
+/// Saves each sector that it will touch to `vault`, and then changes the chip as `request` asks.
 ///
 /// `vault` must be empty and unsealed. `image` is the session's only buffer besides fixed arrays. For a write or an
 /// erase `image` must be as long as the chip. For a write it holds the target byte at each included address; its other
@@ -25,12 +26,14 @@ use nor_scan::{identify, judge_identity};
 /// the contents of `image` are unspecified.
 ///
 /// On every bus no modifying command is sent before the vault is sealed, and the journal of a sealed `telling` vault
-/// has what the bus replied. On a modelled bus that journal can restore the original chip at every exit, even if the
-/// bus stopped inside a transaction. If the request asks for verification, success on any bus means that each touched
-/// sector was read with its target bytes after everything was written, and each other scanned sector before that
-/// (`read_back`). On a well-behaved bus that is steady, or whose chip was idle at the start, an exit before the seal
-/// leaves the contents and the non-volatile status bits as they were. On a modelled bus success leaves the target bytes
-/// and protection bits.
+/// contains what the bus replied. On a modelled bus that journal can restore the original chip at every exit, even if
+/// the bus stopped inside a transaction. On a well-behaved bus that is steady, or whose chip was idle at the start, an
+/// exit before the seal leaves the contents and the non-volatile status bits as they were. On a modelled bus success
+/// leaves the target bytes and protection bits.
+///
+/// If the request asks for verification, success on any bus means that every scanned sector was read with its target
+/// bytes (`read_back`). For a touched sector, that read followed all writes; for any other scanned sector, it was part
+/// of the scan.
 ///
 /// Returns an error from 1 to 8 before the vault is used, and one from 9 to 11 before the vault is sealed (`Refusal`
 /// has their meanings). On a modelled bus an error from 1 to 10 is the verdict on the request (`IsVerdict`), and 14
@@ -56,8 +59,8 @@ pub fn session<B: Bus, V: Vault>(
 }
 
 /// Runs a session as `session` does, with the same promises. `announce` must accept every announcement. After the vault
-/// is sealed, and before the first modifying command, it receives the numbers of touched sectors and of erases, even if
-/// both are 0. A call that returns before the seal does not call `announce`.
+/// is sealed, and before the first modifying command, `announce` receives the numbers of touched sectors and of erases,
+/// even if both are 0. A call that returns before the seal does not call `announce`.
 ///
 /// The clause `announces` states for every bus that an announcement was made or no modifying command was sent. After
 /// success the announced numbers are those of the report. No clause states that the announcement comes first. A status
@@ -94,7 +97,7 @@ pub fn session_announced<B: Bus, V: Vault, F: FnOnce(Announcement) + Drop>(
     judged.answer(announce)
 }
 
-/// If a request is accepted for an image and a chip, no error is the verdict on it.
+/// If a request is accepted for an image and a chip, then no error is the verdict on that request for them.
 #[tactic(auto, using(nor_scan::proofs::OneVerdict::accepted_only))]
 pub fn accepted_alone()
     ensures { (request : Request) (image : List ℕ) (chip : Chip) (refusal : Refusal)

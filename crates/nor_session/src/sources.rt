@@ -7,7 +7,8 @@ use nor_apply::Source;
 use nor_geometry::SECTOR_LEN;
 use nor_journal::Journal;
 
-/// An image of the whole chip.
+/// The image of a session. After the scan of a write or an erase it has the target byte of each address in a touched
+/// sector.
 #[derive(Drop)]
 pub struct Image<'a> {
     pub bytes: &'a [u8],
@@ -24,7 +25,7 @@ impl Source for Image<'_> {
     }
 }
 
-/// The sectors that a journal saved.
+/// The sectors that a journal saved. The target byte of an address in a saved sector is the saved byte.
 #[derive(Drop)]
 pub struct Saved<'a> {
     pub journal: &'a Journal<'a>,
