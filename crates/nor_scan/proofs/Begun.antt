@@ -1,4 +1,4 @@
--- The records that a scan has written to a journal so far, on every bus.
+-- Lemmas about the records that a scan has written to a journal so far, on every bus.
 use Rattle.std.proofs.Common.{◌≡◌, ◌≤◌, ◌<◌, ◌+◌, ◌*◌, ◌/◌, ◌∙◌, ℕ, Bool, true, false, true≢false, inl, inr, List, Option, None, Some, refl, sym, arith}
 use Rattle.std.proofs.lemmas.Bool.{cases_eq}
 use Rattle.std.specs.Option.{IsSomeAnd}
@@ -21,8 +21,8 @@ whole_alike one other s (Some b) same whole = record {
   same = λ i below. whole.same i below ∙ sym (same i below);
 }
 
--- `HasPutSectors` stays true for other bytes that are the same in each saved sector, for an equal set of sectors, and
--- for a higher bound.
+-- `HasPutSectors` stays true if the bytes `one` are replaced by bytes that are the same in each saved sector, if
+-- `saved` is replaced by an equal set, and if the bound `n` is replaced by a higher one.
 pub put_alike : {V : Type 0} {state : V → VaultState} {writer : Writer V} {head : Content} {one other : ℕ → ℕ}
     {saved more : ℕ → Bool} {n m : ℕ}
     → ((s i : ℕ) → saved s ≡ true → i < 4096 → other (4096 * s + i) ≡ one (4096 * s + i))
@@ -40,10 +40,10 @@ put_alike {one = one} {other = other} {saved = saved} {more = more} same equal a
   next = let next = put.next in omega arith;
 }
 
--- Holds if the writer has the same vault as before, which refused nothing since. If the writer had been given only a
--- header for this size, it has now been given that header and the records of the sectors in `saved`, with the bytes
--- `read`. These sectors are below `n`. If the bus is well-behaved, and its chip idle and of this size, `read` has the
--- chip's bytes in these sectors.
+-- Holds between the start of a loop that writes records (`old`) and a later point of it (`new`). The writer has the
+-- same vault, which has refused nothing since. If the writer had been given only a header for this size, it has now
+-- been given that header and the records of the sectors in `saved`, with the bytes `read`. These sectors are below `n`.
+-- If the bus is well-behaved, and its chip is idle and of this size, `read` has the chip's bytes in these sectors.
 pub record HasJournalled {V : Type 0} (state : V → VaultState) (old new : Writer V) (size : ℕ) (bus : BusState)
     (read : ℕ → ℕ) (saved : ℕ → Bool) (n : ℕ) : Type 0 where
   pub same_vault : (vault_of new).ghost_name ≡ (vault_of old).ghost_name
@@ -63,26 +63,26 @@ journalled_none blank = record {
   put = λ head sized put. put_alike (λ s i is below. refl) blank (omega arith) put;
 }
 
--- ---- what follows from the records so far
+-- ---- consequences of `HasJournalled`
 
 module _ {V : Type 0} {state : V → VaultState} {old new : Writer V} {size n : ℕ} {bus : BusState} {read : ℕ → ℕ}
     {saved : ℕ → Bool} (was : HasJournalled state old new size bus read saved n) where
-  -- If a journal had only its header before, for this size, it now has the records of exactly the sectors in `saved`,
-  -- with the bytes `read`.
+  -- If the journal had only its header at the start, for this size, it now has the records of exactly the sectors in
+  -- `saved`, with the bytes `read`.
   pub replied_on : {head : Content} {other : ℕ → ℕ} {m : ℕ} → n ≤ m → head.size ≡ size
       → HasPutSectors state old head other none 0 → HasPutSectors state new head read saved m
   replied_on {head = head} above sized put =
       put_alike (λ s i is below. refl) (λ s. refl) above
       (was.put head sized (put_alike (λ s i is. absurd (true≢false (sym is))) (λ s. refl) (omega arith) put))
 
-  -- On a well-behaved bus with an idle chip of this size, the records have the chip's bytes.
+  -- On a well-behaved bus with an idle chip of this size, these records have the chip's bytes.
   pub kept_on : {head : Content} {other : ℕ → ℕ} {m : ℕ} → n ≤ m → IsOpen size bus → head.size ≡ size
       → HasPutSectors state old head other none 0 → HasPutSectors state new head bus.chip.bytes saved m
   kept_on above known sized put =
       put_alike (was.shown known) (λ s. refl) (omega arith) (replied_on above sized put)
 
-  -- `HasJournalled` stays true for a higher bound, an equal set of sectors, and other bytes `read` that are the same in
-  -- each saved sector.
+  -- `HasJournalled` stays true if the bound `n` is replaced by a higher one, `saved` by an equal set, and `read` by
+  -- bytes that are the same in each saved sector.
   pub journalled_later : {m : ℕ} {other : ℕ → Bool} {reread : ℕ → ℕ} → n ≤ m → ((s : ℕ) → other s ≡ saved s)
       → ((s i : ℕ) → saved s ≡ true → i < 4096 → reread (4096 * s + i) ≡ read (4096 * s + i))
       → HasJournalled state old new size bus reread other m
@@ -94,7 +94,7 @@ module _ {V : Type 0} {state : V → VaultState} {old new : Writer V} {size n : 
     put = λ head sized put. put_alike same equal above (replied_on (omega arith) sized put);
   }
 
-  -- `HasJournalled` holds for sector `n` too, after its record was written.
+  -- After the record of sector `n` was written, `HasJournalled` holds with this sector and the bound `n + 1`.
   pub journalled_more : {last : Writer V} {more : ℕ → Bool} {bytes : List ℕ} → n < size / 4096
       → (vault_of last).ghost_name ≡ (vault_of new).ghost_name
       → Accepted (vault_seen state new) (vault_seen state last)

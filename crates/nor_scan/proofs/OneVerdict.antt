@@ -1,5 +1,5 @@
--- A request has one verdict: the error that the check of the identification or of the touched sectors returns is the
--- first that applies, and if both accept the request, no error applies.
+-- A request has one verdict. If the check against the identification or the one against the touched sectors returns an
+-- error, it is the error with the lowest number that applies. If both accept the request, no error applies.
 use Rattle.std.proofs.Common.{◌≡◌, ◌≢◌, ◌<◌, ◌≤◌, ◌*◌, ◌∙◌, ℕ, Bool, true, false, List, length, Err, refl, sym, arith, rules}
 use Rattle.std.proofs.Common.{Option, None, Some}
 use mathlib.Core.Path.{fun_ext}
@@ -25,7 +25,7 @@ use Rattle.nor_scan.specs.Saving.{AsksForNone, NeedsStatus, NoneProtected, SomeP
 use Rattle.nor_scan.specs.Verdict.{IsNamed, NeedsStatusWrite, RefusalHolds, IsVerdict, IsAccepted, NoneHoldsTo, IdentityAccepts, ScanAccepts}
 use Rattle.nor_scan.proofs.Planned.{untouched}
 
--- ---- what the code checks, in order
+-- ---- the checks of the code, in order
 
 -- Holds if, for a write or an erase, the image is as long as the chip, and each included address is on the chip.
 pub record FitsChip (request : Request) (image : ℕ) (chip : Chip) : Type 0 where
@@ -38,8 +38,8 @@ pub record FitsProtection (request : Request) (chip : Chip) : Type 0 where
   pub scheme : is_data request.what ≡ false → chip.config.scheme ≡ true
   pub defined : chip.config.scheme ≡ true → is_undefined (code_of chip.kept) ≡ false
 
--- Holds if the check against the identification, for an image of this length, fails with this error on the chip. For
--- each error this includes those earlier checks of the code that the proof needs.
+-- Holds if the check against the identification, for an image of `image` bytes, fails with this error on the chip. For
+-- each error, the formula also states those earlier checks that passed and that the proof needs.
 abbrev pub OpeningJudges : Request → (image : ℕ) → Chip → Refusal → Type 0
 OpeningJudges request image chip (ImageSize size len) =
     (is_data request.what ≡ true) × (size ≡ chip.config.size) × (len ≡ image) × (image ≢ chip.config.size)
@@ -51,13 +51,13 @@ OpeningJudges request image chip UndefinedProtection =
 OpeningJudges request image chip RangeNotOffered = FitsProtection request chip × AsksForNone request.what chip
 OpeningJudges request image chip _ = ⊥
 
--- Holds if no error of the check against the identification applies, and `code` has the target protection bits.
+-- Holds if the check against the identification finds no error, and `code` has the target protection bits.
 pub record OpeningPasses (request : Request) (image : ℕ) (chip : Chip) (code : ℕ) : Type 0 where
   pub fits : FitsChip request image chip
   pub protection : FitsProtection request chip
   pub is_wanted : IsWantedCode request.what chip code
 
--- Holds if this error of the check after the scan applies to the chip, given its touched sectors.
+-- Holds if the check against the touched sectors fails with this error on the chip.
 abbrev pub ScanJudges : Request → (code : ℕ) → (touched : ℕ → Bool) → Chip → Refusal → Type 0
 ScanJudges request code touched chip StatusLocked =
     (is_locked chip.kept ≡ true) × NeedsStatus request.what request.unlock code touched chip
@@ -65,8 +65,9 @@ ScanJudges request code touched chip (Protected address) =
     (request.unlock ≡ false) × (sector : ℕ) × (address ≡ 4096 * sector) × IsLeastProtected touched chip sector
 ScanJudges request code touched chip _ = ⊥
 
--- Holds if the status is unlocked or needs no write, and protection is lifted only if the request allows it and a
--- touched sector is protected. If protection isn't lifted, no touched sector is protected.
+-- Holds if the check against the touched sectors passes. If the status is locked, it needs no write. Protection is
+-- lifted (`unlock`) only if the request allows it and a touched sector is protected. If protection isn't lifted, no
+-- touched sector is protected.
 pub record ScanPasses (request : Request) (code : ℕ) (touched : ℕ → Bool) (chip : Chip) (unlock : Bool) : Type 0 where
   pub lifts : unlock ≡ true → (request.unlock ≡ true) × SomeProtected touched chip
   pub free : unlock ≡ false → NoneProtected touched chip
@@ -74,7 +75,7 @@ pub record ScanPasses (request : Request) (code : ℕ) (touched : ℕ → Bool) 
 
 -- ---- the request
 
--- If the request is for a range that no defined protection bits protect exactly (`AsksForNone`), `is_data` is false.
+-- A request for a range that no defined protection bits protect exactly (`AsksForNone`) isn't a write or an erase.
 asks_for_range : (what : What) (chip : Chip) → AsksForNone what chip → is_data what ≡ false
 asks_for_range (WpRange start len) chip none = refl
 asks_for_range _ chip none = absurd none
@@ -83,7 +84,7 @@ none_or_code : (what : What) (chip : Chip) (code : ℕ) → AsksForNone what chi
 none_or_code (WpRange start len) chip code none wanted = none code wanted.defined wanted.protects
 none_or_code _ chip code none wanted = none
 
--- A range has at most one least value of the protection bits.
+-- If `x` and `y` both are the least defined protection bits for a range, they are equal.
 one_least : (size start len x y : ℕ) → IsLeastCode size start len x → IsLeastCode size start len y → x ≡ y
 one_least size start len x y first second =
     let above = λ (lower : x < y). second.least x lower first.defined first.protects in
@@ -110,11 +111,11 @@ needs_unlock : (what : What) (unlock : Bool) (code : ℕ) (touched : ℕ → Boo
 needs_unlock (WpRange start len) unlock code touched chip about_bytes off needs = absurd cc
 needs_unlock _ unlock code touched chip about_bytes off needs = let on = needs.0 in absurd cc
 
--- If protection is lifted only for a request that sets `unlock`, it isn't lifted for another request.
+-- If protection is lifted only for a request that sets `unlock`, it isn't lifted for a request that doesn't.
 never_lifted : (unlock lifted : Bool) → (lifted ≡ true → unlock ≡ true) → unlock ≡ false → lifted ≡ false
 never_lifted unlock lifted asked off = grind arith
 
--- ---- no error below a number
+-- ---- no error with a lower number applies
 
 -- Holds if no error with a number below `n` applies, and `n` is at most 9.
 pub record IsClear (request : Request) (image : List ℕ) (chip : Chip) (n : ℕ) : Type 0 where
@@ -153,7 +154,7 @@ module _ {request : Request} {image : List ℕ} {chip : Chip} where
       → RefusalHolds request image chip refusal → IsVerdict request image chip refusal
   first_of refusal is holds = record { holds = holds; first = λ other. none_below other is }
 
-  -- ---- the errors of the identification's check
+  -- ---- the errors of the check against the identification
 
   pub opening_judged : (refusal : Refusal) → IsNamed request.named chip.config
       → OpeningJudges request (length image) chip refusal → IsVerdict request image chip refusal
@@ -176,9 +177,10 @@ module _ {request : Request} {image : List ℕ} {chip : Chip} where
       let clear : IsClear request image chip 9 = search (rules, arith) in
       record { clear = λ refusal low. none_below refusal clear (omega arith); is_wanted = passes.is_wanted }
 
--- ---- the errors of the check after the scan
+-- ---- the errors of the check against the touched sectors
 
--- Some touched sector is protected if and only if the first such sector was found.
+-- If `found` is the first protected sector among the touched ones, or `None` if there is none, then some touched sector
+-- is protected if and only if `found` isn't `None`.
 pub some_protected-found : (touched : ℕ → Bool) (chip : Chip) (found : Option ℕ)
     → MatchOption found (NoneProtected touched chip) (IsLeastProtected touched chip)
     → MatchBool (is_some found) (SomeProtected touched chip) (NoneProtected touched chip)
@@ -186,12 +188,12 @@ some_protected-found touched chip None none = none
 some_protected-found touched chip (Some s) least = record { sector = s; held = least.is }
 
 module _ (request : Request) (image : List ℕ) (chip : Chip) where
-  -- true for the sectors that the request touches
+  -- True for the sectors that the request touches on this chip.
   abbrev touches : (s : ℕ) → Bool
   touches = is_touched chip.bytes (wanted request image chip)
 
-  -- If the request needs a status write for some target protection bits, it needs one for `code`, with which the
-  -- identification accepts the request.
+  -- Let the identification accept the request with the target protection bits `code`. If the request needs a status
+  -- write for some target protection bits, it needs one for `code`.
   needs_code : {code : ℕ} → IdentityAccepts request image chip code → NeedsStatusWrite request image chip
       → NeedsStatus request.what request.unlock code touches chip
   needs_code accepts needs = needs_same request.what _ needs.0 _ _ chip needs.1 accepts.is_wanted needs.2
@@ -202,8 +204,8 @@ module _ (request : Request) (image : List ℕ) (chip : Chip) where
       let touched = (and_parts (touches s) (is_block_protected chip (4096 * s) 4096) held).0 in
       needs_unlock request.what request.unlock needs.0 _ chip (touched_data request image chip s touched) off needs.2
 
-  -- No error below `n` applies. The premises say so for errors 1 to 8, for error 9 if `n` is above 9, and for error 10
-  -- if `n` is above 10.
+  -- No error with a number below `n` applies. The premises state this for errors 1 to 8, for error 9 if `n` is above 9,
+  -- and for error 10 if `n` is above 10.
   scan_first : (n : ℕ) (refusal : Refusal) → NoneHoldsTo 8 request image chip
       → (9 < n → ¬ RefusalHolds request image chip StatusLocked)
       → (10 < n → (address : ℕ) → ¬ RefusalHolds request image chip (Protected address))

@@ -1,4 +1,4 @@
--- Lemmas on the replies to the identification and to the scan.
+-- Lemmas about the replies to the identification and to the scan.
 use Rattle.std.proofs.Common.{◌≡◌, ◌≢◌, ◌<◌, ◌+◌, ◌*◌, ◌/◌, ◌%◌, ◌∙◌, ℕ, List, length, slice_index, refl, sym, ap, arith}
 use Rattle.nor_model.specs.Exchange.{Exchange}
 use Rattle.nor_model.specs.History.{Continues, KeepsReplies, Answered, begins_with, names}
@@ -19,7 +19,7 @@ use Rattle.nor_scan.specs.Replied.{IsIdentifiedBy}
 
 module _ (n : ℕ) {old new : List Exchange} {bytes : List ℕ}
     (answered : Answered (names 0x03 (4096 * n)) old new bytes) where
-  -- After a read of sector `n`, `bytes_read` is as before in each other sector.
+  -- A read of sector `n` doesn't change `bytes_read` in any other sector.
   pub read_others : (s i : ℕ) → s ≢ n → i < 4096 → bytes_read new (4096 * s + i) ≡ bytes_read old (4096 * s + i)
   read_others s i other below =
       let here : (4096 * s + i) / 4096 ≡ s = omega (arith, below) in
@@ -27,7 +27,7 @@ module _ (n : ℕ) {old new : List Exchange} {bytes : List ℕ}
       ((answered_keeps answered).same (names 0x03 (4096 * ((4096 * s + i) / 4096)))
       (names_other 0x03 (4096 * n) (4096 * ((4096 * s + i) / 4096)) (λ same. other (omega (arith, same, here)))))
 
-  -- After a read of sector `n` whose reply has 4,096 bytes, `bytes_read` has these bytes in this sector.
+  -- After a read of sector `n` whose reply has 4,096 bytes, `bytes_read` has the bytes of this reply in sector `n`.
   pub read_whole : length bytes ≡ 4096 → IsWholeSector (bytes_read new) n bytes
   read_whole long = record {
     whole = long;
@@ -55,8 +55,8 @@ identified_by found rest =
       unique = answered_last rest.read_unique;
     }
 
--- `IsIdentifiedBy` stays true if the history continues, and only the last replies to transactions that begin with 03h
--- may differ.
+-- `IsIdentifiedBy` stays true if the history continues, provided that only the last replies to transactions that begin
+-- with 03h differ.
 pub identified_later : {old new : List Exchange} {identity : Identity} → Continues old new
     → KeepsReplies (begins_with 0x03) old new → IsIdentifiedBy old identity → IsIdentifiedBy new identity
 identified_later continues keeps was = record {

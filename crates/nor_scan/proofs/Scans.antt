@@ -1,4 +1,4 @@
--- The state of a scan between two sectors: the marks, the reads and the image.
+-- The loop of a scan: the marks, the reads and the image after the sectors below a bound.
 use Rattle.std.proofs.Common.{◌≡◌, ◌≢◌, ◌<◌, ◌≤◌, ◌+◌, ◌-◌, ◌*◌, ◌/◌, ◌%◌, ◌&&◌, ◌||◌, ◌∙◌, ℕ, Bool, true, false, List}
 use Rattle.std.proofs.Common.{Option, take, drop, length, slice_index, refl, ap, sym, subst, arith, inl, inr}
 use Rattle.std.specs.Prelude.{if◌then◌else◌, ◌==◌, nat_lt}
@@ -33,18 +33,18 @@ use Rattle.nor_model.proofs.Sizes.{is_chip_size-in_blocks}
 use Rattle.nor_layout.specs.declared.ranges.Span.{Span}
 use borrow.Rule.Slice.PartMut.{put_mid}
 
--- Holds if two contents agree in the sectors below `n`.
+-- Holds if the contents `one` and `two` agree in the sectors below `n`.
 abbrev pub AgreeBelow : (n : ℕ) → (one two : ℕ → ℕ) → Type 0
 AgreeBelow n one two = (s i : ℕ) → s < n → i < 4096 → one (4096 * s + i) ≡ two (4096 * s + i)
 
--- Holds for each address in a sector below `n`, if that sector has an included address.
+-- Holds if the address `a` is in a sector below `n` that has an included address.
 abbrev pub IsIncludedBelow : Request → (n a : ℕ) → Type 0
 IsIncludedBelow request n a = (a / 4096 < n) × (has_in_sector (includes request.included) (a / 4096) ≡ true)
 
 -- Holds if the sectors below `n` with an included address were scanned, and no byte of the image from sector `n` on was
--- changed. For each content that agrees with what was read, the marks are right, and the image's touched sectors have
--- the target bytes. On a well-behaved bus whose chip was idle at the start and has this size, both also hold for the
--- chip's bytes.
+-- changed. For each content that agrees with what was read, the sectors are marked correctly, and the image has the
+-- target bytes of the touched sectors. On a well-behaved bus whose chip was idle at the start and has this size, both
+-- statements are also true for the chip's bytes.
 pub record HasScanned (request : Request) (size n : ℕ) (image image' : List ℕ) (old new : BusState)
     (scanned : Scanned) : Type 0 where
   pub marks : AreMarks n scanned
@@ -62,8 +62,9 @@ pub record HasScanned (request : Request) (size n : ℕ) (image image' : List �
 
 -- ---- marks
 
--- If a set has exactly those of the sectors `seen` that pass a test, and `n` is added if and only if it passes, the set
--- has exactly those of `seen` and `n` that pass.
+-- `seen` says whether sector `s` was seen, and `old` whether `s` was seen and passes a test. Suppose that sector `n` is
+-- seen now, too, and that it passes the test if and only if `verdict` is true. Then `more` says whether `s` was seen,
+-- and `new` whether `s` was seen and passes the test.
 tested : (n s : ℕ) (test : ℕ → Bool) (seen more : Bool) {verdict old new : Bool} → verdict ≡ test n → more ≡ ((s == n) || seen)
     → old ≡ (seen && test s) → new ≡ ((verdict && (s == n)) || old) → new ≡ (more && test s)
 tested n s test seen more is one was inserted = grind (arith, nat_tests)
@@ -71,7 +72,8 @@ tested n s test seen more is one was inserted = grind (arith, nat_tests)
 below_more : (n s : ℕ) → sectors_below (n + 1) s ≡ ((s == n) || sectors_below n s)
 below_more n s = grind (arith, nat_tests)
 
--- The marks are right for one sector more, after it was marked by a plan that is right.
+-- If the sectors in `seen` are marked correctly, and sector `n` is then marked by a plan that is right, the sectors in
+-- `seen` and `n` are marked correctly.
 pub right_more : {wanted content : ℕ → ℕ} {seen more : ℕ → Bool} {n : ℕ} {plan : SectorPlan} {old new : Scanned}
     → (plan.touched ≡ is_touched content wanted n) × (plan.raised ≡ is_raised content wanted n)
     → ((s : ℕ) → more s ≡ ((s == n) || seen s)) → HasMarked n plan old new → AreRight wanted content seen old
@@ -96,8 +98,8 @@ counted n plan old new false is below are marked =
     λ s low. sym (rw is at (marked.touched s)) in
     omega (arith, are.count, count_below-same 4096 (has old.touched) (has new.touched) same)
 
--- If `AreMarks` holds for `n`, which is below 4,096, it holds for `n + 1` after sector `n` was marked by a plan that is
--- raised only if it is touched.
+-- Let `n` be below 4,096, and let `AreMarks` hold for `n`. If sector `n` is marked by a plan that is raised only if it
+-- is touched, `AreMarks` holds for `n + 1`.
 pub marks_more : (n : ℕ) (plan : SectorPlan) (old new : Scanned) → n < 4096
     → (plan.raised ≡ true → plan.touched ≡ true) → AreMarks n old → HasMarked n plan old new → AreMarks (n + 1) new
 marks_more n plan old new below needed are marked = record {
@@ -106,7 +108,7 @@ marks_more n plan old new below needed are marked = record {
   count = marked.count ∙ counted n plan old new plan.touched refl below are marked;
 }
 
--- Marking a touched sector adds it to the set of touched sectors.
+-- If sector `n` is marked by a plan that is touched, exactly this sector is added to the touched sectors.
 pub marked_more : (n : ℕ) (plan : SectorPlan) (old new : Scanned) → plan.touched ≡ true → HasMarked n plan old new
     → HasOneMore (has old.touched) n (has new.touched)
 marked_more n plan old new touched marked = record {
@@ -114,22 +116,22 @@ marked_more n plan old new touched marked = record {
   others = λ s other. rw (marked.touched s, touched, ne_eqb s n other);
 }
 
--- Marking a sector that isn't touched leaves the set of touched sectors as it was.
+-- If sector `n` is marked by a plan that isn't touched, the set of touched sectors doesn't change.
 pub marked_none : (n : ℕ) (plan : SectorPlan) (old new : Scanned) → plan.touched ≡ false → HasMarked n plan old new
     → (s : ℕ) → has new.touched s ≡ has old.touched s
 marked_none n plan old new untouched marked s = rw untouched at (marked.touched s)
 
 -- ---- from sector to sector
 
--- Holds if the request is a write or an erase, sector `n` is on a chip of this size (at most 16 MiB), and `verdict` is
--- whether the sector has an included address.
+-- Holds if the request is a write or an erase, and sector `n` is on a chip of this size (at most 16 MiB). `verdict`
+-- says whether this sector has an included address.
 pub record IsAt (request : Request) (size n : ℕ) (verdict : Bool) : Type 0 where
   pub about_bytes : is_data request.what ≡ true
   pub below : n < size / 4096
   pub small : size ≤ 16777216
   pub included : has_in_sector (includes request.included) n ≡ verdict
 
--- `IsAt` follows from the loop's bound and its test.
+-- `IsAt` holds in the loop of `scan_all`, by the loop's bound and its test.
 pub is_at : {request : Request} {size n sectors : ℕ} {included : Option (List Span)} {test verdict : Bool}
     → is_chip_size size ≡ true → (0 < sectors → (is_data request.what ≡ true) × (sectors ≡ size / 4096))
     → n < sectors → included ≡ request.included → test ≡ has_in_sector (includes included) n → test ≡ verdict
@@ -168,11 +170,11 @@ nothing_scanned request size image state scanned blank = record {
   rest = λ a above. refl;
 }
 
--- ---- what follows from the sectors scanned so far
+-- ---- after the sectors below `n` were scanned
 
 module _ {request : Request} {size n : ℕ} {image image' : List ℕ} {old mid : BusState} {scanned : Scanned}
     (was : HasScanned request size n image image' old mid scanned) where
-  -- `HasScanned` still holds after a sector without an included address was skipped.
+  -- If sector `n` has no included address and is skipped, `HasScanned` holds for `n + 1`.
   pub skipped : IsAt request size n false → NoneInSector (includes request.included) n
       → HasScanned request size (n + 1) image image' old mid scanned
   skipped at excluded =
@@ -214,7 +216,7 @@ module _ {request : Request} {size n : ℕ} {image image' : List ℕ} {old mid :
   same_before : IsOpen size old → mid.chip.bytes ≡ old.chip.bytes
   same_before is_open = same_bytes (was.honest_reads.rested is_open.honest)
 
-  -- a sector was read, and its part of the image filled
+  -- Lemmas about the state after sector `n` was read and its part of the image was filled.
   module _ {width : ℕ} {part' bytes : List ℕ} {plan : SectorPlan} {new : BusState} (at : IsAt request size n true)
       (scans : ScansSector request size n (take width (drop (4096 * n) image')) part' bytes mid new plan)
       (exact : width ≡ 4096) where
@@ -222,23 +224,23 @@ module _ {request : Request} {size n : ℕ} {image image' : List ℕ} {old mid :
         → slice_index (take width (drop (4096 * n) image')) i ≡ slice_index image (4096 * n + i)
     of_image i below = cut_out image' (4096 * n) width i exact below ∙ was.rest (4096 * n + i) (omega arith)
 
-    -- On a well-behaved bus with an idle chip of this size, the plan is that of the chip as it was before the scan.
+    -- On a well-behaved bus with an idle chip of this size, the plan is right for the chip as it was before the scan.
     pub planned_before : IsOpen size old
         → (plan.touched ≡ is_touched old.chip.bytes (wanted_at request image size old.chip.bytes) n)
         × (plan.raised ≡ is_raised old.chip.bytes (wanted_at request image size old.chip.bytes) n)
     planned_before is_open = rw (same_before is_open)
         at (scans.planned mid.chip.bytes (scans.shown (later is_open)) image of_image)
 
-    -- On a well-behaved bus with an idle chip of this size, the bytes read are those of the chip as it was before the
-    -- scan.
+    -- On a well-behaved bus with an idle chip of this size, the bytes that were read are those of the chip as it was
+    -- before the scan.
     pub read_before : length bytes ≡ 4096 → IsOpen size old → IsWholeSector old.chip.bytes n bytes
     read_before long is_open = record {
       whole = long;
       same = rw (same_before is_open) at (scans.shown (later is_open)).byte;
     }
 
-    -- A content that agrees with what was read up to this sector agrees with what was read before it, and has the bytes
-    -- that were read in this sector.
+    -- If `content` agrees in the sectors up to and including `n` with what was read, it agrees in the sectors below `n`
+    -- with what was read before sector `n` (`agree_before`), and has the bytes that were read from sector `n`.
     agree_before : (content : ℕ → ℕ) → AgreeBelow (n + 1) content (bytes_read new.history)
         → AgreeBelow n content (bytes_read mid.history)
     agree_before content same s i below small = same s i (omega arith) small
@@ -250,7 +252,7 @@ module _ {request : Request} {size n : ℕ} {image image' : List ℕ} {old mid :
       byte = λ i small. (read_whole n scans.answered long).same i small ∙ sym (same n i (omega arith) small);
     }
 
-    -- `HasScanned` still holds after one more sector was scanned.
+    -- After sector `n` was scanned, `HasScanned` holds for `n + 1`.
     pub scanned_more : {next : Scanned} → HasMarked n plan scanned next → length part' ≡ 4096
         → length bytes ≡ 4096 → length image' ≡ size
         → HasScanned request size (n + 1) image (put_mid (4096 * n) width image' part') old new next
@@ -291,7 +293,7 @@ module _ {request : Request} {size n : ℕ} {image image' : List ℕ} {old mid :
           rest = λ a above. put.outside a (λ same. absurd (omega arith)) ∙ was.rest a (omega arith);
         }
 
-  -- Before a sector with an included address, fewer sectors were read than the scan reads in all.
+  -- If sector `n` has an included address, fewer sectors were read before it than the scan reads in all.
   pub room : IsAt request size n true → scanned.reads < scanned_sectors request size
   room at =
       let test = has_in_sector (includes request.included) in
@@ -305,8 +307,8 @@ module _ {request : Request} {size n : ℕ} {image image' : List ℕ} {old mid :
         count_below-add (n + 1) (size / 4096 - (n + 1)) test,
       ))
 
-  -- `Scans` follows from `HasScanned` if all sectors that the request scans were read, and the counts and the marks
-  -- (`AreMarks`, `AreRight`) are those of the whole chip.
+  -- `Scans` follows from `HasScanned`. The premises are that all sectors that the request scans were read, and that the
+  -- counts and the marks (`AreMarks`, `AreRight`) are those of the whole chip.
   scans_of : HaveBeenRead (IsScanned request size) old.history mid.history → scanned.count ≤ scanned.reads → AreMarks (size / 4096) scanned
       → scanned.reads ≡ scanned_sectors request size
       → AreRight (wanted_at request image size (bytes_read mid.history)) (bytes_read mid.history)
@@ -317,7 +319,7 @@ module _ {request : Request} {size n : ℕ} {image image' : List ℕ} {old mid :
       let filled = was.filled (bytes_read mid.history) (λ s i below small. refl) in
       search (was.honest_reads.rested, was.honest_reads.sent, was.merged)
 
-  -- For a write or an erase, `Scans` holds when the loop is at the end of the chip.
+  -- For a write or an erase, `Scans` holds when the loop has reached the end of the chip.
   pub all_scanned : is_data request.what ≡ true → n ≡ size / 4096 → scanned.count ≤ scanned.reads
       → Scans request size image image' old mid scanned
   all_scanned about_bytes end few =
@@ -325,7 +327,7 @@ module _ {request : Request} {size n : ℕ} {image image' : List ℕ} {old mid :
       (rw (← end) (was.replied (bytes_read mid.history) (λ s i below small. refl)))
       (λ is_open. rw (← end) (was.right is_open))
 
-  -- For a protection range, `Scans` holds before the first sector: there is nothing to scan.
+  -- For a protection range, `Scans` holds before the first sector, since there is nothing to scan.
   pub none_to_scan : is_data request.what ≡ false → n ≡ 0 → scanned.count ≤ scanned.reads
       → Scans request size image image' old mid scanned
   none_to_scan other at_first few =

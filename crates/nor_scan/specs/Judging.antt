@@ -28,9 +28,9 @@ IsIdentityRefusal UndefinedProtection = ⊤
 IsIdentityRefusal RangeNotOffered = ⊤
 IsIdentityRefusal _ = ⊥
 
--- Holds if `code` has the protection bits that a session leaves. For a protection range these are the least defined
--- value that protects exactly this range on a chip of the size that was found; for a write or an erase, the bits that
--- were read.
+-- Holds if `code` has the protection bits that a session leaves on the chip. For a protection range these are the least
+-- defined value that protects exactly this range on a chip of the size that was found. For a write or an erase they are
+-- the bits that were read.
 abbrev pub IsFoundCode : What → Identity → ℕ → Type 0
 IsFoundCode (WpRange start len) identity code = IsLeastCode identity.found.size start len code
 IsFoundCode _ identity code = code ≡ code_of (kept_in (status_read identity))
@@ -47,28 +47,30 @@ Lifts request touched unlock = unlock ≡ true → (request.unlock ≡ true) × 
 
 -- ---- for each chip with this identification
 
--- Holds if acceptance is right. If a request with an image of this length is accepted, then `IdentityAccepts` holds
--- with the returned protection bits, for each chip that has this identification and the requested name, if any.
+-- Holds if the check against the identification accepts only what it should. If it returns the protection bits `code`,
+-- then `IdentityAccepts` holds with `code`. This is required for each image of `len` bytes, and for each chip that has
+-- this identification and the requested name, if any.
 abbrev pub AcceptsIdentity : Request → ℕ → Identity → Result ℕ Refusal → Type 0
 AcceptsIdentity request len identity judged = (chip : Chip) (image : List ℕ) → IsIdentityOf chip identity
     → IsNamed request.named chip.config → length image ≡ len → IfOk judged (IdentityAccepts request image chip)
 
--- Holds if a refusal is right: the error is the verdict for each chip that has this identification and the requested
--- name, if any, and for each image of this length.
+-- Holds if the check against the identification returns only right errors. If it returns an error, this error is the
+-- verdict on the request. This is required for each image of `len` bytes, and for each chip that has this
+-- identification and the requested name, if any.
 abbrev pub RefusesIdentity : Request → ℕ → Identity → Result ℕ Refusal → Type 0
 RefusesIdentity request len identity judged = (chip : Chip) (image : List ℕ) → IsIdentityOf chip identity
     → IsNamed request.named chip.config → length image ≡ len → IfErr judged (IsVerdict request image chip)
 
--- Holds if the result is the first touched sector with a protected address, or `None` if there is no such sector, on
--- each chip with this identification.
+-- Holds if `found` is the first touched sector with a protected address, or `None` if there is no such sector. This is
+-- required for each chip with this identification.
 abbrev pub FindsProtected : (ℕ → Bool) → Identity → Option ℕ → Type 0
 FindsProtected touched identity found =
     (chip : Chip) → IsIdentityOf chip identity
     → MatchOption found (NoneProtected touched chip) (IsLeastProtected touched chip)
 
--- Holds if `needed` says correctly whether the request, with the target protection bits `code`, needs a status write.
--- This is required for each chip with this identification and each set of touched sectors for which
--- `is_touched_protected` says correctly whether one of them is protected.
+-- Holds if `needed` is true exactly if the request, with the target protection bits `code`, needs a status write. This
+-- is required for each chip with this identification, and for each set of touched sectors such that
+-- `is_touched_protected` is true exactly if one of these sectors is protected.
 abbrev pub FindsNeed : Request → Identity → Bool → ℕ → Bool → Type 0
 FindsNeed request identity is_touched_protected code needed = (chip : Chip) (touched : ℕ → Bool)
     → IsIdentityOf chip identity
@@ -76,21 +78,22 @@ FindsNeed request identity is_touched_protected code needed = (chip : Chip) (tou
     → MatchBool needed (NeedsStatus request.what request.unlock code touched chip)
     (¬ NeedsStatus request.what request.unlock code touched chip)
 
--- Holds if the promise is true for each chip and image with three properties. The chip has this identification,
--- `IdentityAccepts` holds with these protection bits, and the request touches exactly these sectors of the chip.
+-- Holds if `promise` holds for each chip and image with three properties: the chip has this identification,
+-- `IdentityAccepts` holds with the protection bits `code`, and the sectors that the request touches on the chip are
+-- exactly those in `touched`.
 abbrev pub OfTouched : Request → Identity → ℕ → (ℕ → Bool) → (List ℕ → Chip → Type 0) → Type 0
 OfTouched request identity code touched promise = (chip : Chip) (image : List ℕ) → IsIdentityOf chip identity
     → IdentityAccepts request image chip code
     → ((s : ℕ) → touched s ≡ is_touched chip.bytes (wanted request image chip) s) → promise image chip
 
--- Holds if acceptance is right: if the touched sectors are accepted, then `ScanAccepts` holds with the returned choice
--- whether to lift protection, for each chip and image that `OfTouched` describes.
+-- Holds if the check against the touched sectors accepts only what it should. If it returns whether to lift protection,
+-- then `ScanAccepts` holds with that value, for each chip and image that `OfTouched` describes.
 abbrev pub AcceptsScan : Request → Identity → ℕ → (ℕ → Bool) → Result Bool Refusal → Type 0
 AcceptsScan request identity code touched judged =
     OfTouched request identity code touched (λ image chip. IfOk judged (ScanAccepts request image chip))
 
--- Holds if a refusal is right: if the touched sectors are refused, the error is the verdict for each chip and image
--- that `OfTouched` describes.
+-- Holds if the check against the touched sectors returns only right errors. If it returns an error, this error is the
+-- verdict on the request, for each chip and image that `OfTouched` describes.
 abbrev pub RefusesScan : Request → Identity → ℕ → (ℕ → Bool) → Result Bool Refusal → Type 0
 RefusesScan request identity code touched judged =
     OfTouched request identity code touched (λ image chip. IfErr judged (IsVerdict request image chip))

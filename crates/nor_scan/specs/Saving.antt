@@ -1,4 +1,4 @@
--- How a chip, its identification and a request are related, and the header of the chip's journal.
+-- Definitions about a chip with its identification, about a request, and about the header of the chip's journal.
 use Rattle.std.specs.Prelude.{◌≡◌, ◌≢◌, ◌<◌, ◌*◌, ◌/◌, ◌&&◌, ℕ, Bool, true, false, Some, [], ◌∷◌, ◌%◌, List}
 use Rattle.nor_model.specs.Chip.{Chip, IsSame}
 use Rattle.nor_model.specs.Bus.{BusState}
@@ -11,16 +11,16 @@ use Rattle.nor_scan.specs.declared.identity.Identity.{Identity}
 use Rattle.nor_request.specs.declared.request.What.{What}
 use Rattle.nor_request.specs.declared.request.What.TheVariants.{WpRange}
 
--- Holds if the chip is known (`IsKnown`), and the identification has its ID, size, erase types, block protection,
--- non-volatile status bits and unique ID.
+-- Holds if `chip` has this identification. The chip is known (`IsKnown`), and the identification has the chip's ID,
+-- size, erase types, block protection, non-volatile status bits and unique ID.
 pub record IsIdentityOf (chip : Chip) (identity : Identity) : Type 0 where
   pub config : IsConfigOf chip.config identity.found
   pub one : identity.found.status1 / 4 ≡ chip.kept.one
   pub two : identity.status2 ≡ chip.kept.two
   pub unique : identity.unique ≡ unique_of chip.config
 
--- Holds if the bus is well-behaved, and its chip is idle and the same as `chip`: configuration, contents and
--- non-volatile bits.
+-- Holds if the bus is well-behaved, and its chip is idle and the same as `chip`: it has the same configuration,
+-- contents and non-volatile status bits.
 pub record HasIdleChip (chip : Chip) (state : BusState) : Type 0 where
   pub honest : state.honest ≡ true
   pub idle : state.chip.busy ≡ 0
@@ -53,8 +53,8 @@ pub record SomeProtected (touched : ℕ → Bool) (chip : Chip) : Type 0 where
   pub sector : ℕ
   pub held : is_touched_protected touched chip sector ≡ true
 
--- Holds if a status write is needed: for a protection range, the target protection bits differ from the chip's; for a
--- write or an erase, `unlock` is set and a touched sector is protected.
+-- Holds if a status write is needed. For a protection range this is so if the target protection bits `code` differ from
+-- the chip's. For a write or an erase it is so if `unlock` is set and a touched sector is protected.
 abbrev pub NeedsStatus : What → (unlock : Bool) → (code : ℕ) → (touched : ℕ → Bool) → Chip → Type 0
 NeedsStatus (WpRange start len) unlock code touched chip = code ≢ code_of chip.kept
 NeedsStatus _ unlock code touched chip = (unlock ≡ true) × SomeProtected touched chip
@@ -65,13 +65,13 @@ NeedsStatus _ unlock code touched chip = (unlock ≡ true) × SomeProtected touc
 abbrev pub kept_read : Identity → List ℕ
 kept_read identity = (identity.found.status1 / 4 * 4) ∷ (identity.status2 % 128) ∷ []
 
--- the header of the journal that is written after this identification: ID, unique ID, non-volatile status bits and
--- size, as the identification found them
+-- the header of the journal that is written after this identification, with the ID, unique ID, non-volatile status bits
+-- and size that were found
 abbrev pub header_found : Identity → Content
 header_found identity =
     empty_content identity.found.id (Some identity.unique) (kept_read identity) identity.found.size
 
--- the header of a chip's journal: ID, unique ID, non-volatile status bits and size
+-- the header of a journal of this chip, with the chip's ID, unique ID, non-volatile status bits and size
 abbrev pub header_of : Chip → Content
 header_of chip =
     empty_content (id_of chip.config) (Some (unique_of chip.config)) ((4 * chip.kept.one) ∷ chip.kept.two ∷ [])

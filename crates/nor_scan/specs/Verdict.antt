@@ -1,4 +1,4 @@
--- The verdict on a request: it is accepted, or refused with the first of errors 1 to 10 that applies.
+-- The verdict on a request: the request is accepted, or refused with the lowest of errors 1 to 10 that applies.
 use Rattle.std.specs.Prelude.{◌≡◌, ◌≢◌, ◌<◌, ◌≤◌, ◌*◌, ℕ, Bool, true, false, List, length, Err}
 use Rattle.nor_model.specs.Chip.{Chip, is_locked}
 use Rattle.nor_model.specs.Guard.{code_of, is_undefined}
@@ -15,7 +15,7 @@ use Rattle.nor_request.specs.Refusal.{refusal_number}
 use Rattle.nor_request.specs.Request.{is_data, IsWantedCode, wanted}
 use Rattle.nor_scan.specs.Saving.{AsksForNone, NeedsStatus, IsLeastProtected, NoneProtected, SomeProtected}
 
--- Holds if the request needs a status write on the chip.
+-- Holds if a session with this request needs a status write on the chip.
 abbrev pub NeedsStatusWrite : Request → (image : List ℕ) → Chip → Type 0
 NeedsStatusWrite request image chip = (code : ℕ) × IsWantedCode request.what chip code
     × NeedsStatus request.what request.unlock code (is_touched chip.bytes (wanted request image chip)) chip
@@ -39,7 +39,7 @@ RefusalHolds request image chip (Protected address) = (request.unlock ≡ false)
     × IsLeastProtected (is_touched chip.bytes (wanted request image chip)) chip sector
 RefusalHolds request image chip _ = ⊥
 
--- Holds if the error is the verdict: it applies, and no error with a lower number does.
+-- Holds if the error is the verdict on the request: it applies, and no error with a lower number applies.
 pub record IsVerdict (request : Request) (image : List ℕ) (chip : Chip) (refusal : Refusal) : Type 0 where
   pub holds : RefusalHolds request image chip refusal
   pub first : (other : Refusal) → refusal_number other < refusal_number refusal
@@ -49,19 +49,20 @@ pub record IsVerdict (request : Request) (image : List ℕ) (chip : Chip) (refus
 abbrev pub IsAccepted : Request → (image : List ℕ) → Chip → Type 0
 IsAccepted request image chip = (refusal : Refusal) → ¬ RefusalHolds request image chip refusal
 
--- Holds if no error with a number up to this one applies.
+-- Holds if no error applies whose number is at most `number`.
 abbrev pub NoneHoldsTo : (number : ℕ) → Request → (image : List ℕ) → Chip → Type 0
 NoneHoldsTo number request image chip =
     (refusal : Refusal) → refusal_number refusal ≤ number → ¬ RefusalHolds request image chip refusal
 
--- Holds if the identification accepts the request: none of the errors 1 to 8 applies, and `code` has the target
--- protection bits.
+-- Holds if the check against the identification accepts the request: none of the errors 1 to 8 applies, and `code` has
+-- the target protection bits.
 pub record IdentityAccepts (request : Request) (image : List ℕ) (chip : Chip) (code : ℕ) : Type 0 where
   pub clear : NoneHoldsTo 8 request image chip
   pub is_wanted : IsWantedCode request.what chip code
 
--- Holds if the touched sectors are accepted as well: no error applies. `unlock` is set only if the request allows it
--- and a touched sector is protected; if it is not set, no touched sector is protected.
+-- Holds if the check against the touched sectors accepts the request too, so that no error applies. `unlock` says
+-- whether protection is lifted. It is lifted only if the request allows this and a touched sector is protected. If it
+-- isn't lifted, no touched sector is protected.
 pub record ScanAccepts (request : Request) (image : List ℕ) (chip : Chip) (unlock : Bool) : Type 0 where
   pub accepted : IsAccepted request image chip
   pub lifts : unlock ≡ true

@@ -1,4 +1,4 @@
-//! The identification with which every session and restore begins: finds the chip, and reads status 2 and the unique
+//! The identification at the start of every session and restore: it finds the chip, and reads status 2 and the unique
 //! ID.
 ghost use Rattle.std.specs.Prelude.{◌≡◌, ◌<◌, ◌≤◌, true, IfOk, IfErr, OnErr, IsTrue};
 ghost use Rattle.nor_model.specs.Size.{is_chip_size};
@@ -14,8 +14,8 @@ use nor_model::{Bus, Stopped};
 use nor_probe::{ChipName, Probed, probe_counted};
 use nor_request::Refusal;
 
-/// Waits until the chip is ready, finds it by its ID or SFDP, and reads status 2 and the unique ID. With `named` the
-/// chip must have this name. On a well-behaved bus at most 65,542 transactions are sent.
+/// Waits until the chip is ready, identifies it by its ID or SFDP, and reads status 2 and the unique ID. If `named` is
+/// given, the chip must have that name. On a well-behaved bus at most 65,542 transactions are sent.
 ///
 /// Returns error 1 (no chip), 2 (unknown chip), 3 (other name), 12 (the bus stopped) or 13 with address 0 (the chip
 /// stayed busy; not on a well-behaved bus).
@@ -31,8 +31,9 @@ pub fn identify<B: Bus>(bus: &mut B, named: Option<ChipName>) -> Result<Identity
     Ok(identity)
 }
 
-/// Reads status 2 and the unique ID of the chip that was found, with two transactions. `probed` must have what a probe
-/// returns: a size that a chip may have, and at most 65,540 transactions.
+/// Completes the identification of the chip that was found: reads status 2 and the unique ID, with two transactions.
+/// `probed` must be like the result of a probe: its size is one that a chip may have, and it counts at most 65,540
+/// transactions.
 ///
 /// Returns `Stopped` if the bus stopped; on a well-behaved bus this means that fewer than two transactions were left.
 pub fn read_on<B: Bus>(bus: &mut B, probed: Probed) -> Result<Identity, Stopped>

@@ -1,4 +1,5 @@
-//! Checks whether a request is accepted, and with which error it is refused otherwise.
+//! The checks of a request, against the identification and against the touched sectors. They decide whether the request
+//! is accepted, and otherwise with which error it is refused.
 ghost use Rattle.std.specs.Prelude.{◌≡◌, ◌<◌, ◌≤◌, ◌*◌, ◌==◌, ℕ, Bool, true, false, length, IfOk, IfErr, IfSome, IfNone, MatchOption, MatchBool};
 ghost use Rattle.nor_model.specs.Chip.{Chip, kept_in};
 ghost use Rattle.nor_model.specs.Guard.{is_undefined, protected_by, code_of};
@@ -15,8 +16,8 @@ use nor_model::{code_for, unit_protected};
 use nor_plan::SectorSet;
 use nor_request::{Refusal, Request, What};
 
-/// Checks a request against the identification. `image` is the image's length in bytes. Returns the target protection
-/// bits as a number below 64; for a write or an erase these are the bits that were read.
+/// Checks a request against the identification. `image` is the length of the image in bytes. Returns the target
+/// protection bits as a number below 64. For a write or an erase these are the bits that were read.
 ///
 /// Returns the error with the lowest number that applies:
 ///
@@ -64,7 +65,8 @@ pub fn judge_identity(request: &Request, identity: &Identity, image: usize) -> R
     }
 }
 
-/// Returns the first sector of `touched` that has a protected address according to the status that was read, or `None`.
+/// Returns the first sector of `touched` that contains an address which the status that was read protects, or `None` if
+/// there is no such sector.
 #[tactic(auto, using(crate::proofs::Held::code_same))]
 pub fn first_protected(touched: &SectorSet, identity: &Identity) -> Option<u32>
     ensures held { FindsProtected (has touched.now) identity.now result }
@@ -85,9 +87,9 @@ pub fn first_protected(touched: &SectorSet, identity: &Identity) -> Option<u32>
     None
 }
 
-// Returns true if the status registers must be written. For a protection range they must be if the target protection
-// bits `code` differ from those that were read. For a write or an erase they must be if `unlock` is set and a touched
-// sector is protected (`is_touched_protected`).
+// Returns true if the status registers must be written. For a protection range this is so if the target protection bits
+// `code` differ from the bits that were read. For a write or an erase it is so if `unlock` is set and a touched sector
+// is protected (`is_touched_protected`).
 fn needs_status(
     request: &Request,
     identity: &Identity,
@@ -105,8 +107,9 @@ fn needs_status(
 /// Checks a request against the touched sectors. `code` is the result of `judge_identity`. Returns whether protection
 /// must be lifted.
 ///
-/// Returns error 9 if the status registers must be written and are locked, or else 10 if a touched sector is protected
-/// and the request doesn't unlock. Error 10 has the address of the first protected sector of `touched`.
+/// Returns error 9 if the status registers must be written and are locked. Otherwise returns error 10 if a touched
+/// sector is protected and the request doesn't unlock; this error has the address of the first protected sector of
+/// `touched`.
 #[tactic(auto, using(crate::proofs::OneVerdict::scan_judged, crate::proofs::OneVerdict::scan_accepted))]
 pub fn judge_scan(
     request: &Request,

@@ -1,4 +1,4 @@
-//! Scans the chip and, before anything is changed, saves what the session will change.
+//! Scans the chip before anything is changed, and saves the sectors that the session will touch.
 ghost use Rattle.std.specs.Prelude.{◌≡◌, ◌/◌, true, length, IfOk, IfErr, OnOk, OnErr};
 ghost use Rattle.nor_model.specs.History.{KeepsReplies, begins_with};
 ghost use Rattle.nor_journal.specs.Saved.{JournalSaves};
@@ -32,7 +32,8 @@ pub struct SavedScan {
 /// No modifying command is sent. After success on any bus, a `telling` vault holds a journal of exactly the sectors in
 /// `scanned.touched`. Its header is the one that `identity` gives, and each record has the bytes of the last reply to a
 /// read of its sector. If the bus is well-behaved, and its chip is idle and is the one that `identity` describes, these
-/// are the touched sectors of the chip. In that case success also sets the image's touched sectors to the target bytes.
+/// sectors are the ones that the request touches on this chip. In that case success also sets the image's touched
+/// sectors to the target bytes.
 ///
 /// Returns error 9 (the status registers must be written and are locked), 10 (a touched sector is protected, and the
 /// request doesn't unlock), 11 (the vault failed) or 12 (the bus stopped). Error 9 or 10 is the verdict on the request

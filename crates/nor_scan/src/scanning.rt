@@ -1,5 +1,5 @@
-//! Reads the sectors of a chip before anything is changed, finds those that a session will change, and writes these to
-//! the journal.
+//! Reads the sectors of a chip before anything is changed, finds the sectors that a session will touch, and writes them
+//! to the journal.
 ghost use Rattle.std.specs.Prelude.{◌≡◌, ◌≢◌, ◌<◌, ◌≤◌, ◌+◌, ◌*◌, ◌/◌, ℕ, Bool, true, false, length, IfOk, IfErr, OnOk, OnErr, IsTrue};
 ghost use Rattle.nor_model.specs.Size.{is_chip_size};
 ghost use Rattle.nor_model.specs.History.{KeepsReplies, begins_with};
@@ -22,8 +22,8 @@ use nor_model::{Bus, Stopped};
 use nor_plan::{Plan, SectorPlan, SectorSet};
 use nor_request::{Refusal, Request, What};
 
-/// The result of a scan: the touched sectors, in which some byte differs from the target, and the raised sectors, which
-/// must be erased. `count` is the number of touched sectors, `reads` that of sectors that were read.
+/// The result of a scan. A sector is touched if some byte in it differs from the target, and raised if it must be
+/// erased. `count` is the number of touched sectors, and `reads` the number of sectors that were read.
 #[derive(Clone, Copy)]
 pub struct Scanned {
     pub touched: SectorSet,
@@ -33,7 +33,7 @@ pub struct Scanned {
 }
 
 impl Scanned {
-    /// Returns the result before any sector was read.
+    /// Returns a result without marked sectors, for the time before the first read.
     pub fn none() -> Scanned
         ensures { IsBlank result }
     {
@@ -45,8 +45,8 @@ impl Scanned {
         }
     }
 
-    /// Adds the plan of a sector, and counts a read. `sector` and `reads` must be below 4,096, and `count` must be at
-    /// most `reads`.
+    /// Records the plan of `sector`, and counts one read. `sector` and `reads` must be below 4,096, and `count` must be
+    /// at most `reads`.
     pub fn mark(&mut self, sector: u32, plan: SectorPlan)
         requires reachable { sector < 4096 }
         requires room { self.old.count ≤ self.old.reads }
@@ -64,11 +64,12 @@ impl Scanned {
     }
 }
 
-/// Reads a sector for a write or an erase, copies the bytes that may not change into `part`, the sector's part of the
-/// image, and compares the sector with `part`. For an erase `part` is filled with FFh before bytes are copied into it.
+/// Scans one sector for a write or an erase. Reads the sector into `bytes`, and sets `part`, the sector's part of the
+/// image, to the target bytes: for an erase it fills `part` with FFh, and then it copies the bytes that may not change
+/// from `bytes`. Returns the sector's plan, which says whether a byte must change and whether this needs an erase.
 /// Returns `Stopped` if the bus stopped.
 ///
-/// `part` has 4,096 bytes, and the sector is on a chip of `size` bytes, at most 16 MiB.
+/// `part` must have 4,096 bytes, and the sector must be on a chip of `size` bytes, at most 16 MiB.
 fn scan_sector<B: Bus>(
     bus: &mut B,
     request: &Request,
@@ -94,9 +95,9 @@ fn scan_sector<B: Bus>(
     Ok(Plan::of(&*bytes, &*part))
 }
 
-/// Reads each sector with an included address, in ascending order, copies the bytes that may not change into the image,
-/// and writes the touched sectors to the journal. For an erase the sector's part of the image is filled with FFh first.
-/// A protection range has no sectors to read.
+/// Reads each sector with an included address, in ascending order, and sets its part of the image to the target bytes:
+/// for an erase it fills that part with FFh, and then it copies the bytes that may not change from the sector. Writes
+/// the touched sectors to the journal. For a protection range no sector is read.
 ///
 /// `size` must be one that a chip may have; for a write or an erase the image must be as long. The vault must be
 /// unsealed.

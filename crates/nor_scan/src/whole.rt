@@ -22,11 +22,12 @@ use nor_model::Bus;
 use nor_request::Refusal;
 
 /// Writes a journal of every sector of the chip that was found to the vault, and seals the vault. The vault must be
-/// empty and unsealed. Sends one read per sector, and no other transaction.
+/// empty and unsealed. The call sends one read for each sector, and no other transaction.
 ///
-/// After success on any bus, a `telling` vault holds a journal of exactly the sectors of a chip of this size. Its
-/// header is the one that `identity` gives, and each record has the bytes of the last reply to a read of its sector. If
-/// the bus is well-behaved, and its chip is idle and is the one that `identity` describes, this is the chip's journal.
+/// After success on any bus, a `telling` vault holds a journal of exactly the sectors of a chip of the size that was
+/// found. Its header is the one that `identity` gives, and each record has the bytes of the last reply to a read of its
+/// sector. If the bus is well-behaved, and its chip is idle and is the one that `identity` describes, this is the
+/// chip's journal.
 ///
 /// Returns error 11 (the vault failed) or 12 (the bus stopped). After an error the vault is unsealed. If the vault is
 /// `telling`, the bus is well-behaved, and its chip is idle and is the one that `identity` describes, the vault then
@@ -63,7 +64,8 @@ pub fn save_whole<B: Bus, V: Vault>(
     Ok(())
 }
 
-// Reads each sector of a chip of `size` bytes, in ascending order, and writes it to the journal.
+// Reads each sector of a chip of `size` bytes, in ascending order, and writes it to the journal. The vault must be
+// unsealed.
 fn add_sectors<B: Bus, V: Vault>(
     bus: &mut B,
     writer: &mut Writer<'_, V>,

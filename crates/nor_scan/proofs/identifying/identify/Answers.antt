@@ -41,7 +41,7 @@ returns-clause-identifies g c =
       exact = grind (arith, common_steps);
     }
 
--- a probe that was stopped had fewer transactions left than the chip needs
+-- If a probe on a well-behaved bus was stopped, fewer transactions were left than the identification of the chip needs.
 probe_stopped : (named : Option ChipName) (old new : BusState) (fault : ProbeFault) → ProbeErrors named old new fault
     → of_probe fault ≡ Stopped → old.left < needed_to_identify old.chip
 probe_stopped named old new Probes.Stopped errors is = let below = errors.0.below in omega arith
