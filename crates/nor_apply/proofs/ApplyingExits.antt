@@ -1,4 +1,4 @@
--- The exits of `apply`, part by part: the unlock, the erases, the programs and the last status write.
+-- The exits of `apply` after each of its parts: the unlock, the erases, the programs and the last status write.
 use Rattle.std.proofs.Common.{ℕ, ◌≡◌, ◌<◌, ◌≤◌, ◌+◌, ◌*◌, ◌/◌, ◌∙◌, ◌++◌, Bool, true, false, List, [], ◌∷◌, inl, inr, refl, zero-add, sym, ap, arith, true≢false}
 use Rattle.std.specs.Prelude.{◌&&◌, ◌||◌, if◌then◌else◌}
 use Rattle.std.proofs.lemmas.Bool.{or_right, or_cases}
@@ -33,8 +33,8 @@ use Rattle.nor_apply.proofs.ApplyingInTurn.{raised_few, Numbers, SoFar, EndsInEr
 
 -- ---- the four parts
 
--- the numbers of operations after the unlock, if it was requested (`lifting`), and after more erases and programs
--- (`and_more`)
+-- The numbers of operations that were sent up to the unlock (`lifting`): one status write, if an unlock was requested.
+-- `and_more` adds further erases and page programs to such numbers.
 abbrev pub lifting : Changes → Numbers
 lifting changes = record { erases = 0; programs = 0; status_writes = if changes.unlock then 1 else 0 }
 
@@ -42,7 +42,7 @@ abbrev pub and_more : Numbers → (erases programs : ℕ) → Numbers
 and_more n erases programs =
     record { erases = n.erases + erases; programs = n.programs + programs; status_writes = n.status_writes }
 
--- States `SoFar` for the first part: the protection bits were cleared, if that was requested.
+-- `SoFar` after the first part of `apply`: if an unlock was requested, the protection bits were cleared.
 abbrev pub Lifted : Changes → (ℕ → ℕ) → (old now : BusState) → Tally → Type 0
 Lifted changes wanted old now tally =
     SoFar changes wanted old.chip.bytes old.worn (code_once changes) (lifting changes) 0 most_operation old now tally
@@ -65,8 +65,8 @@ lifted changes {old} {new} wanted leaves does =
     code_written nothing 0 new (λ lifts can. can.writable (rw lifts refl)) leaves does (grind arith) (omega arith)
     (omega arith) (omega arith)
 
--- States `SoFar` for the first two parts: the protection bits were cleared, if that was requested, and the raised
--- sectors were erased.
+-- `SoFar` after the first two parts of `apply`: if an unlock was requested, the protection bits were cleared. The
+-- raised sectors were erased.
 abbrev pub Erased : Changes → (ℕ → ℕ) → (erases : ℕ) → (old now : BusState) → Tally → Type 0
 Erased changes wanted erases old now tally =
     SoFar changes wanted (once_erased (raised_in changes) old.chip.bytes) (λ s. old.worn s || raised_in changes s)
@@ -107,8 +107,8 @@ module _ {changes : Changes} {wanted : ℕ → ℕ} {old mid new : BusState} {do
       let is = so.intermediate honest can in
       intermediate_changed is (does.done (honest_now so.ran honest) (can_erase_all can is)))
 
--- States `SoFar` for the first three parts: the protection bits were cleared, if that was requested, the raised sectors
--- were erased, and the touched sectors programmed.
+-- `SoFar` after the first three parts of `apply`: if an unlock was requested, the protection bits were cleared. The
+-- raised sectors were erased, and the touched sectors were programmed.
 abbrev pub Programmed : Changes → (ℕ → ℕ) → (erases programs : ℕ) → (old now : BusState) → Tally → Type 0
 Programmed changes wanted erases programs old now tally =
     SoFar changes wanted
@@ -160,12 +160,13 @@ times_sent-append is (out ∷ later) earlier = counted_sum (is out) _ _ _ (times
     counted_sum true sum m n same = omega arith
     counted_sum false sum m n same = same
 
--- if a list has as many transactions that satisfy a test as its earlier part, its later part has none
+-- If a list has as many transactions that pass a test as its earlier part, no transaction in its later part passes the
+-- test.
 none_added : (is : List ℕ → Bool) (later earlier : Sent)
     → times_sent is (later ++ earlier) ≡ times_sent is earlier → times_sent is later ≡ 0
 none_added is later earlier same = let sum = times_sent-append is later earlier in omega arith
 
--- if the later part of a list has a transaction that satisfies a test, so has the list
+-- If some transaction in the later part of a list passes a test, some transaction in the whole list does.
 has_sent-left : (is : List ℕ → Bool) (later earlier : Sent) → has_sent is later ≡ true
     → has_sent is (later ++ earlier) ≡ true
 has_sent-left is [] earlier has = absurd (true≢false (sym has))
@@ -174,9 +175,10 @@ has_sent-left is (out ∷ later) earlier has = elim (or_cases _ _ has) [
   | inr now ↦ rw now (or-true _)
 ]
 
--- ---- the end
+-- ---- the last status write
 
--- The results of the three parts before the last status write: unlock, erases and programs.
+-- The effects and results of the three parts before the last status write: the unlock (from `old` to `free`), the
+-- erases (from `free` to `mid`) and the programs (from `mid` to `made`).
 pub record Parts (changes : Changes) (wanted : ℕ → ℕ) (old free mid made : BusState) (sent : ℕ)
     (erases programs : Tally) : Type 0 where
   pub inside : (s : ℕ) → raised_in changes s ≡ true → touched_in changes s ≡ true
@@ -200,7 +202,7 @@ module _ {changes : Changes} {wanted : ℕ → ℕ} {old free mid made : BusStat
       })
   third = programmed erases.count second parts.programs_leave parts.program
 
-  -- after one more operation, the number of transactions still fits in 64 bits
+  -- if one more operation follows, the number of transactions still fits in 64 bits
   pub few_sent : sent + erases.transactions + programs.transactions < 18446744073709486078
   few_sent = omega (arith, third.few, count_below-most 4096 (touched_in changes))
 
@@ -222,7 +224,7 @@ module _ {changes : Changes} {wanted : ℕ → ℕ} {old free mid made : BusStat
         (grind (arith, last_asked, parts.erase.fewer, parts.program.fewer)) (grind arith) (omega arith) fails
         (names_writing changes needed error (λ writes. rw (sym is ∙ writes) (omega arith)) names)
 
-    -- the erases were sent before the programs and the last status write, which erase nothing
+    -- the erases were sent before the programs and the last status write, and neither of these two erases anything
     erased_first : {last : ℕ} → DoesCode changes.status changes.code needed made new last
         → ErasesFirst (raised_in changes) old new
     erased_first does =

@@ -1,4 +1,4 @@
--- The parts of `apply` one after another: the effect of the parts so far, and the number of their transactions.
+-- Lemmas about the parts of `apply` in turn: the effect of the parts so far, and the number of their transactions.
 use Rattle.std.proofs.Common.{ℕ, zero, suc, ◌≡◌, ◌≤◌, ◌+◌, Bool, true, arith}
 use Rattle.std.specs.Prelude.{◌&&◌, if◌then◌else◌, MatchBool}
 use Rattle.nor_geometry.specs.Below.{count_below}
@@ -42,12 +42,12 @@ write_most b = grind arith
 
 -- ---- limits
 
--- the limits of a status write that is sent only if it is needed
+-- the limits of a status write of the protection bits `code` that is sent only if it is needed
 abbrev pub code_limits : Changes → (needed : Bool) → (code : ℕ) → Limits
 code_limits changes needed code =
     writing (λ one two. needed && is_status_with_code changes.status code one two) (if needed then 1 else 0)
 
--- ---- one part after others
+-- ---- a part that follows other parts
 
 -- The numbers of erases, page programs and status writes that were sent.
 pub record Numbers : Type 0 where
@@ -58,9 +58,10 @@ pub record Numbers : Type 0 where
 abbrev pub sending_these : Changes → Numbers → Limits
 sending_these changes n = sending changes n.erases n.programs n.status_writes
 
--- Holds if the changes so far sent these numbers of operations and at most `readings` reads, with at most `spent`
--- transactions. On a well-behaved bus, if `CanApply` held at the start, they changed the chip only as `MayChange`
--- allows, and led to these bytes, erased sectors and protection bits.
+-- Holds after some parts of the changes succeeded. They sent exactly these numbers of operations, at most `readings`
+-- reads, and at most `spent` transactions. On a well-behaved bus, if `CanApply` held at the start, the parts changed
+-- the chip only as `MayChange` allows. The chip then has the bytes `bytes`, the erased sectors `worn` and the
+-- protection bits `code`.
 pub record SoFar (changes : Changes) (wanted bytes : ℕ → ℕ) (worn : ℕ → Bool) (code : ℕ) (numbers : Numbers)
     (readings spent : ℕ) (old now : BusState) (tally : Tally) : Type 0 where
   pub ran : Ran (sending_these changes numbers) readings old now tally
@@ -69,7 +70,7 @@ pub record SoFar (changes : Changes) (wanted bytes : ℕ → ℕ) (worn : ℕ �
       → MayChange (touched_in changes) (raised_in changes) wanted old now
   pub intermediate : old.honest ≡ true → CanApply changes wanted old.chip → IsIntermediate bytes worn code old now
 
--- Holds if the clauses of `apply` for an exit with this error are true: `LeavesApply`, `OperationFails` and
+-- Holds if the clauses of `apply` are true for an exit with this error: `LeavesApply`, `OperationFails` and
 -- `NamesChange`.
 abbrev pub EndsInError : (changes : Changes) (wanted : ℕ → ℕ) (old new : BusState) → OperationError → Type 0
 EndsInError changes wanted old new error =
@@ -79,8 +80,8 @@ EndsInError changes wanted old new error =
 module _ {changes : Changes} {wanted bytes : ℕ → ℕ} {worn : ℕ → Bool} {code : ℕ} {numbers : Numbers}
     {readings spent : ℕ} {old mid : BusState} {done : Tally}
     (so : SoFar changes wanted bytes worn code numbers readings spent old mid done) where
-  -- The next part: if `CanApply` held at the start of all changes, the part can be carried out (`Can`), and changes
-  -- the chip only as `MayChange` allows.
+  -- Lemmas about the next part. The premise `follows` says that, if `CanApply` held at the start of all changes, the
+  -- part can be carried out (`Can`), and changes the chip only as `MayChange` allows.
   module _ {part : ℕ} {limits : Limits} {Can : Chip → Type 0} {May : BusState → BusState → Type 0} {new : BusState}
       (leaves : Leaves part limits Can May mid new)
       (follows : old.honest ≡ true → CanApply changes wanted old.chip → Can mid.chip
@@ -117,7 +118,7 @@ module _ {changes : Changes} {wanted bytes : ℕ → ℕ} {worn : ℕ → Bool} 
       intermediate = intermediate;
     }
 
-  -- For a part that is a status write.
+  -- If the next part is a status write, it satisfies the premise `follows`.
   module _ {needed : Bool} (code' : ℕ) (new : BusState)
       (writable : needed ≡ true → CanApply changes wanted old.chip → is_writable old.chip ≡ true) where
     pub code_then : old.honest ≡ true → CanApply changes wanted old.chip
@@ -140,8 +141,8 @@ module _ {changes : Changes} {wanted bytes : ℕ → ℕ} {worn : ℕ → Bool} 
         (λ honest can.
         intermediate_code can (λ writes. writable writes can) (so.intermediate honest can) (honest_now so.ran honest) does)
 
--- For a status write, `NamesChange` follows from `FailsWriting`, if the changes need a status write whenever this part
--- sends one.
+-- Let the changes need at least one status write if `needed` is true. If `FailsWriting` holds for an error of a status
+-- write, `NamesChange` holds for this error, too.
 pub names_writing : (changes : Changes) (needed : Bool) (error : OperationError) → (needed ≡ true → 1 ≤ status_writes changes)
     → FailsWriting needed error → NamesChange changes error
 names_writing changes needed error counts returned = grind arith

@@ -1,4 +1,4 @@
--- The steps of `apply`: unlock, erases, programs, and the status write at the end.
+-- Lemmas about the steps of `apply`: the unlock, the erases, the programs, and the status write at the end.
 use Rattle.std.proofs.Common.{ℕ, ◌≡◌, ◌<◌, ◌/◌, Bool, true, false, inl, inr, refl, ap, sym, ◌∙◌, arith}
 use Rattle.std.specs.Prelude.{◌||◌, bit_and, if◌then◌else◌, MatchBool}
 use Rattle.std.proofs.lemmas.Nat.{and_mask}
@@ -23,16 +23,17 @@ use Rattle.nor_apply.specs.Applying.{touched_in, raised_in, writes_code, CanAppl
 use Rattle.nor_apply.proofs.Kept.{code_cleared, coded_again, fixed_coded, locked_same, coded_from_status, writable_same}
 use Rattle.nor_apply.proofs.Changing.{can_after, same_change, status_change}
 
--- the protection bits that were read (`code_read`), and those during the erases and programs (`code_once`), which are 0
--- after an unlock and else those that were read
+-- The protection bits that were read (`code_read`), and those during the erases and programs (`code_once`). After an
+-- unlock `code_once` is 0, and otherwise it is `code_read`.
 abbrev pub code_read : Changes → ℕ
 code_read changes = code_of (kept_in (bytes_of changes.status))
 
 abbrev pub code_once : Changes → ℕ
 code_once changes = if changes.unlock then 0 else code_read changes
 
--- Holds for an intermediate state with these bytes, erased sectors and protection bits. All else is as it was, the chip
--- is idle, and its write enable latch is set only if it was set before.
+-- Holds for a state between two steps, if the chip has the bytes `bytes`, the erased sectors are `worn`, and the
+-- protection bits are `code`. All other status bits are as they were, the chip is idle, and its write enable latch is
+-- set only if it was set before.
 pub record IsIntermediate (bytes : ℕ → ℕ) (worn : ℕ → Bool) (code : ℕ) (old new : BusState) : Type 0 where
   pub config : new.chip.config ≡ old.chip.config
   pub byte : (a : ℕ) → new.chip.bytes a ≡ bytes a
@@ -41,8 +42,8 @@ pub record IsIntermediate (bytes : ℕ → ℕ) (worn : ℕ → Bool) (code : �
   pub idle : new.chip.busy ≡ 0
   pub latch : new.chip.latch ≡ true → old.chip.latch ≡ true
 
--- After erases or programs the state has the target bytes of that part at its addresses, and its erased sectors in
--- addition.
+-- If erases or programs follow an intermediate state, the next state has the target bytes `w` at the addresses `p`, and
+-- the sectors `e` as additional erased sectors.
 pub intermediate_changed : {p e worn : ℕ → Bool} {w bytes : ℕ → ℕ} {code : ℕ} {old mid new : BusState}
     → IsIntermediate bytes worn code old mid → HasMade p w e mid new
     → IsIntermediate (λ a. if p a then w a else bytes a) (λ s. worn s || e s) code old new
@@ -55,7 +56,7 @@ code_at_end : (changes : Changes) (writes : Bool) → writes_code changes ≡ wr
     → (if writes then changes.code else code_once changes) ≡ changes.code
 code_at_end changes writes is = grind (arith, nat_tests)
 
--- the protection bits that were read are those of a chip for which `CanApply` holds
+-- If `CanApply` holds for a chip, the protection bits that were read are the chip's.
 kept_read : {changes : Changes} {wanted : ℕ → ℕ} {chip : Chip} → CanApply changes wanted chip
     → with_code (code_read changes) chip.kept ≡ chip.kept
 kept_read {changes = changes} {chip = chip} can =
@@ -72,8 +73,8 @@ module _ {changes : Changes} {wanted : ℕ → ℕ} {old : BusState} (can : CanA
     fixed : fixed_of mid.chip.kept ≡ fixed_of old.chip.kept
     fixed = ap fixed_of is.kept ∙ fixed_coded code old.chip.kept
 
-    -- the chip accepts a needed status write in each state between the steps: it is idle, its status isn't locked, and
-    -- its bits that are never changed are those that were read
+    -- In each state between two steps, the chip accepts a status write that is needed. The chip is idle, its status
+    -- isn't locked, and its bits that are never changed have the values that were read.
     pub can_write : needed ≡ true → CanWriteStatus changes.status mid.chip
     can_write writes =
         let lock = locked_same old.chip.kept mid.chip.kept fixed in
@@ -99,11 +100,11 @@ module _ {changes : Changes} {wanted : ℕ → ℕ} {old : BusState} (can : CanA
           rw writes (grind (arith, has.bytes, is.byte, has.worn, is.wear, kept, does.idle))
     ]
 
-  -- ---- what erases and programs need
+  -- ---- the premises of erases and programs
 
   module _ {bytes : ℕ → ℕ} {worn : ℕ → Bool} {mid : BusState} (is : IsIntermediate bytes worn (code_once changes) old mid) where
-    -- After the unlock, if one was requested, and before the last status write, no address in a touched sector is
-    -- protected. Without an unlock, `CanApply` says so; after an unlock, all protection bits are clear.
+    -- Between the unlock and the last status write, no address in a touched sector is protected. Without an unlock,
+    -- `CanApply` says so; after an unlock, all protection bits are clear.
     free : (a : ℕ) → touched_in changes (a / 4096) ≡ true → is_protected mid.chip a ≡ false
     free a touched =
         let before = kept_read can in let cleared = code_cleared old.chip.kept in
@@ -123,7 +124,7 @@ module _ {changes : Changes} {wanted : ℕ → ℕ} {old : BusState} (can : CanA
       → CanProgramAll (touched_in changes) (raised_in changes) wanted mid.chip
   can_program_all is = let touched = can_touched is in grind (arith, is.byte, and_byte, can.bytes, can.falls)
 
-  -- ---- the end
+  -- ---- after the last status write
 
   pub applied : {writes : Bool} {new : BusState} → writes_code changes ≡ writes
       → IsIntermediate

@@ -1,4 +1,4 @@
--- The erases of a set, one after another: what holds between them, and what follows at each exit.
+-- Lemmas about the erases of a set in turn: the state between two erases, and each exit.
 use Rattle.std.proofs.Common.{ℕ, ◌≡◌, ◌<◌, ◌≤◌, ◌+◌, ◌*◌, ◌/◌, ◌-◌, ◌∙◌, ◌||◌, Bool, true, false, List, [], ◌∷◌, ◌++◌, length, inl, inr, refl, sym, ap, arith}
 use Rattle.std.proofs.lemmas.Bool.{cases_lt, or_cases, false_from_ne_true, and_from, le-leb, lt-ltb}
 use Rattle.std.proofs.lemmas.Bool.Decides.{nat_tests}
@@ -32,19 +32,19 @@ use Rattle.nor_apply.proofs.InTurn.{ran_leaves, honest_now, Listed, listed_after
 use Rattle.nor_apply.proofs.Changing.{can_after, change_then, made_may, made_same, made_then}
 use Rattle.nor_apply.proofs.Targeting.{unit_targets}
 
--- Holds for an erase of the plan on a chip of `total` sectors: it is one that the chip offers (`IsErase`), erases at
--- least one sector, and erases only sectors of the set.
+-- Holds if the erase `unit` may be in the plan for `set` on a chip of `total` sectors. The chip offers this erase
+-- (`IsErase`), and it erases at least one sector and only sectors of the set.
 record IsOfPlan (kinds : Kinds) (total : ℕ) (set : ℕ → Bool) (unit : Erase) : Type 0 where
   pub is : IsErase kinds total unit
   pub some : 1 ≤ sectors_in total unit.unit
   pub inside : (s : ℕ) → erases_sector total s unit ≡ true → set s ≡ true
 
--- ---- what an erase needs
+-- ---- the premises of an erase
 
 some_sectors : (total : ℕ) (unit : EraseBlock) → 1 ≤ total → 1 ≤ sectors_in total unit
 some_sectors total unit some = grind arith
 
--- an erase block has no protected address if none of its sectors has one
+-- If no address in the `n` sectors of an erase block is protected, the block as a whole isn't protected.
 free_unit : (chip : Chip) (from n : ℕ) → 1 ≤ n
     → ((a : ℕ) → from ≤ a / 4096 → a / 4096 < from + n → is_protected chip a ≡ false)
     → is_block_protected chip (4096 * from) (4096 * n) ≡ false
@@ -58,7 +58,7 @@ in_unit : (total s : ℕ) (unit : Erase) → unit.sector ≤ s → s < unit.sect
     → erases_sector total s unit ≡ true
 in_unit total s unit low high = and_from _ _ (le-leb _ _ low) (lt-ltb _ _ high)
 
--- the command of an aligned erase targets each sector of its block, on a chip of at most 4,096 sectors
+-- On a chip of at most 4,096 sectors, the command of an aligned erase targets each sector that the erase covers.
 block_named : (total s : ℕ) (unit : Erase) → total ≤ 4096 → is_aligned unit.unit unit.sector ≡ true
     → erases_sector total s unit ≡ true → is_sector_named unit s ≡ true
 block_named total s unit most aligned erased = named_by total s unit.unit unit.sector most aligned erased
@@ -77,8 +77,9 @@ module _ {kinds : Kinds} {size : ℕ} {set done : ℕ → Bool} {unit : Erase} {
   sectors_same : sectors_of mid.chip ≡ size / 4096
   sectors_same = rw (has.config, can.sized.same) refl
 
-  -- An erase of the plan can be carried out after the erases before it, if `CanEraseAll` held at the start. By
-  -- `HasMade` these leave the configuration and the non-volatile status bits as they were, and an idle chip.
+  -- If `CanEraseAll` held at the start, and the earlier erases of the plan succeeded, the next erase can be carried
+  -- out. By `HasMade`, the earlier erases left an idle chip, and didn't change configuration and non-volatile status
+  -- bits.
   can_erase : CanErase unit mid.chip
   can_erase =
       let able = can_after mid.chip (λ s is. is) can.can has.config has.kept has.idle in
@@ -89,7 +90,7 @@ module _ {kinds : Kinds} {size : ℕ} {set done : ℕ → Bool} {unit : Erase} {
       let is = plan.is in
       grind arith
 
-  -- ---- the effect of one erase, at every exit and on success
+  -- ---- the effect of one erase, at every exit and after success
 
   erases_of_plan : (s : ℕ) → is_sector_in_block unit mid.chip s ≡ true → set s ≡ true
   erases_of_plan s erased = plan.inside s (rw sectors_same at erased)
@@ -105,7 +106,7 @@ module _ {kinds : Kinds} {size : ℕ} {set done : ℕ → Bool} {unit : Erase} {
 
 -- ---- one erase after another
 
--- Holds if the erases `units` of the plan for a set have succeeded, and the erases `left` are not sent yet.
+-- Holds after the erases `units` of the plan for a set succeeded. The erases in `left` are not sent yet.
 pub record ErasesSoFar (kinds : Kinds) (size : ℕ) (set : ℕ → Bool) (units left : List Erase) (old new : BusState)
     (tally : Tally) : Type 0 where
   pub below : (s : ℕ) → set s ≡ true → s < size / 4096
@@ -119,13 +120,13 @@ pub record ErasesSoFar (kinds : Kinds) (size : ℕ) (set : ℕ → Bool) (units 
 
 module _ {kinds : Kinds} {size : ℕ} {set : ℕ → Bool} {units left : List Erase} {old mid : BusState} {tally : Tally}
     (so : ErasesSoFar kinds size set units left old mid tally) where
-  -- a sector that a completed erase covers is in the set
+  -- a sector that one of the erases `units` covers is in the set
   erased_inside : (s : ℕ) → erased_by (size / 4096) units s ≡ true → set s ≡ true
   erased_inside s erased =
       sym (so.covers.union s)
       ∙ rw (← so.listed.split, list_any-append (erases_sector (size / 4096) s) units left, erased) refl
 
-  -- For the exit at which every planned erase was sent.
+  -- Lemmas for the exit at which every planned erase was sent.
   module _ (none : left ≡ []) where
     pub does_ended : DoesErases set kinds size old mid tally
     does_ended =
@@ -149,7 +150,7 @@ module _ {kinds : Kinds} {size : ℕ} {set : ℕ → Bool} {units left : List Er
         ran_leaves so.listed.ran (grind (arith, does_ended.fewer)) (omega (arith, does_ended.fewer))
         (λ honest can. made_may (λ a. erased_inside (a / 4096)) erased_inside (so.done honest can))
 
-  -- For the point at which `unit` is the next erase.
+  -- Lemmas for the point at which `unit` is the next erase to be sent.
   module _ {unit : Erase} {rest : List Erase} (next : left ≡ unit ∷ rest) where
     pub few_units : tally.count < 4096
     few_units = omega (arith, listed_fewer so.listed next, so.few, count_below-most 4096 set)
@@ -179,7 +180,7 @@ module _ {kinds : Kinds} {size : ℕ} {set : ℕ → Bool} {units left : List Er
         unit_targets unit.unit unit.sector size set s of_plan.is.aligned
         (λ k low high. of_plan.inside k (in_unit (size / 4096) k unit low high))
 
-    -- a timeout names the block's first address, which is in a sector of the set
+    -- A timeout names the first address of the erase block, which is in a sector of the set.
     names_unit : (error : OperationError) → NamesTimeout (4096 * unit.sector) error → NamesTimeoutIn set error
     names_unit error returned =
         let inside = of_plan.inside unit.sector in

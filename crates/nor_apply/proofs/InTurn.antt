@@ -1,5 +1,5 @@
--- Lemmas about successive parts of a change, on every bus: which sectors they target, how many transactions they take,
--- and what holds at each exit.
+-- Lemmas about successive parts of a change on every bus: the sectors that they target, the number of their
+-- transactions, and each exit.
 use Rattle.std.proofs.Common.{◌≡◌, ◌≤◌, ◌+◌, ◌*◌, ◌∙◌, ℕ, true, List, [], ◌∷◌, ◌++◌, length, sym, ap, refl, arith}
 use Rattle.std.proofs.lemmas.List.{length-append, length_push, append_assoc, append-nil}
 use Rattle.std.specs.List.{All}
@@ -15,10 +15,10 @@ use Rattle.nor_driver.proofs.Limits.{IsPartOf, AreParts, IsSum, sum_parts, sends
 use Rattle.nor_apply.specs.declared.tally.Tally.{Tally}
 use Rattle.nor_apply.specs.Spending.{Tallies}
 
--- ---- parts that ran
+-- ---- parts that succeeded
 
--- Holds if a part of a change succeeded. It sent exactly the numbers of operations in `limits`, and only operations
--- that `limits` allows. Its transactions, with at most `readings` reads, are counted in `tally` (`Tallies`).
+-- Holds after a part of a change succeeded. It sent exactly the numbers of operations in `limits`, and only operations
+-- that `limits` allows. `tally` counts its operations and transactions, with at most `readings` reads (`Tallies`).
 pub record Ran (limits : Limits) (readings : ℕ) (old new : BusState) (tally : Tally) : Type 0 where
   pub nature : KeepsNature old new
   pub sends : SendsWithin limits old new
@@ -38,20 +38,21 @@ ran_none {limits} state none = record {
   tallies = search arith;
 }
 
--- a part that succeeded, with the exact numbers of its operations as its limits
+-- If a part succeeded and sent exactly `e` erases, `p` page programs and `w` status writes, `Ran` holds with these
+-- numbers as its limits.
 pub ran_part : {most r e p w : ℕ} {limits : Limits} {Can : Chip → Type 0} {May : BusState → BusState → Type 0}
     {old new : BusState} {tally : Tally} → Leaves most limits Can May old new → SendsExactly e p w old new
     → Tallies r old new tally → Ran (record limits { erases = e; programs = p; status_writes = w }) r old new tally
 ran_part leaves exactly tallies = let sends = sends_exactly leaves.sends exactly in search arith
 
--- a single operation that succeeded is a part (`Ran`) without reads
+-- If a single operation succeeded, `Ran` holds for it as a part without reads.
 pub ran_one : {e p w sent : ℕ} {limits : Limits} {Can : Chip → Type 0} {May : BusState → BusState → Type 0}
     {old new : BusState} → Leaves most_operation limits Can May old new → SendsExactly e p w old new
     → EndsWaiting old new sent → Ran (record limits { erases = e; programs = p; status_writes = w }) 0 old new
     (record { count = 1; transactions = sent })
 ran_one leaves exactly ends = ran_part leaves exactly (search arith)
 
--- ---- one after another
+-- ---- parts in turn
 
 module _ {first : Limits} {r : ℕ} {old mid new : BusState} {done : Tally} (ran : Ran first r old mid done) where
   pub ran_after : {second both : Limits} {k readings : ℕ} {more all : Tally} → IsSum first second both
@@ -67,19 +68,19 @@ module _ {first : Limits} {r : ℕ} {old mid new : BusState} {done : Tally} (ran
         tallies = grind (arith, ran.nature.honest, ran.tallies.sent, after.tallies.sent, ran.tallies.idle, after.tallies.idle, ran.tallies.unsent, after.tallies.unsent);
       }
 
--- ---- exits
+-- ---- the exits
 
 module _ {limits : Limits} {r : ℕ} {old mid : BusState} {done : Tally} (ran : Ran limits r old mid done) where
   pub honest_now : old.honest ≡ true → mid.honest ≡ true
   honest_now honest = ran.nature.honest ∙ honest
 
-  -- `OperationFails` holds for these parts together with a next one that returned an error
+  -- If the next part returned an error, `OperationFails` holds for the parts so far and the next one together.
   pub fails_after : {part most : ℕ} {new : BusState} {error : OperationError} → OperationFails part mid new error
       → done.transactions + part ≤ most → OperationFails most old new error
   fails_after fails fits = grind (arith, ran.nature.honest, ran.tallies.sent, fails.stopped, fails.ran_out)
 
   module _ {Can : Chip → Type 0} {May : BusState → BusState → Type 0} where
-    -- `Leaves` holds for these parts
+    -- `Leaves` holds for the parts so far.
     pub ran_leaves : {most : ℕ} {all : Limits} → IsPartOf limits all → done.transactions ≤ most
         → (old.honest ≡ true → Can old.chip → May old mid) → Leaves most all Can May old mid
     ran_leaves {all = all} part fits may = record {
@@ -88,7 +89,7 @@ module _ {limits : Limits} {r : ℕ} {old mid : BusState} {done : Tally} (ran : 
       reached = may;
     }
 
-    -- `Leaves` holds for these parts together with a next one, at each exit of that part
+    -- At each exit of the next part, `Leaves` holds for the parts so far and the next one together.
     pub leaves_after : {part most : ℕ} {second all : Limits} {Can' : Chip → Type 0}
         {May' : BusState → BusState → Type 0} {new : BusState} → Leaves part second Can' May' mid new
         → AreParts limits second all → done.transactions + part ≤ most
@@ -103,9 +104,10 @@ module _ {limits : Limits} {r : ℕ} {old mid : BusState} {done : Tally} (ran : 
               let next = follows honest can in next.1 (leaves.reached (honest_now honest) next.0);
         }
 
--- ---- an operation for each of a list
+-- ---- one operation for each element of a list
 
--- Holds if the operations for the elements `done` of the list `all` succeeded, and those for `left` are not sent yet.
+-- Holds after the operations for the elements `done` of the list `all` succeeded. Those for the elements `left` are not
+-- sent yet.
 pub record Listed {A : Type 0} (all done left : List A) (limits : ℕ → Limits) (old new : BusState)
     (tally : Tally) : Type 0 where
   pub split : done ++ left ≡ all
@@ -135,7 +137,8 @@ module _ {A : Type 0} {all done left : List A} {limits : ℕ → Limits} {old mi
     pub listed_fewer : tally.count + 1 ≤ length all
     listed_fewer = omega (arith, ap length listed_split, length-append done (x ∷ rest), listed.count)
 
-    -- `OperationFails` holds if the next operation returned an error
+    -- If the next operation returned an error, `OperationFails` holds for the operations so far and the next one
+    -- together.
     pub listed_fails : {most : ℕ} {new : BusState} {error : OperationError}
         → OperationFails most_operation mid new error → most_operation * length all ≤ most
         → OperationFails most old new error
@@ -143,14 +146,14 @@ module _ {A : Type 0} {all done left : List A} {limits : ℕ → Limits} {old mi
 
     module _ {one : Limits} {Can : Chip → Type 0} {May : BusState → BusState → Type 0} {new : BusState}
         (leaves : Leaves most_operation one Can May mid new) where
-      -- `Leaves` holds for the operations so far together with the next one, at each exit of that operation
+      -- At each exit of the next operation, `Leaves` holds for the operations so far and the next one together.
       pub listed_after : {most : ℕ} {limits' : Limits} {Can' : Chip → Type 0} {May' : BusState → BusState → Type 0}
           → AreParts (limits tally.count) one limits' → most_operation * length all ≤ most
           → (old.honest ≡ true → Can' old.chip → Can mid.chip × (May mid new → May' old new))
           → Leaves most limits' Can' May' old new
       listed_after parts fits follows = leaves_after listed.ran leaves parts (omega (arith, listed_fewer)) follows
 
-      -- `Listed` holds for one more element, if the next operation succeeded.
+      -- If the next operation, for the element `x`, succeeded, `Listed` holds with `x` as one of the done elements.
       pub listed_more : {sent e p w : ℕ} {more : Tally}
           → IsSum (limits tally.count) (record one { erases = e; programs = p; status_writes = w }) (limits more.count)
           → SendsExactly e p w mid new → EndsWaiting mid new sent → more.count ≡ tally.count + 1

@@ -1,4 +1,5 @@
--- Non-volatile status bits before and after a status write: those that are never changed, and the protection bits.
+-- Lemmas about the non-volatile status bits before and after a status write: the bits that are never changed, and the
+-- protection bits.
 use Rattle.std.proofs.Common.{◌≡◌, ◌+◌, ◌*◌, ◌/◌, ◌%◌, ℕ, List, slice_index, arith, ◌∙◌, ap, refl}
 use Rattle.std.specs.Prelude.{◌||◌, ◌==◌}
 use Rattle.nor_model.specs.Chip.{Chip, KeptBits, is_locked, kept_in}
@@ -6,7 +7,7 @@ use Rattle.nor_model.specs.Guard.{code_of}
 use Rattle.nor_driver.specs.StatusWrites.{fixed_of, with_code}
 use Rattle.nor_apply.specs.Within.{is_writable}
 
--- ---- other protection bits
+-- ---- a change of the protection bits
 
 pub fixed_coded : (code : ℕ) (kept : KeptBits) → fixed_of (with_code code kept) ≡ fixed_of kept
 fixed_coded code kept =
@@ -20,12 +21,12 @@ coded_again code later kept =
     let high : (64 * (code / 32) + kept.two % 64) % 64 ≡ kept.two % 64 = omega arith in
     rw (low, high) refl
 
--- after `code` 0 was written, all protection bits are clear
+-- If the protection bits are set to 0, all of them are clear.
 pub code_cleared : (kept : KeptBits) → code_of (with_code 0 kept) ≡ 0
 code_cleared kept = omega arith
 
--- if the bits that are never changed agree in `kept` and in two status bytes, then `kept` with the protection bits of
--- these bytes has all non-volatile bits of these bytes
+-- If the bits that are never changed agree in `kept` and in the two bytes `status`, then `kept` with the protection
+-- bits of `status` equals the non-volatile bits of `status`.
 pub coded_from_status : (status : List ℕ) (kept : KeptBits) → fixed_of kept ≡ fixed_of (kept_in status)
     → with_code (code_of (kept_in status)) kept ≡ kept_in status
 coded_from_status status kept fixed =
@@ -34,9 +35,9 @@ coded_from_status status kept fixed =
     let high : 64 * (code_of (kept_in status) / 32) + kept.two % 64 ≡ slice_index status 1 % 128 = omega arith in
     rw (low, high) refl
 
--- ---- the lock
+-- ---- whether the status is locked
 
--- if the bits that are never changed agree, the status is locked in both cases or in neither
+-- If the bits that are never changed agree in `x` and `y`, then both statuses are locked, or neither is.
 pub locked_same : (x y : KeptBits) → fixed_of y ≡ fixed_of x → is_locked y ≡ is_locked x
 locked_same x y fixed =
     let two = ap (λ (f : ℕ × ℕ). f.1) fixed in

@@ -1,4 +1,5 @@
--- The spans of a sector: the effect of their programs one after another, their number, and what follows at each exit.
+-- Lemmas about the page programs of a sector, one for each span: the state between two programs, their number, and each
+-- exit.
 use Rattle.std.proofs.Common.{◌≡◌, ◌<◌, ◌≤◌, ◌+◌, ◌-◌, ◌*◌, ◌/◌, ◌⊎◌, inl, inr, ◌∙◌, ℕ, Bool, true, List, [], ◌∷◌, ◌++◌, length, take, drop, slice_index, refl, ap, sym, arith, length-take, length-drop, ◌||◌, zero, suc}
 use Rattle.std.specs.Prelude.{◌&&◌, ◌||◌, nat_le, nat_lt, bit_and, if◌then◌else◌, ◌==◌, not, min, count_by}
 use Rattle.std.specs.Int.Bits.{and_self}
@@ -34,34 +35,35 @@ use Rattle.nor_apply.specs.Spending.{NamesTimeoutIn}
 use Rattle.nor_apply.proofs.InTurn.{ran_leaves, honest_now, Listed, listed_after, listed_fails, listed_more, listed_all, listed_next, listed_fewer}
 use Rattle.nor_apply.proofs.Targeting.{named_in}
 
--- true at the addresses of these spans of the sector
+-- True if the address `a` is in one of these spans of the sector.
 abbrev pub in_spans : ℕ → List PageSpan → ℕ → Bool
 in_spans sector spans a = spanned_by spans (a - 4096 * sector) && only sector (a / 4096)
 
--- Holds if the bytes of these spans of a sector are the target ones, and all other bytes are as they were.
+-- Holds after these spans of a sector were programmed: their bytes are the target bytes, and all other bytes are as
+-- they were.
 abbrev pub HasFilled : ℕ → List ℕ → List PageSpan → (old new : BusState) → Type 0
 HasFilled sector wanted spans old new = HasMade (in_spans sector spans) (byte_of sector wanted) none old new
 
--- ---- the bytes that are sent
+-- ---- the effect of a program on a byte
 
 abbrev part : List ℕ → PageSpan → List ℕ
 part wanted span = take (span.last + 1 - span.first) (drop span.first wanted)
 
--- a byte that is the old or the target one, ANDed with the target byte, is the target byte, if no bit must go from 0 to
--- 1
+-- Let `now` be the old or the target byte. If turning the old byte into the target byte takes no bit from 0 to 1, then
+-- `now` ANDed with the target byte is the target byte.
 fallen : {now old wanted : ℕ} → (now ≡ old) ⊎ (now ≡ wanted) → bit_and wanted old ≡ wanted → bit_and now wanted ≡ wanted
 fallen {old} {wanted} (inl same) falls = rw (same, and_comm old wanted) falls
 fallen {wanted} (inr made) falls = rw made (and_self wanted)
 
--- ---- one more span
+-- ---- the next span
 
--- all addresses of a page are in the same sector
+-- All addresses of the page that contains the address `4096 * sector + first` are in the sector `sector`.
 page_inside : (sector first a : ℕ) → first < 4096 → is_in_page (4096 * sector + first) a ≡ true
     → only sector (a / 4096) ≡ true
 page_inside sector first a below page = grind (arith, nat_tests)
 
--- `MayChange` holds for a program, even if it was interrupted, if its page lies in the sector, and the complete program
--- would leave each byte as it was or as the target one.
+-- After a program, even an interrupted one, `MayChange` holds for a sector. The premises are that the page lies in this
+-- sector, and that the complete program would leave each byte as it was or as the target byte.
 span_change : (sector at : ℕ) (sent : List ℕ) (wanted : ℕ → ℕ) (now new : BusState)
     → ((a : ℕ) → is_in_page at a ≡ true → only sector (a / 4096) ≡ true)
     → ((a : ℕ) → (programmed at sent now.chip.bytes a ≡ now.chip.bytes a)
@@ -82,7 +84,7 @@ module _ {sector : ℕ} {old wanted : List ℕ} {span : PageSpan} (spanned : Spa
   length-part : length (part wanted span) ≡ span.last + 1 - span.first
   length-part = omega (arith, length-take {A = ℕ}, length-drop {A = ℕ}, below_end)
 
-  -- the addresses to which the bytes are sent are those of the span
+  -- The addresses that the program of a span changes are exactly those of the span.
   sent_addresses : (a : ℕ) → (nat_le (4096 * sector + span.first) a
       && nat_lt a (4096 * sector + span.first + length (part wanted span))) ≡ in_spans sector (span ∷ []) a
   sent_addresses a =
@@ -92,7 +94,7 @@ module _ {sector : ℕ} {old wanted : List ℕ} {span : PageSpan} (spanned : Spa
 
   module _ (spans : List PageSpan) {first now : BusState} (can : CanProgramSpans sector old wanted first.chip)
       (filled : HasFilled sector wanted spans first now) where
-    -- After the programs of other spans the chip can program this span, if `CanProgramSpans` held at the start.
+    -- If `CanProgramSpans` held at the start, and other spans were programmed since, the chip can program this span.
     can_span : CanProgram (4096 * sector + span.first) (length (part wanted span)) now.chip
     can_span =
         let able = can_after now.chip (λ s is. is) can.can filled.config filled.kept filled.idle in
@@ -102,7 +104,7 @@ module _ {sector : ℕ} {old wanted : List ℕ} {span : PageSpan} (spanned : Spa
         let long = length-part in
         grind (arith, spanned.is.order, nat_tests)
 
-    -- in the span each byte, ANDed with the sent one, is the target one
+    -- At each address of the span, the chip's byte ANDed with the byte that is sent is the target byte.
     span_falls : (a : ℕ) → in_spans sector (span ∷ []) a ≡ true
         → bit_and (now.chip.bytes a) (slice_index (part wanted span) (a - (4096 * sector + span.first)))
         ≡ byte_of sector wanted a
@@ -143,8 +145,9 @@ module _ {sector : ℕ} {old wanted : List ℕ} {span : PageSpan} (spanned : Spa
           ∙ and-or_distrib_right (spanned_by spans (a - 4096 * sector)) _ _ in
           made_then joined (λ s. refl) (λ a is. refl) filled made
 
-      -- `MayChange` holds for the programs of `spans` and one that follows them, even if that one was interrupted. The
-      -- bus must be steady before it if and only if it was so at the start.
+      -- If the spans `spans` were programmed, and one more program follows, even an interrupted one, `MayChange` holds
+      -- for all of them. The premise is that the bus is steady before the last program if and only if it was steady at
+      -- the start.
       span_may : now.steady ≡ first.steady → MayProgram (4096 * sector + span.first) (part wanted span) now new
           → MayChange (only sector) none (byte_of sector wanted) first new
       span_may steadily may =
@@ -153,7 +156,7 @@ module _ {sector : ℕ} {old wanted : List ℕ} {span : PageSpan} (spanned : Spa
           (λ a. page_inside sector span.first a (omega (arith, below_end, spanned.is.order)))
           (λ a. either_byte (in_spans sector (span ∷ []) a) (span_bytes a)) may)
 
--- a sector has its target bytes after all spans were programmed: bytes outside them needed no program
+-- After all spans were programmed, the sector has its target bytes, since the bytes outside the spans had them already.
 filled_all : {sector : ℕ} {old wanted : List ℕ} {spans : List PageSpan} {first new : BusState} → length old ≡ 4096
     → AreSpans old wanted spans → CanProgramSpans sector old wanted first.chip → HasFilled sector wanted spans first new
     → HasChanged (only sector) (byte_of sector wanted) none first new
@@ -174,7 +177,8 @@ filled_all {sector} {old} {wanted} {spans} {first} {new} whole are can filled =
 
 -- ---- the number of spans
 
--- some number of two adjacent ranges passes the test if and only if some number of the joined range does
+-- Let a range consist of two adjacent ranges. Some number in one of these two passes a test if and only if some number
+-- in the whole range does.
 any_of_range : (test : ℕ → Bool) (from m n at all : ℕ) → at ≡ from + m → all ≡ m + n
     → (any_below m (λ i. test (from + i)) || list_any test (range_with_len at n)) ≡ any_below all (λ i. test (from + i))
 any_of_range test from m zero at all place sum =
@@ -185,7 +189,8 @@ any_of_range test from m (suc n) at all place sum =
     sym (or_assoc (any_below m (λ i. test (from + i))) (test at) (list_any test (range_with_len (at + 1) n)))
     ∙ rw (← one_more) (any_of_range test from (m + 1) n (at + 1) all (omega arith) (omega arith))
 
--- if `old` has the sector's bytes, a page of it differs from its target if and only if the chip's page does
+-- If `old` has the chip's bytes of a sector, a page differs from its target in `old` if and only if it does on the
+-- chip.
 page_same : (content : ℕ → ℕ) (sector : ℕ) (old wanted : List ℕ) → length old ≡ 4096 → IsSectorOf content sector old
     → (page : ℕ) → page < 16 → page_differs old wanted page
     ≡ is_page_other content (byte_of sector wanted) (16 * sector + page)
@@ -226,10 +231,10 @@ pages_other content sector old wanted whole shown =
     (λ page. is_page_other content (byte_of sector wanted) (16 * sector + page))
     (page_same content sector old wanted whole shown)
 
--- ---- one span after another
+-- ---- the spans in turn
 
--- Holds if the programs of the spans `spans` of a sector succeeded, and no other operation was sent. The spans `left`
--- are not programmed yet.
+-- Holds after the spans `spans` of a sector were programmed, and no other operation was sent. The spans in `left` are
+-- not programmed yet.
 pub record SpansSoFar (sector : ℕ) (old wanted : List ℕ) (spans left : List PageSpan) (first now : BusState)
     (tally : Tally) : Type 0 where
   pub whole : length old ≡ 4096
@@ -241,7 +246,7 @@ pub record SpansSoFar (sector : ℕ) (old wanted : List ℕ) (spans left : List 
 
 module _ {sector : ℕ} {old wanted : List ℕ} {spans left : List PageSpan} {first now : BusState} {tally : Tally}
     (so : SpansSoFar sector old wanted spans left first now tally) where
-  -- For the exit at which every span was programmed.
+  -- Lemmas for the exit at which every span was programmed.
   module _ (none : left ≡ []) where
     pub does_ended : DoesSector 0 (CanProgramSpans sector old wanted) sector wanted first now tally
     does_ended =
@@ -260,7 +265,7 @@ module _ {sector : ℕ} {old wanted : List ℕ} {spans left : List PageSpan} {fi
         ran_leaves so.listed.ran (grind (arith, does_ended.fewer)) (omega (arith, does_ended.fewer))
         (λ honest can. changed_may (does_ended.done honest can))
 
-  -- For the point at which `span` is the next span.
+  -- Lemmas for the point at which `span` is the next span to be programmed.
   module _ {span : PageSpan} {rest : List PageSpan} (next : left ≡ span ∷ rest) where
     spanned : Spanned sector old wanted span
     spanned = record {
@@ -269,7 +274,7 @@ module _ {sector : ℕ} {old wanted : List ℕ} {spans left : List PageSpan} {fi
       is = listed_next so.listed next (IsSpan old wanted) so.are.each;
     }
 
-    -- fewer than 16 spans were programmed
+    -- Fewer than 16 spans were programmed so far.
     pub few_spans : (tally.count ≤ 15) × (tally.transactions ≤ 983070)
     few_spans = omega (arith, listed_fewer so.listed next, so.are.count, pages_most old wanted so.whole)
 
@@ -280,7 +285,7 @@ module _ {sector : ℕ} {old wanted : List ℕ} {spans left : List PageSpan} {fi
         let at = named_in 1 ((4096 * sector + span.first) / 4096) s (omega arith) (omega arith) named in
         only-here (omega arith)
 
-    -- a timeout names an address in the sector
+    -- A timeout names an address in the sector.
     names_address : (error : OperationError) → NamesTimeout (4096 * sector + span.first) error → NamesTimeoutIn (only sector) error
     names_address error returned =
         let last = below_end spanned in

@@ -1,5 +1,5 @@
--- Lemmas about a sector that is read, unless it was erased, and then programmed; and about the loop over all sectors:
--- what holds after the sectors below a number, and at each exit.
+-- Lemmas about one sector, which is read unless it was erased and then programmed, and about the loop over all sectors:
+-- the state after the sectors below a number, and each exit.
 use Rattle.std.proofs.Common.{◌≡◌, ◌<◌, ◌≤◌, ◌+◌, ◌*◌, ◌/◌, ◌∙◌, ℕ, Bool, true, false, List, slice_index, refl, ap, sym, arith, inl, inr, true≢false}
 use Rattle.std.specs.Prelude.{◌&&◌, ◌||◌, nat_lt}
 use Rattle.std.proofs.lemmas.Bool.{cases_Bool, and_parts, lt-ltb, le-ltb}
@@ -26,11 +26,11 @@ use Rattle.nor_apply.proofs.InTurn.{Ran, ran_part, ran_after, ran_none, ran_leav
 use Rattle.nor_apply.proofs.Alone.{only-here, count_below-next, only-is, shown_byte}
 use Rattle.nor_apply.proofs.Changing.{can_after, change_then, change_as, made_may, changed_may, made_none, made_same, made_then}
 
--- ---- a sector that is read, or known to be blank, and then programmed
+-- ---- one sector, which is read or known to be FFh, and then programmed
 
 module _ {sector : ℕ} {erased : Bool} {bytes bytes' : List ℕ} {reads : ℕ} {first mid : BusState}
     (loads : LoadsOk sector erased bytes bytes' first mid reads) where
-  -- loading a sector takes at most one transaction and no operation
+  -- Loading a sector takes at most one transaction, and no operation.
   loads_ran : Ran (programming (only sector) 0) 1 first mid (record { count = 0; transactions = reads })
   loads_ran =
       let read = loads.honest_reads in
@@ -43,8 +43,8 @@ module _ {sector : ℕ} {erased : Bool} {bytes bytes' : List ℕ} {reads : ℕ} 
 
   module _ {wanted : List ℕ} (blank : (i : ℕ) → i < 4096 → slice_index bytes i ≡ 255) (honest : first.honest ≡ true)
       (can : CanProgramSector sector wanted erased first.chip) where
-    -- On a well-behaved bus, if `CanProgramSector` held and the buffer was blank, the buffer has the sector's bytes
-    -- after loading, and the chip is as it was.
+    -- On a well-behaved bus, if `CanProgramSector` held and the buffer was filled with FFh, loading leaves the chip as
+    -- it was, and the buffer has the sector's bytes.
     has_loaded : HasMade (λ a. false) (byte_of sector wanted) none first mid × IsSectorOf mid.chip.bytes sector bytes'
     has_loaded =
         let rested = loads.honest_reads.rested honest in
@@ -100,9 +100,9 @@ module _ {sector : ℕ} {erased : Bool} {bytes bytes' : List ℕ} {reads : ℕ} 
               ∙ ap (λ (x : ℕ → ℕ). count_below 16 (pages x)) bytes;
         }
 
--- ---- sector by sector
+-- ---- the sectors in turn
 
--- true for the touched sectors below `n`
+-- True for the touched sectors below `n`.
 abbrev pub before : (ℕ → Bool) → ℕ → ℕ → Bool
 before touched n s = touched s && nat_lt s n
 
@@ -113,10 +113,10 @@ before_more touched n is s = grind (arith, nat_tests)
 before_skip : (touched : ℕ → Bool) (n : ℕ) → touched n ≡ false → (s : ℕ) → before touched n s ≡ before touched (n + 1) s
 before_skip touched n free s = grind (arith, nat_tests)
 
--- Holds if the touched sectors below `n` were programmed. No erase or status write was sent, and the programs target
--- only touched sectors (`SendsWithin` says this exactly). The number of reads is at most that of the touched sectors
--- below `n`. On a well-behaved bus, if `CanProgramAll` held at the start, the touched sectors below `n` have the target
--- bytes, and one program was sent for each of their pages that differed.
+-- Holds after the touched sectors below `n` were programmed. No erase or status write was sent, and the programs target
+-- only touched sectors (`SendsWithin` states this exactly). The number of reads is at most the number of touched
+-- sectors below `n`. On a well-behaved bus, if `CanProgramAll` held at the start, these sectors have the target bytes,
+-- and one program was sent for each of their pages that differed.
 pub record SectorsSoFar (touched raised : ℕ → Bool) (wanted : ℕ → ℕ) (n : ℕ) (first now : BusState)
     (tally : Tally) : Type 0 where
   pub ran : Ran (programming touched tally.count) (count_below n touched) first now tally
@@ -135,8 +135,8 @@ sectors_none {touched} {wanted = wanted} state = record {
   counted = λ honest can. sym (count_below-zero (is_programmed touched state.chip.bytes wanted));
 }
 
--- the number of pages that need a program below sector `n + 1` is the number below sector `n`, plus that in sector `n`
--- if it is touched
+-- The number of pages below sector `n + 1` that need a program is the number below sector `n` plus, if sector `n` is
+-- touched, the number in sector `n`.
 pages_more : (touched : ℕ → Bool) (content wanted : ℕ → ℕ) (n : ℕ) (is : Bool) → touched n ≡ is
     → count_below (16 * (n + 1)) (is_programmed touched content wanted)
     ≡ count_below (16 * n) (is_programmed touched content wanted)
@@ -149,7 +149,7 @@ pages_more touched content wanted n is same =
     (λ page. is && is_page_other content wanted (16 * n + page))
     (λ page small. let sector : (16 * n + page) / 16 ≡ n = omega arith in rw (sector, same) refl))
 
--- whether a page differs from the target depends only on its own bytes and target bytes
+-- Whether a page differs from the target depends only on the bytes and target bytes of this page.
 page_same : (page : ℕ) {now before wanted wanted' : ℕ → ℕ} → ((a : ℕ) → a / 256 ≡ page → now a ≡ before a)
     → ((a : ℕ) → a / 256 ≡ page → wanted a ≡ wanted' a)
     → is_page_other now wanted page ≡ is_page_other before wanted' page
@@ -159,11 +159,12 @@ page_same page {now} {before} {wanted} {wanted'} same same_wanted =
     any_below-same 256 (λ i. is_other (now (at i)) (wanted (at i))) (λ i. is_other (before (at i)) (wanted' (at i)))
     (λ i below. rw (same (at i) (omega arith), same_wanted (at i) (omega arith)) refl)
 
--- If sector `n`, below 4,096, is touched, fewer sectors are touched below it than in all.
+-- If sector `n`, below 4,096, is touched, the number of touched sectors below `n` is less than the number of all
+-- touched sectors.
 pub room : (touched : ℕ → Bool) (n : ℕ) → n < 4096 → touched n ≡ true → count_below n touched + 1 ≤ sector_count touched
 room touched n below is = count_below-next 4096 n touched below is
 
--- Holds if sector `n` is touched, below 4,096, and has these target bytes.
+-- Holds if sector `n` is touched and below 4,096, and its target bytes are `bytes`.
 pub record IsTouched (touched : ℕ → Bool) (wanted : ℕ → ℕ) (n : ℕ) (bytes : List ℕ) : Type 0 where
   pub is : touched n ≡ true
   pub below : n < 4096
@@ -174,7 +175,7 @@ module _ {touched raised : ℕ → Bool} {wanted : ℕ → ℕ} {n : ℕ} {first
   pub few_sectors : n < 4096 → (tally.count ≤ 65520) × (tally.transactions ≤ 4294053855)
   few_sectors below = omega (arith, count_below-most n touched)
 
-  -- `SectorsSoFar` holds below `n + 1`, too, if sector `n` isn't touched
+  -- If sector `n` isn't touched, and `SectorsSoFar` holds for the sectors below `n`, it holds for those below `n + 1`.
   pub sectors_skip : touched n ≡ false → SectorsSoFar touched raised wanted (n + 1) first now tally
   sectors_skip free =
       let count = count_below-without n touched free in
@@ -200,7 +201,8 @@ module _ {touched raised : ℕ → Bool} {wanted : ℕ → ℕ} {n : ℕ} {first
 
     module _ {erased : Bool} {new : BusState} (erased_is : erased ≡ raised n)
         (leaves : LeavesSector most_sector (CanProgramSector n bytes erased) n bytes now new) where
-      -- on a well-behaved bus, if `CanProgramAll` held at the start, the bytes of sector `n` are still those from then
+      -- On a well-behaved bus, if `CanProgramAll` held at the start, sector `n` still has the bytes that it had at the
+      -- start.
       module _ (honest : first.honest ≡ true) (can : CanProgramAll touched raised wanted first.chip) where
         still_old : (a : ℕ) → only n (a / 4096) ≡ true → now.chip.bytes a ≡ first.chip.bytes a
         still_old a here =
@@ -261,7 +263,7 @@ module _ {touched raised : ℕ → Bool} {wanted : ℕ → ℕ} {n : ℕ} {first
                 );
           }
 
--- ---- the end
+-- ---- after the last sector
 
 module _ {touched raised : ℕ → Bool} {wanted : ℕ → ℕ} {n : ℕ} {first now : BusState} {tally : Tally} (end : n ≡ 4096)
     (so_far : SectorsSoFar touched raised wanted n first now tally) where

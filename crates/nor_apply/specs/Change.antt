@@ -1,5 +1,5 @@
--- The effect of a change of some sectors, at every exit and on success. Sets of sectors are Boolean functions of the
--- sector number. Bytes may change only in touched sectors, and only raised sectors may be erased.
+-- The effect of a change of some sectors, at every exit and after success. A set of sectors is a Boolean function of
+-- the sector number. Bytes may change only in touched sectors, and only raised sectors may be erased.
 use Rattle.std.specs.Prelude.{◌≡◌, ◌≤◌, ◌+◌, ◌-◌, ◌*◌, ◌/◌, ◌==◌, ◌||◌, ◌⊎◌, ℕ, Bool, true, false, List, slice_index, bit_and, if◌then◌else◌}
 use Rattle.nor_model.specs.Chip.{Chip}
 use Rattle.nor_model.specs.Guard.{is_protected}
@@ -7,7 +7,8 @@ use Rattle.nor_model.specs.Bus.{BusState}
 use Rattle.nor_model.specs.declared.config.Kinds.{Kinds}
 use Rattle.nor_apply.specs.Within.{IsWithin, addresses_of}
 
--- Holds if the sectors can be changed: the chip is idle, and they lie on it and have no protected address.
+-- Holds if these sectors of the chip can be changed: the chip is idle, the sectors lie on it, and none of their
+-- addresses is protected.
 pub record CanChange (sectors : ℕ → Bool) (chip : Chip) : Type 0 where
   pub idle : chip.busy ≡ 0
   pub inside : (s : ℕ) → sectors s ≡ true → 4096 * s + 4096 ≤ chip.config.size
@@ -18,23 +19,23 @@ pub record IsSized (size : ℕ) (kinds : Kinds) (chip : Chip) : Type 0 where
   pub same : chip.config.size ≡ size
   pub same_kinds : chip.config.kinds ≡ kinds
 
--- Holds if no bit in these sectors must go from 0 to 1 to reach the target bytes.
+-- Holds if turning `content` into the target bytes takes no bit in these sectors from 0 to 1.
 abbrev pub OnlyFalls : (sectors : ℕ → Bool) → (wanted content : ℕ → ℕ) → Type 0
 OnlyFalls sectors wanted content = (a : ℕ) → sectors (a / 4096) ≡ true → bit_and (wanted a) (content a) ≡ wanted a
 
--- Holds at every exit of a change. The chip differs from that at the start only as `IsWithin` allows. So bytes outside
--- the touched sectors and the bits that are never changed are as they were, and so are the protection bits if they
--- couldn't be written. On a steady bus each byte of a sector that isn't raised is the old or the target one. Only
--- raised sectors were erased.
+-- Holds at every exit of a change. The chip differs from the chip at the start only as `IsWithin` allows. So bytes
+-- outside the touched sectors, and the bits that are never changed, are as they were. The protection bits are as they
+-- were if they couldn't be written. On a steady bus each byte of a sector that isn't raised is the old or the target
+-- byte. Only raised sectors were erased.
 pub record MayChange (touched raised : ℕ → Bool) (wanted : ℕ → ℕ) (old new : BusState) : Type 0 where
   pub within : IsWithin (addresses_of touched) old.chip new
   pub gentle : old.steady ≡ true → (a : ℕ) → raised (a / 4096) ≡ false
       → (new.chip.bytes a ≡ old.chip.bytes a) ⊎ (new.chip.bytes a ≡ wanted a)
   pub worn : (s : ℕ) → raised s ≡ false → new.worn s ≡ old.worn s
 
--- Holds after a change succeeded. The addresses have the target bytes, and the sectors of `erased` were erased. All
--- other bytes and the non-volatile bits are as they were, the chip is idle, and its write enable latch is set only if
--- it was set before.
+-- Holds after a change succeeded. The bytes at `addresses` are the target bytes, and the sectors in `erased` were
+-- erased. All other bytes and the non-volatile status bits are as they were, the chip is idle, and its write enable
+-- latch is set only if it was set before.
 pub record HasMade (addresses : ℕ → Bool) (wanted : ℕ → ℕ) (erased : ℕ → Bool) (old new : BusState) : Type 0 where
   pub config : new.chip.config ≡ old.chip.config
   pub bytes : (a : ℕ) → new.chip.bytes a ≡ (if addresses a then wanted a else old.chip.bytes a)
@@ -43,7 +44,7 @@ pub record HasMade (addresses : ℕ → Bool) (wanted : ℕ → ℕ) (erased : �
   pub idle : new.chip.busy ≡ 0
   pub latch : new.chip.latch ≡ true → old.chip.latch ≡ true
 
--- Holds after a change of all addresses in these sectors succeeded.
+-- Holds after a change of all addresses in `sectors` succeeded (`HasMade`).
 abbrev pub HasChanged : (sectors : ℕ → Bool) → (wanted : ℕ → ℕ) → (erased : ℕ → Bool) → (old new : BusState) → Type 0
 HasChanged sectors = HasMade (addresses_of sectors)
 
@@ -51,10 +52,10 @@ HasChanged sectors = HasMade (addresses_of sectors)
 abbrev pub blank : ℕ → ℕ
 blank a = 255
 
--- true only for the sector number `sector`
+-- True for the sector with the number `sector`, and for no other sector.
 abbrev pub only : (sector s : ℕ) → Bool
 only sector s = s == sector
 
--- the byte at address `a`, which lies in a sector with this number and these bytes
+-- The byte at address `a`, which must lie in the sector with this number and these bytes.
 abbrev pub byte_of : ℕ → List ℕ → ℕ → ℕ
 byte_of sector bytes a = slice_index bytes (a - 4096 * sector)

@@ -1,4 +1,4 @@
--- How far a chip may differ from the original chip if a journal of the original can restore it.
+-- How far a chip may differ from the original chip, so that a journal of the original chip can still restore it.
 use Rattle.std.specs.Prelude.{◌≡◌, ◌≢◌, ◌/◌, ◌&&◌, ℕ, Bool, true, false, not}
 use Rattle.nor_model.specs.declared.running.Running.{Running}
 use Rattle.nor_model.specs.declared.running.Running.TheVariants.{StatusWrite}
@@ -7,22 +7,23 @@ use Rattle.nor_model.specs.Power.{is_known_running, is_in_work}
 use Rattle.nor_model.specs.Bus.{BusState}
 use Rattle.nor_driver.specs.StatusWrites.{fixed_of}
 
--- true if the protection bits can be written: the chip has block protection, and its status isn't locked
+-- True if the protection bits of the chip can be written: the chip has block protection, and its status isn't locked.
 abbrev pub is_writable : Chip → Bool
 is_writable chip = chip.config.scheme && not (is_locked chip.kept)
 
--- Holds for an operation that may be in progress on a chip that is to be restored. Its command is known, and it changes
--- only these addresses. It is a status write only if the original chip's status can be written. A status write in
--- progress holds the status bits from before it; those that are never changed are the original chip's.
+-- Holds if the operation `running` may be in progress on a chip that is to be restored. Its command is known, and the
+-- operation changes only bytes at these addresses. If it is a status write, the original chip's status can be written.
+-- A status write in progress contains the status bits from before it; among these, the bits that are never changed have
+-- the original chip's values.
 pub record WorksIn (addresses : ℕ → Bool) (first : Chip) (running : Running) : Type 0 where
   pub known : is_known_running running ≡ true
   pub inside : (a : ℕ) → is_in_work running a ≡ true → addresses a ≡ true
   pub status : (one two : ℕ) → running ≡ StatusWrite one two
       → (is_writable first ≡ true) × (fixed_of (record { one = one; two = two }) ≡ fixed_of first.kept)
 
--- Holds if the bus's chip is the original one, `first`, except in bytes at these addresses, in protection bits that can
--- be written, and in BUSY and WEL: these may have any value. If the bus isn't steady, an operation in progress changes
--- only these addresses, too (`WorksIn`).
+-- Holds if the bus's chip is the original chip, `first`, with three exceptions: bytes at these addresses, protection
+-- bits that can be written, and BUSY and WEL may have any value. If the bus isn't steady, an operation in progress
+-- changes only bytes at these addresses (`WorksIn`).
 pub record IsWithin (addresses : ℕ → Bool) (first : Chip) (state : BusState) : Type 0 where
   pub config : state.chip.config ≡ first.config
   pub bytes : (a : ℕ) → addresses a ≡ false → state.chip.bytes a ≡ first.bytes a
@@ -30,6 +31,6 @@ pub record IsWithin (addresses : ℕ → Bool) (first : Chip) (state : BusState)
   pub kept : is_writable first ≡ false → state.chip.kept ≡ first.kept
   pub runs : state.steady ≡ false → state.chip.busy ≢ 0 → WorksIn addresses first state.chip.running
 
--- true if the address lies in one of these sectors
+-- True if the address `a` lies in one of these sectors.
 abbrev pub addresses_of : (sectors : ℕ → Bool) → (a : ℕ) → Bool
 addresses_of sectors a = sectors (a / 4096)

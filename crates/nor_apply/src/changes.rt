@@ -1,4 +1,4 @@
-//! All changes of a session or restore, in order.
+//! The call `apply`, which makes all changes of a session or restore in order.
 ghost use Rattle.std.specs.Prelude.{◌≡◌, ℕ, true, IfOk, IfErr};
 ghost use Rattle.nor_plan.specs.SectorSet.{has};
 ghost use Rattle.nor_geometry.specs.Counts.{sector_count};
@@ -13,28 +13,28 @@ use nor_driver::OperationError;
 use nor_model::{Bus, Kinds, Status};
 use nor_plan::SectorSet;
 
-/// The changes to make to a chip.
+/// The changes that `apply` makes to a chip.
 #[derive(Clone, Copy)]
 pub struct Changes {
     /// The touched sectors, in which bytes may change.
     pub touched: SectorSet,
-    /// The raised sectors: touched sectors that have to be erased.
+    /// The raised sectors: those touched sectors that must be erased.
     pub raised: SectorSet,
-    /// The chip's erase types in addition to 4 KiB and the whole chip.
+    /// The chip's erase types, other than those of 4 KiB and of the whole chip.
     pub kinds: Kinds,
     /// The chip's size in bytes.
     pub size: u32,
     /// The status registers, as they were read from the chip.
     pub status: Status,
-    /// True if all protection bits are cleared first.
+    /// True if `apply` first clears all protection bits.
     pub unlock: bool,
     /// The target protection bits as a number, which must be below 64.
     pub code: u8,
 }
 
 impl Changes {
-    /// Returns whether the protection bits must be written at the end: whether those of `status`, or 0 after an unlock,
-    /// differ from the target ones.
+    /// Returns whether the protection bits must be written at the end. This is so if the present bits (those of
+    /// `status` or, after an unlock, 0) differ from the target bits.
     fn writes_code(&self) -> bool
         ensures { result ≡ writes_code self.now }
     {
@@ -43,7 +43,7 @@ impl Changes {
     }
 }
 
-/// The numbers of erases and programs that the changes took, and the number of all their transactions.
+/// The numbers of erases and page programs that were sent, and the number of all transactions of the changes.
 #[derive(Clone, Copy, Debug, PartialEq, Eq)]
 pub struct Work {
     pub erases: u32,
@@ -53,23 +53,24 @@ pub struct Work {
 
 /// Changes the touched sectors to the bytes of `source` and the protection bits to `changes.code`. `apply` first clears
 /// the protection bits if `changes.unlock` is set. Then it erases the raised sectors with the fewest erases, and
-/// programs the touched sectors. At the end it writes the protection bits if they are not the target ones.
+/// programs the touched sectors. At the end it writes the protection bits, if they differ from the target bits.
 ///
-/// The changes must fit each other (`AreConsistent`): the touched sectors lie below `changes.size`, which is at most
-/// 16 MiB; every raised sector is touched; and `changes.code` is below 64. `source` must have every touched sector. On
-/// any bus, erases and programs target only touched sectors and, if these are the whole chip, addresses past its end.
+/// The changes must fit each other (`AreConsistent`): the touched sectors lie below `changes.size`, which is at most 16
+/// MiB; every raised sector is touched; and `changes.code` is below 64. `source` must have every touched sector. On any
+/// bus, erases and programs target only touched sectors and, if these are the whole chip, addresses past its end.
 ///
-/// On a well-behaved bus, after success the changes are complete if `CanApply` held at the start. Besides the
-/// conditions above and target bytes below 256, `CanApply` requires:
+/// On a well-behaved bus, after success the changes are complete if `CanApply` held at the start. In addition to the
+/// conditions above, `CanApply` requires:
 ///
 /// - The chip is idle, and has the size, the erase types and the non-volatile status bits that `changes` names.
 /// - If a status write is needed, the chip has block protection and its status isn't locked.
 /// - If `unlock` isn't set, no address in a touched sector is protected.
+/// - The target bytes of touched sectors are below 256.
 /// - In touched sectors that aren't raised, no bit must go from 0 to 1.
 ///
-/// Returns `Stopped` if the bus stopped. Returns `Timeout` with an address in a touched sector, or 0 for a status
-/// write, if the chip stayed busy for 65,536 polls. On a well-behaved bus there is no timeout. On any bus nothing is
-/// sent after the transaction at which the bus stopped, or after the last of these polls.
+/// Returns `Stopped` if the bus stopped. Returns `Timeout` if the chip stayed busy for 65,536 polls; its address is in
+/// a touched sector or, after a status write, 0. On a well-behaved bus there is no timeout. On any bus nothing is sent
+/// after the transaction at which the bus stopped, or after the last of these polls.
 pub fn apply<B: Bus, S: Source>(
     bus: &mut B,
     source: &S,

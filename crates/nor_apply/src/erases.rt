@@ -1,4 +1,4 @@
-//! Erases of a set of sectors.
+//! The erases of a set of sectors.
 ghost use Rattle.std.specs.Prelude.{◌≤◌, ◌*◌, ◌/◌, IfOk, IfErr};
 ghost use Rattle.nor_driver.specs.Operations.{most_operation};
 ghost use Rattle.nor_plan.specs.SectorSet.{has, LiesBelow};
@@ -12,13 +12,16 @@ use nor_driver::{OperationError, erase};
 use nor_model::{Bus, Kinds};
 use nor_plan::{SectorSet, erases};
 
-/// Erases the raised sectors of a chip of `size` bytes that has these erase types, with the fewest erases. Returns the
-/// numbers of erases and transactions. On a well-behaved bus, after success the sectors are FFh if at the start the
-/// chip had this size and these erase types, was idle, and protected none of the sectors.
+/// Erases the raised sectors of a chip of `size` bytes that has the erase types `kinds`, with the fewest erases.
+/// Returns the numbers of erases and transactions.
 ///
-/// The sectors must lie below `size`, which is at most 16 MiB. Returns `Stopped` if the bus stopped, and `Timeout` with
-/// an address in the set if the chip stayed busy for 65,536 polls. On a well-behaved bus there is no timeout. On any
-/// bus nothing is sent after the transaction at which the bus stopped, or after the last of these polls.
+/// The sectors must lie below `size`, which is at most 16 MiB. On a well-behaved bus, after success the sectors are
+/// FFh, provided that at the start the chip was idle, had this size and these erase types, and protected none of the
+/// sectors.
+///
+/// Returns `Stopped` if the bus stopped, and `Timeout` with an address in the set if the chip stayed busy for 65,536
+/// polls. On a well-behaved bus there is no timeout. On any bus nothing is sent after the transaction at which the bus
+/// stopped, or after the last of these polls.
 pub fn erase_all<B: Bus>(
     bus: &mut B,
     raised: &SectorSet,

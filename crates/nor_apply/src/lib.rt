@@ -1,5 +1,5 @@
-//! Changes sectors and protection bits of a flash chip to the target: unlock, erases, programs, status write. Sessions
-//! and restores use this crate.
+//! Changes the sectors and the protection bits of a flash chip to their target values: clears the protection bits if
+//! that is needed, erases, programs, and writes the status. Sessions and restores use this crate.
 //!
 //! ```rust
 //! ghost use Rattle.std.specs.Prelude.{◌%◌, true, slice_index};
@@ -44,7 +44,7 @@
 //! ```
 //!
 //! The target bytes come from a `Source`, sector by sector. `specs/Applying.antt` defines the effect of `apply`, at
-//! every exit and on success.
+//! every exit and after success.
 //!
 //! - `changes.rt`: all changes of a session or restore, in order
 //! - `protection.rt`: status writes that change the protection bits

@@ -1,4 +1,4 @@
-//! Page programs of a set of sectors.
+//! The page programs of a set of sectors.
 ghost use Rattle.std.specs.Prelude.{◌≡◌, ◌<◌, ◌*◌, ℕ, true, IfOk, IfErr, OnErr};
 ghost use Rattle.nor_plan.specs.SectorSet.{has};
 ghost use Rattle.nor_geometry.specs.Counts.{sector_count};
@@ -17,8 +17,8 @@ use nor_model::{Bus, Stopped};
 use nor_plan::{SectorSet, spans};
 
 /// Programs the touched sectors, in ascending order, with the bytes of `source`, which must have every touched sector.
-/// A raised sector counts as blank, because it was erased, and is not read. Returns the number of programs, and the
-/// number of transactions including reads. On a well-behaved bus, after success the touched sectors have the target
+/// A raised sector is not read: it was erased, so its bytes are taken to be FFh. Returns the number of programs, and
+/// the number of transactions including reads. On a well-behaved bus, after success the touched sectors have the target
 /// bytes if `CanProgramAll` held at the start.
 ///
 /// Returns `Stopped` if the bus stopped, and `Timeout` with an address in a touched sector if the chip stayed busy for
@@ -51,8 +51,8 @@ pub fn program_all<B: Bus, S: Source>(
     Ok(tally)
 }
 
-// Programs the pages of a sector that differ from their target bytes. A sector that was erased counts as blank, and
-// isn't read.
+// Programs the pages of a sector that differ from their target bytes. If `erased` is set, the sector is not read, and
+// its bytes are taken to be FFh.
 fn program_sector<B: Bus>(
     bus: &mut B,
     sector: u32,
@@ -76,7 +76,7 @@ fn program_sector<B: Bus>(
     })
 }
 
-// Reads a sector into `bytes`, unless it was erased. Returns the number of transactions, 0 or 1.
+// Reads a sector into `bytes`, unless `erased` is set. Returns the number of transactions, 0 or 1.
 fn load<B: Bus>(
     bus: &mut B,
     sector: u32,
@@ -95,7 +95,7 @@ fn load<B: Bus>(
     Ok(1)
 }
 
-// Programs one span per page in which the bytes `old` of a sector differ from the target bytes.
+// Programs, for each page in which `old` differs from `wanted`, the span from the first to the last byte that differs.
 fn program_spans<B: Bus>(
     bus: &mut B,
     sector: u32,

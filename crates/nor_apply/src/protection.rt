@@ -1,4 +1,4 @@
-//! Status writes that change the protection bits.
+//! The status write that changes the protection bits.
 ghost use Rattle.std.specs.Prelude.{◌<◌, IfOk, IfErr};
 ghost use Rattle.nor_driver.specs.Operations.{most_operation};
 ghost use Rattle.nor_apply.specs.Protecting.{LeavesCode, DoesCode, FailsWriting};
@@ -7,8 +7,8 @@ ghost use Rattle.nor_driver.specs.Waits.{OperationFails};
 use nor_driver::{OperationError, write_status};
 use nor_model::{Bus, Status};
 
-/// Writes the protection bits of `code`, which must be below 64, if `needed` is set. The other non-volatile bits are
-/// sent as in `status`. Returns the number of transactions, 0 if `needed` is not set.
+/// If `needed` is set, writes the status with the protection bits `code`, which must be below 64. The other
+/// non-volatile bits are sent as in `status`. Returns the number of transactions, which is 0 if `needed` is not set.
 ///
 /// Returns `Stopped` if the bus stopped, and `Timeout` with address 0 if the chip stayed busy for 65,536 polls. On a
 /// well-behaved bus there is no timeout. On any bus nothing is sent after the transaction at which the bus stopped, or

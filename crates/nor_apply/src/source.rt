@@ -3,10 +3,10 @@ ghost use Rattle.std.specs.Prelude.{◌≡◌, ◌<◌, ◌+◌, ◌*◌, ℕ, B
 
 use nor_geometry::SECTOR_LEN;
 
-/// The target bytes of some sectors: an image, or the records of a journal. A sector has 4,096 bytes. Contracts see the
-/// bytes by address.
+/// A source of target bytes for some sectors, for example an image or the records of a journal. A sector has 4,096
+/// bytes. Contracts see the bytes by address.
 pub trait Source {
-    // The sectors whose bytes the source has.
+    // True for the sectors whose bytes the source has.
     ghost has: { Self → ℕ → Bool };
 
     // The target byte at an address in a sector that the source has.

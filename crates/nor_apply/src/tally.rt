@@ -1,6 +1,6 @@
 //! Counts of operations and transactions.
 
-/// The number of operations, and the number of transactions that these operations and the reads of sectors took.
+/// The number of operations, and the number of all transactions, which includes reads of sectors.
 #[derive(Clone, Copy, Debug, PartialEq, Eq)]
 pub struct Tally {
     pub count: u32,

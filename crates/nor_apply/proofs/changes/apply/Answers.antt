@@ -28,7 +28,7 @@ returns-in_err-programmed g c =
     c.in_err-programmed.ensures.names in
     grind (arith, common_steps, ends_in_error)
 
--- the effect and result of the parts before the last status write
+-- The effects and results of the parts before the last status write (`Parts`), after all these parts succeeded.
 all_done : (g : _) (c : In_ok-programmed g) → Parts c.args.changes.now (g.S.Source.wanted c.args.source.now)
     (g.B.Bus.state c.args.bus.now) (g.B.Bus.state c.write_code.new.bus) (g.B.Bus.state c.erase_all.new.bus)
     (g.B.Bus.state c.program_all.new.bus) c.in_ok-lifted.lifted c.in_ok-erased.erased c.in_ok-programmed.programmed
