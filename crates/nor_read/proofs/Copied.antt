@@ -1,4 +1,4 @@
--- Lemmas about the copy of a chip, which is made piece by piece until it is whole or the vault refuses a piece.
+-- Lemmas about the copy of a chip, which is made piece by piece until it is complete or the vault refuses a piece.
 use Rattle.std.proofs.Common.{◌≡◌, ◌<◌, ◌+◌, ◌-◌, ◌*◌, ◌++◌, ◌∙◌, ℕ, true, List, [], length, slice_index, take}
 use Rattle.std.proofs.Common.{Option, refl, ap, sym, arith, inl, inr, append_assoc, append-nil, length-append}
 use Rattle.std.specs.Prelude.{◌/◌}
@@ -32,8 +32,8 @@ copied_none included size state vault = record {
   };
 }
 
--- `CopiesIf` holds for `k` more bytes after the vault accepted them, provided that they are the next bytes of the copy
--- if `known` holds.
+-- If the vault accepts `k` more bytes, `CopiesIf` holds for `m + k` bytes. The premise is that these are the next bytes
+-- of the copy if `known` holds.
 module _ {known : Type 0} {included : Option (List Span)} {content : ℕ → ℕ} {m : ℕ} {vault mid new : VaultState} where
   copies_more : (k count : ℕ) (part : List ℕ) → m + k ≡ count → CopiesIf known included content m vault mid
       → length part ≡ k → new.bytes ≡ mid.bytes ++ part
@@ -56,7 +56,7 @@ module _ {known : Type 0} {included : Option (List Span)} {content : ℕ → ℕ
         ];
       }
 
--- ---- a piece after those below n
+-- ---- the next piece, after the pieces below `n`
 
 module _ {included : Option (List Span)} {size n reads more : ℕ} {bytes : List ℕ} {old mid new : BusState}
     {vault now : VaultState} (below : n < size / 65536) (long : length bytes ≡ 65536)
@@ -65,7 +65,7 @@ module _ {included : Option (List Span)} {size n reads more : ℕ} {bytes : List
   has_only_read-all : HasOnlyRead (reads + more) old new
   has_only_read-all = has_only_read-then has.honest_reads piece.honest_reads
 
-  -- On a well-behaved bus with an idle chip of this size, the piece has the bytes of the copy.
+  -- On a well-behaved bus with an idle chip of this size, the next piece has the bytes of the copy.
   piece_right : IsOpen size old → (i : ℕ) → i < 65536
       → slice_index bytes i ≡ copied included old.chip.bytes (65536 * n + i)
   piece_right is_open i small =
@@ -73,7 +73,7 @@ module _ {included : Option (List Span)} {size n reads more : ℕ} {bytes : List
       let same = now.same in
       rw (same_bytes (has.honest_reads.rested is_open.honest)) at (piece.right now.honest now.idle (omega arith) i small)
 
-  -- `ReadsPieces` holds for one piece more, after the vault accepted it.
+  -- If the vault accepts the next piece, `ReadsPieces` holds for `n + 1` pieces.
   pub copied_more : {later : VaultState} → Took now bytes later
       → ReadsPieces included size (n + 1) old new vault later (reads + more)
   copied_more took = record {
@@ -85,7 +85,7 @@ module _ {included : Option (List Span)} {size n reads more : ℕ} {bytes : List
         (took.bytes (has.accepted.telling ∙ telling)) piece_right;
   }
 
-  -- If the vault refuses the piece, `CopyErrors` holds: error 19 has the number of bytes that a `telling` vault
+  -- If the vault refuses the next piece, `CopyErrors` holds: error 19 has the number of bytes that a `telling` vault
   -- accepted of all pieces together.
   pub copy_fails : (later : VaultState) (refusal : Refusal) → PutErrors n bytes now later refusal
       → CopyErrors included size old new vault later refusal

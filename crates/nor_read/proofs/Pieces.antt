@@ -1,4 +1,4 @@
--- Lemmas about a piece of the copy, which is made sector by sector.
+-- Lemmas about one piece of the copy, which is made sector by sector.
 use Rattle.std.proofs.Common.{◌≡◌, ◌<◌, ◌+◌, ◌-◌, ◌*◌, ◌∙◌, ℕ, List, length, Option, refl}
 use Rattle.std.proofs.Common.{arith, inl, inr}
 use Rattle.std.proofs.lemmas.Bool.{cases_lt}
@@ -15,7 +15,8 @@ pub pieced_none : (included : Option (List Span)) (piece : ℕ) (bytes : List �
     → ReadsPiece included piece 0 bytes state state 0
 pieced_none included piece bytes state = grind (arith, has_only_read-none state)
 
--- If `ReadsPiece` holds for `k`, below 16, and then sector `k` of the piece is copied, `ReadsPiece` holds for `k + 1`.
+-- If `ReadsPiece` holds for the first `k` sectors of a piece, and the next sector is copied, `ReadsPiece` holds for the
+-- first `k + 1` sectors.
 module _ {included : Option (List Span)} {piece k reads more : ℕ} {bytes part : List ℕ} {old mid new : BusState} where
   pub pieced_more : (width : ℕ) → k < 16 → width ≡ 4096 → length bytes ≡ 65536 → length part ≡ 4096
       → ReadsPiece included piece k bytes old mid reads

@@ -1,4 +1,4 @@
--- Lemmas about the probe and the reads after it, for all three calls of this crate.
+-- Lemmas about the probe and the reads after it, which all three calls of this crate use.
 use Rattle.std.proofs.Common.{◌≡◌, ◌≤◌, ◌+◌, ◌∙◌, ℕ, true, List, Option, sym, arith}
 use Rattle.std.specs.Prelude.{◌/◌}
 use Rattle.nor_model.specs.Chip.{status1_of}
@@ -20,20 +20,20 @@ use Rattle.nor_request.specs.Errors.{IdentificationErrors, EndsAtError}
 use Rattle.nor_read.specs.Finding.{IsModelled, HasFound, IsNamed, IsPassed, IsTaken}
 use Rattle.nor_read.specs.Finding.{ReportsPart, ReportsReads, ReadingErrors, most_read}
 
--- Holds if no modifying command was sent. On a well-behaved bus the transactions sent are within the bound for the
--- largest chip, and on a modelled bus within the bound for this chip.
+-- Holds if no modifying command was sent. On a well-behaved bus the number of transactions is at most the bound
+-- `most_read` for the largest chip, and on a modelled bus at most the bound for this chip.
 pub record Sends (old new : BusState) : Type 0 where
   pub largest : OnlyReads (most_read 16777216) old new
   pub own : IsModelled old → OnlyReads (most_read old.chip.config.size) old new
 
 -- Holds after a call was stopped: the bus stopped at the last transaction. On a well-behaved bus fewer transactions
--- were left than the bound for the largest chip, and on a modelled bus fewer than the bound for this chip.
+-- were left at the start than the bound for the largest chip, and on a modelled bus fewer than the bound for this chip.
 pub record OperationFails (old new : BusState) : Type 0 where
   pub last : EndsStopped new.history
   pub largest : old.honest ≡ true → RanOut (most_read 16777216) old new
   pub own : IsModelled old → RanOut (most_read old.chip.config.size) old new
 
--- ---- no chip is found
+-- ---- if no chip is found
 
 pub find_errors : (most : ℕ) (named : Option ChipName) (old new : BusState) (refusal : Refusal) → most_probe ≤ most
     → IdentificationErrors most_probe named old new refusal → old.honest ≡ true → ReadingErrors most named old new refusal
@@ -41,7 +41,7 @@ find_errors most named old new Stopped fits errors honest = let ran = errors.ran
 find_errors most named old new (Timeout address) fits errors honest = absurd (errors.2 honest)
 find_errors most named old new _ fits errors honest = search
 
--- After error 12 or 13 of the probe the last transaction is as `EndsAtError` says; for the probe's other errors
+-- If an error of the probe is 12 or 13, the last transaction is as `EndsAtError` says. About the probe's other errors
 -- `EndsAtError` says nothing.
 pub find_ends : (most : ℕ) (named : Option ChipName) (old new : BusState) (refusal : Refusal)
     → IdentificationErrors most named old new refusal → EndsAtError refusal new.history
@@ -52,9 +52,9 @@ find_ends most named old new _ errors = search
 pub sends_probe : {old new : BusState} → OnlyReads most_probe old new → Sends old new
 sends_probe only_reads = search (arith, only_reads_more)
 
--- ---- a chip is found
+-- ---- if a chip is found
 
--- the report of the chip that was found, after `reads` sectors were read
+-- the report of a call that found the chip in `probed` and then read `reads` sectors
 abbrev pub report_of : Probed → (reads : ℕ) → Report
 report_of probed reads =
     record { found = probed.found; touched = 0; erases = 0; programs = 0; transactions = probed.transactions + reads }
@@ -66,7 +66,7 @@ pub report_is : (probed : Probed) (reads : ℕ) (report : Report) → report.fou
 report_is probed reads report found touched erases programs sent = λ i.
     record { found = found i; touched = touched i; erases = erases i; programs = programs i; transactions = sent i }
 
--- The promises about the report of a call on each kind of bus.
+-- Holds if the promises about the report of a call are kept, on each kind of bus.
 pub record Reports (named : Option ChipName) (included : Option (List Span)) (old new : BusState)
     (report : Report) : Type 0 where
   pub part : ReportsPart named report
@@ -74,7 +74,7 @@ pub record Reports (named : Option ChipName) (included : Option (List Span)) (ol
   pub reads : old.honest ≡ true → ReportsReads (sectors_included included report.found.size) old new report
   pub config : IsModelled old → IsConfigOf old.chip.config report.found
 
--- Reads that succeeded on a well-behaved bus (`Rested`) leave status 1 of an idle chip as it is, in each bit.
+-- If a chip is idle, reads that succeed on a well-behaved bus (`Rested`) don't change any bit of its status 1.
 status1_stays : (old new : BusState) → old.chip.busy ≡ 0 → Rested old new → status1_of new.chip ≡ status1_of old.chip
 status1_stays old new idle rested =
     let latch = rested.idle_latch idle in
@@ -82,7 +82,7 @@ status1_stays old new idle rested =
 
 module _ {named : Option ChipName} {old mid : BusState} {probed : Probed}
     (found : HasFound named old mid probed) (only_reads : OnlyReads most_probe old mid) where
-  -- On a modelled bus the size that was found is that of the chip on the bus.
+  -- On a modelled bus, the size that was found is the size of the chip on the bus.
   pub size_of : IsModelled old → probed.found.size ≡ old.chip.config.size
   size_of known = (found.is.config known).size
 
@@ -95,8 +95,8 @@ module _ {named : Option ChipName} {old mid : BusState} {probed : Probed}
             only_reads_within (most_read old.chip.config.size) (omega arith) only_reads after;
       }
 
-  -- If a well-behaved bus stops after the probe, fewer transactions were left at the start than the bound `most` of the
-  -- whole call.
+  -- Let `most` be a bound on the transactions of the whole call. If a well-behaved bus stopped after the probe, fewer
+  -- than `most` transactions were left at the start.
   pub ran_on : {new : BusState} (n most : ℕ) → most_probe + n ≤ most → HasStopped n mid new → old.honest ≡ true
       → RanOut most old new
   ran_on n most fits out honest =
@@ -111,7 +111,7 @@ module _ {named : Option ChipName} {old mid : BusState} {probed : Probed}
   rested_on {new} rested honest =
       rested_then old mid new (found.rested honest) (rested (only_reads.nature.honest ∙ honest))
 
-  -- On a modelled bus the chip is idle after the probe, and has the size that was found.
+  -- On a modelled bus, the chip is idle after the probe, and has the size that was found.
   pub open_after : IsModelled old → IsOpen probed.found.size mid
   open_after known =
       let rested = found.rested known.honest in let size = size_of known in search (arith, found.idle)
@@ -127,7 +127,7 @@ module _ {named : Option ChipName} {old mid : BusState} {probed : Probed}
       → IsPassed named included old.chip.config
   is_passed past known = search (has_name, rw (size_of known) at past)
 
-  -- The promises about a report hold for the report of a call that succeeded.
+  -- If a call succeeded, the promises about its report (`Reports`) hold.
   pub reported : {included : Option (List Span)} {new : BusState} {reads : ℕ} → HasOnlyRead reads mid new
       → reads ≡ sectors_included included probed.found.size → Reports named included old new (report_of probed reads)
   reported {included} {new} {reads} honest_reads counted =

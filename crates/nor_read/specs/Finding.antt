@@ -1,4 +1,4 @@
--- The parts that the calls of this crate share: the chip that was found, the checks of it, the bounds on the
+-- Definitions that the calls of this crate share: the chip that was found and its checks, the bounds on the
 -- transactions, the report of `read_out` and `verify`, and the errors.
 use Rattle.std.specs.Prelude.{◌≡◌, ◌≤◌, ◌+◌, ◌/◌, ℕ, true, Option, Ok, List, ⊤}
 use Rattle.nor_model.specs.declared.config.Config.{Config}
@@ -19,22 +19,22 @@ use Rattle.nor_request.specs.declared.refusal.Refusal.{Refusal}
 use Rattle.nor_request.specs.declared.refusal.Refusal.TheVariants.{NoChip, UnknownChip, OtherName, Stopped, Timeout}
 use Rattle.nor_request.specs.declared.report.Report.{Report}
 
--- the greatest number of transactions until the status is known: a probe and a read of status 2
+-- a bound on the transactions until the status is known: 65,540 for a probe, and one to read status 2
 abbrev pub most_status : ℕ
 most_status = 65541
 
--- Describes the chip that was found. On every bus it is a row of the table or was found by SFDP, and has the requested
--- name, if any. On a well-behaved bus it is what the chip's replies show; on a modelled bus it has the chip's
--- configuration.
+-- Describes the chip that was found. On every bus this chip is in the table or was identified by SFDP, and has the
+-- requested name, if any. On a well-behaved bus its type is the one that the chip's replies show. On a modelled bus it
+-- has the chip's configuration.
 pub record IsFound (named : Option ChipName) (old : BusState) (found : Found) : Type 0 where
   pub part : IsPart found
   pub has_name : IsWanted named found.name
   pub shown : old.honest ≡ true → shown_as old.chip.config ≡ Ok (part_in found)
   pub config : IsModelled old → IsConfigOf old.chip.config found
 
--- Holds after the probe found a chip (`IsFound`): its last poll showed ready, and it counted at most 65,540
+-- Holds after a probe found a chip (`IsFound`). The last poll showed ready, and the probe counted at most 65,540
 -- transactions. On a well-behaved bus contents and non-volatile status bits are as before (`Rested`), the chip is idle,
--- status 1 is the chip's own, and the transactions sent were counted exactly.
+-- status 1 is the chip's own, and the probe counted exactly the transactions that were sent.
 pub record HasFound (named : Option ChipName) (old new : BusState) (probed : Probed) : Type 0 where
   pub is : IsFound named old probed.found
   pub most : probed.transactions ≤ most_probe
@@ -45,29 +45,30 @@ pub record HasFound (named : Option ChipName) (old new : BusState) (probed : Pro
   pub count : old.honest ≡ true → probed.transactions ≡ needed old.chip
   pub fell : old.honest ≡ true → old.left ≡ new.left + probed.transactions
 
--- ---- checks of the chip that was found
+-- ---- the checks of the chip that was found
 
--- Holds if the chip has the requested name, if any, and some included address is past its end.
+-- Holds if the chip has the requested name, if any, and some included address is past the end of the chip.
 pub record IsPassed (named : Option ChipName) (included : Option (List Span)) (config : Config) : Type 0 where
   pub is : IsNamed named config
   pub past : ReachesPast included config.size
 
--- Holds if the chip has the requested name, if any, and all included addresses.
+-- Holds if the chip has the requested name, if any, and all included addresses are on the chip.
 pub record IsTaken (named : Option ChipName) (included : Option (List Span)) (config : Config) : Type 0 where
   pub is : IsNamed named config
   pub fits : FitsInto included config.size
 
--- ---- how much is sent
+-- ---- the number of transactions
 
--- the bound on the transactions of a call for a chip of this size: those of a probe, and one for each sector
+-- a bound on the transactions of a call for a chip of this size: 65,540 for a probe, and one for each sector
 abbrev pub most_read : ℕ → ℕ
 most_read size = most_probe + size / 4096
 
 -- ---- the report
 
--- Describes the report of a call on every bus: it has a chip with the requested name, if any, and counts no change.
+-- Describes the report of a call on every bus. The report has a chip with the requested name, if any, and counts no
+-- change.
 pub record ReportsPart (named : Option ChipName) (report : Report) : Type 0 where
-  -- The chip is a row of the table or was found by SFDP.
+  -- The chip is in the table, or was identified by SFDP.
   pub part : IsPart report.found
   -- The chip has the requested name, if there is one.
   pub has_name : IsWanted named report.found.name
@@ -75,28 +76,28 @@ pub record ReportsPart (named : Option ChipName) (report : Report) : Type 0 wher
   pub touched : report.touched ≡ 0
   pub erases : report.erases ≡ 0
   pub programs : report.programs ≡ 0
-  -- The number of transactions is within the bound for a chip of this size.
+  -- The number of transactions is at most the bound `most_read` for a chip of this size.
   pub most : report.transactions ≤ most_read report.found.size
 
--- Describes, on a well-behaved bus, the report of a call that read `reads` sectors: it has what the chip's replies
--- show, and contents and non-volatile status bits are as before the call.
+-- Describes the report of a call that read `reads` sectors on a well-behaved bus. The report has the chip type that the
+-- chip's replies show. Contents and non-volatile status bits are as before the call.
 pub record ReportsReads (reads : ℕ) (old new : BusState) (report : Report) : Type 0 where
   -- The reported chip type is the one that the chip shows (`shown_as`).
   pub shown : shown_as old.chip.config ≡ Ok (part_in report.found)
-  -- Contents and non-volatile status bits are as before.
+  -- Contents and non-volatile status bits are as before the call.
   pub rested : Rested old new
   -- The chip is idle.
   pub idle : new.chip.busy ≡ 0
-  -- Status 1 is what the chip would reply now, in each bit.
+  -- All bits of status 1 in the report are those that the chip would reply now.
   pub status1 : report.found.status1 ≡ status1_of new.chip
-  -- The transactions are those of the probe and of the reads.
+  -- The report counts the transactions of the probe and of the reads.
   pub count : report.transactions ≡ needed old.chip + reads
   -- Exactly the reported number of transactions was sent.
   pub fell : old.left ≡ new.left + report.transactions
 
 -- ---- errors
 
--- Holds for the errors that finding a chip may return, on every bus. A timeout has address 0.
+-- Holds for an error that may be returned while the chip is found, on every bus. A timeout has address 0.
 abbrev pub IsFindRefusal : Refusal → Type 0
 IsFindRefusal NoChip = ⊤
 IsFindRefusal (UnknownChip fault) = ⊤
@@ -106,8 +107,8 @@ IsFindRefusal (Timeout address) = address ≡ 0
 IsFindRefusal _ = ⊥
 
 -- The meaning of errors on a well-behaved bus. Errors 1 to 3 mean what `ProbeErrors` says about the chip. A stop means
--- that fewer than `most` transactions were left, and there is no timeout. After any error except a stop, contents and
--- non-volatile status bits are as before.
+-- that fewer than `most` transactions were left at the start, and that none is left. A timeout does not occur. After
+-- any error except a stop, contents and non-volatile status bits are as before.
 abbrev pub ReadingErrors : ℕ → Option ChipName → (old new : BusState) → Refusal → Type 0
 ReadingErrors most named old new NoChip = ProbeErrors named old new Probes.NoChip
 ReadingErrors most named old new (UnknownChip fault) = ProbeErrors named old new (Probes.UnknownChip fault)

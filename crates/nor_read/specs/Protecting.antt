@@ -1,4 +1,4 @@
--- The report on a chip's block protection.
+-- The report of `wp_status` on a chip's block protection.
 use Rattle.std.specs.Prelude.{◌≡◌, ◌<◌, ◌≤◌, ◌+◌, ◌↔◌, ℕ, true, false, Option, MatchOption, ⊤}
 use Rattle.std.specs.Prelude.{Result, IfOk, IfErr, OnOk}
 use Rattle.nor_model.specs.Chip.{Chip, is_locked}
@@ -13,15 +13,15 @@ use Rattle.nor_request.specs.Errors.{EndsAtError}
 use Rattle.nor_read.specs.declared.protection.Protection.{Protection}
 use Rattle.nor_read.specs.Finding.{IsNamed, IsFindRefusal, ReadingErrors, most_status}
 
--- Holds if the chip's protection bits are defined, and the protected addresses are exactly the `len` bytes from `start`
--- on. An empty range starts at 0.
+-- Holds if the chip's protection bits are defined, and if the protected addresses are exactly the `len` addresses from
+-- `start` on. If `len` is 0, `start` is 0.
 pub record IsProtectedRange (chip : Chip) (start len : ℕ) : Type 0 where
   pub defined : is_undefined (code_of chip.kept) ≡ false
   pub exactly : (a : ℕ) → (is_protected chip a ≡ true) ↔ ((start ≤ a) × (a < start + len))
   pub plain : len ≡ 0 → start ≡ 0
 
 -- Holds if the report matches a chip with block protection. It has the chip's protected range (`None` if the chip's
--- protection bits are undefined), whether the status is locked, and the chip's size.
+-- protection bits are undefined) and size, and it says whether the status is locked.
 pub record IsProtection (chip : Chip) (protection : Protection) : Type 0 where
   pub scheme : chip.config.scheme ≡ true
   pub protected : MatchOption protection.range (is_undefined (code_of chip.kept) ≡ true)
@@ -38,11 +38,11 @@ IsProtectionRefusal refusal = IsFindRefusal refusal
 
 -- The promises of `wp_status` on every bus.
 pub record ProtectionAlways (old new : BusState) (result : Result Protection Refusal) : Type 0 where
-  -- No modifying command was sent, and on a well-behaved bus at most 65,541 transactions.
+  -- No modifying command was sent. On a well-behaved bus at most 65,541 transactions were sent.
   pub only_reads : OnlyReads most_status old new
   -- After success the reported size is one that a chip may have.
   pub sized : IfOk result (λ protection. is_chip_size protection.size ≡ true)
-  -- An error is one of those that `wp_status` may return.
+  -- An error is one that `wp_status` may return.
   pub refuses : IfErr result IsProtectionRefusal
   -- After error 12 the bus stopped at the last transaction. After error 13 the last transaction was a poll that showed
   -- BUSY.
@@ -63,8 +63,8 @@ pub record ProtectionHonest (named : Option ChipName) (old new : BusState)
   -- as before.
   pub errors : IfErr result (ReadingErrors most_status named old new)
 
--- The meaning of error 6 on a modelled bus: the chip has the requested name, if any, and no block protection.
--- `ReadingErrors` has the meaning of the other errors.
+-- The meaning of error 6 on a modelled bus: the chip has the requested name, if any, and no block protection. Nothing
+-- is said about the other errors, whose meaning `ReadingErrors` has.
 abbrev pub ProtectionErrors : Option ChipName → Chip → Refusal → Type 0
 ProtectionErrors named chip NoProtection = IsNamed named chip.config × (chip.config.scheme ≡ false)
 ProtectionErrors named chip _ = ⊤

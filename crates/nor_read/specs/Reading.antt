@@ -1,4 +1,4 @@
--- The result of `read_out` and of its steps: what they append to a vault, and the meaning of their errors.
+-- The result of `read_out` and of its steps: the bytes that they append to a vault, and the meaning of their errors.
 use Rattle.std.specs.Prelude.{◌≡◌, ◌≤◌, ◌<◌, ◌+◌, ◌*◌, ◌/◌, ◌++◌, ℕ, true, if◌then◌else◌, ⊤}
 use Rattle.std.specs.Prelude.{Option, Result, IfOk, IfErr, OnOk, List, length, slice_index}
 use Rattle.nor_model.specs.Bus.{BusState}
@@ -16,18 +16,19 @@ use Rattle.nor_request.specs.declared.report.Report.{Report}
 use Rattle.nor_request.specs.Errors.{EndsAtError}
 use Rattle.nor_read.specs.Finding.{IsPassed, IsTaken, ReportsPart, ReportsReads, IsFindRefusal, ReadingErrors, most_read}
 
--- the byte at an address of the copy: the chip's if the address is included, otherwise FFh
+-- The byte at address `a` of the copy of a chip. If the address is included, this is the chip's byte, and otherwise
+-- FFh.
 abbrev pub copied : Option (List Span) → (ℕ → ℕ) → ℕ → ℕ
 copied included content a = if includes included a then content a else 255
 
--- Holds if the vault has the bytes from before, and `count` bytes after them.
+-- Holds if the vault has its earlier bytes and then `count` more bytes.
 pub record Grows (count : ℕ) (old new : VaultState) : Type 0 where
   pub bytes : List ℕ
   pub long : length bytes ≡ count
   pub grown : new.bytes ≡ old.bytes ++ bytes
 
--- Holds if the vault has the bytes from before, and after them the first `count` bytes of the copy of a chip with this
--- content.
+-- Holds if the vault has its earlier bytes and then the first `count` bytes of the copy of a chip with the bytes
+-- `content`.
 pub record Copies (included : Option (List Span)) (content : ℕ → ℕ) (count : ℕ) (old new : VaultState) : Type 0 where
   pub bytes : List ℕ
   pub long : length bytes ≡ count
@@ -43,16 +44,17 @@ pub record TakesWhole (count : ℕ) (old new : VaultState) : Type 0 where
   -- A `telling` vault has `count` bytes more.
   pub grows : old.telling ≡ true → Grows count old new
 
--- Holds if the vault refused one piece. For a `telling` vault, `written` counts all bytes that it accepted between the
--- two states, including those that it accepted of the refused piece.
+-- Holds if the vault refused one piece. If the vault is `telling`, it accepted `written` bytes between the two states,
+-- including those that it accepted of the refused piece.
 pub record TakesPart (written : ℕ) (old new : VaultState) : Type 0 where
-  -- The vault refused one call more, and is sealed if and only if it was sealed before.
+  -- The vault counts one more refusal, and is sealed if and only if it was sealed before.
   pub refused : Refused old new
   -- A `telling` vault has `written` bytes more.
   pub grows : old.telling ≡ true → Grows written old new
 
--- Holds for the errors that `read_out` may return, on every bus. After error 19 the vault refused one piece, and the
--- error has the number of bytes that a `telling` vault accepted. After any other error the vault refused nothing.
+-- Holds if `read_out` may return this error and leave this vault, on every bus. After error 19 the vault has refused
+-- one piece, and the error has the number of bytes that a `telling` vault accepted. After any other error the vault has
+-- refused nothing.
 abbrev pub IsReadRefusal : (vault vault' : VaultState) → Refusal → Type 0
 IsReadRefusal vault vault' (Output written) = TakesPart written vault vault'
 IsReadRefusal vault vault' RegionOutside = Accepted vault vault'
@@ -61,18 +63,17 @@ IsReadRefusal vault vault' refusal = IsFindRefusal refusal × Accepted vault vau
 -- The promises of `read_out` on every bus and with every vault.
 pub record ReadOutAlways (named : Option ChipName) (included : Option (List Span)) (old new : BusState)
     (vault vault' : VaultState) (result : Result Report Refusal) : Type 0 where
-  -- No modifying command was sent, and on a well-behaved bus no more transactions than the bound for the largest chip,
-  -- of 16 MiB.
+  -- No modifying command was sent. On a well-behaved bus, the number of transactions is at most the bound `most_read`
+  -- for the largest chip, of 16 MiB.
   pub only_reads : OnlyReads (most_read 16777216) old new
   -- After success the report has a chip with the requested name, if any, and counts no change.
   pub reports : IfOk result (ReportsPart named)
   -- After success no included address is past the end of the chip that was found.
   pub fits : IfOk result (λ report. FitsInto included report.found.size)
-  -- After success the vault has refused nothing, and a `telling` vault has accepted as many bytes as the chip that was
-  -- found has.
+  -- After success the vault has refused nothing. A `telling` vault has accepted one byte for each address of the chip
+  -- that was found.
   pub whole : IfOk result (λ report. TakesWhole report.found.size vault vault')
-  -- An error is one of those that `read_out` may return, and error 19 has the number of bytes that a `telling` vault
-  -- accepted.
+  -- An error is one that `read_out` may return. Error 19 has the number of bytes that a `telling` vault accepted.
   pub refuses : IfErr result (IsReadRefusal vault vault')
   -- After error 12 the bus stopped at the last transaction. After error 13 the last transaction was a poll that showed
   -- BUSY.
@@ -90,16 +91,16 @@ pub record ReadOutHonest (named : Option ChipName) (included : Option (List Span
   -- as before.
   pub errors : IfErr result (ReadingErrors (most_read 16777216) named old new)
 
--- The meaning of error 19 (the vault refused a piece) on a modelled bus. The chip has the requested name, if any, and
--- all included addresses, and `written` is at most its size. A `telling` vault has the first `written` bytes of the
--- copy, after the bytes from before the call.
+-- The meaning of error 19 (the vault refused a piece) on a modelled bus. The chip has the requested name, if any, all
+-- included addresses are on it, and `written` is at most its size. A `telling` vault has its bytes from before the call
+-- and then the first `written` bytes of the copy.
 pub record BreaksOff (named : Option ChipName) (included : Option (List Span)) (written : ℕ) (old : BusState)
     (vault vault' : VaultState) : Type 0 where
   pub taken : IsTaken named included old.chip.config
   pub within : written ≤ old.chip.config.size
   pub copy : vault.telling ≡ true → Copies included old.chip.bytes written vault vault'
 
--- The meaning of errors on a modelled bus. `ReadingErrors` has the meaning of the probe's errors.
+-- The meaning of errors on a modelled bus. `ReadingErrors` has the meaning of the errors that a probe returns.
 abbrev pub ReadOutErrors : Option ChipName → Option (List Span) → (old new : BusState) → (vault vault' : VaultState)
     → Refusal → Type 0
 ReadOutErrors named included old new vault vault' RegionOutside = IsPassed named included old.chip.config
@@ -110,21 +111,22 @@ ReadOutErrors named included old new vault vault' _ = ⊤
 -- The promises of `read_out` on a modelled bus.
 pub record ReadOutModelled (named : Option ChipName) (included : Option (List Span)) (old new : BusState)
     (vault vault' : VaultState) (result : Result Report Refusal) : Type 0 where
-  -- No modifying command was sent, and no more transactions than the bound for a chip of this size.
+  -- No modifying command was sent. The number of transactions is at most the bound `most_read` for a chip of this size.
   pub only_reads : OnlyReads (most_read old.chip.config.size) old new
-  -- After success the report has the chip's configuration.
+  -- After success the chip type in the report has the chip's configuration.
   pub config : IfOk result (λ report. IsConfigOf old.chip.config report.found)
-  -- After success a `telling` vault has, after its earlier bytes, the chip's included bytes, and FFh for all others.
+  -- After success a `telling` vault has its earlier bytes and then the whole copy: the chip's bytes at the included
+  -- addresses, and FFh at all others.
   pub copy : IfOk result (λ report. vault.telling ≡ true
       → Copies included old.chip.bytes old.chip.config.size vault vault')
-  -- Error 5 means that an included address isn't on the chip, error 12 that too few transactions were left. Error 19
-  -- has the number of bytes of the copy that a `telling` vault has.
+  -- Error 5 means that an included address isn't on the chip, and error 12 that too few transactions were left. Error
+  -- 19 has the number of bytes of the copy that a `telling` vault accepted.
   pub errors : IfErr result (ReadOutErrors named included old new vault vault')
 
 -- ---- the copy: in pieces of sixteen sectors, and each piece sector by sector
 
--- Holds after one sector of the copy was made, with one transaction if it has an included address and with none
--- otherwise. Its bytes are known to be right on a well-behaved bus with an idle chip that has this sector.
+-- Holds after one sector of the copy was made. One transaction was sent if the sector has an included address, and
+-- otherwise none. On a well-behaved bus with an idle chip that has this sector, `bytes` are the bytes of the copy.
 pub record ReadsPart (included : Option (List Span)) (sector : ℕ) (bytes : List ℕ) (old new : BusState)
     (reads : ℕ) : Type 0 where
   pub counted : reads ≡ (if has_in_sector (includes included) sector then 1 else 0)
@@ -132,8 +134,9 @@ pub record ReadsPart (included : Option (List Span)) (sector : ℕ) (bytes : Lis
   pub right : old.honest ≡ true → old.chip.busy ≡ 0 → 4096 * (sector + 1) ≤ old.chip.config.size
       → AreOfSector (copied included old.chip.bytes) sector bytes
 
--- Holds after the first `n` of a piece's sixteen sectors were copied, with one transaction for each of them that has an
--- included address. On a well-behaved bus with an idle chip that has the whole piece, the copied bytes are right.
+-- Holds after the first `n` of a piece's sixteen sectors were copied. One transaction was sent for each of these
+-- sectors that has an included address. On a well-behaved bus with an idle chip that has the whole piece, the copied
+-- bytes are right.
 pub record ReadsPiece (included : Option (List Span)) (piece n : ℕ) (bytes : List ℕ) (old new : BusState)
     (reads : ℕ) : Type 0 where
   pub counted : count_below (16 * piece + n) (has_in_sector (includes included))
@@ -143,15 +146,15 @@ pub record ReadsPiece (included : Option (List Span)) (piece n : ℕ) (bytes : L
   pub right : old.honest ≡ true → old.chip.busy ≡ 0 → 65536 * (piece + 1) ≤ old.chip.config.size
       → (i : ℕ) → i < 4096 * n → slice_index bytes i ≡ copied included old.chip.bytes (65536 * piece + i)
 
--- Holds if the vault has the bytes from before, and `count` bytes after them. If `known` holds, these bytes are the
--- first `count` bytes of the copy of a chip with this content.
+-- Holds if the vault has its earlier bytes and then `count` more bytes. If `known` holds, these bytes are the first
+-- `count` bytes of the copy of a chip with the bytes `content`.
 pub record CopiesIf (known : Type 0) (included : Option (List Span)) (content : ℕ → ℕ) (count : ℕ)
     (old new : VaultState) : Type 0 where
   pub grows : Grows count old new
   pub right : known → (a : ℕ) → a < count → slice_index grows.bytes a ≡ copied included content a
 
--- Holds after the pieces below `n` were made and appended to the vault, which refused nothing. The copy in a `telling`
--- vault is known to be right on a well-behaved bus with an idle chip of this size.
+-- Holds after the pieces below `n` were made and appended to the vault, which refused nothing. On a well-behaved bus
+-- with an idle chip of this size, a `telling` vault has the right bytes.
 pub record ReadsPieces (included : Option (List Span)) (size n : ℕ) (old new : BusState) (vault vault' : VaultState)
     (reads : ℕ) : Type 0 where
   pub counted : reads ≡ count_below (16 * n) (has_in_sector (includes included))
@@ -160,8 +163,8 @@ pub record ReadsPieces (included : Option (List Span)) (size n : ℕ) (old new :
   pub accepted : Accepted vault vault'
   pub copy : vault.telling ≡ true → CopiesIf (IsOpen size old) included old.chip.bytes (65536 * n) vault vault'
 
--- Holds after the vault refused a piece of the copy. A `telling` vault accepted `written` bytes in all. On a
--- well-behaved bus with an idle chip of this size, these are the first bytes of the copy.
+-- Holds after the vault refused a piece of the copy. A `telling` vault accepted `written` bytes of all pieces together.
+-- On a well-behaved bus with an idle chip of this size, these are the first bytes of the copy.
 pub record BreaksCopy (included : Option (List Span)) (size written : ℕ) (old new : BusState)
     (vault vault' : VaultState) : Type 0 where
   pub rested : old.honest ≡ true → Rested old new
@@ -169,15 +172,16 @@ pub record BreaksCopy (included : Option (List Span)) (size written : ℕ) (old 
   pub took : TakesPart written vault vault'
   pub copy : IsOpen size old → vault.telling ≡ true → Copies included old.chip.bytes written vault vault'
 
--- The meaning of an error of the copy. After a stop the vault has refused nothing, and on a well-behaved bus fewer
--- transactions were left than the chip has sectors. After error 19 `BreaksCopy` holds.
+-- The meaning of an error of the copy. After a stop the vault has refused nothing, and the bus stopped at the last
+-- transaction. On a well-behaved bus fewer transactions were left at the start than the chip has sectors. After error
+-- 19 `BreaksCopy` holds.
 abbrev pub CopyErrors : Option (List Span) → ℕ → (old new : BusState) → (vault vault' : VaultState) → Refusal → Type 0
 CopyErrors included size old new vault vault' Stopped = HasStopped (size / 4096) old new × Accepted vault vault'
 CopyErrors included size old new vault vault' (Output written) = BreaksCopy included size written old new vault vault'
 CopyErrors included size old new vault vault' _ = ⊥
 
--- The meaning of an error when a piece is appended. `written` counts the bytes of the earlier pieces, 65,536 each, and
--- those that a `telling` vault accepted of this piece.
+-- The meaning of an error when the piece with the index `piece` is appended. `written` counts the bytes of the earlier
+-- pieces, 65,536 each, and the bytes that a `telling` vault accepted of this piece.
 abbrev pub PutErrors : ℕ → List ℕ → (old new : VaultState) → Refusal → Type 0
 PutErrors piece bytes old new (Output written) =
     (kept : ℕ) × (written ≡ 65536 * piece + kept) × PutRefused old bytes kept new

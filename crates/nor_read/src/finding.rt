@@ -1,4 +1,4 @@
-//! Finds the chip for each call, and makes the report of `read_out` and `verify`.
+//! The parts that the calls of this crate share: they find the chip, and make the report of `read_out` and `verify`.
 ghost use Rattle.std.specs.Prelude.{◌≡◌, ◌≤◌, ◌+◌, IfOk, IfErr};
 ghost use Rattle.nor_driver.specs.OnlyReads.{OnlyReads};
 ghost use Rattle.nor_probe.specs.Found.{most_probe};
@@ -9,8 +9,8 @@ use nor_model::Bus;
 use nor_probe::{ChipName, Probed, probe_counted};
 use nor_request::{Refusal, Report};
 
-/// Waits until the chip is ready, and finds it by its ID or SFDP. With `named` the chip must have this name. On a
-/// well-behaved bus at most 65,540 transactions are sent.
+/// Waits until the chip is ready, and identifies it by its ID or SFDP. If `named` is given, the chip must have that
+/// name. On a well-behaved bus at most 65,540 transactions are sent.
 ///
 /// Returns error 1 (no chip), 2 (unknown chip), 3 (other name), 12 (the bus stopped) or 13 with address 0 (the chip
 /// stayed busy; not on a well-behaved bus).
@@ -23,8 +23,8 @@ pub fn find<B: Bus>(bus: &mut B, named: Option<ChipName>) -> Result<Probed, Refu
     Ok(probed)
 }
 
-/// Returns the report of a call that found this chip and read `reads` sectors. `probed` must count at most 65,540
-/// transactions. The report counts no touched sectors, erases or programs.
+/// Returns the report of a call that found the chip in `probed` and then read `reads` sectors. `probed` must count at
+/// most 65,540 transactions. The report counts no touched sectors, erases or programs.
 pub fn report(probed: Probed, reads: u32) -> Report
     requires { probed.transactions ≤ most_probe }
     ensures found { result.found ≡ probed.found }

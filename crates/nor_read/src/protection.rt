@@ -1,4 +1,4 @@
-//! Reports which addresses of a chip are protected, and whether its status is locked.
+//! The call `wp_status`, which reports the addresses of a chip that are protected, and whether its status is locked.
 ghost use Rattle.std.specs.Prelude.{◌≡◌, true};
 ghost use Rattle.nor_read.specs.Finding.{IsModelled};
 ghost use Rattle.nor_read.specs.Protecting.{ProtectionAlways, ProtectionHonest, ProtectionModelled};
@@ -13,7 +13,7 @@ use nor_request::Refusal;
 #[derive(Clone, Copy, Debug, PartialEq, Eq)]
 pub struct Protection {
     /// The first protected address and the length of the protected range, or two zeros if no address is protected.
-    /// `None` if the datasheets don't define what the chip's protection bits select.
+    /// `None` if the datasheets don't define a range for the chip's protection bits.
     pub range: Option<(u32, u32)>,
     /// True if the status is locked (SRP0 or SRP1 is set).
     pub locked: bool,
@@ -21,12 +21,12 @@ pub struct Protection {
     pub size: u32,
 }
 
-/// Reads the chip's protected range, and whether its status is locked. With `named` the chip must have this name. On a
-/// modelled bus the returned values are proved to be the chip's own.
+/// Reads the chip's protected range, and whether its status is locked. If `named` is given, the chip must have that
+/// name. On a modelled bus the returned values are proved to be the chip's own.
 ///
 /// Returns error 1 (no chip), 2 (unknown chip), 3 (other name), 6 (the chip has no block protection), 12 (the bus
-/// stopped) or 13 (the chip stayed busy; not on a well-behaved bus). On any bus, nothing is sent after the bus
-/// stopped, or after the poll for which error 13 is returned.
+/// stopped) or 13 (the chip stayed busy; not on a well-behaved bus). On any bus, nothing is sent after the bus stopped,
+/// or after the poll for which error 13 is returned.
 pub fn wp_status<B: Bus>(bus: &mut B, named: Option<ChipName>) -> Result<Protection, Refusal>
     ensures always { ProtectionAlways (B.state bus.old) (B.state bus.new) result }
     ensures honest { (B.state bus.old).honest ≡ true

@@ -1,4 +1,4 @@
-//! Copies a chip to a vault.
+//! The call `read_out`, which copies a chip to a vault.
 ghost use Rattle.std.specs.Prelude.{◌≡◌, ◌<◌, ◌/◌, true, false, length, IfOk, IfErr, OnOk, OnErr, IsTrue, option_copied};
 ghost use Rattle.nor_model.specs.Size.{is_chip_size};
 ghost use Rattle.nor_driver.specs.OnlyReads.{OnlyReads, HasStopped};
@@ -19,9 +19,9 @@ use nor_request::{Refusal, Report};
 // The length of one piece of the copy: sixteen sectors.
 const PIECE_LEN: usize = 65_536;
 
-/// Appends a copy of the whole chip to `out`: included bytes as they are, FFh for the others. Without ranges the whole
-/// chip is included. The call reads each sector that has an included address once, in ascending order. The vault must
-/// be unsealed, and the call does not seal it.
+/// Appends a copy of the whole chip to `out`. The copy has the chip's byte at each included address, and FFh at all
+/// other addresses. If `included` is `None`, all addresses are included. The call reads each sector that has an
+/// included address once, in ascending order. The vault must be unsealed, and the call does not seal it.
 ///
 /// If the bus is modelled and `out` is `telling`, success leaves this copy in `out`, after the bytes that `out` held
 /// before. On a well-behaved bus success leaves the chip's contents and non-volatile status bits as they were.
@@ -52,7 +52,7 @@ pub fn read_out<B: Bus, V: Vault>(
     Ok(report(probed, reads))
 }
 
-// Appends a copy of a chip of this size to a vault. Returns how many sectors were read.
+// Appends a copy of a chip of `size` bytes to a vault, piece by piece. Returns how many sectors were read.
 fn copy_all<B: Bus, V: Vault>(
     bus: &mut B,
     included: Option<&Ranges>,
@@ -76,7 +76,8 @@ fn copy_all<B: Bus, V: Vault>(
     Ok(reads)
 }
 
-// Makes a piece of the copy, of sixteen sectors. Returns the number of transactions.
+// Writes the piece with the index `piece`, which has sixteen sectors of the copy, to `bytes`. Returns the number of
+// transactions.
 fn read_piece<B: Bus>(
     bus: &mut B,
     included: Option<&Ranges>,
@@ -98,7 +99,8 @@ fn read_piece<B: Bus>(
     Ok(reads)
 }
 
-// Makes one sector of the copy. Returns the number of transactions: 1, or 0 if the sector has no included address.
+// Writes one sector of the copy to `bytes`. Returns the number of transactions: 1, or 0 if the sector has no included
+// address.
 fn read_part<B: Bus>(
     bus: &mut B,
     included: Option<&Ranges>,
@@ -121,8 +123,8 @@ fn read_part<B: Bus>(
     Ok(1)
 }
 
-// Appends a piece to the copy, after `piece` earlier ones that were accepted. Error 19 has the number of bytes that a
-// `telling` vault accepted so far, including those of the earlier pieces.
+// Appends a piece of the copy to the vault, which has accepted the `piece` earlier pieces. Error 19 has the number of
+// bytes of the copy that a `telling` vault accepted, including the earlier pieces.
 fn put_piece<V: Vault>(out: &mut V, piece: u32, bytes: &[u8; PIECE_LEN]) -> Result<(), Refusal>
     requires reachable { piece < 256 }
     requires unsealed { (V.state out.old).sealed ≡ false }

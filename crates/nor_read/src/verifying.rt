@@ -1,4 +1,4 @@
-//! Compares a chip with an image.
+//! The call `verify`, which compares a chip with an image.
 ghost use Rattle.std.specs.Prelude.{◌≡◌, ◌<◌, ◌≤◌, ◌+◌, ◌*◌, ◌/◌, ℕ, true, length, IfOk, OnErr, IsTrue, option_copied};
 ghost use Rattle.nor_model.specs.Size.{is_chip_size};
 ghost use Rattle.nor_driver.specs.OnlyReads.{OnlyReads, HasStopped};
@@ -23,15 +23,15 @@ struct Compared {
     reads: u32,
 }
 
-/// Compares the chip's included bytes with those of an image. Without ranges the whole chip is included. The call reads
-/// each sector that has an included address once, in ascending order, even after a difference. On any bus success means
-/// that the replies to these reads have the image's included bytes (`read_back`). On a modelled bus the chip's included
-/// bytes then equal the image's.
+/// Compares the chip with an image at the included addresses. If `included` is `None`, all addresses are included. The
+/// call reads each sector that has an included address once, in ascending order, even after it found a difference. On
+/// any bus success means that the replies to these reads have the image's byte at each included address (`read_back`).
+/// On a modelled bus the chip then has these bytes.
 ///
 /// Returns error 1 (no chip), 2 (unknown chip), 3 (other name), 4 (the image isn't as long as the chip) or 5 (an
 /// included address isn't on the chip). Returns 12 if the bus stopped, 13 if the chip stayed busy (not on a
-/// well-behaved bus), and 14 with the first included address that differs. On any bus, nothing is sent after the bus
-/// stopped, or after the poll for which error 13 is returned.
+/// well-behaved bus), and 14 with the first included address at which chip and image differ. On any bus, nothing is
+/// sent after the bus stopped, or after the poll for which error 13 is returned.
 pub fn verify<B: Bus>(
     bus: &mut B,
     image: &[u8],
@@ -63,8 +63,8 @@ pub fn verify<B: Bus>(
     }
 }
 
-// Compares the included bytes of a chip of this size, sector by sector. Returns the first included address that
-// differs, if any, and how many sectors were read.
+// Compares a chip of `size` bytes with the image at the included addresses, sector by sector. Returns the first
+// included address that differs, if any, and how many sectors were read.
 fn compare_all<B: Bus>(
     bus: &mut B,
     image: &[u8],
@@ -90,7 +90,7 @@ fn compare_all<B: Bus>(
     Ok(Compared { first, reads })
 }
 
-// Compares a sector. The sector is read only if it has an included address.
+// Compares one sector with the image at the included addresses. The sector is read only if it has an included address.
 fn compare_part<B: Bus>(
     bus: &mut B,
     image: &[u8],
@@ -116,8 +116,9 @@ fn compare_part<B: Bus>(
     Ok(Compared { first, reads: 1 })
 }
 
-// Returns the first included address of a sector at which the byte read differs from the image, or `None`. Bytes that
-// aren't included are overwritten with the image's.
+// Returns the first included address of the sector at which `bytes`, which were read from the chip, differ from the
+// image. Returns `None` if there is no such address. Overwrites the bytes at the other addresses with those of the
+// image.
 fn first_other(
     image: &[u8],
     included: Option<&Ranges>,
