@@ -22,9 +22,10 @@
 //! assert_eq!(rt; bus.bytes(), before.as_slice());
 //! ```
 //!
-//! `specs/` has what each call promises: first `Headline.antt`, then `Session.antt`, `Restore.antt`, `Rehearsal.antt`
-//! and `Backup.antt`. `IsVerdict` of nor_scan is the verdict on a request, and `IsModelled` of nor_probe says for which
-//! buses most promises are made. `InTurn.antt` and `WrittenOver.antt` have the definitions of the laws.
+//! The files in `specs/` define what each call promises. Read `Headline.antt` first, and then `Session.antt`,
+//! `Restore.antt`, `Rehearsal.antt` and `Backup.antt`. `IsVerdict` of nor_scan is the verdict on a request, and
+//! `IsModelled` of nor_probe says for which buses most promises are made. `InTurn.antt` and `WrittenOver.antt` have the
+//! definitions of the laws.
 #![tactic(auto)]
 
 mod announcement;
