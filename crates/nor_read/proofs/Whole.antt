@@ -59,7 +59,7 @@ abbrev pub report_of : Probed → (reads : ℕ) → Report
 report_of probed reads =
     record { found = probed.found; touched = 0; erases = 0; programs = 0; transactions = probed.transactions + reads }
 
--- A report with these fields equals `report_of`.
+-- If the fields of a report are those of `report_of`, the report equals `report_of`.
 pub report_is : (probed : Probed) (reads : ℕ) (report : Report) → report.found ≡ probed.found → report.touched ≡ 0
     → report.erases ≡ 0 → report.programs ≡ 0 → report.transactions ≡ probed.transactions + reads
     → report ≡ report_of probed reads

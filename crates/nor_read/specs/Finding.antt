@@ -97,7 +97,8 @@ pub record ReportsReads (reads : ℕ) (old new : BusState) (report : Report) : T
 
 -- ---- errors
 
--- Holds for an error that may be returned while the chip is found, on every bus. A timeout has address 0.
+-- Holds for an error that may be returned while the chip is found. The calls promise this on every bus. A timeout has
+-- address 0.
 abbrev pub IsFindRefusal : Refusal → Type 0
 IsFindRefusal NoChip = ⊤
 IsFindRefusal (UnknownChip fault) = ⊤

@@ -31,7 +31,7 @@ pub record IsProtection (chip : Chip) (protection : Protection) : Type 0 where
 
 -- ---- the promises of `wp_status`
 
--- Holds for the errors that `wp_status` may return, on every bus.
+-- Holds for an error that `wp_status` may return. `wp_status` promises this on every bus.
 abbrev pub IsProtectionRefusal : Refusal → Type 0
 IsProtectionRefusal NoProtection = ⊤
 IsProtectionRefusal refusal = IsFindRefusal refusal

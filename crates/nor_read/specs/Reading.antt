@@ -37,7 +37,7 @@ pub record Copies (included : Option (List Span)) (content : ℕ → ℕ) (count
 
 -- ---- the promises of `read_out`
 
--- Holds if the vault refused nothing, and a `telling` vault accepted `count` bytes.
+-- Holds if the vault refused nothing and, if it is `telling`, accepted `count` bytes.
 pub record TakesWhole (count : ℕ) (old new : VaultState) : Type 0 where
   -- Nothing was refused, and the vault is sealed if and only if it was sealed before.
   pub accepted : Accepted old new
@@ -52,9 +52,9 @@ pub record TakesPart (written : ℕ) (old new : VaultState) : Type 0 where
   -- A `telling` vault has `written` bytes more.
   pub grows : old.telling ≡ true → Grows written old new
 
--- Holds if `read_out` may return this error and leave this vault, on every bus. After error 19 the vault has refused
--- one piece, and the error has the number of bytes that a `telling` vault accepted. After any other error the vault has
--- refused nothing.
+-- Holds if `read_out` may return this error and leave this vault. `read_out` promises this on every bus. After error 19
+-- the vault has refused one piece, and the error has the number of bytes that a `telling` vault accepted. After any
+-- other error the vault has refused nothing.
 abbrev pub IsReadRefusal : (vault vault' : VaultState) → Refusal → Type 0
 IsReadRefusal vault vault' (Output written) = TakesPart written vault vault'
 IsReadRefusal vault vault' RegionOutside = Accepted vault vault'
@@ -100,7 +100,7 @@ pub record BreaksOff (named : Option ChipName) (included : Option (List Span)) (
   pub within : written ≤ old.chip.config.size
   pub copy : vault.telling ≡ true → Copies included old.chip.bytes written vault vault'
 
--- The meaning of errors on a modelled bus. `ReadingErrors` has the meaning of the errors that a probe returns.
+-- The meaning of errors 5, 12 and 19 on a modelled bus. `ReadingErrors` has the meaning of all other errors.
 abbrev pub ReadOutErrors : Option ChipName → Option (List Span) → (old new : BusState) → (vault vault' : VaultState)
     → Refusal → Type 0
 ReadOutErrors named included old new vault vault' RegionOutside = IsPassed named included old.chip.config

@@ -56,7 +56,7 @@ pub record IsMismatch (named : Option ChipName) (included : Option (List Span)) 
 
 -- ---- the promises of `verify`
 
--- Holds for an error that `verify` may return, on every bus.
+-- Holds for an error that `verify` may return. `verify` promises this on every bus.
 abbrev pub IsVerifyRefusal : Refusal → Type 0
 IsVerifyRefusal (ImageSize chip len) = ⊤
 IsVerifyRefusal RegionOutside = ⊤
@@ -128,7 +128,7 @@ pub record VerifyHonest (named : Option ChipName) (included : Option (List Span)
   -- as before.
   pub errors : IfErr result (ReadingErrors (most_read 16777216) named old new)
 
--- The meaning of errors on a modelled bus. `ReadingErrors` has the meaning of the errors that a probe returns.
+-- The meaning of errors 4, 5, 12 and 14 on a modelled bus. `ReadingErrors` has the meaning of all other errors.
 abbrev pub VerifyErrors : Option ChipName → Option (List Span) → List ℕ → (old new : BusState) → Refusal → Type 0
 VerifyErrors named included image old new (ImageSize chip len) = IsOtherSize named image old.chip.config chip len
 VerifyErrors named included image old new RegionOutside =

@@ -26,7 +26,7 @@ use Rattle.nor_session.specs.Restore.{differing, restored, IsLeft}
 use Rattle.nor_session.specs.PrepareRestore.{PlansSaved, MarksChosen}
 use Rattle.nor_session.proofs.SavedBytes.{sector_at, byte_at, is_saved-some}
 
--- true if one of the first `i` records has the sector
+-- true if one of the first `i` records has the sector `s`
 abbrev pub saved_before : Content → ℕ → ℕ → Bool
 saved_before journal i s = is_some (saved_in (take i journal.saved) s)
 

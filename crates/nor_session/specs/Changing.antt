@@ -120,9 +120,10 @@ ChangeErrors changes wanted old new (Mismatch address) =
     EndsReading address new.history × (old.honest ≡ true → CanApply changes wanted old.chip → ⊥)
 ChangeErrors changes wanted old new _ = ⊥
 
--- Holds if the result fits what was read back, on every bus. After success with `verify` set, and after a mismatch, the
--- last transactions were reads of sectors. After success, each byte of a touched sector was read as its target byte.
--- After a mismatch, its address is the first address in a touched sector whose byte was read otherwise.
+-- Holds if the result fits what was read back. The changes promise this on every bus. After success with `verify` set,
+-- and after a mismatch, the last transactions were reads of sectors. After success, each byte of a touched sector was
+-- read as its target byte. After a mismatch, its address is the first address in a touched sector whose byte was read
+-- otherwise.
 abbrev pub FitsReadBack : Changes → (wanted : ℕ → ℕ) → (verify : Bool) → (old new : List Exchange)
     → Result Work Refusal → Type 0
 FitsReadBack changes wanted verify old new (Ok work) =

@@ -66,9 +66,9 @@ ChecksReply sector target old new (Err Stopped) = ⊤
 ChecksReply sector target old new (Err (Mismatch address)) = (first : ℕ) × (address ≡ 4096 * sector + first)
     × ReadsWhole sector (λ bytes. IsFirstDifference bytes target first) old new
 
--- Holds if the result of the verification fits the replies, on every bus. After success each byte of these sectors was
--- read as its target byte. After a mismatch, its address is the first address in these sectors whose byte was read
--- otherwise. Nothing is known after a stop.
+-- Holds if the result of the verification fits the replies. The verification promises this on every bus. After success
+-- each byte of these sectors was read as its target byte. After a mismatch, its address is the first address in these
+-- sectors whose byte was read otherwise. Nothing is known after a stop.
 abbrev pub ChecksReplies : (sectors : ℕ → Bool) → (wanted : ℕ → ℕ) → (old new : List Exchange) → Result ℕ CheckFault
     → Type 0
 ChecksReplies sectors wanted old new (Ok sent) = ReadsBack (addresses_of sectors) wanted old new

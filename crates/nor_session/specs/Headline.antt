@@ -33,8 +33,8 @@ pub record SavesChip (journal : Content) (first : Chip) : Type 0 where
   pub bits : first.kept ≡ kept_in journal.status
   pub sectors : Saves first.bytes (is_saved journal) journal
 
--- True at the addresses at which a chip may differ from the original chip (`first`). These are the addresses in saved
--- sectors, except the protected ones if the status of the original chip is locked.
+-- True at the addresses at which a chip to be restored may differ from the original chip (`first`). These are the
+-- addresses in saved sectors, except the protected ones if the status of the original chip is locked.
 abbrev pub open_addresses : Content → Chip → ℕ → Bool
 open_addresses journal first a = is_saved journal (a / 4096) && not (is_locked first.kept && is_protected first a)
 

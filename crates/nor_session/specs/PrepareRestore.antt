@@ -77,22 +77,22 @@ abbrev pub FitsIdentity : Content → Identity → Type 0
 FitsIdentity journal identity =
     (chip : Chip) → chip.kept.two < 128 → IsIdentityOf chip identity → FitsJournal journal chip
 
--- Holds if `shown` is `true` exactly if the status bits that a restore can't write are the journal's. This holds for
--- each chip that has this identification, and whose non-volatile bits of status 2 are in range (below 128).
+-- Holds if `shown` is true exactly if the status bits that a restore can't write are the journal's. This is required
+-- for each chip that has this identification, and whose non-volatile bits of status 2 are in range (below 128).
 abbrev pub ShowsFixed : Content → Identity → Bool → Type 0
 ShowsFixed journal identity shown = (chip : Chip) → chip.kept.two < 128 → IsIdentityOf chip identity
     → MatchBool shown (FitsStatus journal chip) (¬ FitsStatus journal chip)
 
--- Holds if the check of the unique ID and the status bits accepts only chips that the journal fits. This holds for each
--- chip that has this identification and the journal's ID and size, and whose non-volatile bits of status 2 are in range
--- (below 128).
+-- Holds if the check of the unique ID and the status bits accepts only chips that the journal fits. This is required
+-- for each chip that has this identification and the journal's ID and size, and whose non-volatile bits of status 2 are
+-- in range (below 128).
 abbrev pub AcceptsDevice : Content → Identity → Result Unit Refusal → Type 0
 AcceptsDevice journal identity judged = (chip : Chip) → chip.kept.two < 128 → IsIdentityOf chip identity
     → IsOfType journal chip.config → OnOk judged (FitsJournal journal chip)
 
 -- Holds if the check of the unique ID and the status bits refuses a chip only with the error of the first failed check.
--- This holds for each chip that has this identification and the journal's ID and size, and whose non-volatile bits of
--- status 2 are in range (below 128).
+-- This is required for each chip that has this identification and the journal's ID and size, and whose non-volatile
+-- bits of status 2 are in range (below 128).
 abbrev pub RefusesDevice : Content → Identity → Result Unit Refusal → Type 0
 RefusesDevice journal identity judged = (choice : Choice) (chip : Chip) → chip.kept.two < 128
     → IsIdentityOf chip identity → IsOfType journal chip.config → IfErr judged (RestoreJudges choice journal chip)
@@ -127,10 +127,10 @@ pub record PlansSaved (sector : ℕ) (saved bytes : List ℕ) (old new : BusStat
   pub planned : (content wanted : ℕ → ℕ) → AreBytesOf content bytes → AreBytesOf wanted saved
       → IsPlan content wanted 4096 plan
 
--- Holds after the sectors of a restore were chosen, which may need reads of the saved sectors. Only saved sectors are
--- marked. On every bus the touched sectors are those that `choice` gives for the bytes that were read. On a
--- well-behaved bus with an idle chip of the journal's size, touched and raised sectors are those that `choice` gives
--- for the chip's bytes.
+-- Holds after a restore chose its sectors, for which it may have read the saved sectors. Only saved sectors are marked.
+-- On every bus the touched sectors are those that `choice` gives for the bytes that were read. On a well-behaved bus
+-- with an idle chip of the journal's size, touched and raised sectors are those that `choice` gives for the chip's
+-- bytes.
 pub record MarksChosen (choice : Choice) (journal : Content) (old new : BusState) (scanned : Scanned) : Type 0 where
   pub marks : AreMarks (journal.size / 4096) scanned
   pub saved : (s : ℕ) → has scanned.touched s ≡ true → is_saved journal s ≡ true
@@ -175,8 +175,8 @@ abbrev pub NeedsStatusWith : Content → (touched : ℕ → Bool) → Chip → T
 NeedsStatusWith journal touched chip =
     (code_of chip.kept ≢ code_of (kept_in journal.status)) ⊎ SomeProtected touched chip
 
--- Holds if protection is lifted if and only if a touched sector is protected, and if no status write is needed when the
--- status is locked.
+-- Holds if the changes treat the status correctly. They lift protection if and only if a touched sector is protected.
+-- If the status is locked, no status write is needed.
 pub record MayChangeStatus (journal : Content) (touched : ℕ → Bool) (chip : Chip) (changes : Changes) : Type 0 where
   pub lifts : changes.unlock ≡ true → SomeProtected touched chip
   pub free : changes.unlock ≡ true ⊎ NoneProtected touched chip

@@ -45,9 +45,9 @@ pub record AllowsStops (stops : List ℕ) (least most : ℕ) (old new : BusState
   pub few : calls ≤ most
   pub is : new.allowances ≡ allowances_of stops calls ++ old.allowances
 
--- Describes the result of a rehearsal with `stops` stops, on every bus. Restores were run if and only if the vault was
--- sealed. Their number is then at least one, and at most `stops` or, without stops, one. The session ended only if the
--- vault was sealed. Without stops the session ended.
+-- Describes the result of a rehearsal with `stops` stops. A rehearsal promises this on every bus. Restores were run if
+-- and only if the vault was sealed. Their number is then at least one, and at most `stops` or, without stops, one. The
+-- session ended only if the vault was sealed. Without stops the session ended.
 pub record IsRehearsal (stops : ℕ) (vault : VaultState) (rehearsal : Rehearsal) : Type 0 where
   pub seal : rehearsal.sealed ≡ vault.sealed
   pub ended : rehearsal.ended ≡ true → rehearsal.sealed ≡ true

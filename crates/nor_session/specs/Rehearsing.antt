@@ -64,7 +64,7 @@ pub record LeavesSession (request : Request) (image : List ℕ) (old new : BusSt
       × SendsSaved (IsWrittenCode request.what journal.content) 1 journal.content old new
   pub writes : WritesStatusAtMost (most_status_writes request.what request.unlock) old new
 
--- Holds if the non-volatile status bits of `new` are the target ones: those of `old`, but with the target protection
+-- Holds if the non-volatile status bits of `new` are the target bits: the bits of `old`, but with the target protection
 -- bits.
 pub record HasWantedBits (what : What) (old new : Chip) : Type 0 where
   pub code : ℕ
@@ -117,10 +117,11 @@ pub record LeavesRestores (journal : Content) (restores : ℕ) (old new : BusSta
 -- Holds if a restore with an allowance of `allowance` transactions ended (`ended` is `true`) or was stopped (`ended` is
 -- `false`).
 --
--- If the restore ended on a modelled bus, it restored each chip that the journal could restore, and the write enable
--- latch is set only if it was set before. The allowance was then enough for the shortest identification, the scan and
--- the transactions that are left. If the restore was stopped on a well-behaved bus, the allowance was below the bound
--- `most_of`, and no transaction is left. If it was stopped on any bus, nothing was sent after the stop.
+-- If the restore ended on a modelled bus, and the journal could restore a chip `first` at the start, the chip is now
+-- the same as `first`. If the restore ended on a modelled bus, the write enable latch is set only if it was set before.
+-- The allowance was then enough for the shortest identification, the scan and the transactions that are left. If the
+-- restore was stopped on a well-behaved bus, the allowance was below the bound `most_of`, and no transaction is left.
+-- If it was stopped on any bus, nothing was sent after the stop.
 pub record RunsRestore (journal : Content) (allowance : ℕ) (old new : BusState) (ended : Bool) : Type 0 where
   pub back : IsModelled old → ended ≡ true → (first : Chip) → CanRestore journal first old → IsSame first new.chip
   pub latch : IsModelled old → ended ≡ true → new.chip.latch ≡ true → old.chip.latch ≡ true
@@ -130,8 +131,8 @@ pub record RunsRestore (journal : Content) (allowance : ℕ) (old new : BusState
   pub last_transaction : ended ≡ false → EndsStopped new.history
 
 -- Holds if `restores` restores were run in turn, each with its own allowance (`allowances_of`), and the last one ended.
--- On a modelled bus each chip that the journal could restore is restored. If only one restore was run on such a bus,
--- the write enable latch is set only if it was set before.
+-- On a modelled bus, if the journal could restore a chip `first` at the start, the chip is now the same as `first`. If
+-- only one restore was run on such a bus, the write enable latch is set only if it was set before.
 pub record RunsRestores (journal : Content) (stops : List ℕ) (old new : BusState) (restores : ℕ) : Type 0 where
   pub some : 1 ≤ restores
   pub most : restores ≤ length stops + 1

@@ -144,8 +144,8 @@ abbrev pub HasUniqueRead : Content → Identity → Type 0
 HasUniqueRead journal identity = (journal.unique ≡ None) ⊎ (journal.unique ≡ Some identity.unique)
 
 -- Holds if the journal fits what the bus replied to a restore's identification: the ID, the size, the unique ID (a
--- journal of format 1 has none), and the status bits that flashnor never changes. The size is that in the table's row
--- for the ID or, without a row, that in the SFDP replies. `read` is the history of the bus at some point of the
+-- journal of format 1 has none), and the status bits that flashnor never changes. The size is the size in the table's
+-- row for the ID or, without a row, the size in the SFDP replies. `read` is the history of the bus at some point of the
 -- restore; the proof gives the history after the identification.
 pub record FitsReplies (journal : Content) (old new : BusState) : Type 0 where
   pub read : List Exchange
@@ -163,8 +163,8 @@ abbrev pub IsLeft : Choice → Content → (read : ℕ → ℕ) → (a : ℕ) �
 IsLeft choice journal read a =
     (is_saved journal (a / 4096) ≡ true) × (choice.touched journal read (a / 4096) ≡ false)
 
--- Holds if the result fits what was read back, on every bus. `scanned` is the history at the point at which the touched
--- sectors were chosen.
+-- Holds if the result fits what was read back. A restore promises this on every bus. `scanned` is the history at the
+-- point at which the touched sectors were chosen.
 --
 -- After success, each saved sector that isn't touched had been read by that point. The last transactions were reads of
 -- sectors, in which each byte of a touched sector was read as the saved byte. After a mismatch, its address is the
@@ -222,7 +222,7 @@ pub record AlwaysBy (choice : Choice) (journal : Content) (old new : BusState)
   pub sends : SendsSaved (IsSavedCode journal) 1 journal old new
   -- at every exit, no modifying command was sent, or the journal fits what the bus replied to the identification
   pub fits : (new.sent ≡ old.sent) ⊎ FitsReplies journal old new
-  -- at every exit the status was written at most twice
+  -- at every exit at most two status writes were sent
   pub writes : WritesStatusAtMost 2 old new
   -- an error is one that `IsRestoreRefusal` allows
   pub answers : IfErr result IsRestoreRefusal

@@ -237,9 +237,9 @@ abbrev pub touched_for : Request → (image : List ℕ) → (size : ℕ) → (re
 touched_for request image size read s =
     sectors_below (size / 4096) s && is_touched read (wanted_at request image size read) s
 
--- Holds if the result fits what was read back, on every bus. `scanned` is the history at the end of the scan. The
--- target byte of an address is the requested byte if the request may change that address, and otherwise the byte that
--- the scan read.
+-- Holds if the result fits what was read back. A session promises this on every bus. `scanned` is the history at the
+-- end of the scan. The target byte of an address is the requested byte if the request may change that address, and
+-- otherwise the byte that the scan read.
 --
 -- After success with `verify` set, each sector with an included address had been read by the end of the scan. The last
 -- transactions were reads of sectors, in which each byte of a touched sector was read as its target byte. After a
@@ -320,7 +320,7 @@ pub record SessionModelled (request : Request) (image : List ℕ) (old new : Bus
   pub errors : IfErr result (SessionErrors request image old new vault vault')
   -- after success the chip has the bytes and the protection bits that the request asked for (`IsDone`)
   pub done : IfOk result (IsDone request image old new)
-  -- if the request needs no status write, none was sent
+  -- if the request needs no status write, no status write was sent
   pub unwritten : ¬ NeedsStatusWrite request image old.chip → WritesStatusAtMost 0 old new
   -- if the request needs no status write, the bound on the transactions in the report allows for no status write
   pub spares : ¬ NeedsStatusWrite request image old.chip

@@ -19,14 +19,15 @@ use nor_request::Refusal;
 pub(crate) struct Restorer(());
 
 impl Restorer {
-    /// Returns the evidence, given that the vault that received the journal is sealed.
+    /// Returns the evidence for a vault that received the journal. The vault must be sealed. The premise doesn't say
+    /// that the vault received the journal: the caller must have written it.
     pub(crate) fn in_vault<V: Vault>(_vault: &V) -> Restorer
         requires { (V.state _vault.now).sealed ≡ true }
     {
         Restorer(())
     }
 
-    /// Returns the evidence, given the journal that was read.
+    /// Returns the evidence for a journal that was read.
     pub(crate) fn in_journal(_journal: &Journal<'_>) -> Restorer {
         Restorer(())
     }

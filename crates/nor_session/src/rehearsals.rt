@@ -146,9 +146,9 @@ fn undo<B: Meter>(bus: &mut B, text: &[u8], stops: &[u64]) -> Result<u32, Refusa
     }
 }
 
-// Runs restores until one ends: one with each of the stops in turn, then one with `most_needed` transactions. Returns
-// how many restores were run. Returns error 12 if the restore with `most_needed` transactions was stopped too, and any
-// other error of a restore at once.
+// Runs restores until one of them ends: one restore with each of the stops in turn, then one with `most_needed`
+// transactions. Returns how many restores were run. Returns error 12 if the restore with `most_needed` transactions was
+// stopped too, and any other error of a restore at once.
 fn restore_in_turn<B: Meter>(
     bus: &mut B,
     journal: &Journal<'_>,

@@ -1,4 +1,4 @@
-//! The sources of the target bytes: the merged image of a session, or the records of a journal.
+//! The sources of the target bytes: the image of a session, and the records of a journal.
 ghost use Rattle.std.specs.Prelude.{◌≡◌, ℕ, ◌<◌, ◌+◌, ◌*◌, nat_lt, length, slice_index};
 ghost use Rattle.std.proofs.lemmas.Bool.Decides.{nat_tests};
 ghost use Rattle.nor_journal.specs.Saved.{is_saved, saved_byte};
