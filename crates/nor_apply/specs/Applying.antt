@@ -93,8 +93,8 @@ pub record CanApply (changes : Changes) (wanted : ℕ → ℕ) (chip : Chip) : T
       → bit_and (wanted a) (chip.bytes a) ≡ wanted a
 
 -- Holds after all changes succeeded. The touched sectors have the target bytes, the protection bits have their target
--- values, and the raised sectors were erased. All other bytes and status bits are as they were, the chip is idle, and
--- its write enable latch is set only if it was set before.
+-- values, and the raised sectors were erased. All other bytes and non-volatile status bits are as they were, the chip
+-- is idle, and its write enable latch is set only if it was set before.
 pub record HasApplied (changes : Changes) (wanted : ℕ → ℕ) (old new : BusState) : Type 0 where
   pub config : new.chip.config ≡ old.chip.config
   pub bytes : (a : ℕ) → new.chip.bytes a ≡ (if touched_in changes (a / 4096) then wanted a else old.chip.bytes a)
@@ -118,9 +118,9 @@ LeavesApply changes wanted =
     (MayChange (touched_in changes) (raised_in changes) wanted)
 
 -- Holds if, since `old`, each of these sectors was the target of an erase, and all erases were sent before the first
--- page program. `erasing` and `later` together are the transactions that were sent since `old` and may modify a chip,
--- those in `erasing` first. (Each list has its last transaction first.) No page program is in `erasing`, and no erase
--- is in `later`.
+-- page program. The transactions that were sent since `old` and may modify a chip are those in `erasing`, followed by
+-- those in `later`; each list has its last transaction first. No page program is in `erasing`, and no erase is in
+-- `later`.
 pub record ErasesFirst (sectors : ℕ → Bool) (old new : BusState) : Type 0 where
   pub erasing : Sent
   pub later : Sent

@@ -21,8 +21,8 @@ whole_alike one other s (Some b) same whole = record {
   same = λ i below. whole.same i below ∙ sym (same i below);
 }
 
--- `HasPutSectors` stays true if the bytes `one` are replaced by bytes that are the same in each saved sector, if
--- `saved` is replaced by an equal set, and if the bound `n` is replaced by a higher one.
+-- `HasPutSectors` stays true if the bytes `one` are replaced by bytes that are the same in each saved sector, or
+-- `saved` by an equal set. It also stays true if the bound `n` is replaced by a higher bound.
 pub put_alike : {V : Type 0} {state : V → VaultState} {writer : Writer V} {head : Content} {one other : ℕ → ℕ}
     {saved more : ℕ → Bool} {n m : ℕ}
     → ((s i : ℕ) → saved s ≡ true → i < 4096 → other (4096 * s + i) ≡ one (4096 * s + i))

@@ -131,7 +131,7 @@ pub record IsAt (request : Request) (size n : ℕ) (verdict : Bool) : Type 0 whe
   pub small : size ≤ 16777216
   pub included : has_in_sector (includes request.included) n ≡ verdict
 
--- `IsAt` holds in the loop of `scan_all`, by the loop's bound and its test.
+-- The conditions of `IsAt` follow from the bound and the test of the loop of `scan_all`.
 pub is_at : {request : Request} {size n sectors : ℕ} {included : Option (List Span)} {test verdict : Bool}
     → is_chip_size size ≡ true → (0 < sectors → (is_data request.what ≡ true) × (sectors ≡ size / 4096))
     → n < sectors → included ≡ request.included → test ≡ has_in_sector (includes included) n → test ≡ verdict
@@ -239,8 +239,9 @@ module _ {request : Request} {size n : ℕ} {image image' : List ℕ} {old mid :
       same = rw (same_before is_open) at (scans.shown (later is_open)).byte;
     }
 
-    -- If `content` agrees in the sectors up to and including `n` with what was read, it agrees in the sectors below `n`
-    -- with what was read before sector `n` (`agree_before`), and has the bytes that were read from sector `n`.
+    -- Let `content` agree in the sectors up to and including `n` with what was read. Then it agrees in the sectors
+    -- below `n` with what was read before sector `n` (`agree_before`), and it has the bytes that were read from sector
+    -- `n`.
     agree_before : (content : ℕ → ℕ) → AgreeBelow (n + 1) content (bytes_read new.history)
         → AgreeBelow n content (bytes_read mid.history)
     agree_before content same s i below small = same s i (omega arith) small

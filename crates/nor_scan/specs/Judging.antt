@@ -68,9 +68,9 @@ FindsProtected touched identity found =
     (chip : Chip) → IsIdentityOf chip identity
     → MatchOption found (NoneProtected touched chip) (IsLeastProtected touched chip)
 
--- Holds if `needed` is true exactly if the request, with the target protection bits `code`, needs a status write. This
--- is required for each chip with this identification, and for each set of touched sectors such that
--- `is_touched_protected` is true exactly if one of these sectors is protected.
+-- Holds if `needed` is true if and only if the request, with the target protection bits `code`, needs a status write.
+-- This is required for each chip with this identification, and for each set of touched sectors that fits
+-- `is_touched_protected`: this flag must be true if and only if one of these sectors is protected.
 abbrev pub FindsNeed : Request → Identity → Bool → ℕ → Bool → Type 0
 FindsNeed request identity is_touched_protected code needed = (chip : Chip) (touched : ℕ → Bool)
     → IsIdentityOf chip identity
@@ -78,9 +78,9 @@ FindsNeed request identity is_touched_protected code needed = (chip : Chip) (tou
     → MatchBool needed (NeedsStatus request.what request.unlock code touched chip)
     (¬ NeedsStatus request.what request.unlock code touched chip)
 
--- Holds if `promise` holds for each chip and image with three properties: the chip has this identification,
--- `IdentityAccepts` holds with the protection bits `code`, and the sectors that the request touches on the chip are
--- exactly those in `touched`.
+-- Holds if `promise` holds for each chip and image with three properties. The chip has this identification, and
+-- `IdentityAccepts` holds with the protection bits `code`. The sectors that the request touches on the chip are exactly
+-- those in `touched`.
 abbrev pub OfTouched : Request → Identity → ℕ → (ℕ → Bool) → (List ℕ → Chip → Type 0) → Type 0
 OfTouched request identity code touched promise = (chip : Chip) (image : List ℕ) → IsIdentityOf chip identity
     → IdentityAccepts request image chip code

@@ -28,8 +28,9 @@ use Rattle.nor_layout.specs.Sectors.{includes, has_in_sector}
 abbrev pub wanted_at : Request → (image : List ℕ) → (size : ℕ) → (content : ℕ → ℕ) → (a : ℕ) → ℕ
 wanted_at request image size content a = if is_requested request size a then target request.what image a else content a
 
--- Holds if the sector was added to the touched sectors and to the raised sectors, as far as its plan says so. `reads`
--- is one higher, and `count` is one higher if the plan says that the sector is touched.
+-- Holds if the sector was added to the touched sectors if its plan says that it is touched, and to the raised sectors
+-- if its plan says that it is raised. `reads` is one higher, and `count` is one higher if the plan says that the sector
+-- is touched.
 pub record HasMarked (sector : ℕ) (plan : SectorPlan) (old new : Scanned) : Type 0 where
   pub touched : (s : ℕ) → has new.touched s ≡ ((plan.touched && (s == sector)) || has old.touched s)
   pub raised : (s : ℕ) → has new.raised s ≡ ((plan.raised && (s == sector)) || has old.raised s)
@@ -50,8 +51,8 @@ pub record AreMarks (n : ℕ) (scanned : Scanned) : Type 0 where
   pub inside : (s : ℕ) → has scanned.raised s ≡ true → has scanned.touched s ≡ true
   pub count : scanned.count ≡ sector_count (has scanned.touched)
 
--- Holds if the sectors in `seen` are marked correctly: as touched exactly if some byte differs from the target, and as
--- raised exactly if some bit must go from 0 to 1. No other sector is marked.
+-- Holds if the sectors in `seen` are marked correctly. A sector is marked as touched if and only if some byte differs
+-- from the target, and as raised if and only if some bit must go from 0 to 1. No other sector is marked.
 pub record AreRight (wanted content : ℕ → ℕ) (seen : ℕ → Bool) (scanned : Scanned) : Type 0 where
   pub touched : (s : ℕ) → has scanned.touched s ≡ (seen s && is_touched content wanted s)
   pub raised : (s : ℕ) → has scanned.raised s ≡ (seen s && is_raised content wanted s)

@@ -65,9 +65,9 @@ impl Scanned {
 }
 
 /// Scans one sector for a write or an erase. Reads the sector into `bytes`, and sets `part`, the sector's part of the
-/// image, to the target bytes: for an erase it fills `part` with FFh, and then it copies the bytes that may not change
-/// from `bytes`. Returns the sector's plan, which says whether a byte must change and whether this needs an erase.
-/// Returns `Stopped` if the bus stopped.
+/// image, to the target bytes. For an erase it first fills `part` with FFh. Then, at each address that may not change,
+/// it sets `part` to the sector's byte. Returns the sector's plan, which says whether a byte must change and whether
+/// this needs an erase. Returns `Stopped` if the bus stopped.
 ///
 /// `part` must have 4,096 bytes, and the sector must be on a chip of `size` bytes, at most 16 MiB.
 fn scan_sector<B: Bus>(
@@ -95,9 +95,9 @@ fn scan_sector<B: Bus>(
     Ok(Plan::of(&*bytes, &*part))
 }
 
-/// Reads each sector with an included address, in ascending order, and sets its part of the image to the target bytes:
-/// for an erase it fills that part with FFh, and then it copies the bytes that may not change from the sector. Writes
-/// the touched sectors to the journal. For a protection range no sector is read.
+/// Reads each sector with an included address, in ascending order, and sets the sector's part of the image to the
+/// target bytes. For an erase it first fills this part with FFh. Then, at each address that may not change, it sets the
+/// image to the sector's byte. Writes the touched sectors to the journal. For a protection range no sector is read.
 ///
 /// `size` must be one that a chip may have; for a write or an erase the image must be as long. The vault must be
 /// unsealed.

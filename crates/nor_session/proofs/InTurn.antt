@@ -87,8 +87,8 @@ lost_can_restore journal first old new can loses = record {
   within = lost_within (open_addresses journal first) first old new loses.known loses.lost can.within;
 }
 
--- If a journal can restore the original chip on the bus `new` (`CanRestore`), and the chip then kept its bytes and
--- status bits or lost its power, `CanRestoreChip` holds for the chip that is left.
+-- Let a journal be able to restore the original chip on the bus `new` (`CanRestore`). If the chip then kept its bytes
+-- and status bits, or lost its power, `CanRestoreChip` holds for the chip that is left.
 can_restore_kept : (journal : Content) (first : Chip) (new taken : BusState) → CanRestore journal first new → MayLosePower new taken → CanRestoreChip journal first taken.chip
 can_restore_kept journal first new taken can (inl same) = can_restore_same journal first new.chip taken.chip (can_restore_chip journal first new can) same
 can_restore_kept journal first new taken can (inr loses) = can_restore_chip journal first taken (lost_can_restore journal first new taken can loses)

@@ -84,9 +84,9 @@ LeavesChange changes wanted =
 
 -- Holds after the changes and their check succeeded, with the counts of `work`. If there was nothing to change, no
 -- modifying command was sent. On every bus each raised sector was erased before anything was programmed. On a
--- well-behaved bus, if `CanApply` held at the start, all changes were made (`HasApplied`). If `verify` is set on such a
--- bus, and the chip was idle with the touched sectors on it (`CanCheck`), then each byte of a touched sector is the
--- target byte, even if the chip ignored commands.
+-- well-behaved bus, if `CanApply` held at the start, all changes were made (`HasApplied`). On such a bus, if `verify`
+-- is set and the chip was idle with the touched sectors on it (`CanCheck`), each byte of a touched sector is the target
+-- byte. This is true even if the chip ignored commands.
 pub record DoesChange (changes : Changes) (wanted : ℕ → ℕ) (verify : Bool) (old new : BusState)
     (work : Work) : Type 0 where
   pub erases : work.erases ≡ fewest_erases changes.kinds (changes.size / 4096) (raised_in changes)
@@ -109,8 +109,8 @@ pub record DoesChange (changes : Changes) (wanted : ℕ → ℕ) (verify : Bool)
       → HasBytes (touched_in changes) wanted new.chip
 
 -- Holds if the changes and their check may fail with this error: a stop, a timeout or a mismatch. On every bus,
--- `Stopped` means that the bus stopped at the last transaction, `Timeout` that the last transaction was a poll that
--- showed BUSY, and `Mismatch` that it was a read of the sector that contains the address. On a well-behaved bus,
+-- `Stopped` means that the bus stopped at the last transaction. `Timeout` means that the last transaction was a poll
+-- that showed BUSY, and `Mismatch` that it was a read of the sector that contains the address. On a well-behaved bus,
 -- `Stopped` means that fewer than `most_changed` transactions were left at the start, `Timeout` does not occur, and
 -- `Mismatch` does not occur if `CanApply` held at the start.
 abbrev pub ChangeErrors : Changes → (ℕ → ℕ) → (old new : BusState) → Refusal → Type 0

@@ -49,8 +49,8 @@ pub record IsReportedFor (touched raised : ℕ → Bool) (wanted : ℕ → ℕ) 
   pub programs : report.programs
       ≡ count_below 65536 (is_programmed touched (once_erased raised old.chip.bytes) wanted)
 
--- Holds if the report is right (`IsReportedFor`) for the following sectors: touched are the sectors in which a byte
--- differs from the target, and raised those in which a bit must go from 0 to 1.
+-- Holds if the report is right (`IsReportedFor`) with the following sectors. A sector is touched if a byte in it
+-- differs from the target, and raised if a bit in it must go from 0 to 1.
 abbrev pub IsReported : (wanted : ℕ → ℕ) → (old new : BusState) → Report → Type 0
 IsReported wanted old new report =
     IsReportedFor (is_touched old.chip.bytes wanted) (is_raised old.chip.bytes wanted) wanted old new report

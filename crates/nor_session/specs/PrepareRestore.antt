@@ -77,8 +77,9 @@ abbrev pub FitsIdentity : Content → Identity → Type 0
 FitsIdentity journal identity =
     (chip : Chip) → chip.kept.two < 128 → IsIdentityOf chip identity → FitsJournal journal chip
 
--- Holds if `shown` is true exactly if the status bits that a restore can't write are the journal's. This is required
--- for each chip that has this identification, and whose non-volatile bits of status 2 are in range (below 128).
+-- Holds if `shown` is true if and only if the status bits that a restore can't write are the journal's. This is
+-- required for each chip that has this identification, and whose non-volatile bits of status 2 are in range (below
+-- 128).
 abbrev pub ShowsFixed : Content → Identity → Bool → Type 0
 ShowsFixed journal identity shown = (chip : Chip) → chip.kept.two < 128 → IsIdentityOf chip identity
     → MatchBool shown (FitsStatus journal chip) (¬ FitsStatus journal chip)

@@ -91,9 +91,9 @@ abbrev pub FitsLastStop : (sectors : ℕ) → (stops : List ℕ) → (left resto
 FitsLastStop sectors stops left restores =
     restores ≤ length stops → left + (4 + sectors) ≤ slice_index stops (restores - 1)
 
--- Holds if a rehearsal that returned an error on a modelled bus left the chip and the vault like this: bytes and
--- non-volatile status bits are as they were, and the write enable latch is set only if it was set before. No modifying
--- command was sent, and the vault isn't sealed.
+-- What a rehearsal that returned an error leaves on a modelled bus. Bytes and non-volatile status bits are as they
+-- were, and the write enable latch is set only if it was set before. No modifying command was sent, and the vault isn't
+-- sealed.
 pub record LeavesRefused (old new : BusState) (vault : VaultState) : Type 0 where
   pub same : IsSame old.chip new.chip
   pub latch : new.chip.latch ≡ true → old.chip.latch ≡ true

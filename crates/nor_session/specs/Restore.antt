@@ -240,8 +240,8 @@ pub record AlwaysBy (choice : Choice) (journal : Content) (old new : BusState)
   pub read_back : RestoreReadsBack choice journal old.history new.history result
   -- a restore succeeds only if the last poll showed that the chip is ready
   pub polled_ready : OnOk result (new.polled_ready ≡ true)
-  -- after error 12 the last transaction is the one at which the bus stopped, after error 13 a poll that showed BUSY,
-  -- and after error 14 a read of the sector that contains the address (`EndsAtError`)
+  -- After error 12 the last transaction is the one at which the bus stopped. After error 13 it is a poll that showed
+  -- BUSY, and after error 14 a read of the sector that contains the address (`EndsAtError`).
   pub last_transaction : IfErr result (λ refusal. EndsAtError refusal new.history)
 
 -- The promises of a restore on a well-behaved bus.

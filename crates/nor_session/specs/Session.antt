@@ -101,14 +101,12 @@ pub record WritesOnly (IsCode : (code : ℕ) → Type 0) (journal : Content) (on
   pub clear1 : one % 4 ≡ 0
   pub clear2 : two < 128
 
--- Holds if the modifying commands that `calls` calls with the same journal sent fit this journal.
---
--- - A sector was targeted only if the journal saves it, if it had been targeted before, or if it lies past the end of a
---   chip that the journal saves whole.
--- - A status write had two bytes that `WritesOnly` allows, or that a status write had before the calls.
--- - The number of erases is at most `calls` times the number of saved sectors, and the number of page programs at most
---   16 times that.
--- - A transaction that the model doesn't know was sent only if such a transaction had been sent before the calls.
+-- Holds if the modifying commands that `calls` calls with the same journal sent fit this journal. A sector was targeted
+-- only if the journal saves it, if it had been targeted before, or if it lies past the end of a chip that the journal
+-- saves whole. A status write had two bytes that `WritesOnly` allows, or that a status write had before the calls. The
+-- number of erases is at most `calls` times the number of saved sectors, and the number of page programs is at most
+-- sixteen times that. A transaction that the model doesn't know was sent only if such a transaction had been sent
+-- before the calls.
 pub record SendsSaved (IsCode : ℕ → Type 0) (calls : ℕ) (journal : Content) (old new : BusState) : Type 0 where
   pub targeted : (s : ℕ) → (is_targeted new.sent s ≡ is_targeted old.sent s)
       ⊎ ((is_saved journal s ≡ true) ⊎ IsPastChipEnd journal s)
@@ -175,8 +173,9 @@ HonestErrors most IsEarly old new refusal = IsEarly refusal → IsSame old.chip 
 
 -- ---- on a modelled bus
 
--- Holds if a session may return this error on a modelled bus. The error is the verdict on the request; or it is 11 and
--- the vault failed; or it is 12, no transaction is left, and fewer were left at the start than the bound `most_of`.
+-- Holds if a session may return this error on a modelled bus. The error is the verdict on the request, or it is 11 and
+-- the vault failed. Or the error is 12, no transaction is left, and fewer were left at the start than the bound
+-- `most_of`.
 abbrev pub SessionErrors : Request → List ℕ → (old new : BusState) → (vault vault' : VaultState) → Refusal → Type 0
 SessionErrors request image old new vault vault' Vault = CountsRefusal vault vault'
 SessionErrors request image old new vault vault' Stopped = RanOut (most_of (old.chip.config.size / 4096)) old new
@@ -293,8 +292,8 @@ pub record SessionAlways (request : Request) (image : List ℕ) (old new : BusSt
   pub read_back : SessionReadsBack request image old.history new.history result
   -- a session succeeds only if the last poll showed that the chip is ready
   pub polled_ready : OnOk result (new.polled_ready ≡ true)
-  -- after error 12 the last transaction is the one at which the bus stopped, after error 13 a poll that showed BUSY,
-  -- and after error 14 a read of the sector that contains the address (`EndsAtError`)
+  -- After error 12 the last transaction is the one at which the bus stopped. After error 13 it is a poll that showed
+  -- BUSY, and after error 14 a read of the sector that contains the address (`EndsAtError`).
   pub last_transaction : IfErr result (λ refusal. EndsAtError refusal new.history)
 
 -- The promises of a session on a well-behaved bus.
