@@ -274,7 +274,7 @@ module _ {sector : ℕ} {old wanted : List ℕ} {spans left : List PageSpan} {fi
       is = listed_next so.listed next (IsSpan old wanted) so.are.each;
     }
 
-    -- Fewer than 16 spans were programmed so far.
+    -- Fewer than 16 spans were programmed so far, with at most 983,070 transactions.
     pub few_spans : (tally.count ≤ 15) × (tally.transactions ≤ 983070)
     few_spans = omega (arith, listed_fewer so.listed next, so.are.count, pages_most old wanted so.whole)
 

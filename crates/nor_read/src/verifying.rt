@@ -116,9 +116,9 @@ fn compare_part<B: Bus>(
     Ok(Compared { first, reads: 1 })
 }
 
-// Returns the first included address of the sector at which `bytes`, which were read from the chip, differ from the
-// image. Returns `None` if there is no such address. Overwrites the bytes at the other addresses with those of the
-// image.
+// Returns the first included address of the sector at which `bytes`, read from the chip, differ from the image. Returns
+// `None` if they differ at no included address. Overwrites the bytes at addresses that aren't included with the bytes
+// of the image.
 fn first_other(
     image: &[u8],
     included: Option<&Ranges>,

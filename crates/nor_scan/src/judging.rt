@@ -65,8 +65,8 @@ pub fn judge_identity(request: &Request, identity: &Identity, image: usize) -> R
     }
 }
 
-/// Returns the first sector of `touched` that contains an address which the status that was read protects, or `None` if
-/// there is no such sector.
+/// Returns the first sector of `touched` that has a protected address, according to the status that was read. Returns
+/// `None` if no sector of `touched` has a protected address.
 #[tactic(auto, using(crate::proofs::Held::code_same))]
 pub fn first_protected(touched: &SectorSet, identity: &Identity) -> Option<u32>
     ensures held { FindsProtected (has touched.now) identity.now result }

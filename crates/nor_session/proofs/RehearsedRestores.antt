@@ -88,7 +88,7 @@ same_nature_then later earlier = grind (arith, later.config, earlier.config)
 
 -- ---- one restore
 
--- If a bus is modelled, and neither its being well-behaved nor its chip's configuration changes, it is still modelled.
+-- If a modelled bus stays well-behaved, and the configuration of its chip doesn't change, the bus stays modelled.
 pub modelled_at : (old new : BusState) → new.honest ≡ old.honest → new.chip.config ≡ old.chip.config → IsModelled old → IsModelled new
 modelled_at old new honest config modelled =
     record { honest = honest ∙ modelled.honest; genuine = rw config modelled.genuine }

@@ -141,8 +141,9 @@ chosen_open journal first touched old a can saved free hit =
     }) in
     and_from _ _ (saved (a / 4096) hit) (ap not shut)
 
--- Let the journal be able to restore the original chip `first` before a restore. Then the changes of the restore leave
--- a chip that is still within the journal (`IsWithin`).
+-- Let the journal be able to restore the original chip `first` at the start of a restore, and let the chip still be
+-- within the journal after the preparation (`mid`). If the changes touch only saved sectors and, with a locked status,
+-- no protected sector, the chip is still within the journal after the changes.
 pub change_within : (journal : Content) (first : Chip) (touched raised : ℕ → Bool) (wanted : ℕ → ℕ) (old mid new : BusState) → CanRestore journal first old → IsWithin (open_addresses journal first) first mid
     → ((s : ℕ) → touched s ≡ true → is_saved journal s ≡ true) → (is_locked old.chip.kept ≡ true → ¬ SomeProtected touched old.chip)
     → MayChange touched raised wanted mid new → IsWithin (open_addresses journal first) first new

@@ -83,8 +83,8 @@ LeavesChange changes wanted =
     (MayChange (touched_in changes) (raised_in changes) wanted)
 
 -- Holds after the changes and their check succeeded, with the counts of `work`. If there was nothing to change, no
--- modifying command was sent. On every bus each raised sector was erased before anything was programmed. On a
--- well-behaved bus, if `CanApply` held at the start, all changes were made (`HasApplied`). On such a bus, if `verify`
+-- modifying command was sent. On every bus an erase was sent for each raised sector before anything was programmed. On
+-- a well-behaved bus, if `CanApply` held at the start, all changes were made (`HasApplied`). On such a bus, if `verify`
 -- is set and the chip was idle with the touched sectors on it (`CanCheck`), each byte of a touched sector is the target
 -- byte. This is true even if the chip ignored commands.
 pub record DoesChange (changes : Changes) (wanted : ℕ → ℕ) (verify : Bool) (old new : BusState)
