@@ -24,8 +24,8 @@ module _ {named : Option ChipName} {identity : Identity} {old mid : BusState}
   pub is_shown : IsModelled old → HasIdleChip old.chip mid
   is_shown is = let rested = opens.rested is.honest in let idle = opens.idle is.honest in search rules
 
-  -- if the identification is followed by calls that read each sector of the chip that was found, both together are
-  -- within the bound for the largest chip
+  -- if at most one transaction for each sector of the chip that was found follows the identification, the transactions
+  -- of both are within the bound for the largest chip
   pub reads_all : {new : BusState} → OnlyReads (identity.found.size / 4096) mid new → OnlyReads (most_reads 4096) old new
   reads_all more = let most = opens.part.at_most in only_reads_within (most_reads 4096) (omega arith) only_reads more
 

@@ -74,8 +74,8 @@ record CanRestoreChip (journal : Content) (first chip : Chip) : Type 0 where
 can_restore_chip : (journal : Content) (first : Chip) (state : BusState) → CanRestore journal first state → CanRestoreChip journal first state.chip
 can_restore_chip journal first state can = record { saves = can.saves; config = can.within.config; bytes = can.within.bytes }
 
--- If `CanRestoreChip` holds for the chip `new`, it holds for the same chip on another bus (`taken`), since it depends
--- only on configuration and bytes.
+-- If `CanRestoreChip` holds for the chip `new`, it holds for each chip `taken` that is the same (`IsSame`), since it
+-- depends only on configuration and bytes.
 can_restore_same : (journal : Content) (first new taken : Chip) → CanRestoreChip journal first new → IsSame new taken → CanRestoreChip journal first taken
 can_restore_same journal first new taken can same = search arith
 

@@ -203,8 +203,8 @@ pub refuses_before : {journal : Content} {n : ℕ} {old mid new : BusState} (ref
     → LeavesRestores journal n old mid → StopsRestores journal mid new refusal → StopsRestores journal old new refusal
 refuses_before refusal leaves refuses = search arith
 
--- `StopsRestores` holds for a stop of a restore that was allowed `most_of 4096` transactions. On a well-behaved bus, no
--- restore from a journal of at most 4,096 sectors is stopped with this allowance.
+-- If a restore that was allowed `most_of 4096` transactions was stopped, `StopsRestores` holds for the stop. On a
+-- well-behaved bus such a stop is impossible, if the journal has at most 4,096 sectors.
 pub last_ends : {journal : Content} {now new : BusState} {most : ℕ} → most ≡ most_of 4096
     → RunsRestore journal most now new false → StopsRestores journal now new Stopped
 last_ends {journal = journal} is shows = search (arith, saved_room)
