@@ -27,7 +27,7 @@ front-with_sector c number bytes =
     ap (λ (t : List ℕ). head c ++ t) (records_text-push c.saved added)
     ∙ sym (append_assoc (head c) (records_text c.saved) (record_text added))
 
--- a valid content with one more sector of 4,096 bytes, which may follow (`MayFollow`), is valid
+-- If `c` is valid, and a sector of 4,096 bytes may follow (`MayFollow`), `c` with this sector at the end is valid.
 pub IsContent-with_sector : (c : Content) (number : ℕ) (bytes : List ℕ) → IsContent c → MayFollow c number
     → length bytes ≡ 4096 → IsContent (with_sector c number bytes)
 unfolding next_number
@@ -46,7 +46,7 @@ text_is c = refl
 
 -- ---- lists
 
--- a prefix of a list is a prefix of the list with more elements appended
+-- Each prefix of `whole` is a prefix of `whole ++ following`.
 pub begins_longer : (whole following bytes : List ℕ) → StartsWith whole bytes → StartsWith (whole ++ following) bytes
 begins_longer whole following bytes begins =
     take-append-le (length bytes) whole following (omega (arith, ap length begins, length-take (length bytes) whole))
@@ -54,7 +54,7 @@ begins_longer whole following bytes begins =
 
 -- ---- a vault
 
--- if the vault is faithful, it holds exactly these bytes
+-- Holds if the vault isn't faithful, or holds exactly these bytes.
 abbrev pub Holds : VaultState → List ℕ → Type 0
 Holds vault bytes = vault.telling ≡ true → vault.bytes ≡ bytes
 
@@ -63,7 +63,7 @@ took_more : (old new : VaultState) (before piece : List ℕ) → Holds old befor
 took_more old new before piece held took faithful =
     let before_faithful = sym took.telling ∙ faithful in rw (took.bytes before_faithful, held before_faithful) refl
 
--- after a refused piece, a faithful vault holds a prefix of the earlier bytes and that piece
+-- Let a faithful vault hold the bytes `before`. After it has refused `piece`, it holds a prefix of `before ++ piece`.
 pub after_refused : (old new : VaultState) (before piece : List ℕ) (kept : ℕ) → Holds old before
     → PutRefused old piece kept new → HoldsPrefix new (before ++ piece)
 after_refused old new before piece kept held refused faithful =
@@ -71,26 +71,28 @@ after_refused old new before piece kept held refused faithful =
     rw (refused.bytes before_faithful, held before_faithful)
     (rw (length-append before (take kept piece), take-append-add, length-take kept piece, take_min) refl)
 
--- a fact that always holds also holds after an error
+-- A fact `P` that always holds also holds after an error.
 pub err_any : {T E P : Type 0} (r : Result T E) → P → OnErr r P
 err_any (Ok value) holds = tt
 err_any (Err error) holds = holds
 
 -- ---- the end
 
--- if the end mark was refused after the header and records, a faithful vault holds a prefix of the journal
+-- Let a faithful vault hold the header and records of `c`. If it refuses the end mark, it holds a prefix of the
+-- journal.
 pub begins_mark : (old new : VaultState) (c : Content) (kept : ℕ) → Holds old (front c)
     → PutRefused old end_mark kept new → HoldsPrefix new (text c)
 begins_mark old new c kept held refused = rw (← text_is c) (λ faithful.
     begins_longer (front c ++ end_mark) _ new.bytes (after_refused old new (front c) end_mark kept held refused faithful))
 
--- the end mark was accepted, and the digest is written next
+-- In the state `s0` a faithful vault holds the header and records of `c`. It then accepted the end mark (`s1`), and the
+-- digest is written next.
 module _ (s0 s1 new : VaultState) (c : Content) (digest : List ℕ) (held : Holds s0 (front c))
     (marked : Took s0 end_mark s1) (is : digest ≡ sha256 (front c ++ end_mark)) where
   whole : (front c ++ end_mark) ++ digest ≡ text c
   whole = rw is (text_is c)
 
-  -- if the digest is accepted too, a faithful vault holds the encoding
+  -- If the digest is accepted, too, a faithful vault holds the encoding of `c`.
   pub took_end : Took s1 digest new → Holds new (text c)
   took_end digested = rw (← whole) (took_more s1 new _ digest (took_more s0 s1 (front c) end_mark held marked) digested)
 
@@ -98,7 +100,8 @@ module _ (s0 s1 new : VaultState) (c : Content) (digest : List ℕ) (held : Hold
   begins_digest kept refused =
       rw (← whole) (after_refused s1 new _ digest kept (took_more s0 s1 (front c) end_mark held marked) refused)
 
--- a seal keeps the encoding in a faithful vault; after a refused seal, such a vault holds a prefix of the encoding
+-- Let a faithful vault hold the encoding of `c`. It still holds the encoding after a seal, and a prefix of it after a
+-- refused seal.
 pub seals : {T : Type 0} (old new : VaultState) (r : Result T VaultFault) (c : Content) → Holds old (text c)
     → Seals old r new → OnOk r (Holds new (text c)) × OnErr r (HoldsPrefix new (text c))
 seals old new (Ok x) c held sealed =

@@ -29,11 +29,12 @@ use Rattle.std.specs.Prelude.{Result, Ok, Err, OnErr, IfOk}
 
 module _ {M : Type 1} {𝓤 : Ura M} (𝓛 : Logic 𝓤) (R : RattleType) (γ : GName) (v : R.Denot)
     (P : R.Denot → R.Denot → Type 0) (Q : R.Denot → Type 0) (q : Q v) where
-  -- the final value as a function of the last value under the returned name, and the final value if no name is returned
+  -- How the final value depends on the result: a function of the last value of the reference that the result holds, and
+  -- the value if the result holds no reference. The function satisfies `P`, and the value satisfies `Q`.
   abbrev How : Type 0
   How = (s : (R.Denot → R.Denot) × R.Denot) × ((w : R.Denot) → P w (s.0 w)) × Q s.1
 
-  -- the result holds the borrowed reference itself
+  -- If the result holds the borrowed reference itself, the final value is the last value of this reference.
   pub rests_held : ((w : R.Denot) → P w w) → ent 𝓤 (emp 𝓤) (sem 𝓛 (follows_so R R γ (some γ) P Q))
   unfolding such_by follows_by
   rests_held p =
@@ -41,7 +42,7 @@ module _ {M : Type 1} {𝓤 : Ura M} (𝓛 : Logic 𝓤) (R : RattleType) (γ : 
       fpack ! How (λ s. follows_by R.Denot R.Denot R.coded.code R.coded.code γ (some γ) s.0.0 s.0.1)
       (((λ w. w), v), p, q) $ done !
 
-  -- the result doesn't hold the reference, whose last value v is known
+  -- If the result doesn't hold the reference, the final value is v, the last value of the reference.
   pub rests_said : ((w : R.Denot) → P w v)
       → ent 𝓤 (sem 𝓛 (fres γ (R.coded.code v))) (sem 𝓛 (follows_so R R γ none P Q))
   unfolding such_by follows_by
@@ -52,7 +53,7 @@ module _ {M : Type 1} {𝓤 : Ura M} (𝓛 : Logic 𝓤) (R : RattleType) (γ : 
 
 module _ {M : Type 1} {𝓤 : Ura M} (𝓛 : Logic 𝓤) (R : RattleType) (γ : GName) (m : Option GName)
     (P : R.Denot → R.Denot → Type 0) (Q Q' : R.Denot → Type 0) where
-  -- a fact about the value after an error may be replaced by a weaker one
+  -- A fact `Q` about the final value may be replaced by a weaker fact `Q'`.
   pub rests_more : ((n : R.Denot) → Q n → Q' n)
       → ent 𝓤 (sem 𝓛 (follows_so R R γ m P Q)) (sem 𝓛 (follows_so R R γ m P Q'))
   unfolding such_by
@@ -92,12 +93,12 @@ abbrev pub tail : Body → Body
 tail (seq first rest) = rest
 tail body = body
 
--- if two facts that hold after an error imply a third one, the third one holds after an error, too
+-- If two facts that hold after an error imply a third fact, the third fact holds after an error, too.
 pub err_both : {T E A B C : Type 0} (r : Result T E) → (A → B → C) → OnErr r A → OnErr r B → OnErr r C
 err_both (Ok x) f a b = tt
 err_both (Err e) f a b = f a b
 
--- a writer that is returned holds the reference to the vault that its attempt held
+-- If an attempt holds the reference to the vault named γ, the writer that it returns holds this reference, too.
 pub outcome_same : {V : Type 0} (a : Attempt V) (γ : GName) → (lent_by a).ghost_name ≡ γ
     → IfOk (outcome_of a) (λ writer. (vault_of writer).ghost_name ≡ γ)
 outcome_same (attempt.Accepted writer) γ same = same

@@ -1,5 +1,5 @@
--- The saved sectors of a content, one after the other: lemmas for the loops that write and restore sectors, and for
--- searching one.
+-- Lemmas about the list of saved sectors, for the loops that write and restore sectors, and for the search for a
+-- sector.
 use Rattle.std.proofs.Common.{add-one, ◌≡◌, ℕ, zero, suc, ◌+◌, ◌/◌, ◌<◌, ◌≤◌, cond, eqb, List, [], ◌∷◌, ◌++◌, length}
 use Rattle.std.proofs.Common.{take, refl, sym, ap, ◌∙◌, arith, Option, Some, None, inl, inr}
 use Rattle.std.specs.Prelude.{◌↔◌, slice_get}
@@ -33,8 +33,8 @@ least_le : (sectors least : ℕ) (ss : List SavedSector) → AreRising sectors l
 least_le sectors least [] rising = omega arith
 least_le sectors least (s ∷ ss) rising = omega (arith, rising.1, least_le sectors (s.number + 1) ss rising.2)
 
--- if a sector is added at the end of an ascending list, with a number above those of the list, it is saved, and the
--- other sectors are saved as before
+-- Let `ss` ascend, and let the number of `s` be above those of `ss`. Then the list with `s` at the end saves `s`, and
+-- saves every other sector as `ss` does.
 pub saved_in-push : (sectors least : ℕ) (ss : List SavedSector) (s : SavedSector) (n : ℕ) → AreRising sectors least ss → least_after least ss ≤ s.number
     → saved_in (ss ++ s ∷ []) n ≡ cond (eqb s.number n) (Some s.bytes) (saved_in ss n)
 unfolding saved_in
@@ -43,7 +43,8 @@ saved_in-push sectors least (t ∷ ss) s n rising above =
     let later = saved_in-push sectors (t.number + 1) ss s n rising.2 above in
     grind (arith, nat_tests, least_le sectors (t.number + 1) ss rising.2)
 
--- each sector of an ascending list (`AreRising`) is complete, and its number is below `sectors` and at least `least`
+-- If `ss` ascends (`AreRising`), the sector with index i is complete, and its number is below `sectors` and at least
+-- `least`.
 pub rising_at : (sectors least : ℕ) (ss : List SavedSector) (i : ℕ) (s : SavedSector) → AreRising sectors least ss → slice_get ss i ≡ Some s → IsSectorBelow sectors s × (least ≤ s.number)
 rising_at sectors least [] i s rising e = absurd cc
 rising_at sectors least (t ∷ ss) zero s rising e = rw (← same_Some t s e) (rising.0, rising.1)
@@ -51,7 +52,7 @@ rising_at sectors least (t ∷ ss) (suc i) s rising e =
     let later = rising_at sectors (t.number + 1) ss i s rising.2 e in
     (later.0, omega (arith, rising.1, later.1))
 
--- each sector of an ascending list is saved, with its bytes
+-- An ascending list saves each of its sectors: `saved_in` finds the bytes of the sector with index i by its number.
 pub saved_in-at : (sectors least : ℕ) (ss : List SavedSector) (i : ℕ) (s : SavedSector) → AreRising sectors least ss → slice_get ss i ≡ Some s → saved_in ss s.number ≡ Some s.bytes
 unfolding saved_in
 saved_in-at sectors least [] i s rising e = absurd cc
@@ -60,7 +61,7 @@ saved_in-at sectors least (t ∷ ss) (suc i) s rising e =
     let later = rising_at sectors (t.number + 1) ss i s rising.2 e in
     rw (ne_eqb t.number s.number (λ same. omega arith)) (saved_in-at sectors (t.number + 1) ss i s rising.2 e)
 
--- a sector that is saved has a record with its bytes
+-- If the list saves `bytes` for the sector number n, one of its records has this number and these bytes.
 pub saved_in-record : (ss : List SavedSector) (n : ℕ) (bytes : List ℕ) → saved_in ss n ≡ Some bytes → (i : ℕ) × (slice_get ss i ≡ Some (record { number = n; bytes = bytes }))
 unfolding saved_in
 saved_in-record [] n bytes e = absurd cc
@@ -72,7 +73,8 @@ saved_in-record (s ∷ rest) n bytes e =
 
 -- ---- contents
 
--- in a valid content, a sector is saved with these bytes if and only if a record has its number and these bytes
+-- A valid content `c` saves `bytes` for a sector if and only if one of its records has the sector's number and these
+-- bytes.
 pub saved_record : (c : Content) (sector : ℕ) (bytes : List ℕ) → IsContent c → saved_in c.saved sector ≡ Some bytes ↔ HasRecord c sector bytes
 saved_record c sector bytes is = (
   λ e. let found = saved_in-record c.saved sector bytes e in record { place = found.0; is = found.1 },
@@ -102,16 +104,16 @@ saved_in-take_more c i s n is e =
     let parts = take-rising (c.size / 4096) 0 c.saved i s is.saved e in
     rw (take-sector c.saved i s e) (saved_in-push (c.size / 4096) 0 (take i c.saved) s n parts.0 parts.1)
 
--- In a valid content, the number of record i is at least the least number that may follow the records before it. The
--- least number that may follow record i is one more than its number.
+-- In a valid content, the number of record i is at least the least number that may follow the records before it. After
+-- record i, the least number that may follow is one more than the number of this record.
 pub take-next : (c : Content) (i : ℕ) (s : SavedSector) → IsContent c → slice_get c.saved i ≡ Some s → (least_after 0 (take i c.saved) ≤ s.number) × (least_after 0 (take (i + 1) c.saved) ≡ s.number + 1)
 take-next c i s is e = (
   (take-rising (c.size / 4096) 0 c.saved i s is.saved e).1,
   rw (take-sector c.saved i s e) (least_after-push 0 (take i c.saved) s),
 )
 
--- Let a list ascend from `least` on, where `least` is at most the number of sectors. Then the least number that may
--- follow, and `least` plus the number of records, are at most the number of sectors.
+-- Let `ss` ascend, and let `least` be at most `sectors`. Then the least number that may follow `ss` is at most
+-- `sectors`, and so is the sum of `least` and the length of `ss`.
 after_within : (sectors least : ℕ) (ss : List SavedSector) → AreRising sectors least ss → least ≤ sectors → (least_after least ss ≤ sectors) × (least + length ss ≤ sectors)
 after_within sectors least [] rising within = (within, omega arith)
 after_within sectors least (s ∷ ss) rising within =
@@ -134,7 +136,8 @@ saved_in-nil n = refl
 
 -- ---- the records at the beginning of bytes
 
--- for `Journal::sector`: of k valid records (`HasRecords`), record i is a complete sector of the chip, and is saved
+-- For `Journal::sector`: if `bytes` begin with k valid records (`HasRecords`), which are those of the content `j`, its
+-- record i is a complete sector of the chip, and `j` saves its bytes.
 pub sector_saved : (h : Head) (bytes : List ℕ) (k i : ℕ) (s : SavedSector) (j : Content) → content_at h k bytes ≡ j
     → HasRecords h bytes k → i < length j.saved → s ≡ sector_at bytes i
     → (slice_get j.saved i ≡ Some s) × (saved_in j.saved s.number ≡ Some s.bytes) × IsSectorBelow (j.size / 4096) s
@@ -149,15 +152,15 @@ sector_saved h bytes k i s j view has within is =
 
 -- ---- searching for a sector
 
--- Holds if the records before index `low` have smaller numbers than the sought one, and those from index `high` on
--- greater ones. `low` is at most `high`, and `high` at most the number of records.
+-- Holds if the records before index `low` have numbers below `number`, and the records from index `high` on have
+-- numbers above it. Also, `low` is at most `high`, and `high` is at most the number of records.
 pub record IsSought (saved : List SavedSector) (number low high : ℕ) : Type 0 where
   pub order : low ≤ high
   pub within : high ≤ length saved
   pub before : (i : ℕ) (s : SavedSector) → slice_get saved i ≡ Some s → i < low → s.number < number
   pub after : (i : ℕ) (s : SavedSector) → slice_get saved i ≡ Some s → high ≤ i → number < s.number
 
--- in an ascending list, a later record has no smaller number
+-- In an ascending list, the number of record i is at most that of record j if i is at most j.
 risen : (sectors least : ℕ) (ss : List SavedSector) (i j : ℕ) (s t : SavedSector) → AreRising sectors least ss
     → slice_get ss i ≡ Some s → slice_get ss j ≡ Some t → i ≤ j → s.number ≤ t.number
 risen sectors least [] i j s t rising e f upto = absurd cc
@@ -187,6 +190,6 @@ sought_below sectors ss n low high middle t rising sought at from below more = r
   after = λ i s is upper. let upto = risen sectors 0 ss middle i t s rising at is upper in omega arith;
 }
 
--- the sector isn't saved if no record is left between `low` and `high`
+-- If no record is left between `low` and `high`, the list doesn't save sector n.
 pub sought_none : (ss : List SavedSector) (n low high : ℕ) → IsSought ss n low high → high ≤ low → saved_in ss n ≡ None
 sought_none ss n low high sought empty = grind (arith, saved_in-record ss n)

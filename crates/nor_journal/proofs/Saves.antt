@@ -1,4 +1,4 @@
--- The sectors that a journal saves, as it is written and as it is read.
+-- Lemmas about the set of sectors that a journal saves, while it is written and when it is read.
 use Rattle.std.proofs.Common.{◌≡◌, ℕ, ◌+◌, ◌*◌, ◌/◌, ◌%◌, ◌<◌, ◌≤◌, Bool, true, false, List, [], refl, sym, subst, ◌∙◌}
 use Rattle.std.proofs.Common.{arith, Option}
 use Rattle.std.specs.Prelude.{Result, Ok, Err, IsOkAnd}
@@ -16,7 +16,7 @@ use Rattle.nor_journal.proofs.Beginnings.{IsContent-with_sector}
 
 -- ---- contents
 
--- if a content saves a set of sectors, it saves every equal set
+-- If a content saves the set `saved`, it saves every set `other` with the same sectors.
 pub Saves-same : (chip : ℕ → ℕ) (saved other : ℕ → Bool) (c : Content) → ((s : ℕ) → other s ≡ saved s) → Saves chip saved c → Saves chip other c
 Saves-same chip saved other c same saves = record {
   is = saves.is;
@@ -24,8 +24,8 @@ Saves-same chip saved other c same saves = record {
   others = λ s is. saves.others s (sym (same s) ∙ is);
 }
 
--- If a content saves a set of the chip's sectors, and one more sector of the chip may follow (`MayFollow`), the content
--- with this sector at the end saves the set with this sector added.
+-- Let `c` save a set of the chip's sectors, and let one more sector of the chip be allowed to follow (`MayFollow`).
+-- Then `c` with this sector at the end saves the set with this sector added.
 pub Saves-more : (chip : ℕ → ℕ) (saved more : ℕ → Bool) (c : Content) (number : ℕ) (bytes : List ℕ) → Saves chip saved c → MayFollow c number → IsWholeSector chip number bytes → HasOneMore saved number more → Saves chip more (with_sector c number bytes)
 Saves-more chip saved more c number bytes saves follows sector one = record {
   is = IsContent-with_sector c number bytes saves.is follows sector.whole;
@@ -35,17 +35,18 @@ Saves-more chip saved more c number bytes saves follows sector one = record {
       (grind (arith, nat_tests, one.here, one.others s, saves.others s));
 }
 
--- if a content saves a set of sectors, a sector is in the set if and only if the content saves it
+-- If `c` saves the set `saved`, the sector s is in the set if and only if `c` saves s.
 pub Saves-set : (chip : ℕ → ℕ) (saved : ℕ → Bool) (c : Content) (s : ℕ) → Saves chip saved c → saved s ≡ is_saved c s
 Saves-set chip saved c s saves = grind (arith, saves.sectors s, saves.others s)
 
--- if a content saves a set of the chip's sectors, the byte saved for an address in one of them is the chip's byte
+-- If `c` saves a set of the chip's sectors, and the address a is in one of them, the byte that `c` saves for a is the
+-- chip's byte.
 pub saved_byte-is : (chip : ℕ → ℕ) (saved : ℕ → Bool) (c : Content) (a : ℕ) → Saves chip saved c → saved (a / 4096) ≡ true → saved_byte c a ≡ chip a
 saved_byte-is chip saved c a saves is =
     let place : 4096 * (a / 4096) + a % 4096 ≡ a = omega arith in
     grind (arith, saves.sectors (a / 4096) is)
 
--- a valid content without records saves the empty set
+-- A valid content without records saves the empty set of sectors.
 pub Saves-none : (chip : ℕ → ℕ) (saved : ℕ → Bool) (c : Content) → IsContent c → c.saved ≡ [] → ((s : ℕ) → saved s ≡ false) → Saves chip saved c
 Saves-none chip saved c is empty none = record {
   is = is;
@@ -55,7 +56,8 @@ Saves-none chip saved c is empty none = record {
 
 -- ---- the bytes of a journal
 
--- for `Journal::read`: if it returns the content of a journal, that content has the journal's header and its sectors
+-- For `Journal::read`: if it returns the content of a journal that saves a set of sectors, the returned content has the
+-- header of that journal, and saves this set.
 pub reads_kept : (bytes : List ℕ) (r : Result Content JournalFault) (head : Content) (chip : ℕ → ℕ) (saved : ℕ → Bool) (kept : JournalSaves head chip saved bytes) → IsOkAnd r (λ journal. journal ≡ kept.content)
     → IsOkAnd r (λ journal. SameHeader head journal × Saves chip saved journal)
 reads_kept bytes (Ok journal) head chip saved kept is = rw is (kept.same, kept.saves)
@@ -63,7 +65,7 @@ reads_kept bytes (Err fault) head chip saved kept never = absurd never
 
 -- ---- a writer
 
--- if a writer was given only a header, `HasPutSectors` holds for the empty set of sectors
+-- If exactly a header was written, `HasPutSectors` holds for the empty set of sectors and every bound n.
 pub HasKept-none : {V : Type 0} (state : V → VaultState) (w : Writer V) (id : List ℕ) (unique : Option (List ℕ)) (status : List ℕ) (size : ℕ) (chip : ℕ → ℕ) (saved : ℕ → Bool) (n : ℕ)
     → HasWritten state w (empty_content id unique status size) → ((s : ℕ) → saved s ≡ false) → HasPutSectors state w (empty_content id unique status size) chip saved n
 HasKept-none state w id unique status size chip saved n written none = record {
@@ -74,15 +76,16 @@ HasKept-none state w id unique status size chip saved n written none = record {
   next = omega (arith, next_number-empty_content id unique status size);
 }
 
--- after a header and sectors below n (`HasPutSectors`), a sector of the chip with a number of at least n may follow
+-- If a header and sectors with numbers below n were written (`HasPutSectors`), a sector of the chip with a number of at
+-- least n may follow.
 pub may_follow : {V : Type 0} (state : V → VaultState) (w : Writer V) (head : Content) (chip : ℕ → ℕ) (saved : ℕ → Bool) (n number : ℕ) (kept : HasPutSectors state w head chip saved n) → n ≤ number → number < head.size / 4096 → MayFollow kept.content number
 may_follow state w head chip saved n number kept above place = record {
   rises = omega (arith, kept.next);
   place = subst (λ (c : Content). number < c.size / 4096) kept.same place;
 }
 
--- if `HasPutSectors` holds for a set of the chip's sectors, and then one more that may follow is written, it holds for
--- the set with this sector added
+-- Let `HasPutSectors` hold for a set of the chip's sectors. If one more sector of the chip, which may follow, is
+-- written after these, `HasPutSectors` holds for the set with this sector added.
 pub HasKept-more : {V : Type 0} (state : V → VaultState) (old new : Writer V) (head : Content) (chip : ℕ → ℕ) (saved more : ℕ → Bool) (n number : ℕ) (bytes : List ℕ) (kept : HasPutSectors state old head chip saved n)
     → MayFollow kept.content number → IsWholeSector chip number bytes → HasOneMore saved number more → HasWritten state new (with_sector kept.content number bytes) → HasPutSectors state new head chip more (number + 1)
 HasKept-more state old new head chip saved more n number bytes kept follows sector one written = record {

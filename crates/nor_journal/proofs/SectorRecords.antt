@@ -1,4 +1,4 @@
--- Numbers that are encoded and decoded, and consecutive records, in the bytes and as an ascending list of sectors.
+-- Lemmas about encoding and decoding numbers, and about consecutive records and the ascending list of their sectors.
 use Rattle.std.proofs.Common.{◌≡◌, ℕ, ◌+◌, ◌^◌, ◌<◌, ◌≤◌, List, ◌++◌, length, get_or, take, drop, refl, arith, inl, inr}
 use Rattle.std.proofs.Common.{zero, suc, ◌*◌, ◌/◌, [], ◌∷◌, sym, ap, ◌∙◌, add-one, Some}
 use Rattle.std.proofs.lemmas.Bool.{cases_lt}
@@ -17,7 +17,7 @@ use Rattle.nor_journal.specs.Text.{next_number, end_mark}
 use Rattle.nor_journal.specs.declared.head.Head.{Head}
 use Rattle.nor_journal.specs.Reading.{sector_at, saved_records, content_at, HasRecords, BeginsRecord}
 
--- Holds if each element is a byte.
+-- Holds if each element of the list is below 256.
 abbrev pub IsBytes : List ℕ → Type 0
 IsBytes bytes = (i : ℕ) → get_or bytes i 0 < 256
 
@@ -32,7 +32,7 @@ pub number_at-number_text : (n : ℕ) (rest : List ℕ) → n < 2 ^ 32 → numbe
 unfolding number_text number_at
 number_at-number_text n rest fits = little_number-reads_back 4 n rest fits
 
--- the number that bytes encode depends only on the first four of them
+-- The number that `bytes` encode depends only on their first four bytes.
 pub number_at-take : (bytes : List ℕ) → number_at (take 4 bytes) ≡ number_at bytes
 unfolding number_at
 number_at-take bytes = little_from-take 0 4 4 bytes (omega arith)
@@ -51,7 +51,8 @@ number_text-number_at bytes fits long =
 
 -- ---- ascending sectors
 
--- an ascending list stays ascending if a complete sector of the chip with a greater number is added at the end
+-- If `ss` ascends (`AreRising`), and `s` is a complete sector of the chip whose number may follow those of `ss`, the
+-- list with `s` at the end ascends, too.
 pub AreRising-push : (sectors least : ℕ) (ss : List SavedSector) (s : SavedSector) → AreRising sectors least ss → IsSectorBelow sectors s → least_after least ss ≤ s.number → AreRising sectors least (ss ++ s ∷ [])
 AreRising-push sectors least [] s rising is rises = (is, rises, tt)
 AreRising-push sectors least (first ∷ ss) s rising is rises = (rising.0, rising.1, AreRising-push sectors (first.number + 1) ss s rising.2 is rises)
@@ -82,8 +83,8 @@ slice_get-sectors_in (suc k) bytes i lt =
       | inr at ↦ let here : i ≡ k = omega arith in rw here (grind (arith, common_steps, gets))
     ]
 
--- if bytes, each below 256, contain all of record k, the bytes of that record are the encoding of its sector
--- (`sector_at`)
+-- If `bytes`, each below 256, contain all of record k, the 4,100 bytes of this record are the encoding of its sector
+-- (`sector_at`).
 pub record_text-sector_at : (k : ℕ) (bytes : List ℕ) → IsBytes bytes → 4100 * k + 4100 ≤ length bytes → record_text (sector_at bytes k) ≡ take 4100 (drop (4100 * k) bytes)
 unfolding record_text
 record_text-sector_at k bytes fits long =
@@ -102,7 +103,8 @@ records_text-sectors_in (suc k) bytes fits long =
 
 -- ---- one record more
 
--- k valid records and a valid next one are k + 1 valid records
+-- If `bytes` begin with k valid records, and a valid record begins the bytes after these, `bytes` begin with k + 1
+-- valid records.
 pub has_one_more : (h : Head) (bytes : List ℕ) (k : ℕ) (least : ℕ) (rest : List ℕ) (n : ℕ) → HasRecords h bytes k → rest ≡ drop (4100 * k) bytes → least ≡ next_number (content_at h k bytes)
     → BeginsRecord (h.size / 4096) least rest n → HasRecords h bytes (k + 1)
 unfolding next_number saved_records
@@ -121,6 +123,7 @@ pub next_number-more : (h : Head) (bytes : List ℕ) (k : ℕ) (n : ℕ) → n �
 unfolding next_number saved_records
 next_number-more h bytes k n e = rw (add-one k) (ap (λ (m : ℕ). m + 1) e ∙ sym (least_after-push 0 (saved_records k bytes) (sector_at bytes k)))
 
--- the bytes up to and including the end mark are those before it, followed by the end mark
+-- If the end mark is at index `mark` of `bytes`, the first `mark` + 4 bytes are the first `mark` bytes followed by the
+-- end mark.
 pub with_mark : (mark : ℕ) (bytes : List ℕ) → take 4 (drop mark bytes) ≡ end_mark → take (mark + 4) bytes ≡ take mark bytes ++ end_mark
 with_mark mark bytes is_mark = rw (← is_mark) (take-add mark 4 bytes)

@@ -1,4 +1,4 @@
--- A partly written content can be completed to a journal that saves the chip's sectors of a given set.
+-- A partly written journal can be continued to a journal that saves all of the chip's sectors in a given set.
 use Rattle.std.proofs.Common.{◌≡◌, ℕ, zero, suc, ◌+◌, ◌*◌, ◌/◌, ◌<◌, ◌≤◌, Bool, true, false, List, [], ◌++◌, length}
 use Rattle.std.proofs.Common.{map, drop, ◌-◌, refl, sym, ap, subst, ◌∙◌, arith, inl, inr}
 use Rattle.std.specs.Prelude.{◌&&◌, nat_lt}
@@ -31,7 +31,7 @@ sector_whole chip sector = record {
 
 -- ---- the part of a set below a bound
 
--- if n is in the set, the part of the set below n + 1 is the part below n, with n added
+-- If n is in the set, its part below n + 1 is its part below n with n added.
 pub one_more_below : (set : ℕ → Bool) (n : ℕ) → set n ≡ true
     → HasOneMore (λ s. nat_lt s n && set s) n (λ s. nat_lt s (n + 1) && set s)
 one_more_below set n is = record {
@@ -39,15 +39,15 @@ one_more_below set n is = record {
   others = λ s other. grind (arith, nat_tests);
 }
 
--- if n isn't in the set, the parts below n and n + 1 are equal
+-- If n isn't in the set, its parts below n and below n + 1 are equal.
 none_more_below : (set : ℕ → Bool) (n : ℕ) → set n ≡ false
     → (s : ℕ) → (nat_lt s (n + 1) && set s) ≡ (nat_lt s n && set s)
 none_more_below set n is s = grind (arith, nat_tests)
 
 -- ---- completing a content
 
--- Holds if there is a content that continues c. This content has the header of c, and saves exactly the chip's sectors
--- of the set below n. Each prefix of the header and records of c is also a prefix of this content's header and records.
+-- Holds if a content continues `c`, so that it saves exactly the chip's sectors that are in the set and below n. It has
+-- the header of `c`, and each prefix of the header and records of `c` is a prefix of its header and records.
 pub record GoesOn (chip : ℕ → ℕ) (set : ℕ → Bool) (c : Content) (n : ℕ) : Type 0 where
   pub content : Content
   pub same : SameHeader c content
@@ -94,7 +94,8 @@ go_on chip set c n (suc more) saves next within =
 
 -- ---- prefixes of a journal
 
--- a prefix of the first part of the header and records is a prefix of the journal
+-- If the header and records of `c` begin with `part`, each prefix of `part` is a prefix of the journal with the content
+-- `c`.
 pub front_begins : (c : Content) (part rest bytes : List ℕ) → front c ≡ part ++ rest → StartsWith part bytes
     → StartsWith (text c) bytes
 front_begins c part rest bytes is begins =
@@ -102,8 +103,9 @@ front_begins c part rest bytes is begins =
     (begins_longer (front c ++ end_mark) (sha256 (front c ++ end_mark)) bytes (begins_longer (front c) end_mark bytes
     (rw is (begins_longer part rest bytes begins))))
 
--- Let a content save the sectors of the set below n, where n is at most the chip's number of sectors. A prefix of its
--- header and records is a prefix of a journal that saves all sectors of the chip in the set.
+-- Let `c` save the chip's sectors that are in the set and below n, where n is at most the chip's number of sectors.
+-- Then each prefix of the header and records of `c` is a prefix of a journal that saves all of the chip's sectors in
+-- the set.
 pub begins_whole : (head : Content) (chip : ℕ → ℕ) (set : ℕ → Bool) (c : Content) (n : ℕ) (bytes : List ℕ)
     → SameHeader head c → Saves chip (λ s. nat_lt s n && set s) c → next_number c ≤ n → n ≤ head.size / 4096
     → StartsWith (front c) bytes → IsJournalPrefix head chip (λ s. nat_lt s (head.size / 4096) && set s) bytes
@@ -120,7 +122,8 @@ begins_whole head chip set c n bytes same saves next within begins =
       begins = front_begins on.content (front on.content) [] bytes (sym (append-nil _)) (on.begins bytes begins);
     }
 
--- a journal that is a prefix of another journal has the same header and saves the same sectors
+-- Let `bytes` be a prefix of a journal with the header of `head` that saves the set `saved`. If `bytes` are a journal
+-- themselves, they have this header, too, and save the same set.
 pub begins_all_of_it : (head : Content) (chip : ℕ → ℕ) (saved : ℕ → Bool) (bytes : List ℕ) (journal : Content)
     → IsJournalPrefix head chip saved bytes → IsContent journal → bytes ≡ text journal
     → SameHeader head journal × Saves chip saved journal

@@ -8,17 +8,17 @@ use Rattle.nor_journal.specs.Vault.{VaultState, Took, PutRefused}
 abbrev pub inner_vault : {V : Type 0} → BrokenVault V → V
 inner_vault vault = vault.inner
 
--- the number of calls up to and including the refused one, or 0 if none is to be refused any more
+-- the number of coming calls up to and including the refused one, or 0 if no further call is to be refused
 abbrev pub calls_left : {V : Type 0} → BrokenVault V → ℕ
 calls_left vault = vault.calls_left
 
--- how many bytes of its piece a refused `put` first writes to the inner vault, if the piece is that long
+-- the greatest number of bytes of the piece that a refused `put` writes to the inner vault before it fails
 abbrev pub kept_of : {V : Type 0} → BrokenVault V → ℕ
 kept_of vault = vault.kept
 
--- Holds if the inner vault accepted the first `kept` bytes of the piece, or all of a shorter piece, and the fault has
--- the number of these bytes. Also holds if the inner vault itself refused these bytes, and the fault has the number of
--- bytes that it accepted of them.
+-- The effect of a refused `put` of `piece` on the inner vault, whose states before and after are `old` and `new`.
+-- Either the inner vault accepted the first `kept` bytes of the piece, or all of a shorter piece, and `fault.kept` is
+-- their number. Or the inner vault refused these bytes, and `fault.kept` is the number of them that it accepted.
 abbrev pub Broke : ℕ → VaultState → List ℕ → VaultState → VaultFault → Type 0
 Broke kept old piece new fault =
     (Took old (take kept piece) new × (fault.kept ≡ min kept (length piece)))

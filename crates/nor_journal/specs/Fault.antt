@@ -8,7 +8,7 @@ use Rattle.nor_journal.specs.Text.{Content, IsContent, magic, front, end_mark, n
 use Rattle.nor_journal.specs.declared.fault.JournalFault.{JournalFault}
 use Rattle.nor_journal.specs.declared.fault.JournalFault.TheVariants.{Short, Magic, Size, Place, Order, Long, Digest}
 
--- the numbers of the faults
+-- the number of a fault, which messages print
 abbrev pub journal_fault_number : JournalFault → ℕ
 journal_fault_number Short = 1
 journal_fault_number Magic = 2
@@ -18,33 +18,34 @@ journal_fault_number Order = 5
 journal_fault_number Long = 6
 journal_fault_number Digest = 7
 
--- The length of a header in format 1 (None) and format 2 (Some). Its last four bytes are the size.
+-- The length of a header in bytes: without a unique ID (format 1) and with one (format 2). The last four bytes of a
+-- header are the size.
 abbrev pub header_length : (unique : Option (List ℕ)) → ℕ
 header_length None = 17
 header_length (Some _) = 25
 
--- Holds if the header has this fault.
+-- Holds if the header at the beginning of `bytes` has this fault.
 abbrev pub HeaderFault : List ℕ → JournalFault → Type 0
 -- the bytes end within the magic, or after a valid magic but within the header
 HeaderFault bytes Short = (length bytes < 8)
     ⊎ ((unique : Option (List ℕ)) × (take 8 bytes ≡ magic unique) × (length bytes < header_length unique))
 -- the first eight bytes aren't the magic of a format
 HeaderFault bytes Magic = (8 ≤ length bytes) × ((unique : Option (List ℕ)) → take 8 bytes ≢ magic unique)
--- the header is complete, and its size isn't one that a chip may have
+-- the header is complete, but the size in it isn't a size that a chip may have
 HeaderFault bytes Size = (unique : Option (List ℕ)) × (take 8 bytes ≡ magic unique)
     × (header_length unique ≤ length bytes)
     × (is_chip_size (number_at (drop (header_length unique - 4) bytes)) ≡ false)
 HeaderFault bytes _ = ⊥
 
--- Holds if the next record has this fault. The chip has `sectors` sectors. Because of the earlier records, the number
--- of the next one must be at least `least`.
+-- Holds if the record at the beginning of `rest` has this fault. The chip has `sectors` sectors. The number of the
+-- record must be at least `least`, because the numbers of the records ascend.
 abbrev pub RecordFault : (sectors least : ℕ) → (rest : List ℕ) → JournalFault → Type 0
--- the bytes end within the number, or the number is valid and they end within the sector's bytes
+-- the bytes end within the number, or the number is valid but the bytes end within the sector's bytes
 RecordFault sectors least rest Short =
     (length rest < 4) ⊎ ((least ≤ number_at rest) × (number_at rest < sectors) × (length rest < 4100))
--- the number isn't the end mark, and isn't the number of a sector of the chip
+-- the number isn't the end mark, and no sector of the chip has this number
 RecordFault sectors least rest Place = (4 ≤ length rest) × (take 4 rest ≢ end_mark) × (sectors ≤ number_at rest)
--- the number is that of a sector of the chip, and isn't greater than the number before it
+-- a sector of the chip has this number, but the number isn't greater than that of the record before
 RecordFault sectors least rest Order = (4 ≤ length rest) × (number_at rest < sectors) × (number_at rest < least)
 RecordFault sectors least rest _ = ⊥
 
@@ -57,11 +58,12 @@ EndFault before rest Digest =
     (take 4 rest ≡ end_mark) × (length rest ≡ 36) × (drop 4 rest ≢ sha256 (before ++ end_mark))
 EndFault before rest _ = ⊥
 
--- Holds if `rest`, the bytes after the header and records of a content, has this fault.
+-- Holds if `rest`, the bytes after the header and records of the content `c`, begins with a record or an end that has
+-- this fault.
 abbrev pub NextFault : Content → List ℕ → JournalFault → Type 0
 NextFault c rest fault = RecordFault (c.size / 4096) (next_number c) rest fault ⊎ EndFault (front c) rest fault
 
--- Holds if the bytes begin with the header and records of a valid content, and the bytes after these have this fault.
+-- Holds if `bytes` begin with the header and records of a valid content, and the bytes after these have this fault.
 pub record FaultAfterFront (bytes : List ℕ) (fault : JournalFault) : Type 0 where
   pub content : Content
   pub is_content : IsContent content
@@ -69,6 +71,7 @@ pub record FaultAfterFront (bytes : List ℕ) (fault : JournalFault) : Type 0 wh
   pub split : bytes ≡ front content ++ rest
   pub next : NextFault content rest fault
 
--- Holds if this is the first fault of the bytes: in the header, or after the records that are complete and in order.
+-- Holds if `fault` is the first fault of `bytes`. The fault is in the header, or it follows the records that are
+-- complete and in order.
 abbrev pub HasFault : List ℕ → JournalFault → Type 0
 HasFault bytes fault = HeaderFault bytes fault ⊎ FaultAfterFront bytes fault

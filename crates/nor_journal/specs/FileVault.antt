@@ -23,14 +23,14 @@ filed_by vault = record {
   failures = vault.failures;
 }
 
--- The effect of `put` on the contents of a file, if known: the piece was appended, or at a refusal its first `kept`
--- bytes.
+-- The effect of `put` on the contents of a file, if they are known. The whole piece is appended, or if the vault
+-- refuses, only the first `kept` bytes of the piece.
 abbrev pub FileTakes : {T : Type 0} → (old new : Option (List ℕ)) → List ℕ → Result T VaultFault → Type 0
 FileTakes old new piece (Ok _) = Appends old new piece
 FileTakes old new piece (Err fault) = Appends old new (take fault.kept piece)
 
--- The effect of a sync on a file, if its contents are known: the contents didn't change, and if the sync succeeded they
--- are the synced contents.
+-- The effect of a sync on a file, if its contents are known. The contents don't change. If the sync succeeds, they are
+-- also the synced contents.
 abbrev pub SyncsFile : {T E : Type 0} → (old new synced : Option (List ℕ)) → Result T E → Type 0
 SyncsFile old new synced (Ok _) = Keeps old new × Keeps old synced
 SyncsFile old new synced (Err _) = Keeps old new

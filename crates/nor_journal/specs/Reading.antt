@@ -8,7 +8,7 @@ use Rattle.nor_journal.specs.Fault.{RecordFault}
 use Rattle.nor_journal.specs.declared.fault.JournalFault.{JournalFault}
 use Rattle.nor_journal.specs.declared.head.Head.{Head}
 
--- the record with index k, decoded from the bytes after the header
+-- the record with index k, counted from 0, decoded from the bytes after the header
 abbrev pub sector_at : List ℕ → ℕ → SavedSector
 sector_at bytes k = record { number = number_at (drop (4100 * k) bytes); bytes = take 4096 (drop (4100 * k + 4) bytes) }
 
@@ -26,32 +26,34 @@ abbrev pub content_at : Head → ℕ → List ℕ → Content
 content_at h k bytes =
     record { id = h.id; unique = h.unique; status = h.status; size = h.size; saved = saved_records k bytes }
 
--- Holds if the fields of the header are valid.
+-- Holds if the ID, the status bytes and the unique ID, if there is one, have their lengths, and the size is one that a
+-- chip may have.
 pub record IsHeader (h : Head) : Type 0 where
   pub id : length h.id ≡ 3
   pub unique : IfSome h.unique (λ unique. length unique ≡ 8)
   pub status : length h.status ≡ 2
   pub size : is_chip_size h.size ≡ true
 
--- Holds if the bytes after the header begin with k complete records, whose numbers ascend and are those of sectors of
--- the chip.
+-- Holds if `bytes`, the bytes after the header `h`, begin with k complete records. Their numbers ascend, and are below
+-- the chip's number of sectors.
 pub record HasRecords (h : Head) (bytes : List ℕ) (k : ℕ) : Type 0 where
   pub within : 4100 * k ≤ length bytes
   pub rising : AreRising (h.size / 4096) 0 (saved_records k bytes)
 
--- Holds if the bytes after the header begin with some number of valid records, and the next record has this fault
--- (`RecordFault`).
+-- Holds if `bytes`, the bytes after the header `h`, begin with valid records (`HasRecords`), or none, and the record
+-- after these has this fault (`RecordFault`).
 pub record FaultAfterRecords (h : Head) (bytes : List ℕ) (fault : JournalFault) : Type 0 where
   pub count : ℕ
   pub records : HasRecords h bytes count
   pub next : RecordFault (h.size / 4096) (next_number (content_at h count bytes)) (drop (4100 * count) bytes) fault
 
--- Holds if the end mark follows k valid records.
+-- Holds if `bytes`, the bytes after the header `h`, begin with k valid records (`HasRecords`) and then the end mark.
 pub record EndsAfter (h : Head) (bytes : List ℕ) (k : ℕ) : Type 0 where
   pub records : HasRecords h bytes k
   pub mark : take 4 (drop (4100 * k) bytes) ≡ end_mark
 
--- Holds if the bytes begin with a complete record with this number, which is at least `least` and below `sectors`.
+-- Holds if `bytes` begin with a complete record that has this number. The number is at least `least` and below
+-- `sectors`.
 pub record BeginsRecord (sectors least : ℕ) (bytes : List ℕ) (number : ℕ) : Type 0 where
   pub is : number ≡ number_at bytes
   pub rises : least ≤ number

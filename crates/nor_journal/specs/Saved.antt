@@ -4,12 +4,12 @@ use Rattle.std.specs.Io.{StartsWith}
 use Rattle.std.specs.Option.{is_some, unwrap_or}
 use Rattle.nor_journal.specs.Text.{SavedSector, Content, IsContent, SameHeader, text}
 
--- the bytes that are saved for a sector, or None if it isn't saved
+-- the bytes that the list saves for the sector `number`, or None if it doesn't save this sector
 unfoldable pub saved_in : List SavedSector → (number : ℕ) → Option (List ℕ)
 saved_in [] number = None
 saved_in (s ∷ rest) number = if s.number == number then Some s.bytes else saved_in rest number
 
--- Holds if a record has this sector number and these bytes.
+-- Holds if a record of `content` has the number `sector` and the bytes `bytes`.
 pub record HasRecord (content : Content) (sector : ℕ) (bytes : List ℕ) : Type 0 where
   pub place : ℕ
   pub is : slice_get content.saved place ≡ Some (record { number = sector; bytes = bytes })
@@ -18,35 +18,37 @@ pub record HasRecord (content : Content) (sector : ℕ) (bytes : List ℕ) : Typ
 abbrev pub is_saved : Content → (s : ℕ) → Bool
 is_saved content s = is_some (saved_in content.saved s)
 
--- the byte that is saved for an address, which must be in a saved sector
+-- the byte that the content saves for the address `a`, which must be in a saved sector
 abbrev pub saved_byte : Content → (a : ℕ) → ℕ
 saved_byte content a = slice_index (unwrap_or (saved_in content.saved (a / 4096)) []) (a % 4096)
 
--- Holds if these are the 4,096 bytes of sector s of a chip with the contents `old`.
+-- Holds if `bytes` are the 4,096 bytes of sector s of a chip with the contents `old`.
 pub record IsWholeSector (old : ℕ → ℕ) (s : ℕ) (bytes : List ℕ) : Type 0 where
   pub whole : length bytes ≡ 4096
   pub same : (i : ℕ) → i < 4096 → slice_index bytes i ≡ old (4096 * s + i)
 
--- Holds if the content is valid, and saves exactly the sectors in `saved` of a chip with the contents `old`.
+-- Holds if the content is valid, and saves exactly the sectors in the set `saved`, each with its bytes on a chip with
+-- the contents `old`.
 pub record Saves (old : ℕ → ℕ) (saved : ℕ → Bool) (content : Content) : Type 0 where
   pub is : IsContent content
   pub sectors : (s : ℕ) → saved s ≡ true → IsSomeAnd (saved_in content.saved s) (IsWholeSector old s)
   pub others : (s : ℕ) → saved s ≡ false → saved_in content.saved s ≡ None
 
--- Holds if `more` is the set `saved` with this sector added.
+-- Holds if `more` is the set `saved` with the sector `sector` added.
 pub record HasOneMore (saved : ℕ → Bool) (sector : ℕ) (more : ℕ → Bool) : Type 0 where
   pub here : more sector ≡ true
   pub others : (s : ℕ) → s ≢ sector → more s ≡ saved s
 
--- Holds if the bytes are a prefix of a journal with this header that saves exactly these sectors of a chip with the
--- contents `old`.
+-- Holds if `bytes` are a prefix of a journal that has the header of `head`, and saves exactly the sectors in `saved` of
+-- a chip with the contents `old`.
 pub record IsJournalPrefix (head : Content) (old : ℕ → ℕ) (saved : ℕ → Bool) (bytes : List ℕ) : Type 0 where
   pub content : Content
   pub same : SameHeader head content
   pub saves : Saves old saved content
   pub begins : StartsWith (text content) bytes
 
--- Holds if the bytes are a journal with this header that saves exactly these sectors of a chip with the contents `old`.
+-- Holds if `bytes` are a journal that has the header of `head`, and saves exactly the sectors in `saved` of a chip with
+-- the contents `old`.
 pub record JournalSaves (head : Content) (old : ℕ → ℕ) (saved : ℕ → Bool) (bytes : List ℕ) : Type 0 where
   pub content : Content
   pub same : SameHeader head content

@@ -26,13 +26,13 @@ pub record Content : Type 0 where
 
 -- ---- valid contents
 
--- Holds if the sector's number is below `sectors`, and it has 4,096 bytes.
+-- Holds if the number of `s` is below `sectors`, and `s` has 4,096 bytes.
 pub record IsSectorBelow (sectors : ℕ) (s : SavedSector) : Type 0 where
   pub place : s.number < sectors
   pub whole : length s.bytes ≡ 4096
 
--- Holds if each saved sector has 4,096 bytes and a number below `sectors`, and the numbers ascend from `least` or a
--- greater one.
+-- Holds if the numbers in the list of sectors ascend, the first one is at least `least`, and each sector has 4,096
+-- bytes and a number below `sectors`.
 abbrev pub AreRising : (sectors least : ℕ) → List SavedSector → Type 0
 AreRising sectors least [] = ⊤
 AreRising sectors least (s ∷ rest) =
@@ -49,7 +49,8 @@ pub record IsContent (c : Content) : Type 0 where
 
 -- ---- the encoding
 
--- the first eight bytes of a journal: format 1 has no unique ID, and format 2 has one
+-- The first eight bytes of a journal. A journal without a unique ID has format 1, and a journal with a unique ID has
+-- format 2.
 abbrev pub magic : (unique : Option (List ℕ)) → List ℕ
 magic None = codes "NORUNDO1"
 magic (Some _) = codes "NORUNDO2"
@@ -84,31 +85,31 @@ text c = body c ++ sha256 (body c)
 
 -- ---- adding sectors to a content
 
--- the content with these fields and no saved sector
+-- the content with these fields of a header and no saved sector
 abbrev pub empty_content : (id : List ℕ) → (unique : Option (List ℕ)) → (status : List ℕ) → (size : ℕ)
     → Content
 empty_content id unique status size = record { id = id; unique = unique; status = status; size = size; saved = [] }
 
--- the content with one more sector at the end
+-- the content `c` with one more sector at the end, which has this number and these bytes
 abbrev pub with_sector : Content → ℕ → List ℕ → Content
 with_sector c number bytes = record c { saved = c.saved ++ record { number = number; bytes = bytes } ∷ [] }
 
--- Holds if two contents are equal except for their saved sectors.
+-- Holds if the contents `c` and `d` are equal except for their saved sectors.
 abbrev pub SameHeader : (c d : Content) → Type 0
 SameHeader c d = record c { saved = [] } ≡ record d { saved = [] }
 
--- the least number that the next sector may have: one more than the last of these sectors' numbers, or `least` if there
--- are none
+-- The least number that a sector added to the end of the list may have: one more than the number of the list's last
+-- sector, or `least` if the list is empty.
 abbrev pub least_after : ℕ → List SavedSector → ℕ
 least_after least [] = least
 least_after least (s ∷ rest) = least_after (s.number + 1) rest
 
--- the least number that the next sector of a content may have
+-- the least number that a sector added to the end of a content may have
 unfoldable pub next_number : Content → ℕ
 next_number c = least_after 0 c.saved
 
--- Holds if a sector with this number may be saved next: the number is above that of the content's last sector, and is
--- that of a sector of the chip.
+-- Holds if a sector with this number may be added to the end of `c`. The number must be above that of the last sector
+-- of `c`, and below the chip's number of sectors.
 pub record MayFollow (c : Content) (number : ℕ) : Type 0 where
   pub rises : next_number c ≤ number
   pub place : number < c.size / 4096

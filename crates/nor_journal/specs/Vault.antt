@@ -7,8 +7,8 @@ use Rattle.nor_journal.specs.declared.vault.VaultFault.{VaultFault}
 pub record VaultState : Type 0 where
   -- true for a faithful vault, which holds exactly the bytes it accepted
   pub telling : Bool
-  -- The bytes that were accepted, in order. For a vault that isn't faithful they are unknown, except that until it is
-  -- sealed, they are empty only if no byte was accepted.
+  -- The accepted bytes, in order. If the vault isn't faithful, they are unknown. But as long as such a vault is
+  -- unsealed, they are empty only if it has accepted no byte.
   pub bytes : List ℕ
   -- true if the vault was sealed
   pub sealed : Bool
@@ -23,12 +23,13 @@ new_vault telling = record { telling = telling; bytes = []; sealed = false; fail
 abbrev pub one_more_failure : (failures : ℕ) → ℕ
 one_more_failure failures = (failures + 1) % 2 ^ 64
 
--- Holds if the number of refusals differs between two states, so the vault refused a call.
+-- Holds if `old` and `new` have different numbers of refusals. The vault then refused a call between these states.
 abbrev pub CountsRefusal : (old new : VaultState) → Type 0
 CountsRefusal old new = new.failures ≢ old.failures
 
--- The effect of an accepted piece: it is appended, and nothing else changes. The bytes are known only for a faithful
--- vault. A vault, faithful or not, is empty after the piece only if it was empty before and the piece is empty.
+-- The effect of an accepted piece: the piece is appended, and nothing else changes. The bytes are known only for a
+-- faithful vault. A vault, faithful or not, is empty after the piece only if it was empty before and the piece is
+-- empty.
 pub record Took (old : VaultState) (piece : List ℕ) (new : VaultState) : Type 0 where
   pub telling : new.telling ≡ old.telling
   pub sealed : new.sealed ≡ old.sealed
@@ -60,25 +61,25 @@ pub record Sealed (old new : VaultState) : Type 0 where
   pub failures : new.failures ≡ old.failures
   pub bytes : old.telling ≡ true → new.bytes ≡ old.bytes
 
--- the effect of `put`
+-- The effect of a `put`: the vault accepts the piece (`Took`) or refuses it (`PutRefused`).
 abbrev pub Puts : {T : Type 0} → (old : VaultState) → (piece : List ℕ) → Result T VaultFault
     → (new : VaultState) → Type 0
 Puts old piece (Ok _) new = Took old piece new
 Puts old piece (Err fault) new = PutRefused old piece fault.kept new
 
--- the effect of `seal`; a refused one has the same effect as a refused `put` of no bytes
+-- The effect of a `seal`. A refused seal has the same effect as a refused `put` of no bytes.
 abbrev pub Seals : {T : Type 0} → (old : VaultState) → Result T VaultFault → (new : VaultState) → Type 0
 Seals old (Ok _) new = Sealed old new
 Seals old (Err fault) new = PutRefused old [] fault.kept new
 
 -- ---- several calls
 
--- If the vault is faithful, it holds a prefix of these bytes.
+-- Holds if the vault isn't faithful, or its bytes are a prefix of `whole`.
 abbrev pub HoldsPrefix : VaultState → (whole : List ℕ) → Type 0
 HoldsPrefix vault whole = vault.telling ≡ true → StartsWith whole vault.bytes
 
--- Holds if a journal may be written to the vault: it is unsealed, and has accepted no byte, whether it is faithful or
--- not.
+-- Holds if a journal may be written to the vault. A vault, faithful or not, must be unsealed, and must have accepted no
+-- byte.
 pub record IsFresh (vault : VaultState) : Type 0 where
   pub empty : vault.bytes ≡ []
   pub unsealed : vault.sealed ≡ false
@@ -90,18 +91,19 @@ pub record Accepted (old new : VaultState) : Type 0 where
   pub sealed : new.sealed ≡ old.sealed
   pub failures : new.failures ≡ old.failures
 
--- the effect of writing several pieces up to the first refusal
+-- the effect of writing several pieces, which ends after the last piece or at the first refusal
 abbrev pub PutsOn : {T : Type 0} → VaultState → Result T VaultFault → VaultState → Type 0
 PutsOn old (Ok _) new = Accepted old new
 PutsOn old (Err _) new = Refused old new
 
--- The effect of a complete end: the vault was sealed, no refusal was counted, and the vault is as faithful as before.
+-- The effect of accepted last pieces and an accepted seal. The vault is sealed and as faithful as before, and no
+-- refusal was counted.
 pub record Completed (old new : VaultState) : Type 0 where
   pub telling : new.telling ≡ old.telling
   pub sealed : new.sealed ≡ true
   pub failures : new.failures ≡ old.failures
 
--- the effect of writing the last pieces and sealing, up to the first refusal
+-- the effect of writing the last pieces and then sealing, which ends after the seal or at the first refusal
 abbrev pub Completes : {T : Type 0} → VaultState → Result T VaultFault → VaultState → Type 0
 Completes old (Ok _) new = Completed old new
 Completes old (Err _) new = Refused old new

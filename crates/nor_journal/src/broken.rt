@@ -7,13 +7,13 @@ use crate::vault::{Vault, VaultFault};
 
 /// A vault that refuses one call, and passes every other call on to an inner vault.
 ///
-/// The vault refuses the `nth` call, counting the calls of `put` and `seal` together, from 1; if `nth` is 0, it refuses
-/// none. A refused `put` first writes the first `kept` bytes of the piece, or all of a shorter piece, to the inner
-/// vault. The count of refusals includes those of the inner vault.
+/// The calls of `put` and `seal` are counted together, from 1. The vault refuses the call with the number `nth`, or
+/// none if `nth` is 0. A refused `put` first writes the first `kept` bytes of the piece, or all of a shorter piece, to
+/// the inner vault. The number of refusals also includes the calls that the inner vault refused.
 #[derive(Drop)]
 pub struct BrokenVault<V: Vault> {
     inner: V,
-    // the number of calls up to and including the refused one, or 0 if none is to be refused any more
+    // the number of coming calls up to and including the refused one, or 0 if no further call is to be refused
     calls_left: u64,
     kept: usize,
     failures: u64,
@@ -68,7 +68,7 @@ impl<V: Vault> BrokenVault<V> {
         breaks
     }
 
-    // Counts a refusal and returns its fault.
+    // Counts a refusal, and returns the error for it, with the given `kept`.
     fn refusal(&mut self, kept: usize) -> VaultFault
         ensures returned { result.kept ≡ kept }
         ensures counted { self.new ≡ record self.old { failures = one_more_failure self.old.failures } }
@@ -100,11 +100,11 @@ impl<V: Vault> Vault for BrokenVault<V> {
         requires { (⟦<BrokenVault<V> as Vault>⟧.state self.old).sealed ≡ false }
         ensures law { Puts (⟦<BrokenVault<V> as Vault>⟧.state self.old) piece.now result
             (⟦<BrokenVault<V> as Vault>⟧.state self.new) }
-        // The refused call.
+        // The call to refuse fails. `Broke` says what the inner vault accepted before.
         ensures breaks { calls_left self.old ≡ 1
             → IsErrAnd result
             (Broke (kept_of self.old) (V.state (inner_vault self.old)) piece.now (V.state (inner_vault self.new))) }
-        // Every other call.
+        // Every other call writes the piece to the inner vault and returns the inner vault's result.
         ensures passes { calls_left self.old ≢ 1
             → Puts (V.state (inner_vault self.old)) piece.now result (V.state (inner_vault self.new)) }
         ensures calls { calls_left self.new ≡ calls_left self.old - 1 }

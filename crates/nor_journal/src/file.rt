@@ -15,7 +15,7 @@ pub trait VaultFile {
     // The contents of the file, if known.
     ghost contents: { Self → Option (List ℕ) };
 
-    // The contents that are durable since the last sync, if known.
+    // The contents that the last successful sync made durable, if known.
     ghost synced: { Self → Option (List ℕ) };
 
     /// Appends a prefix of the piece to the file, and returns the length of the prefix, which may be 0.
@@ -25,14 +25,15 @@ pub trait VaultFile {
         ensures bound { WritesAtMost result piece.now }
         ensures bytes { WriteAppends (contents self.old) (contents self.new) result piece.now };
 
-    /// Makes the contents and the length of the file durable. Known contents don't change, even if it fails.
+    /// Makes the contents and the length of the file durable. Known contents don't change, even if the sync fails.
     fn sync(&mut self) -> io::Result<()>
         ensures { SyncsFile (contents self.old) (contents self.new) (synced self.new) result };
 }
 
-/// The system's files, synced by `sync_all`, which also syncs the length.
+/// Files of the operating system. `sync` calls `sync_all`, which also syncs the length.
 ///
-/// `synced` is defined as the contents themselves, so it is assumed, not proved, that `sync_all` makes them durable.
+/// `synced` is defined as the contents themselves. It is therefore assumed, not proved, that `sync_all` makes them
+/// durable.
 impl<F: Write + OpenFile> VaultFile for F {
     ghost contents = { F.contents };
 

@@ -8,13 +8,15 @@ use crate::vault::{Vault, VaultFault};
 
 /// A vault that appends its bytes to a file opened for writing, and syncs the file when it is sealed.
 ///
-/// `put` fails if a write fails or writes no bytes; the fault has the number of bytes of the piece that earlier writes
-/// wrote. `seal` fails if the sync fails. The vault isn't faithful (`telling`), because contracts don't know what a
-/// file of the system contains. They know whether the vault accepted a byte since `new`.
+/// `put` fails if a write fails or writes no bytes. The `kept` of its error is the number of bytes of the piece that
+/// were written before. `seal` fails if the sync fails.
+///
+/// The vault isn't faithful (`telling`), because contracts don't know what a file of the system contains. They know
+/// only whether the vault has accepted a byte since `new`.
 #[derive(Drop)]
 pub struct FileVault<F: VaultFile> {
     file: F,
-    // true if the file accepted a byte
+    // true if a byte was written to the file
     used: bool,
     sealed: bool,
     failures: u64,
@@ -49,7 +51,7 @@ impl<F: VaultFile> FileVault<F> {
         file
     }
 
-    // Counts a refusal and returns its fault.
+    // Counts a refusal, and returns the error for it, with the given `kept`.
     fn refusal(&mut self, kept: usize) -> VaultFault
         ensures returned { result.kept ≡ kept }
         ensures counted { self.new ≡ record self.old { failures = one_more_failure self.old.failures } }

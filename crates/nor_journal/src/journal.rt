@@ -36,17 +36,18 @@ impl<'a> Model for Journal<'a> {
 }
 
 impl<'a> Journal<'a> {
-    /// Reads a journal of either format, which must be all of `bytes`. Allocates nothing.
+    /// Reads a journal of either format. `bytes` must be the whole journal and nothing else. Allocates nothing.
     ///
-    /// Returns the first fault, reading from the beginning: see `JournalFault`.
+    /// If `bytes` aren't a journal, returns the first fault that occurs when they are read from the beginning (see
+    /// `JournalFault`).
     pub fn read(bytes: &'a [u8]) -> Result<Journal<'a>, JournalFault>
         // If it succeeds, the returned content is valid, and the bytes are its encoding.
         ensures found { IfOk result (λ journal. IsContent journal × (bytes.now ≡ text journal)) }
         // If the bytes are the encoding of a valid content, the call succeeds and returns this content.
         ensures only { (c : Content) → IsContent c → bytes.now ≡ text c
             → IsOkAnd result (λ journal. journal ≡ c) }
-        // If the bytes are a journal with the header `head` that saves exactly the sectors `saved` of a chip with the
-        // contents `old`, the returned journal has this header, and saves these sectors.
+        // If the bytes are a journal that has the header `head`, and saves exactly the sectors `saved` of a chip with
+        // the contents `old`, the call succeeds. The returned journal then has this header, and saves these sectors.
         ensures kept { (head : Content) (old : ℕ → ℕ) (saved : ℕ → Bool)
             → JournalSaves head old saved bytes.now
             → IsOkAnd result (λ journal. SameHeader head journal × Saves old saved journal) }
@@ -59,7 +60,7 @@ impl<'a> Journal<'a> {
         Self::read_parts(bytes)
     }
 
-    // Reads the header, the records and the end.
+    // Reads the header, the records, the end mark and the digest.
     fn read_parts(bytes: &'a [u8]) -> Result<Journal<'a>, JournalFault>
         ensures found { IfOk result (λ journal. IsContent journal × (bytes.now ≡ text journal)) }
         ensures fault { IfErr result (HasFault bytes.now) }
@@ -90,7 +91,7 @@ impl<'a> Journal<'a> {
         self.head.unique
     }
 
-    /// Returns status 1 and status 2.
+    /// Returns the bytes of status 1 and status 2 that the header contains.
     pub fn status(&self) -> [u8; 2]
         ensures value { result ≡ self.now.status }
         ensures sound { IsContent self.now }
@@ -155,7 +156,7 @@ impl<'a> Journal<'a> {
     }
 }
 
-/// A law: two journals that are prefixes of the same bytes have the same content.
+/// A law: if the same bytes begin with two journals, both journals have the same content.
 ///
 /// Therefore each journal has one content, and no journal is a proper prefix of another.
 pub fn one_text()
@@ -163,7 +164,7 @@ pub fn one_text()
         → (c ≡ d) × (x ≡ y) }
 {}
 
-/// Returns the length in bytes of a journal of format 2 that saves this number of sectors.
+/// Returns the length in bytes of a journal of format 2 that saves `sectors` sectors.
 pub fn journal_len(sectors: u32) -> u64
     ensures { (c : Content) (unique : List ℕ) → IsContent c → c.unique ≡ Some unique → length c.saved ≡ sectors
         → length (text c) ≡ result }
@@ -177,8 +178,8 @@ pub fn one_fault()
     ensures { (bytes : List ℕ) (f g : JournalFault) → HasFault bytes f → HasFault bytes g → f ≡ g }
 {}
 
-/// A law: in a valid content, a sector is saved with these bytes if and only if a record has its number and these
-/// bytes.
+/// A law: a valid content `c` saves the bytes `bytes` for the sector `sector` if and only if one of its records has
+/// this number and these bytes.
 pub fn one_record()
     ensures { (c : Content) (sector : ℕ) (bytes : List ℕ) → IsContent c
         → saved_in c.saved sector ≡ Some bytes ↔ HasRecord c sector bytes }

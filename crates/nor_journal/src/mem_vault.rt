@@ -8,8 +8,8 @@ use std::alloc::Global;
 
 /// A faithful (`telling`) vault in memory.
 ///
-/// `put` fails only if its buffer has to grow and the allocation fails; it then keeps no byte of the piece. `seal`
-/// never fails.
+/// `put` fails only if the buffer has to grow and the allocation fails. The vault then accepts no byte of the piece.
+/// `seal` never fails.
 #[derive(Drop)]
 pub struct MemVault {
     bytes: Vec<u8>,

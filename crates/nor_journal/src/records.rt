@@ -20,10 +20,10 @@ pub const END_MARK: [u8; 4] = [0xFF; 4];
 /// The length of a digest in bytes.
 pub const DIGEST_LEN: usize = 32;
 
-/// Returns the sector number of the record at the beginning of `bytes`, or `None` if the end mark is there.
+/// Returns the sector number of the record at the beginning of `bytes`, or `None` if `bytes` begin with the end mark.
 ///
-/// Returns, checked in this order, `Short` if fewer than four bytes are left, `Place` if the number isn't below
-/// `sectors`, `Order` if it is below `least`, or `Short` if the bytes end within the record.
+/// The errors are checked in this order: `Short` if `bytes` has fewer than four bytes, `Place` if the number isn't
+/// below `sectors`, `Order` if the number is below `least`, and `Short` if `bytes` end within the record.
 #[tactic(auto, unfolding(crate::specs::Text::end_mark))]
 fn next_record(sectors: u32, least: u32, bytes: &[u8]) -> Result<Option<u32>, JournalFault>
     ensures fault { IfErr result (RecordFault sectors least bytes.now) }
@@ -51,7 +51,8 @@ fn next_record(sectors: u32, least: u32, bytes: &[u8]) -> Result<Option<u32>, Jo
 
 /// Counts the records up to the end mark. `bytes` are all bytes after the header.
 ///
-/// Returns `Short`, `Place` or `Order` at the first record, or end mark, that has a fault (`RecordFault`).
+/// Returns `Short`, `Place` or `Order` for the first record that has a fault (`RecordFault`). Returns `Short`, too, if
+/// the bytes end before the end mark is complete.
 pub fn count_records(head: &Head, bytes: &[u8]) -> Result<usize, JournalFault>
     ensures fault { IfErr result (FaultAfterRecords head.now bytes.now) }
     ensures found { IfOk result (EndsAfter head.now bytes.now) }
@@ -89,7 +90,7 @@ pub fn record_at(records: &[u8], i: usize) -> (u32, &[u8])
     (number_of(record), &record[4..RECORD_LEN])
 }
 
-/// Checks that the correct digest, and no further byte, follows the end mark at index `mark`.
+/// Checks that exactly the correct digest follows the end mark, which must be at index `mark` of `bytes`.
 ///
 /// Returns `Short` if the digest is incomplete, `Long` if bytes follow it, or `Digest` if it isn't the SHA-256 of the
 /// bytes before it.

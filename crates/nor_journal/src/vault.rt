@@ -4,12 +4,11 @@ ghost use Rattle.std.specs.Prelude.{◌≡◌, false};
 use std::error::Error;
 use std::fmt;
 
-/// A refusal of a vault. `kept` is how many bytes, from the beginning of the piece, the vault accepted before it
-/// refused.
-///
-/// For a refused seal `kept` is 0.
+/// The error that a vault returns if it refuses a piece or the seal.
 #[derive(Clone, Copy, Debug, PartialEq, Eq)]
 pub struct VaultFault {
+    /// The number of bytes, from the beginning of the piece, that the vault accepted before it refused. It is 0 for a
+    /// refused seal.
     pub kept: usize,
 }
 
@@ -27,26 +26,27 @@ impl Error for VaultFault {}
 
 /// A sink that receives the bytes of a journal piece by piece, and is then sealed.
 ///
-/// In contracts it has a `VaultState`. `Puts` and `Seals` relate the states before and after a call, for every vault.
-/// They say which bytes the vault holds only if it is faithful (`telling`). For every vault they say that, until it is
-/// sealed, it isn't empty once it has accepted a byte.
+/// In contracts, the state of a vault is a `VaultState`. For every vault, `Puts` and `Seals` relate the states before
+/// and after a call. If the vault is faithful (`telling`), they also say which bytes it holds. If it isn't, they say of
+/// its bytes only that, before the seal, they aren't empty once the vault has accepted a byte.
 pub trait Vault {
     ghost use Rattle.nor_journal.specs.Vault.{VaultState, Puts, Seals};
 
-    // The state that contracts use.
+    // Contracts describe the vault by this state.
     ghost state: { Self → VaultState };
 
-    /// Appends a piece. If it fails, the vault may have accepted a prefix of the piece.
+    /// Appends `piece` to the bytes of the vault, which must be unsealed.
     ///
-    /// The vault must be unsealed.
+    /// If the call fails, the vault has accepted only the first `kept` bytes of the piece, or none if `kept` is 0.
     fn put(&mut self, piece: &[u8]) -> Result<(), VaultFault>
         requires { (state self.old).sealed ≡ false }
         ensures { Puts (state self.old) piece.now result (state self.new) };
 
-    /// Seals the vault. Its bytes are then complete. If it fails, the vault stays unsealed.
+    /// Seals the vault, so that its bytes are complete. The vault must be unsealed, and it stays unsealed if the call
+    /// fails.
     ///
-    /// The vault must be unsealed. An implementation that stores journals permanently must make the bytes durable
-    /// before it returns `Ok`; no clause requires that.
+    /// An implementation that stores journals permanently must make the bytes durable before it returns `Ok`. No clause
+    /// requires that.
     fn seal(&mut self) -> Result<(), VaultFault>
         requires { (state self.old).sealed ≡ false }
         ensures { Seals (state self.old) result (state self.new) };

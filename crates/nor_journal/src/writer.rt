@@ -17,18 +17,21 @@ use sha2::{Digest, Sha256};
 
 /// A writer of a journal of format 2: first the header, then the sectors in ascending order, then the end.
 ///
-/// The writer borrows the vault until the end. It allocates nothing itself: it updates the digest with each piece.
+/// The writer borrows the vault until the journal is complete. It allocates nothing itself, because it updates the
+/// digest with each piece.
 ///
-/// A call fails if the vault refuses a piece or the seal. The vault is then unsealed. If it is faithful (`telling`) and
-/// the sectors were written in ascending order, it holds a prefix of the journal; the clauses don't say how long the
-/// prefix is. `kept` of the error counts bytes of the refused piece; no clause specifies it.
+/// A call fails if the vault refuses a piece or the seal. The vault is then unsealed. If the vault is faithful
+/// (`telling`) and the sectors were written in ascending order, it then holds a prefix of the journal. The clauses
+/// don't say how long the prefix is. The `kept` of the error counts the accepted bytes of the refused piece. No clause
+/// specifies it.
 #[derive(Drop)]
 pub struct Writer<'a, V: Vault> {
     vault: &'a mut V,
     hasher: Sha256,
 }
 
-// A writer whose last piece the vault accepted, or the vault that refused this piece, with its fault.
+// The result of writing a piece: the writer if the vault accepted the piece, otherwise the vault and the error that it
+// returned.
 #[derive(Drop)]
 enum Attempt<'a, V: Vault> {
     Accepted(Writer<'a, V>),
@@ -36,7 +39,7 @@ enum Attempt<'a, V: Vault> {
 }
 
 impl<'a, V: Vault> Writer<'a, V> {
-    /// Returns a writer to `vault`, which must be empty and unsealed. Writes nothing.
+    /// Returns a writer that writes to `vault`, which must be empty and unsealed. Nothing is written yet.
     pub fn on(vault: &'a mut V) -> Writer<'a, V>
         requires { IsFresh (V.state vault.old) }
         ensures same_vault { (vault_of result).ghost_name ≡ vault.entry.ghost_name }
@@ -53,9 +56,9 @@ impl<'a, V: Vault> Writer<'a, V> {
     ///
     /// `status` has status 1 and 2. `size` is in bytes, and must be a power of two from 64 KiB to 16 MiB.
     ///
-    /// If it fails, the vault is unsealed and has counted one refusal, and a faithful (`telling`) vault holds a prefix
-    /// of the header. Rattle proves the clause `refused` but can't use it in the proof of a caller: call `on` and
-    /// `header` if a proof needs the state after a failure.
+    /// If it fails, the vault is unsealed and has counted one more refusal, and a faithful (`telling`) vault holds a
+    /// prefix of the header. Rattle proves the clause `refused`, but can't use it in the proof of a caller. Call `on`
+    /// and `header` instead if a proof needs the state after a failure.
     pub fn start(
         vault: &'a mut V,
         id: [u8; 3],
@@ -76,7 +79,7 @@ impl<'a, V: Vault> Writer<'a, V> {
         Self::into_result(Self::try_start(vault, id, unique, status, size))
     }
 
-    // Writes the header to `vault`, which must be empty and unsealed.
+    // Writes the header to `vault`, as `start` does. If the vault refuses it, returns the vault with the error.
     fn try_start(
         vault: &'a mut V,
         id: [u8; 3],
@@ -105,7 +108,7 @@ impl<'a, V: Vault> Writer<'a, V> {
         }
     }
 
-    // Returns the writer, or gives up the reference to the vault and returns the fault.
+    // Returns the writer if the piece was accepted. Otherwise drops the reference to the vault and returns the error.
     fn into_result(attempt: Attempt<'a, V>) -> Result<Writer<'a, V>, VaultFault>
         ensures* refused { sem 𝓛 (RestsIfErr V.row (lent_by attempt.entry) (λ writer. (vault_of writer).ghost_name)
             result (λ last. last ≡ (lent_by attempt.entry).now)) }
@@ -117,11 +120,12 @@ impl<'a, V: Vault> Writer<'a, V> {
         }
     }
 
-    /// Writes a sector after the others, as `add` does, and returns the writer.
+    /// Appends the sector `number` to the journal, as `add` does, and returns the writer.
     ///
-    /// If it fails, the writer is consumed, and the vault is unsealed and has counted one refusal. After a header and
-    /// ascending sectors, a faithful (`telling`) vault then holds a prefix of the journal's bytes up to this sector.
-    /// Call `add` if a proof needs this: Rattle can't use the clause `refused` in the proof of a caller.
+    /// If it fails, the writer is consumed, and the vault is unsealed and has counted one more refusal. If a header and
+    /// ascending sectors were written before, a faithful (`telling`) vault then holds a prefix of the journal's bytes
+    /// up to the end of this sector. Call `add` if a proof needs this: Rattle can't use the clause `refused` in the
+    /// proof of a caller.
     pub fn sector(
         mut self,
         number: u32,
@@ -141,7 +145,7 @@ impl<'a, V: Vault> Writer<'a, V> {
         Self::into_result(self.try_sector(number, bytes))
     }
 
-    // Writes a sector after the others, as `add` does.
+    // Appends the sector `number`, as `sector` does. If the vault refuses it, returns the vault with the error.
     fn try_sector(mut self, number: u32, bytes: &[u8; SECTOR_LEN as usize]) -> Attempt<'a, V>
         requires { (vault_seen V.state self).sealed ≡ false }
         ensures same_vault { (lent_by result).ghost_name ≡ (vault_of self.entry).ghost_name }
@@ -178,7 +182,7 @@ impl<'a, V: Vault> Writer<'a, V> {
         Ok(())
     }
 
-    /// Writes the header. Call it first, and once.
+    /// Writes the header. It must be called once, before any sector is written.
     ///
     /// `status` has status 1 and 2. `size` is in bytes, and must be a power of two from 64 KiB to 16 MiB.
     ///
@@ -204,13 +208,13 @@ impl<'a, V: Vault> Writer<'a, V> {
         self.piece(&head_bytes(id, unique, status, size))
     }
 
-    /// Writes a sector after the others.
+    /// Appends a sector to the journal: its number and its 4,096 bytes.
     ///
     /// `number` must be greater than the numbers of the sectors before it, and less than the chip's number of sectors.
     /// Otherwise the bytes aren't a journal, and the clauses `written` and `kept` say nothing.
     ///
-    /// If it fails after a header and sectors that were written in this way, a faithful (`telling`) vault holds a
-    /// prefix of the journal's bytes up to this sector.
+    /// If it fails, and a header and ascending sectors were written before, a faithful (`telling`) vault holds a prefix
+    /// of the journal's bytes up to the end of this sector.
     pub fn add(&mut self, number: u32, bytes: &[u8; SECTOR_LEN as usize]) -> Result<(), VaultFault>
         requires { (vault_seen V.state self.old).sealed ≡ false }
         ensures same_vault { (vault_of self.new).ghost_name ≡ (vault_of self.old).ghost_name }
@@ -230,8 +234,8 @@ impl<'a, V: Vault> Writer<'a, V> {
     /// Writes the end mark and the digest, and seals the vault.
     ///
     /// If a header and ascending sectors were written before, a faithful (`telling`) vault then holds exactly the
-    /// journal. If `end` fails, the vault is unsealed, and a faithful one holds a prefix of the journal, or all of it
-    /// if only the seal failed.
+    /// journal. If `end` fails, the vault is unsealed, and a faithful vault holds a prefix of the journal. This prefix
+    /// is the whole journal if only the seal failed.
     pub fn end(self) -> Result<(), VaultFault>
         requires { (vault_seen V.state self).sealed ≡ false }
         ensures vault { Completes (vault_seen V.state self.entry) result (V.state self.exit.0.now) }

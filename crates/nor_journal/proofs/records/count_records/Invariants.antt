@@ -3,8 +3,8 @@ use Rattle.nor_journal.specs.Text.{next_number}
 use Rattle.nor_journal.specs.Reading.{HasRecords, content_at}
 use Rattle.nor_journal.proofs.records.count_records.Given as goal
 
--- the records counted so far are valid, `rest` has the bytes after them, and `least` is the least number that the next
--- record may have
+-- The first `count` records are valid (`HasRecords`), and `rest` are the bytes after them. The next record must have at
+-- least the number `least`, and `sectors` is the chip's number of sectors.
 abbrev pub invariant-loop-number : goal.invariant-loop-number
 invariant-loop-number l = record {
   records : HasRecords l.head l.bytes l.count;
