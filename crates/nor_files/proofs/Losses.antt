@@ -1,4 +1,4 @@
--- The files in memory after an interruption.
+-- The files in memory that an interruption leaves.
 use Rattle.std.proofs.Common.{◌≡◌, ◌∙◌, ◌<◌, ℕ, suc, false, List, [], ◌∷◌, ◌++◌, Option, refl, ap, inl, inr, arith}
 use Rattle.std.proofs.Common.{drop, get_or, is_some, length, take}
 use Rattle.std.proofs.lemmas.List.{take_at}
@@ -26,7 +26,7 @@ oldest_allowed old later oldest placed steps there =
 
 -- ---- all files
 
--- A read of the file returns what a host crash might have left, and a later host crash can leave nothing else.
+-- Holds if a read of the file returns what a host crash might have left, and a later host crash can leave nothing else.
 record IsLost (was now : File) : Type 0 where
   allowed : MayLeave was now.seen
   file : now ≡ record { seen = now.seen; steps = []; unplaced = false; out = false }
@@ -43,15 +43,15 @@ all_lost (was ∷ old) (now ∷ new) name many each =
     let later = all_lost old new name (omega (arith, many)) (λ k d within. each (suc k) d (omega (arith, within))) in
     grind arith
 
--- A read of each file returns contents that a host crash might have left of the old files, or finds none if a crash
--- might have left none. What the read finds is durable: a later host crash can leave nothing else. No vault or log in
--- any of the files is borrowed.
+-- Holds if an interruption of the files `old` may leave the files `new`. A read of each new file returns what a host
+-- crash might have left of the old one, and a later host crash can leave nothing else of it. No vault or log in any of
+-- the files is borrowed.
 pub record AreLeft (old new : List Stored) (left : ℕ) (borrowed : Option Name) : Type 0 where
   pub at_rest : AreAtRest (files_state new left borrowed)
   pub allowed : (name : Name) → MayLeave (file_named old name) (file_named new name).seen
   pub durable : (name : Name) → IsDurable name (file_named new name).seen (files_state new left borrowed)
 
--- after the loop that interrupts each file, the files are as `AreLeft` says
+-- After the loop that interrupts each file, the files are those that `AreLeft` describes.
 pub are_left : (old now : List Stored) {len left : ℕ} {borrowed : Option Name} → length now ≡ len → len ≡ length old
     → ((k : ℕ) (d : Stored) → k < length old → FileLoses (get_or old k d) (get_or now k d))
     → AreLeft old (take len (now ++ drop (length now) old)) left borrowed

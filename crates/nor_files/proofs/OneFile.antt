@@ -1,4 +1,4 @@
--- On lawful files, a name that shows another file is apart.
+-- On lawful files, two names are apart if the state treats them differently.
 use Rattle.std.proofs.Common.{◌≡◌, Bool, true, false, inl, refl, sym}
 use Rattle.nor_files.specs.Files.{AreApart, FilesState, Name, is_lawful}
 use Rattle.nor_files.specs.OneFile.{AreOneFile, NamesAreOfOne}
@@ -7,7 +7,7 @@ is_true : (b : Bool) → (b ≡ false → ⊥) → b ≡ true
 is_true true differs = refl
 is_true false differs = absurd (differs refl)
 
--- if the files keep the law of names, and one of the names shows another file than the other, the names are apart
+-- Let the files obey the law of names. If the state treats the names `one` and `other` differently, they are apart.
 module _ (files : FilesState) (lawful : is_lawful files.view ≡ true) (law : NamesAreOfOne files)
     (one other : Name) (differ : AreOneFile one other files → ⊥) where
   turned : AreOneFile other one files → AreOneFile one other files

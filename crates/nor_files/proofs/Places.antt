@@ -1,4 +1,4 @@
--- The entries for files in a list, by their names.
+-- Lemmas about the entries for files in a list, which are found by their names.
 use Rattle.std.proofs.Common.{◌≡◌, ◌≢◌, ◌∙◌, ◌+◌, ◌<◌, ℕ, suc, zero, Bool, true, false, cond, List, [], ◌∷◌, ◌++◌}
 use Rattle.std.proofs.Common.{Option, None, Some, refl, sym, ap, arith, length, get_or, not, set, position}
 use Rattle.std.specs.List.{position_or_len}
@@ -20,12 +20,13 @@ use Rattle.nor_files.specs.declared.stored.Stored.{Stored}
 
 -- ---- finding
 
--- if no file in the list satisfies `is`, each index of the list is below `position_or_len`
+-- If no file in the list satisfies `is`, each index of the list is below `position_or_len is files`.
 past : (is : Stored → Bool) (files : List Stored) (k : ℕ) → position is files ≡ None → k < length files
     → k < position_or_len is files
 past is files k none within = grind (arith, nat_tests)
 
--- a function `look` that looks a name up in the list: its result is `of` the first file of this name, or `miss`
+-- Let `look` be a function that looks a name up in a list. Its result is `of` the first file of this name, or `miss` if
+-- there is none.
 module _ {Y : Type 0} (name : Name) (look : List Stored → Y) (of : Stored → Y) (miss : Y) (none : look [] ≡ miss)
     (step : (stored : Stored) (files : List Stored)
     → look (stored ∷ files) ≡ cond (is_named name stored) (of stored) (look files)) where
@@ -93,14 +94,14 @@ set_there any (first ∷ files) zero now d same = ap (λ named. cond named true 
 set_there any (first ∷ files) (suc at) now d same =
     ap (cond (is_named any first) true) (set_there any files at now d same)
 
--- The file of this name was replaced, and each file whose name is apart from this one is the same.
+-- Holds if the file of this name was replaced, and each file whose name is apart from this one is the same.
 pub record IsUpdated (name : Name) (old new : List Stored) (was now : Stored) : Type 0 where
   pub before : file_named old name ≡ file_in was
   pub after : file_named new name ≡ file_in now
   pub others : (other : Name) → AreApart memory_nature name other → file_named new other ≡ file_named old other
   pub there : is_there new name ≡ true
 
--- names that are apart differ
+-- Two names that are apart differ.
 apart_differ : (name other : Name) → AreApart memory_nature name other → other ≢ name
 apart_differ name other apart same =
     let is : are_same_names name other ≡ true = rw same (nat_list_eq_equiv.refl name) in
@@ -113,7 +114,7 @@ other_named name other stored is ne = false_from_ne_true _
 
 module _ (files : List Stored) (at : ℕ) (was now : Stored) (place : was ≡ get_or files at was)
     (same : now.name ≡ was.name) where
-  -- the replacement has the same name as the entry that it replaces
+  -- The replacement `now` has the same name as the entry that it replaces.
   still_named : (any : Name) → is_named any now ≡ is_named any (get_or files at was)
   still_named any = ap (λ its. are_same_names its.items any) (same ∙ ap (λ stored. stored.name) place)
 
@@ -144,8 +145,7 @@ module _ (files : List Stored) (at : ℕ) (was now : Stored) (place : was ≡ ge
   lent_updated None there = refl
   lent_updated (Some name) there = set_there name files at now was (still_named name) ∙ there
 
--- if the list `kept` has the same file for each name as `old`, a file that was replaced in `kept` was also replaced in
--- `old`
+-- If each name has the same file in `kept` as in `old`, a file that was replaced in `kept` was also replaced in `old`.
 pub updated_since : {name : Name} {old kept new : List Stored} {was now : Stored}
     → ((any : Name) → file_named kept any ≡ file_named old any) → IsUpdated name kept new was now
     → IsUpdated name old new was now

@@ -1,4 +1,4 @@
--- The effect on all files in memory of the sync of one file or its directory.
+-- The effect of a sync of one file, or of its directory, on all files in memory.
 use Rattle.std.proofs.Common.{◌≡◌, ◌∙◌, [], Bool, true, false, List, ap, inl, inr, not, refl, sym}
 use Rattle.std.specs.Cmp.Lexicographic.{same_text}
 use Rattle.std.proofs.lemmas.Bool.{cases_Bool, false_from_ne_true, false≢true}
@@ -12,8 +12,8 @@ use Rattle.nor_files.proofs.Places.{IsUpdated}
 
 -- ---- one file
 
--- The file is as it was: a read returns the same, and a vault or log in it is borrowed if and only if one was. A host
--- crash can leave nothing that it couldn't leave before.
+-- Holds if the file is as it was: a read returns the same, and a vault or log in it is borrowed if and only if one was.
+-- A host crash can leave nothing that it couldn't leave before.
 pub record FileStays (old new : File) : Type 0 where
   pub out : new.out ≡ old.out
   pub seen : new.seen ≡ old.seen
@@ -22,14 +22,14 @@ pub record FileStays (old new : File) : Type 0 where
 file_same : (file : File) → FileStays file file
 file_same file = record { out = refl; seen = refl; leaves = λ left can. can }
 
--- if `May` implies `Might`, then each outcome that `OrMissing` allows for `May` it also allows for `Might`
+-- If `May` implies `Might`, `OrMissing` allows with `Might` every content `left` that it allows with `May`.
 or_missing : (unplaced : Bool) (May Might : Type 0) (seen left : Found) → (May → Might)
     → OrMissing unplaced May seen left → OrMissing unplaced Might seen left
 or_missing true May Might seen left more (inl gone) = inl gone
 or_missing true May Might seen left more (inr may) = inr (more may)
 or_missing false May Might seen left more (there, may) = (there, more may)
 
--- each content that may be left if a host crash can't remove the file may also be left if a host crash may remove it
+-- If a host crash may leave `left` of a file that it can't remove, it may leave `left` also if it may remove the file.
 placed_or : (unplaced : Bool) (May : Type 0) (seen left : Found) → OrMissing false May seen left
     → OrMissing unplaced May seen left
 placed_or true May seen left (there, may) = inr may
@@ -53,7 +53,7 @@ placed_stays old = record {
 
 -- ---- all files
 
--- names that differ are apart
+-- On files in memory, two names that differ are apart.
 apart_of : (name any : Name) → are_same_names name any ≡ false → AreApart memory_nature name any
 apart_of name any differ = (
   ap not differ,

@@ -6,18 +6,19 @@ use Rattle.nor_files.specs.Files.{AllStay, FilesState, Found, IsKnownFile, IsDur
 
 -- ---- reading
 
--- `found` is what a read of the file returns: `None` if the file is missing, else its first `most` bytes, or all bytes
--- if it has fewer. This requires that the files obey the contract, and that no vault or log in this file is borrowed.
+-- Holds if `found` is what a read of the file returns: `None` if the file is missing, else its first `most` bytes, or
+-- all bytes if it has fewer. Nothing is said if the files don't obey the contract, or if a vault or log in this file is
+-- borrowed.
 abbrev pub ReadsFile : Name → ℕ → Found → View → Type 0
 ReadsFile name most found view = IsKnownFile name view → found ≡ option_map (take most) (view.seen name)
 
 -- ---- how many calls are left
 
--- A call succeeded: one call fewer is left.
+-- The effect of a successful call on the number of calls left: it is one less.
 pub record Succeeds (old new : FilesState) : Type 0 where
   pub left : old.left ≡ new.left + 1
 
--- A call failed: the number of calls left did not grow, and if it was 0 before, each file is as it was.
+-- The effect of a failed call: the number of calls left didn't grow. If it was 0 before, each file is as it was.
 pub record Fails (old new : FilesState) : Type 0 where
   pub left : new.left ≤ old.left
   pub none_left : old.left ≡ 0 → AllStay old new
@@ -27,8 +28,8 @@ abbrev pub Counts : {T E : Type 0} → Result T E → (old new : FilesState) →
 Counts (Ok _) old new = Succeeds old new
 Counts (Err _) old new = Fails old new
 
--- The effect of a call on one file, except calls that lend or take back a vault or log. The call is counted (`Counts`),
--- and what is borrowed doesn't change. Each file whose name is apart from this one is as it was.
+-- The effect of a call on one file, except for calls that lend or take back a vault or log. The call is counted
+-- (`Counts`), and what is borrowed doesn't change. Each file whose name is apart from `name` is as it was.
 pub record WorksOn {T E : Type 0} (name : Name) (result : Result T E) (old new : FilesState) : Type 0 where
   pub counts : Counts result old new
   pub borrowed : new.borrowed ≡ old.borrowed
@@ -37,8 +38,8 @@ pub record WorksOn {T E : Type 0} (name : Name) (result : Result T E) (old new :
 
 -- ---- opening and locking
 
--- The effect of opening a file for overwriting it later: all files are as they were. If the files obey the contract and
--- no vault or log in this file is borrowed, success returns whether the file exists.
+-- The effect of opening a file in order to overwrite it later. All files are as they were. If the files obey the
+-- contract, and no vault or log in this file is borrowed, a successful call returns whether the file exists.
 pub record Holds {E : Type 0} (name : Name) (result : Result Bool E) (old new : FilesState) : Type 0 where
   pub counts : Counts result old new
   pub borrowed : new.borrowed ≡ old.borrowed
@@ -47,28 +48,30 @@ pub record Holds {E : Type 0} (name : Name) (result : Result Bool E) (old new : 
 
 -- ---- syncing
 
--- A read returns the same as before, and a host crash can leave only that, or no file if that was possible before.
+-- Holds if a read returns the same as before, and a host crash can leave only that, or no file if that was possible
+-- before.
 pub record IsSynced (name : Name) (old new : FilesState) : Type 0 where
   pub seen : new.view.seen name ≡ old.view.seen name
   pub leaves : (left : Found) → new.may_leave name left
       → (left ≡ old.view.seen name) ⊎ ((left ≡ None) × old.may_leave name None)
 
--- A read returns the same as before, and a host crash can neither remove the file nor create it, nor leave anything
--- that it couldn't leave before.
+-- Holds if a read returns the same as before, and a host crash can neither remove the file nor create it, nor leave
+-- anything that it couldn't leave before.
 pub record IsPlaced (name : Name) (old new : FilesState) : Type 0 where
   pub seen : new.view.seen name ≡ old.view.seen name
   pub leaves : (left : Found) → new.may_leave name left
       → old.may_leave name left × (is_some left ≡ is_some (old.view.seen name))
 
--- A host crash can leave nothing of the file that it couldn't leave before.
+-- Holds if a host crash can leave nothing of the file that it couldn't leave before.
 abbrev pub LeavesNoMore : Name → (old new : FilesState) → Type 0
 LeavesNoMore name old new = (left : Found) → new.may_leave name left → old.may_leave name left
 
--- A host crash can leave nothing of any file that it couldn't leave before.
+-- Holds if a host crash can leave nothing of any file that it couldn't leave before.
 abbrev pub LeaveNoMore : (old new : FilesState) → Type 0
 LeaveNoMore old new = (name : Name) → LeavesNoMore name old new
 
--- A host crash can leave nothing of the file that it couldn't leave before, except an empty file if it was missing.
+-- Holds if a host crash can leave nothing of the file that it couldn't leave before, except an empty file if it was
+-- missing.
 abbrev pub LeavesOrEmpty : Name → (old new : FilesState) → Type 0
 LeavesOrEmpty name old new = (left : Found) → new.may_leave name left
     → old.may_leave name left ⊎ ((old.view.seen name ≡ None) × (left ≡ Some []))
@@ -79,22 +82,22 @@ abbrev pub Syncs : {T E : Type 0} → Name → Result T E → (old new : FilesSt
 Syncs name (Ok _) old new = IsSynced name old new
 Syncs name (Err _) old new = LeavesNoMore name old new
 
--- The effect of a sync of a directory on a file in it: after a failure the file is as it was.
+-- The effect of the sync of a directory on a file in it (`IsPlaced`). After a failure the file is as it was.
 abbrev pub Places : {T E : Type 0} → Name → Result T E → (old new : FilesState) → Type 0
 Places name (Ok _) old new = IsPlaced name old new
 Places name (Err _) old new = KeepsFile name old new
 
 -- ---- changing
 
--- `has` is a mix of the old bytes `had` and the written `bytes`: each byte is from one of the two, in any combination.
--- Past the end of a list, the byte from that list is 0. The length is at least that of `had`, and at most that of the
--- longer of the two lists.
+-- Holds if `has` is a mix of the old bytes `had` and the written `bytes`. At each index, `has` has the byte of `had` or
+-- the byte of `bytes`, where a byte past the end of a list counts as 0. `has` is at least as long as `had`, and at most
+-- as long as the longer of the two lists.
 pub record IsMixed (had bytes has : List ℕ) : Type 0 where
   pub shortest : length had ≤ length has
   pub longest : length has ≤ max (length had) (length bytes)
   pub each : (i : ℕ) → (slice_index has i ≡ slice_index had i) ⊎ (slice_index has i ≡ slice_index bytes i)
 
--- A host crash can leave only what it could leave before, or a mix of that and the bytes.
+-- Holds if a host crash can leave only what it could leave before, or a mix of such a content and `bytes`.
 abbrev pub LeavesMixes : Name → List ℕ → (old new : FilesState) → Type 0
 LeavesMixes name bytes old new = (left : Found) → new.may_leave name left → old.may_leave name left
     ⊎ ((had : List ℕ) × old.may_leave name (Some had) × ((has : List ℕ) × (left ≡ Some has) × IsMixed had bytes has))
@@ -107,52 +110,52 @@ written_over bytes had = bytes ++ drop (length bytes) had
 abbrev pub with_length : ℕ → List ℕ → List ℕ
 with_length len had = take len had ++ replicate (len - length had) 0
 
--- The effect of overwriting a file in place: after success a read returns the old content with its beginning replaced
--- by `bytes`. After success or failure a host crash can leave only what it could leave before, or a mix of that and
--- `bytes`.
+-- The effect of overwriting a file in place. After success, a read returns the old content with its beginning replaced
+-- by `bytes`. After success or failure, a host crash can leave only what it could leave before, or a mix of such a
+-- content and `bytes`.
 pub record WritesOver {T E : Type 0} (name : Name) (bytes : List ℕ) (result : Result T E)
     (old new : FilesState) : Type 0 where
   pub seen : (any : T) → result ≡ Ok any → new.view.seen name ≡ option_map (written_over bytes) (old.view.seen name)
   pub leaves : LeavesMixes name bytes old new
 
--- The effect of setting the length of a file: after success a read returns the old content, truncated to `len` bytes or
--- extended by zeros. After success or failure a host crash can leave only what it could leave before, or that with the
--- new length.
+-- The effect of setting the length of a file. After success, a read returns the old content, truncated to `len` bytes
+-- or extended by zeros. After success or failure, a host crash can leave only what it could leave before, or such a
+-- content with its length changed to `len`.
 pub record SetsLength {T E : Type 0} (name : Name) (len : ℕ) (result : Result T E) (old new : FilesState) : Type 0 where
   pub seen : (any : T) → result ≡ Ok any → new.view.seen name ≡ option_map (with_length len) (old.view.seen name)
   pub leaves : (left : Found) → new.may_leave name left → old.may_leave name left
       ⊎ ((had : List ℕ) × old.may_leave name (Some had) × (left ≡ Some (with_length len had)))
 
--- The file was missing and was created, empty. A host crash can leave only what it could leave before, or an empty
--- file.
+-- The effect of creating a file that was missing. The file is empty, and a host crash can leave only what it could
+-- leave before, or an empty file.
 pub record IsCreated (name : Name) (old new : FilesState) : Type 0 where
   pub missing : old.view.seen name ≡ None
   pub seen : new.view.seen name ≡ Some []
   pub leaves : (left : Found) → new.may_leave name left → old.may_leave name left ⊎ (left ≡ Some [])
 
--- The effect of creating a file: after a failure the file is as it was.
+-- The effect of a call that creates a file. After a failure the file is as it was.
 abbrev pub Creates : {T E : Type 0} → Name → Result T E → (old new : FilesState) → Type 0
 Creates name (Ok _) old new = IsCreated name old new
 Creates name (Err _) old new = KeepsFile name old new
 
 -- ---- vaults and logs
 
--- A vault in the file was borrowed. Each file whose name is apart from this one is as it was.
+-- The effect of lending a vault in the file. Each file whose name is apart from `name` is as it was.
 pub record Borrows (name : Name) (old new : FilesState) : Type 0 where
   pub succeeds : Succeeds old new
   pub borrowed : new.borrowed ≡ Some name
   pub out : new.view.out name ≡ true
   pub others : OthersStay name old new
 
--- The call failed, so no vault was borrowed. A host crash can leave nothing of the file that it couldn't leave before,
--- except an empty file if it was missing. The second sentence requires that the files obey the contract, and that no
--- vault or log in the file was borrowed before.
+-- The effect of a failed call that lends a vault. If the files obey the contract, and no vault or log in the file was
+-- borrowed before, a host crash can leave nothing of the file that it couldn't leave before, except an empty file if it
+-- was missing.
 pub record BorrowsNone (name : Name) (old new : FilesState) : Type 0 where
   pub fails : Fails old new
   pub leaves : IsKnownFile name old.view → LeavesOrEmpty name old new
 
--- The vault in the file was taken back. It is faithful (`telling`), and the file has its bytes; if it is sealed, a host
--- crash can leave nothing else. Each file whose name is apart from this one is as it was.
+-- The effect of taking back the vault in the file. The vault is faithful (`telling`), and the file has its bytes. If
+-- the vault is sealed, a host crash can leave nothing else. Each file whose name is apart from `name` is as it was.
 pub record TakesBack (name : Name) (vault : VaultState) (old new : FilesState) : Type 0 where
   pub borrowed : new.borrowed ≡ None
   pub in_store : new.view.out name ≡ false

@@ -3,8 +3,9 @@ use Rattle.std.specs.Prelude.{◌≡◌, ◌⊎◌, ⊤, false, true, None, code
 use Rattle.nor_files.specs.Files.{FilesState, Name}
 use Rattle.nor_files.specs.Named.{are_same_names}
 
--- A store of which nothing is known: it need not obey the contract, and each call may fail in each way. Two names are
--- apart if they differ. That `is_one_file` recognizes two different names of one file is assumed, and tested.
+-- The state of a store of which nothing is known. The store need not obey the contract, and each call may fail in each
+-- way. Two names are apart if they differ. It is assumed, and tested, that `is_one_file` recognizes two different names
+-- of one file.
 abbrev pub unknown : FilesState
 unknown = record {
   view = record {
@@ -17,6 +18,6 @@ unknown = record {
   may_leave = λ name left. ⊤;
 }
 
--- Holds for the last names under which standard output and standard error are looked up.
+-- Holds for the names that `unseen_stream` may return: the second names of standard output and standard error.
 abbrev pub IsStreamName : Name → Type 0
 IsStreamName name = (name ≡ codes "/dev/fd/1") ⊎ (name ≡ codes "/dev/fd/2")

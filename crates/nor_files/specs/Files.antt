@@ -9,10 +9,10 @@ Name = List ℕ
 abbrev pub Found : Type 0
 Found = Option (List ℕ)
 
--- A condition of a named file, or of two names, that a call may find or fail with.
+-- A condition of a named file, or of two names, that a call may find or return as an error.
 pub data Failure : Type 0 where
-  -- the file can't be looked up, opened or read, or a read of it may block forever; for `read_named`, `hold` and
-  -- `share` also if the program is out of memory
+  -- the file can't be looked up, opened or read, or a read of it may block forever; in `read_named`, `hold` and
+  -- `share`, the program may also be out of memory
   Unread : Name → Failure
   -- a file or link of this name exists, but can't be opened for overwriting, or can't be locked
   Unheld : Name → Failure
@@ -20,7 +20,7 @@ pub data Failure : Type 0 where
   Busy : Name → Failure
   -- the file can't be created, read, truncated or locked for a vault or log, or its directory can't be synced
   Unmade : Name → Failure
-  -- a file or link of this name exists, or is a journal that would be truncated
+  -- a file or link of this name exists, or the file is a journal, which isn't truncated
   There : Name → Failure
   -- the file can't be created, written, truncated or synced, or its directory can't be synced
   Unwritten : Name → Failure
@@ -29,43 +29,43 @@ pub data Failure : Type 0 where
   -- the file is a regular file to which the program prints
   Printed : Name → Failure
 
--- What never changes about a store of files.
+-- The properties of a store of files that never change.
 pub record Nature : Type 0 where
   -- whether the files obey the contract
   pub lawful : Bool
-  -- which of these failures a call may ever find or fail with
+  -- true for each failure that a call may ever find or return
   pub fails : Failure → Bool
   -- whether two names are apart. On lawful files they then refer to different files: a call on the first leaves the
   -- second as it is. A file may have several names (`a` and `./a`, links), so two names that differ may be names of one
   -- file. On the system's files, which aren't lawful, two names are apart if they differ
   pub apart : Name → Name → Bool
 
--- The files, as reads show them.
+-- The part of the state that reads can observe.
 pub record View : Type 0 where
   pub nature : Nature
-  -- whether a vault or a log in that file is borrowed, so that its bytes are unknown
+  -- whether a vault or a log in the file of this name is borrowed, so that its bytes are unknown
   pub out : Name → Bool
-  -- the result of a read of that file
+  -- the result of a read of the file of this name
   pub seen : Name → Found
 
 -- The files, as contracts see them.
 pub record FilesState : Type 1 where
   pub view : View
   -- the greatest number of calls that can still succeed, counting `hold`, `sync`, `sync_folder`, `write_over`,
-  -- `set_len`, `make`, `vault_in_new` and `vault_in`. No program can read it. If the files obey the contract and `left`
-  -- is 0, each of these calls fails and changes nothing, as after a kill or a host crash
+  -- `set_len`, `make`, `vault_in_new` and `vault_in`. No program can read this number. If the files obey the contract
+  -- and `left` is 0, each of these calls fails and changes nothing, as after a kill or a host crash
   pub left : ℕ
   -- the file whose vault was borrowed last and not yet taken back
   pub borrowed : Option Name
-  -- the contents that a host crash now may leave of that file
+  -- the contents that a host crash at this moment may leave of the file of this name
   pub may_leave : Name → Found → Type 0
 
 -- True if the files obey the contract.
 abbrev pub is_lawful : View → Bool
 is_lawful view = view.nature.lawful
 
--- The two names are apart, in both orders. This doesn't require lawful files: on the system's files, two names are
--- apart if they differ.
+-- Holds if the names `one` and `other` are apart in both orders. This doesn't require lawful files: on the system's
+-- files, two names are apart if they differ.
 abbrev pub AreApart : Nature → (one other : Name) → Type 0
 AreApart nature one other = (nature.apart one other ≡ true) × (nature.apart other one ≡ true)
 
@@ -79,31 +79,32 @@ pub record AreAtRest (files : FilesState) : Type 0 where
   pub lawful : is_lawful files.view ≡ true
   pub in_store : (name : Name) → files.view.out name ≡ false
 
--- The file is as it was: a read returns the same, and a vault or log in it is borrowed if and only if one was. A host
--- crash can leave nothing that it couldn't leave before.
+-- Holds if the file is as it was: a read returns the same, and a vault or log in it is borrowed if and only if one was.
+-- A host crash can leave nothing that it couldn't leave before.
 pub record KeepsFile (name : Name) (old new : FilesState) : Type 0 where
   pub out : new.view.out name ≡ old.view.out name
   pub seen : new.view.seen name ≡ old.view.seen name
   pub leaves : (left : Found) → new.may_leave name left → old.may_leave name left
 
--- Each file is as it was: a read returns the same, and a host crash can leave nothing that it couldn't leave before.
+-- Holds if each file is as it was: a read returns the same, and a host crash can leave nothing that it couldn't leave
+-- before.
 pub record AreUntouched (old new : FilesState) : Type 0 where
   pub view : new.view ≡ old.view
   pub leaves : (name : Name) (left : Found) → new.may_leave name left → old.may_leave name left
 
--- Each file is as it was.
+-- Holds if each file is as it was (`KeepsFile`).
 abbrev pub AllStay : (old new : FilesState) → Type 0
 AllStay old new = (name : Name) → KeepsFile name old new
 
--- If the files obey the contract, each without a borrowed vault or log is as it was.
+-- Holds if, on files that obey the contract, each file without a borrowed vault or log is as it was (`KeepsFile`).
 abbrev pub KnownStay : (old new : FilesState) → Type 0
 KnownStay old new = (name : Name) → IsKnownFile name old.view → KeepsFile name old new
 
--- Each file whose name is apart from this one is as it was. Nothing is said about other names of the same file.
+-- Holds if each file whose name is apart from `name` is as it was. Nothing is said about other names of the same file.
 abbrev pub OthersStay : Name → (old new : FilesState) → Type 0
 OthersStay name old new = (other : Name) → AreApart old.view.nature name other → KeepsFile other old new
 
--- A read returns exactly `content`, and a host crash can leave nothing else.
+-- Holds if a read of the file returns exactly `content`, and a host crash can leave nothing else of it.
 pub record IsDurable (name : Name) (content : Found) (files : FilesState) : Type 0 where
   pub seen : files.view.seen name ≡ content
   pub leaves : (left : Found) → files.may_leave name left → left ≡ content

@@ -11,8 +11,8 @@ use Rattle.nor_files.specs.Stored.{MayLeave}
 use Rattle.nor_files.specs.declared.memory.Memory.{Memory}
 use Rattle.nor_files.specs.declared.stored.Stored.{Stored}
 
--- The failures of calls on files in memory. Each file has exactly one name. Nobody else locks a file, every file can be
--- overwritten, and the program prints to none.
+-- The failures that calls on files in memory may find or return. Each file has exactly one name. Nobody else locks a
+-- file, every file can be overwritten, and the program prints to none.
 abbrev pub memory_fails : Failure → Bool
 memory_fails (Unheld name) = false
 memory_fails (Busy name) = false
@@ -20,7 +20,7 @@ memory_fails (Shared one other) = are_same_names one other
 memory_fails (Printed name) = false
 memory_fails failure = true
 
--- files that obey the contract, each with exactly one name
+-- the nature of files in memory, which obey the contract, and of which each has exactly one name
 abbrev pub memory_nature : Nature
 memory_nature = record { lawful = true; fails = memory_fails; apart = λ one other. not (are_same_names one other) }
 
@@ -47,7 +47,7 @@ true_from_not : (b : Bool) → not b ≡ false → b ≡ true
 true_from_not true is = refl
 true_from_not false is = absurd (false≢true (sym is))
 
--- names that files in memory take for names of one file are equal
+-- If files in memory treat two names as names of one file, the names are equal.
 pub one_name : (one other : Name) → MayBeOneFile memory_nature one other → one ≡ other
 one_name one other (inl not_apart) = same_text one other (sym (true_from_not (are_same_names one other) not_apart))
 one_name one other (inr shared) = same_text one other (sym shared)
@@ -56,7 +56,7 @@ one_file_itself : (name : Name) (files : FilesState) → AreOneFile name name fi
 one_file_itself name files =
     record { seen = refl; out = refl; leaves = λ left can. can; back = λ left can. can }
 
--- files in memory keep the law of names
+-- Files in memory obey the law of names.
 pub names_of_one : (files : List Stored) (left : ℕ) (borrowed : Option Name)
     → NamesAreOfOne (files_state files left borrowed)
 names_of_one files left borrowed lawful one other may =

@@ -1,4 +1,4 @@
--- Looking up files in memory by their names.
+-- How files in memory are found by their names.
 use Rattle.std.specs.Prelude.{Bool, true, false, List, [], ◌∷◌, Option, None, Some, if◌then◌else◌, nat_eq}
 use Rattle.std.specs.Cmp.Lexicographic.{pointwise}
 use Rattle.nor_files.specs.Files.{Name}
@@ -9,16 +9,16 @@ use Rattle.nor_files.specs.declared.stored.Stored.{Stored}
 abbrev pub are_same_names : (one other : Name) → Bool
 are_same_names = pointwise nat_eq
 
--- true if the file has this name
+-- true if the file `stored` has this name
 abbrev pub is_named : Name → Stored → Bool
 is_named name stored = are_same_names stored.name.items name
 
--- the first file of that name, or `missing` if the list has none
+-- the first file of this name in the list, or `missing` if the list has none
 abbrev pub file_named : List Stored → Name → File
 file_named [] name = missing
 file_named (stored ∷ files) name = if is_named name stored then file_in stored else file_named files name
 
--- true if the list has an entry of that name, even for a missing file
+-- true if the list has an entry of this name, which may be the entry of a missing file
 abbrev pub is_there : List Stored → Name → Bool
 is_there [] name = false
 is_there (stored ∷ files) name = if is_named name stored then true else is_there files name

@@ -13,7 +13,7 @@ use Rattle.nor_files.specs.declared.stored.Content.TheVariants.{Plain, Vaulted}
 use Rattle.nor_files.specs.declared.stored.Step.{Step}
 use Rattle.nor_files.specs.declared.stored.Stored.{Stored}
 
--- the bytes of a content, which may be those of a vault
+-- the bytes of a content, which may be those of a vault that was taken back
 abbrev pub bytes_in : Content → List ℕ
 bytes_in (Plain bytes) = bytes.items
 bytes_in (Vaulted vault) = (held_by vault).bytes
@@ -47,56 +47,59 @@ missing = record { seen = None; steps = []; unplaced = false; out = false }
 
 -- ---- what a host crash may leave of a file
 
--- a mix of these bytes and of a content that the file may have had
+-- Holds if `left` is a mix (`IsMixed`) of `bytes` and a content that the file may have had before.
 abbrev pub IsMixOf : List ℕ → (Found → Type 0) → Found → Type 0
 IsMixOf bytes MayHaveBeen left = (had : List ℕ) × MayHaveBeen (Some had)
     × ((has : List ℕ) × (left ≡ Some has) × IsMixed had bytes has)
 
--- a content that the file may have had, changed to this length
+-- Holds if `left` is a content that the file may have had before, with its length changed to `len`.
 abbrev pub IsCutOf : ℕ → (Found → Type 0) → Found → Type 0
 IsCutOf len MayHaveBeen left = (had : List ℕ) × MayHaveBeen (Some had) × (left ≡ Some (with_length len had))
 
--- a content that a change may make of one that the file may have had; after `Lent`, any content, or none
+-- Holds if a change may turn a content that the file may have had before into `left`. After `Lent`, the file may have
+-- any content, or be missing.
 abbrev pub Becomes : Change → (Found → Type 0) → Found → Type 0
 Becomes (Written bytes) MayHaveBeen left = IsMixOf bytes.items MayHaveBeen left
 Becomes (Cut len) MayHaveBeen left = IsCutOf len MayHaveBeen left
 Becomes Lent MayHaveBeen left = ⊤
 
--- the content that a read returns, one that the file may have had before the newest change, or one that this change may
--- make of the latter
+-- Holds if the changes allow the content `left` for a file. The file may have `left` if it is the content `seen` that a
+-- read returns, or if the file may have had it before the newest change. The newest change may also turn a content that
+-- the file may have had before into `left` (`Becomes`).
 abbrev pub MayBe : List Step → Found → Found → Type 0
 MayBe [] seen left = left ≡ seen
 MayBe (step ∷ earlier) seen left = (left ≡ seen) ⊎ (MayBe earlier (content_found step.before) left
     ⊎ Becomes step.change (MayBe earlier (content_found step.before)) left)
 
--- A content that may be left. With `true` a host crash may remove the file, so the file may be missing. With `false`
--- the file is left if and only if a read finds it now.
+-- Holds if a host crash may leave `left`. The changes of the file must allow it, which `May` says. If the first
+-- argument is true, the host crash may remove the file instead. If it is false, the file must exist if and only if a
+-- read finds it now.
 abbrev pub OrMissing : Bool → Type 0 → (seen left : Found) → Type 0
 OrMissing true May seen left = (left ≡ None) ⊎ May
 OrMissing false May seen left = (is_some left ≡ is_some seen) × May
 
--- a content that a host crash may leave of the file
+-- Holds if a host crash may leave the content `left` of the file.
 abbrev pub MayLeave : File → Found → Type 0
 MayLeave file left = OrMissing file.unplaced (MayBe file.steps file.seen left) file.seen left
 
--- the content that a read returns is one that the changes may leave
+-- The changes of a file allow the content that a read returns.
 pub seen_may_be : (steps : List Step) (seen : Found) → MayBe steps seen seen
 seen_may_be [] seen = refl
 seen_may_be (step ∷ earlier) seen = inl refl
 
--- if `May` holds, `OrMissing` allows the content that a read returns
+-- If `May` holds, `OrMissing` allows the content that a read returns.
 pub seen_or_missing : (unplaced : Bool) (May : Type 0) (seen : Found) → May → OrMissing unplaced May seen seen
 seen_or_missing true May seen may = inr may
 seen_or_missing false May seen may = (refl, may)
 
--- a host crash may leave what a read returns
+-- A host crash may leave what a read returns.
 pub seen_may_stay : (file : File) → MayLeave file file.seen
 seen_may_stay file =
     seen_or_missing file.unplaced (MayBe file.steps file.seen file.seen) file.seen (seen_may_be file.steps file.seen)
 
 -- ---- the effects of calls on one file
 
--- The file has this content, and the change from the old content was recorded.
+-- Holds if the file has this content, and the change from the old content was recorded.
 pub record IsChanged (content : Content) (change : Change) (old new : Stored) : Type 0 where
   pub name : new.name ≡ old.name
   pub file : file_in new ≡ record {
@@ -106,19 +109,19 @@ pub record IsChanged (content : Content) (change : Change) (old new : Stored) : 
     out = old.out;
   }
 
--- The file is as it was.
+-- Holds if the file is as it was.
 pub record IsUnchanged (old new : Stored) : Type 0 where
   pub name : new.name ≡ old.name
   pub file : file_in new ≡ file_in old
 
--- The effect of a change of the content: after a failure the file is as it was.
+-- The effect of a call that changes the content. After a failure the file is as it was.
 abbrev pub Alters : {T E : Type 0} → Result T E → Content → Change → (old new : Stored) → Type 0
 Alters (Ok _) content change old new = IsChanged content change old new
 Alters (Err _) content change old new = IsUnchanged old new
 
--- The effect of overwriting the file in place: after success a read returns the old content with its beginning replaced
--- by `bytes`. After success or failure a host crash can leave only what it could leave before, or a mix of that and
--- `bytes`.
+-- The effect of overwriting the file in place. After success, a read returns the old content with its beginning
+-- replaced by `bytes`. After success or failure, a host crash can leave only what it could leave before, or a mix of
+-- such a content and `bytes`.
 pub record FileWrites {T E : Type 0} (bytes : List ℕ) (result : Result T E) (old new : Stored) : Type 0 where
   pub name : new.name ≡ old.name
   pub out : new.out ≡ old.out
@@ -126,9 +129,9 @@ pub record FileWrites {T E : Type 0} (bytes : List ℕ) (result : Result T E) (o
   pub leaves : (left : Found) → MayLeave (file_in new) left
       → MayLeave (file_in old) left ⊎ IsMixOf bytes (MayLeave (file_in old)) left
 
--- The effect of setting the length of the file: after success a read returns the old content, truncated to `len` bytes
--- or extended by zeros. After success or failure a host crash can leave only what it could leave before, or that with
--- the new length.
+-- The effect of setting the length of the file. After success, a read returns the old content, truncated to `len` bytes
+-- or extended by zeros. After success or failure, a host crash can leave only what it could leave before, or such a
+-- content with its length changed to `len`.
 pub record FileSets {T E : Type 0} (len : ℕ) (result : Result T E) (old new : Stored) : Type 0 where
   pub name : new.name ≡ old.name
   pub out : new.out ≡ old.out
@@ -136,29 +139,31 @@ pub record FileSets {T E : Type 0} (len : ℕ) (result : Result T E) (old new : 
   pub leaves : (left : Found) → MayLeave (file_in new) left
       → MayLeave (file_in old) left ⊎ IsCutOf len (MayLeave (file_in old)) left
 
--- The file was synced: a host crash can't undo the changes so far. It may still remove the file if it could before.
+-- The effect of a sync of the file. A host crash can't undo the changes made before. It may still remove the file if it
+-- could before.
 pub record FileSyncs (old new : Stored) : Type 0 where
   pub name : new.name ≡ old.name
   pub file : file_in new ≡ record (file_in old) { steps = [] }
 
--- The directory was synced: a host crash can neither remove the file nor create it.
+-- The effect of a sync of the directory. A host crash can neither remove the file nor create it.
 pub record FilePlaces (old new : Stored) : Type 0 where
   pub name : new.name ≡ old.name
   pub file : file_in new ≡ record (file_in old) { unplaced = false }
 
--- The file was missing and was created, empty. A host crash may remove it.
+-- The effect of creating a file that was missing. The file is empty, and a host crash may remove it.
 pub record IsCreatedNow (old new : Stored) : Type 0 where
   pub name : new.name ≡ old.name
   pub missing : (file_in old).seen ≡ None
   pub file : file_in new ≡ record { seen = Some []; steps = []; unplaced = true; out = old.out }
 
--- The effect of creating the file: after a failure the file is as it was.
+-- The effect of a call that creates the file. After a failure the file is as it was.
 abbrev pub FileCreates : {T E : Type 0} → Result T E → (old new : Stored) → Type 0
 FileCreates (Ok _) old new = IsCreatedNow old new
 FileCreates (Err _) old new = IsUnchanged old new
 
--- A vault or a log in the file was borrowed, and the file is empty. If it had to be new, it was missing before, and a
--- host crash can't remove it. Otherwise a host crash may remove it if it was missing, or if one could remove it before.
+-- The effect of lending a vault or a log in the file, which is then empty. If the file had to be new, it was missing
+-- before, and a host crash can't remove it. Otherwise a host crash may remove it if it was missing, or if a host crash
+-- could remove it before.
 pub record IsBorrowed (is_new : Bool) (old new : Stored) : Type 0 where
   pub name : new.name ≡ old.name
   pub missing : is_new ≡ true → (file_in old).seen ≡ None
@@ -169,18 +174,18 @@ pub record IsBorrowed (is_new : Bool) (old new : Stored) : Type 0 where
     out = true;
   }
 
--- The effect of borrowing a vault or a log in the file: after a failure the file is as it was.
+-- The effect of a call that lends a vault or a log in the file. After a failure the file is as it was.
 abbrev pub FileBorrows : {T E : Type 0} → Bool → Result T E → (old new : Stored) → Type 0
 FileBorrows is_new (Ok _) old new = IsBorrowed is_new old new
 FileBorrows is_new (Err _) old new = IsUnchanged old new
 
--- The file has these bytes, and a host crash can leave nothing else of it.
+-- The effect of giving the file these bytes durably. A host crash can leave nothing else of it.
 pub record FileIsDurable (bytes : List ℕ) (old new : Stored) : Type 0 where
   pub name : new.name ≡ old.name
   pub file : file_in new ≡ record { seen = Some bytes; steps = []; unplaced = false; out = false }
 
--- The vault in the file was taken back, and the file has its bytes. If it is sealed, a host crash can leave nothing
--- else.
+-- The effect of taking back the vault in the file, which then has the bytes of the vault. If the vault is sealed, a
+-- host crash can leave nothing else.
 pub record FileTakesBack (vault : VaultState) (old new : Stored) : Type 0 where
   pub name : new.name ≡ old.name
   pub file : file_in new ≡ record {
@@ -190,13 +195,14 @@ pub record FileTakesBack (vault : VaultState) (old new : Stored) : Type 0 where
     out = false;
   }
 
--- A read returns one of the contents that a host crash could have left before.
+-- The effect of a host crash on the file. A read then returns one of the contents that a host crash could have left
+-- before.
 pub record FileForgets (old new : Stored) : Type 0 where
   pub name : new.name ≡ old.name
   pub allowed : MayLeave (file_in old) (file_in new).seen
 
--- The process or the host was interrupted: a read returns what a host crash might have left, and a later host crash can
--- leave nothing else.
+-- The effect of an interruption of the process or the host. A read returns what a host crash might have left, and a
+-- later host crash can leave nothing else.
 pub record FileLoses (old new : Stored) : Type 0 where
   pub name : new.name ≡ old.name
   pub allowed : MayLeave (file_in old) (file_in new).seen

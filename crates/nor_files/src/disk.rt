@@ -21,8 +21,8 @@ use std::{fs, io};
 /// and obeys the contract of `Store` is assumed, and tested.
 ///
 /// Files opened by `hold` and `share` stay open and locked until the store is dropped. A later `read_named`, `sync`,
-/// `write_over` or `set_len` of the same name works on the file that was opened and locked. This holds even if the name
-/// refers to another file by then, but `sync` then returns `NotFound`.
+/// `write_over` or `set_len` of the same name works on the file that was opened and locked, even if the name refers to
+/// another file by then. In this case `sync` returns `NotFound`.
 ///
 /// `make` returns `NotFound` for a name that wasn't passed to `hold` or `share` before. The file that it creates stays
 /// open and locked, too. `sync`, `write_over` and `set_len` return `NotFound` for a name under which no file is open.
@@ -32,14 +32,14 @@ pub struct Disk<'a, R: Files> {
     held: Vec<Held<R::File>>,
     // Names that could not be looked up when `look_ahead` was called.
     unseen: RefCell<Vec<String>>,
-    // The file whose vault was taken back last. It stays open, and so locked.
+    // The file whose vault was taken back last. It stays open, and therefore locked.
     vaulted: Option<VaultedFile<'a, R>>,
     // Whether that vault was sealed.
     sealed: bool,
 }
 
 impl<'a, R: Files + AllocGlobal> Disk<'a, R> {
-    /// Returns the files of this runtime. None is opened yet.
+    /// Returns a store of the system's files, which it accesses through `files`. No file is open yet.
     pub fn new(files: &'a R) -> Disk<'a, R> {
         Disk {
             files,
@@ -50,12 +50,12 @@ impl<'a, R: Files + AllocGlobal> Disk<'a, R> {
         }
     }
 
-    // Returns the entry of a file that the run keeps under this name, if there is one.
+    // Returns the entry with this name among the files that the run keeps open, if there is one.
     fn held(&self, name: &str) -> Option<&Held<R::File>> {
         self.held.iter().find(|held| held.name.as_str() == name)
     }
 
-    // True if this name could not be looked up ahead.
+    // True if `look_ahead` could not look up this name.
     fn is_unseen(&self, name: &str) -> bool {
         match self.unseen.try_borrow() {
             Ok(unseen) => unseen.iter().any(|unseen| unseen.as_str() == name),
@@ -248,8 +248,8 @@ where
     }
 }
 
-/// Reads the rest of `file`, but not more than `most` bytes. If the file reports its length, memory for one byte more
-/// than this length, or than `most` if that is less, is allocated at once.
+/// Reads the rest of `file`, but not more than `most` bytes. Before it reads, it allocates one byte more than the
+/// length that the file reports, or than `most` if that is less.
 pub fn read_up_to<F: Read + OpenFile + Drop>(
     alloc: Global,
     file: F,
@@ -261,7 +261,7 @@ pub fn read_up_to<F: Read + OpenFile + Drop>(
         Ok(metadata) => metadata.len().min(most),
         Err(_) => 0,
     };
-    // One byte more than is expected, so that the read at the end needs no further allocation.
+    // One byte more than expected, so that the read that finds the end of the file needs no further allocation.
     let room = (length as usize).saturating_add(1);
     let mut bytes = Vec::with_capacity(alloc, room)?;
     file.take(most).read_to_end(&mut bytes)?;

@@ -11,17 +11,18 @@ use std::os::unix::fs::MetadataExt;
 use std::rt::Files;
 use std::{fs, io};
 
-/// A named file, open and locked, or `None` for a file that was missing.
+/// A file that is open and locked, with its name. `file` is `None` if the file was missing.
 #[derive(Drop)]
 pub struct Held<F> {
     pub name: String,
     pub file: Option<F>,
-    /// The length that the file must have at a sync: the one that the run set, if it didn't write to the file since.
+    /// The length that the file must have at a sync, if the run set its length and hasn't written to it since.
     pub len: Option<u64>,
 }
 
 /// Opens a file of the chip that the run will write, and locks it exclusively. A missing file is recorded as missing.
-/// Fails if the name refers to anything but a regular file, or is a dangling link. Also fails if the file can't be
+///
+/// Fails if the name is a dangling link, or refers to anything but a regular file. Also fails if the file can't be
 /// looked up, opened for reading and writing, or locked, or if the program is out of memory.
 pub fn hold_chip<R: Files>(files: &R, alloc: Global, name: &str) -> Result<Held<R::File>, LockFault>
 where
@@ -83,8 +84,8 @@ fn is_there<R: Files>(files: &R, name: &str) -> Result<bool, LockFault> {
     }
 }
 
-// Returns false if neither a file nor a link of this name exists. Otherwise the error is `Unheld`, as for a dangling
-// link.
+// Checks that neither a file nor a link of this name exists, and then returns false. Otherwise the error is `Unheld`,
+// for example for a dangling link.
 fn is_nowhere<R: Files>(files: &R, name: &str) -> Result<bool, LockFault> {
     match fs::symlink_metadata(files, name) {
         Err(error) if error.kind() == ErrorKind::NotFound => Ok(false),
@@ -109,7 +110,8 @@ where
     }
 }
 
-// Opens the named file for reading and writing. The error is `Unheld` if it can only be opened for reading.
+// Opens the named file for reading and writing. The error is `Unheld` if the file can only be opened for reading, and
+// `Unread` if it can't be opened at all.
 fn open_both<R: Files>(files: &R, name: &str) -> Result<R::File, LockFault> {
     let opened = OpenOptions::new().read(true).write(true).open(files, name);
     match opened {
@@ -121,7 +123,7 @@ fn open_both<R: Files>(files: &R, name: &str) -> Result<R::File, LockFault> {
     }
 }
 
-// Opens the named file for reading, and locks it against runs that write it.
+// Opens the named file for reading, and locks it so that no other run writes to it.
 fn open_shared<R: Files>(files: &R, name: &str) -> Result<R::File, LockFault>
 where
     R::File: LockFile,
@@ -143,8 +145,9 @@ pub fn write_from_start<F: Write + Seek>(file: &mut F, bytes: &[u8]) -> io::Resu
     file.write_all(bytes)
 }
 
-/// Syncs an open file, and checks that its name still refers to it, and that it has the length that was set (`len`), if
-/// one was. Returns `NotFound` if not, or if no file is open: a later run would not find what this one wrote.
+/// Syncs an open file. Then checks that its name still refers to it, and that it has the length `len`, if there is one.
+/// Otherwise a later run would not find what this run wrote, so the error is `NotFound`. The error is `NotFound`, too,
+/// if no file is open.
 pub fn sync_under<R: Files>(files: &R, held: &Held<R::File>) -> io::Result<()> {
     let Some(file) = &held.file else {
         return Err(ErrorKind::NotFound.into());
@@ -158,7 +161,8 @@ pub fn sync_under<R: Files>(files: &R, held: &Held<R::File>) -> io::Result<()> {
     }
 }
 
-/// Returns the mode for a new file, as for `chmod`: read and write for all, except what any of these open files lacks.
+/// Returns the permissions for a new file: read and write for everyone, except the permissions that any of these open
+/// files lacks. A file whose permissions can't be read counts as having 0600.
 pub fn mode_beside<F: OpenFile>(held: &[Held<F>]) -> u32 {
     let mut mode = 0o666;
     for held in held {
@@ -170,7 +174,7 @@ pub fn mode_beside<F: OpenFile>(held: &[Held<F>]) -> u32 {
     mode
 }
 
-// Returns the mode of a file, or read and write for its owner only if the mode can't be read.
+// Returns the permissions of a file, or 0600 (read and write for the owner only) if they can't be read.
 fn mode_of(metadata: io::Result<Metadata>) -> u32 {
     match metadata {
         Ok(metadata) => metadata.mode(),

@@ -10,9 +10,9 @@ use std::io::ErrorKind;
 use std::os::unix::fs::MetadataExt;
 use std::rt::Files;
 
-/// Returns whether two names refer to one file: the same device and inode, or, if neither exists, the same last part in
-/// the same existing directory. A link to a file that doesn't exist counts as missing. Returns as the error a name that
-/// can't be looked up.
+/// Returns whether two names refer to one file. If both files exist, they must have the same device and inode. If
+/// neither exists, the names must have the same last part, in the same existing directory. A link to a file that
+/// doesn't exist counts as missing. If a name can't be looked up, returns this name as the error.
 pub fn is_one_file<'n, R: Files>(files: &R, one: &'n str, other: &'n str) -> Result<bool, &'n str>
     ensures { IfErr result (λ name. name.now ≡ one.now ⊎ name.now ≡ other.now) }
 {
@@ -23,9 +23,9 @@ pub fn is_one_file<'n, R: Files>(files: &R, one: &'n str, other: &'n str) -> Res
     }
 }
 
-/// Returns whether the name refers to a regular file to which this stream prints. The name is looked up only if the
-/// stream is a regular file. Returns the name as the error if that fails. If the stream can't be looked up, the result
-/// is false.
+/// Returns whether the name refers to a regular file to which this stream prints. If the stream can't be looked up, or
+/// isn't a regular file, the result is false, and the name isn't looked up. If the name can't be looked up, returns it
+/// as the error.
 pub fn is_stream<'n, R: Files>(files: &R, stream: Stream, name: &'n str) -> Result<bool, &'n str>
     ensures { IfErr result (λ unseen. unseen.now ≡ name.now) }
 {
@@ -39,7 +39,8 @@ pub fn is_stream<'n, R: Files>(files: &R, stream: Stream, name: &'n str) -> Resu
     }
 }
 
-/// Returns the last name under which a standard stream was looked up, if that failed by each of its names.
+/// Returns `/dev/fd/1` if standard output can't be looked up by either of its names, else `/dev/fd/2` if standard error
+/// can't.
 pub fn unseen_stream<R: Files>(files: &R) -> Option<&'static str>
     ensures { IfSome result (λ name. IsStreamName name.now) }
 {
@@ -52,8 +53,8 @@ pub fn unseen_stream<R: Files>(files: &R) -> Option<&'static str>
     None
 }
 
-// Returns the metadata of a stream of this process, by its names in Linux. Its first name exists only if /proc is that
-// of this process.
+// Returns the metadata of a stream of this process, which Linux shows under two names. The first name exists only if
+// the mounted /proc shows this process.
 fn look_at<R: Files>(files: &R, stream: Stream) -> Option<Metadata> {
     let (first, second) = match stream {
         Stream::Output => ("/proc/self/fd/1", "/dev/fd/1"),
@@ -65,13 +66,13 @@ fn look_at<R: Files>(files: &R, stream: Stream) -> Option<Metadata> {
     }
 }
 
-/// True if both are of the same device and inode.
+/// True if both files have the same device and inode.
 pub fn is_same(one: &Metadata, other: &Metadata) -> bool {
     one.dev() == other.dev() && one.ino() == other.ino()
 }
 
-// Returns whether two missing files would be one if they were created: the same last part in the same existing
-// directory.
+// Returns whether two missing files would be the same file if they were created: the names have the same last part, and
+// their directories are the same existing one.
 fn will_be_one_file<'n, R: Files>(files: &R, one: &'n str, other: &'n str) -> Result<bool, &'n str>
     ensures { IfErr result (λ name. name.now ≡ one.now ⊎ name.now ≡ other.now) }
 {
@@ -87,7 +88,8 @@ fn will_be_one_file<'n, R: Files>(files: &R, one: &'n str, other: &'n str) -> Re
     }
 }
 
-// Returns the metadata of a path, or `None` if it doesn't exist. For any other failure the error is `name`.
+// Returns the metadata of a path, or `None` if it doesn't exist. If the look-up fails in another way, the error is
+// `name`.
 fn look<'n, R: Files>(files: &R, path: &str, name: &'n str) -> Result<Option<Metadata>, &'n str>
     ensures { IfErr result (λ unseen. unseen.now ≡ name.now) }
 {

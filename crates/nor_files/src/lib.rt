@@ -2,7 +2,7 @@
 //!
 //! A `Store` reads, locks, creates, overwrites and syncs files, and lends vaults and logs in them. Contracts see the
 //! bytes of each file, what a host crash may leave of it, and how many calls can still succeed. A clause for every exit
-//! of a function therefore covers a kill at each call that is counted.
+//! of a function therefore covers a kill at each of these calls.
 //!
 //! ```rust
 //! use nor_files::{Loss, Memory, Store};
@@ -25,8 +25,8 @@
 //! - `memory.rt`: `Memory`, files in memory that obey the contract, and on which only a given number of calls succeed
 //! - `stored.rt`: one file in memory, and what a host crash may leave of it
 //!
-//! `specs/Files.antt` has the state that contracts see, `specs/OneFile.antt` what it says about several names of one
-//! file, `specs/Calls.antt` the effect of each call.
+//! `specs/Files.antt` defines the state that contracts see, `specs/OneFile.antt` what this state says about several
+//! names of one file, and `specs/Calls.antt` the effect of each call.
 #![tactic(auto)]
 
 mod disk;

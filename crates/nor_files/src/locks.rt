@@ -8,11 +8,11 @@ use std::io::ErrorKind;
 /// A file that can be locked against other runs, until it is closed.
 pub trait LockFile {
     /// Locks the file exclusively, without waiting. Returns false if another process has locked it. On a file system
-    /// without locks it locks nothing and returns true.
+    /// without locks, it locks nothing and returns true.
     fn lock_alone(&self) -> io::Result<bool>;
 
-    /// Locks the file for reading, without waiting; other runs can lock it for reading at the same time. Returns false
-    /// if another process has locked it exclusively. On a file system without locks it locks nothing and returns true.
+    /// Locks the file for reading, without waiting. Other runs can lock it for reading at the same time. Returns false
+    /// if another process has locked it exclusively. On a file system without locks, it locks nothing and returns true.
     fn lock_shared(&self) -> io::Result<bool>;
 }
 

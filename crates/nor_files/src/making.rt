@@ -11,7 +11,8 @@ use std::os::unix::fs::OpenOptionsExt;
 use std::rt::Files;
 use std::{fs, io};
 
-/// Creates the named file with this mode, and locks it. The error is `There` if a file or link of this name exists.
+/// Creates the named file with the permissions `mode`, and locks it. The error is `There` if a file or link of this
+/// name exists, `Busy` if another process locks the file first, and `Unmade` if the file can't be created or locked.
 pub fn make_new<R: Files>(files: &R, name: &str, mode: u32) -> Result<R::File, CreateFault>
 where
     R::File: LockFile,
@@ -27,7 +28,8 @@ where
     Ok(file)
 }
 
-/// Creates or truncates the named file. `open_log` says which files are refused, and which aren't truncated.
+/// Creates or truncates the named file. The files that `open_log` refuses are refused here, too, and a FIFO, a device
+/// or a terminal isn't truncated.
 pub fn make_empty<R: Files>(files: &R, name: &str) -> Result<R::File, CreateFault>
 where
     R::File: LockFile,
@@ -39,9 +41,10 @@ where
     }
 }
 
-/// Creates the named file, or opens it for a log. A regular file is locked, and truncated only later. A journal is
-/// never truncated, since it may be the only way to restore a chip: the error is `There`. A FIFO, a device or a
-/// terminal is opened as it is, without a lock.
+/// Creates the named file, or opens it for a log. A regular file is locked, and is truncated only when the log is
+/// written. A FIFO, a device or a terminal is opened as it is, without a lock.
+///
+/// A journal is never truncated, because it may be the only way to restore a chip. For a journal, the error is `There`.
 pub fn open_log<R: Files>(files: &R, name: &str) -> Result<LogFile<R::File>, CreateFault>
 where
     R::File: LockFile,
@@ -103,12 +106,12 @@ fn is_journal<F: Read>(file: &mut F) -> io::Result<bool> {
     }
 }
 
-/// A file that is truncated just before its first write, or at a flush if nothing was written. A run that ends before
-/// its call leaves the bytes of an older file as they were.
+/// A file that is truncated just before its first write, or at a flush if nothing was written. If a run ends before
+/// that, the file keeps its old bytes.
 #[derive(Drop)]
 pub struct LogFile<F> {
     file: F,
-    // Whether the file may still have older bytes.
+    // Whether the file still has to be truncated.
     is_old: bool,
 }
 
@@ -136,7 +139,7 @@ impl<F: OpenFile + Write> Write for LogFile<F> {
 }
 
 /// A file that a vault writes to. If it has a name, a sync also checks that the name still refers to this file, and
-/// that its length is the number of bytes written.
+/// that the length of the file is the number of bytes written.
 #[derive(Drop)]
 pub struct VaultedFile<'a, R: Files> {
     files: &'a R,
@@ -147,7 +150,7 @@ pub struct VaultedFile<'a, R: Files> {
 
 impl<'a, R: Files> VaultedFile<'a, R> {
     /// Returns `file`, which must be empty, as a file for a vault. With a `name`, each sync checks that the name still
-    /// refers to the file and that the file has the length that was written.
+    /// refers to the file, and that the length of the file is the number of bytes written.
     pub fn new(files: &'a R, file: R::File, name: Option<String>) -> VaultedFile<'a, R> {
         VaultedFile {
             files,
@@ -157,8 +160,8 @@ impl<'a, R: Files> VaultedFile<'a, R> {
         }
     }
 
-    /// Checks that a later run finds this file under its name, with the number of bytes written. Returns `NotFound` if
-    /// the name refers to another file, or if the length differs.
+    /// Checks that a later run finds this file under its name, with the number of bytes written. A file without a name
+    /// isn't checked. Returns `NotFound` if the name refers to another file, or if the length differs.
     pub fn check(&self) -> io::Result<()> {
         let Some(name) = &self.name else {
             return Ok(());
@@ -173,7 +176,7 @@ impl<'a, R: Files> VaultedFile<'a, R> {
     }
 }
 
-// Writes some of the bytes. Tries again while a signal interrupts the write.
+// Writes some of the bytes, and returns their number. If a signal interrupts the write, tries again.
 fn write_again<F: Write>(file: &mut F, bytes: &[u8]) -> io::Result<usize>
     ensures { WritesAtMost result bytes.now }
 {
@@ -187,7 +190,7 @@ fn write_again<F: Write>(file: &mut F, bytes: &[u8]) -> io::Result<usize>
 }
 
 impl<R: Files> Write for VaultedFile<'_, R> {
-    // A vault takes each error for a refusal, so a write that a signal interrupted is tried again here.
+    // A vault treats each error as a refusal. Therefore a write that a signal interrupted is tried again here.
     fn write(&mut self, bytes: &[u8]) -> io::Result<usize> {
         let taken = write_again(&mut self.file, bytes)?;
         self.written = self.written.saturating_add(taken as u64);

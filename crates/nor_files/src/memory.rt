@@ -11,9 +11,9 @@ use std::alloc::{AllocError, Global};
 use std::io::{ErrorKind, Sink};
 use std::{io, mem};
 
-/// Files in memory that obey the contract of `Store`. At most a given number of these calls succeed: `hold`, `sync`,
-/// `sync_folder`, `write_over`, `set_len`, `make`, `vault_in_new`, `vault_in` and `log_in`. Each further one fails and
-/// changes nothing.
+/// Files in memory that obey the contract of `Store`. At most a given number of calls of these functions succeed:
+/// `hold`, `sync`, `sync_folder`, `write_over`, `set_len`, `make`, `vault_in_new`, `vault_in` and `log_in`. Each
+/// further call fails and changes nothing.
 ///
 /// A host crash may leave each byte as it was at the last sync of the file, or as any later write or change of length
 /// made it. A file whose vault or log was borrowed since its last sync may have any bytes. A file that was created may
@@ -23,10 +23,10 @@ use std::{io, mem};
 pub struct Memory {
     alloc: Global,
     files: Vec<Stored>,
-    // The name of the file whose vault was borrowed last and not yet taken back.
+    // The name of the file whose vault was lent last and not yet taken back.
     borrowed: Option<Vec<u8>>,
     left: u64,
-    // Whether `write_over` writes only half of its bytes, and fails, if it is the last call that is left.
+    // Whether `write_over` fails after half of its bytes, if it is the last call that is left.
     torn: bool,
     ghost borrowed_is_there: { is_borrowed_there files.items (option_map (λ name. name.items) borrowed) ≡ true },
 }
@@ -45,8 +45,8 @@ impl Memory {
         }
     }
 
-    /// Creates or replaces the named file, durably: it has these bytes even after a host crash. This doesn't count as a
-    /// call. Fails if memory runs out.
+    /// Creates or replaces the named file durably, so that it has these bytes even after a host crash. This doesn't
+    /// count as a call. Fails if memory runs out.
     pub fn put(&mut self, name: &str, bytes: &[u8]) -> Result<(), AllocError>
         ensures left { self.new.left ≡ self.old.left }
         ensures puts { OnOk result (IsDurable name.now (Some bytes.now) (memory_state self.new)) }
@@ -58,8 +58,8 @@ impl Memory {
         Ok(())
     }
 
-    /// Makes `write_over` write only the first half of its bytes, and fail, if it is the last call that is left. Only a
-    /// write of no bytes then succeeds.
+    /// From now on, if `write_over` is the last call that is left, it writes only the first half of its bytes, and then
+    /// fails. Only a write of no bytes then succeeds.
     pub fn tear(&mut self)
         ensures left { self.new.left ≡ self.old.left }
         ensures stay { AllStay (memory_state self.old) (memory_state self.new) }
@@ -67,8 +67,8 @@ impl Memory {
         self.torn = true;
     }
 
-    /// Returns the files after an interruption now, on which at most `left` calls succeed. Each file is one that a host
-    /// crash might have left, and a later host crash can leave nothing else of it.
+    /// Interrupts the run now, and returns the files that are left, on which at most `left` calls succeed. Each file is
+    /// one that a host crash might have left, and a later host crash can leave nothing else of it.
     pub fn lose(self, loss: Loss, left: u64) -> Memory
         ensures left { (memory_state result).left ≡ left }
         ensures at_rest { AreAtRest (memory_state result) }
@@ -120,7 +120,7 @@ impl Memory {
         }
     }
 
-    // Returns the index of the entry for the named file. Appends an entry for a missing file if there is none.
+    // Returns the index of the entry for the named file. If there is none, first appends an entry for a missing file.
     fn keep_place(&mut self, name: &str) -> Result<usize, AllocError>
         ensures at { IfOk result (λ at. position (is_named name.now) self.new.files.items ≡ Some at) }
         ensures same { (any : Name) → file_named self.new.files.items any ≡ file_named self.old.files.items any }
@@ -136,8 +136,8 @@ impl Memory {
         Ok(at)
     }
 
-    // Creates or truncates the named file, for a vault or a log. Fails if no call is left, if memory runs out, or if
-    // `is_new` is set and the file exists.
+    // Creates or truncates the named file, to lend a vault or a log in it. Fails if no call is left, if memory runs
+    // out, or if `is_new` is set and the file exists.
     fn lend(&mut self, name: &str, is_new: bool) -> io::Result<()>
         ensures counts { Counts result (memory_state self.old) (memory_state self.new) }
         ensures others { OthersStay name.now (memory_state self.old) (memory_state self.new) }

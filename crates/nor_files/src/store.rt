@@ -6,7 +6,7 @@ use std::error::Error;
 use std::io::{ErrorKind, Write};
 use std::{fmt, io};
 
-/// Why a file can't be opened and locked by `hold` or `share`.
+/// The reason why `hold` or `share` can't open and lock a file.
 #[derive(Debug, Drop)]
 pub enum LockFault {
     /// The file can't be looked up, opened or read, or the program is out of memory.
@@ -30,10 +30,11 @@ impl fmt::Display for LockFault {
 
 impl Error for LockFault {}
 
-/// Why a file can't be created or truncated.
+/// The reason why a file can't be created or truncated.
 #[derive(Debug, Drop)]
 pub enum CreateFault {
-    /// The file must be new, but a file or link of its name exists; or it is a journal, which `Disk` never truncates.
+    /// The file must be new, but a file or link of its name exists. Or the file is a journal, which `Disk` never
+    /// truncates.
     There,
     /// Another process has locked the file.
     Busy,
@@ -98,16 +99,19 @@ pub enum Stream {
 
 /// The files of a run, by their names.
 ///
-/// Contracts see the files as a `FilesState`. If the state is lawful, the files obey the contract. Each call then has
-/// the effect that its clauses give for success or failure, and the state says what a host crash may leave at each
-/// moment. For other files, such as those of `Disk`, most clauses say nothing. A clause proved for every lawful store
-/// covers an interruption at each call that is counted, because such a call fails and changes nothing if none is left.
+/// Contracts see the files as a `FilesState`. If the state is lawful, the files obey the contract: each call has the
+/// effect that its clauses give for success or failure, and the state says what a host crash may leave at each moment.
+/// For files that aren't lawful, such as those of `Disk`, most clauses say nothing. On lawful files, each call that is
+/// counted fails and changes nothing if no call is left. A clause proved for every lawful store therefore covers an
+/// interruption at each of these calls.
 ///
 /// A file may have several names. On lawful files, a call on a name leaves each file whose name is apart from it as it
-/// was; `is_one_file` returns false only for names that are apart. Names that aren't apart are names of one file: a
-/// read of either returns the same (`names_of_one`). Nothing is promised about other names of the same file, except
-/// that `hold` and `share` leave all files as they were, and for syncs. After a successful `sync` or any `sync_folder`,
-/// a read of another name returns the same as before, if no vault or log in that file is borrowed.
+/// was. `is_one_file` returns false only for names that are apart. Names that aren't apart are names of one file, so a
+/// read of either name returns the same (`names_of_one`).
+///
+/// Nothing is promised about other names of the file that a call changes, with two exceptions. `hold` and `share` leave
+/// all files as they were. After a successful `sync` or any `sync_folder`, a read of another name returns the same as
+/// before, if no vault or log in that file is borrowed.
 pub trait Store: AllocGlobal {
     ghost use Rattle.std.specs.Prelude.{◌≡◌, ◌⊎◌, false, true, None, IfErr, IfOk, IfSome, Ok, OnErr, OnOk, option_map};
     ghost use Rattle.nor_journal.specs.Vault.{IsFresh};
@@ -129,9 +133,11 @@ pub trait Store: AllocGlobal {
     type Log: Write + Drop;
 
     /// Returns whether the two names refer to one file: they are equal, or refer to the same file of the system, or, if
-    /// neither file exists yet, have the same last part in the same directory. If the result is false, the names are
-    /// apart: on lawful files a call on one of them leaves the other as it is, and on the system's files the names
-    /// differ. Returns as the error a name that can't be looked up.
+    /// neither file exists yet, have the same last part in the same directory. If a name can't be looked up, returns
+    /// this name as the error.
+    ///
+    /// If the result is false, the names are apart. On lawful files, a call on one of them then leaves the file of the
+    /// other as it is. On the system's files, this says only that the names differ.
     fn is_one_file<'n>(&self, one: &'n str, other: &'n str) -> Result<bool, &'n str>
         ensures shared { IfOk result (λ is_one. is_one ≡ true
             → (state self.now).view.nature.fails (Shared one.now other.now) ≡ true) }
@@ -141,26 +147,26 @@ pub trait Store: AllocGlobal {
         ensures either { IfErr result (λ name. name.now ≡ one.now ⊎ name.now ≡ other.now) }
         ensures unseen { IfErr result (λ name. (state self.now).view.nature.fails (Unread name.now) ≡ true) };
 
-    /// Returns whether the named file is a regular file to which this stream prints. Returns the name as the error if
-    /// it can't be looked up. If the stream can't be looked up, the result is false (`unseen_stream`).
+    /// Returns whether the named file is a regular file to which this stream prints. If the name can't be looked up,
+    /// returns it as the error. If the stream can't be looked up, the result is false (see `unseen_stream`).
     fn is_stream<'n>(&self, stream: Stream, name: &'n str) -> Result<bool, &'n str>
         ensures printed { IfOk result (λ is_stream. is_stream ≡ true
             → (state self.now).view.nature.fails (Printed name.now) ≡ true) }
         ensures unseen { IfErr result (λ unseen. (unseen.now ≡ name.now)
             × ((state self.now).view.nature.fails (Unread name.now) ≡ true)) };
 
-    /// Returns the name of standard output or standard error, if that stream can't be looked up. Then no file can be
-    /// compared with it.
+    /// Returns a name of standard output or standard error, if this stream can't be looked up. No file can then be
+    /// compared with the stream.
     fn unseen_stream(&self) -> Option<&'static str>
         ensures { IfSome result (λ name. IsStreamName name.now
             × ((state self.now).view.nature.fails (Unread name.now) ≡ true)) };
 
     /// Looks up a file before the run opens other files. If that fails, a later `read_named` of this name finds no
-    /// file, even if the name refers to one by then, as `/dev/fd/6` may. Contracts see no effect. Fails if the program
-    /// is out of memory.
+    /// file, unless a call such as `hold` opened it. Otherwise a name such as `/dev/fd/6` could refer to a file that
+    /// the run itself opened in the meantime. Contracts see no effect. Fails if the program is out of memory.
     fn look_ahead(&self, name: &str) -> Result<(), AllocError>;
 
-    /// Returns whether a file of this name exists, or a link.
+    /// Returns whether a file or a link of this name exists.
     fn is_there(&self, name: &str) -> bool
         ensures { result ≡ true → (state self.now).view.nature.fails (There name.now) ≡ true };
 
@@ -168,25 +174,29 @@ pub trait Store: AllocGlobal {
     fn is_waiting(&self, name: &str) -> bool
         ensures { result ≡ true → (state self.now).view.nature.fails (Unread name.now) ≡ true };
 
-    /// Returns the bytes of the named file, but not more than the first `most`, or `None` if it is missing. The clause
-    /// `read` holds for a lawful file without a borrowed vault or log.
+    /// Returns the bytes of the named file, but not more than the first `most`, or `None` if the file is missing. Fails
+    /// if the file can't be opened or read, or if the program is out of memory. For a lawful file without a borrowed
+    /// vault or log, the clause `read` says which bytes are returned.
     fn read_named(&self, name: &str, most: u64) -> io::Result<Option<Vec<u8>>>
         ensures read { IfOk result (λ found.
             ReadsFile name.now most (option_map (λ bytes. bytes.items) found) (state self.now).view) }
         ensures unread { OnErr result ((state self.now).view.nature.fails (Unread name.now) ≡ true) };
 
-    /// Opens and locks the named file, if it exists, so that it can be overwritten later. The lock of a `Disk` keeps
-    /// other runs off until the store is dropped, if the file system has locks; contracts don't describe locks. Returns
-    /// whether the file exists. On lawful files, all files are as they were.
+    /// Opens and locks the named file, if it exists, so that it can be overwritten later. Returns whether the file
+    /// exists. On lawful files, all files are as they were.
+    ///
+    /// The lock of a `Disk` keeps other runs off until the store is dropped, if the file system has locks. Contracts
+    /// don't describe locks.
     fn hold(&mut self, name: &str) -> Result<bool, LockFault>
         ensures nature { (state self.new).view.nature ≡ (state self.old).view.nature }
         ensures holds { is_lawful (state self.old).view ≡ true
             → Holds name.now result (state self.old) (state self.new) }
         ensures fails { IfErr result (IsLockFault (state self.old).view.nature name.now) };
 
-    /// Locks the named file, if it exists, for reading. The lock of a `Disk` keeps other runs from overwriting the file
-    /// until the store is dropped, if the file system has locks; contracts don't describe locks. All files are as they
-    /// were.
+    /// Locks the named file, if it exists, for reading. All files are as they were.
+    ///
+    /// The lock of a `Disk` keeps other runs from overwriting the file until the store is dropped, if the file system
+    /// has locks. Contracts don't describe locks.
     fn share(&mut self, name: &str) -> Result<(), LockFault>
         ensures same { AreUntouched (state self.old) (state self.new) }
         ensures fails { IfErr result (IsLockFault (state self.old).view.nature name.now) };
@@ -209,8 +219,8 @@ pub trait Store: AllocGlobal {
             → Syncs name.now result (state self.old) (state self.new) }
         ensures fails { OnErr result ((state self.old).view.nature.fails (Unwritten name.now) ≡ true) };
 
-    /// Syncs the directory of the named file. For lawful files without a borrowed vault or log: a read of each file
-    /// returns the same as before, and after success a host crash can neither remove this file nor create it.
+    /// Syncs the directory of the named file. For lawful files without a borrowed vault or log, a read of each file
+    /// returns the same as before. After success, a host crash can neither remove the named file nor create it.
     fn sync_folder(&mut self, name: &str) -> io::Result<()>
         ensures nature { (state self.new).view.nature ≡ (state self.old).view.nature }
         ensures alone { is_lawful (state self.old).view ≡ true
@@ -220,9 +230,10 @@ pub trait Store: AllocGlobal {
             → Places name.now result (state self.old) (state self.new) }
         ensures fails { OnErr result ((state self.old).view.nature.fails (Unwritten name.now) ≡ true) };
 
-    /// Overwrites the named file in place with `bytes`, from its start, without truncating it. On lawful files without
-    /// a borrowed vault or log, a failure may have written some of the bytes; after success or failure, until the next
-    /// sync, a host crash may leave any mix of old and new bytes.
+    /// Overwrites the named file in place with `bytes`, from its start, without truncating it.
+    ///
+    /// For lawful files without a borrowed vault or log, a failed call may have written some of the bytes. Until the
+    /// next sync, a host crash may leave any mix of old and new bytes, whether the call succeeded or failed.
     fn write_over(&mut self, name: &str, bytes: &[u8]) -> io::Result<()>
         ensures nature { (state self.new).view.nature ≡ (state self.old).view.nature }
         ensures alone { is_lawful (state self.old).view ≡ true
@@ -231,9 +242,9 @@ pub trait Store: AllocGlobal {
             → WritesOver name.now bytes.now result (state self.old) (state self.new) }
         ensures fails { OnErr result ((state self.old).view.nature.fails (Unwritten name.now) ≡ true) };
 
-    /// Sets the length of the named file to `len` bytes. If it grows, the added bytes are 0. On lawful files without a
-    /// borrowed vault or log, until the next sync a host crash may leave what it could leave before, or that with the
-    /// new length.
+    /// Sets the length of the named file to `len` bytes. If the file grows, the added bytes are 0. For lawful files
+    /// without a borrowed vault or log, a host crash before the next sync may leave a content that it could leave
+    /// before, or such a content with its length changed to `len`.
     fn set_len(&mut self, name: &str, len: u64) -> io::Result<()>
         ensures nature { (state self.new).view.nature ≡ (state self.old).view.nature }
         ensures alone { is_lawful (state self.old).view ≡ true
@@ -242,7 +253,7 @@ pub trait Store: AllocGlobal {
             → SetsLength name.now len result (state self.old) (state self.new) }
         ensures fails { OnErr result ((state self.old).view.nature.fails (Unwritten name.now) ≡ true) };
 
-    /// Creates the named file, which must not exist; the new file is empty. A host crash may remove it again until its
+    /// Creates the named file, which must not exist. The new file is empty. A host crash may remove it until its
     /// directory is synced. On lawful files, a failure leaves the file as it was, if no vault or log in it is borrowed.
     fn make(&mut self, name: &str) -> io::Result<()>
         ensures nature { (state self.new).view.nature ≡ (state self.old).view.nature }
@@ -252,10 +263,11 @@ pub trait Store: AllocGlobal {
             → Creates name.now result (state self.old) (state self.new) }
         ensures fails { OnErr result ((state self.old).view.nature.fails (Unwritten name.now) ≡ true) };
 
-    /// Creates the named file, which must not exist, and lends a vault in it; give the vault to `return_vault` when it
-    /// is complete. `Disk` returns `There` for an existing file, and syncs the directory. After a failure on lawful
-    /// files, a host crash can leave of this file only what it could leave before, or an empty file if it was missing.
-    /// This requires that no vault or log in the file was borrowed before the call.
+    /// Creates the named file, which must not exist, and lends a vault in it. Give the vault to `return_vault` when it
+    /// is complete. `Disk` returns `There` if the file exists, and syncs the directory of the file.
+    ///
+    /// On lawful files, if no vault or log in the file was borrowed before a failed call, a host crash can leave of
+    /// this file only what it could leave before, or an empty file if it was missing.
     fn vault_in_new(&mut self, name: &str) -> Result<Self::Filed, CreateFault>
         ensures nature { (state self.new).view.nature ≡ (state self.old).view.nature }
         ensures fresh { IfOk result (λ vault. IsFresh (Self.Filed.state vault)) }
@@ -269,7 +281,7 @@ pub trait Store: AllocGlobal {
             → OthersStay name.now (state self.old) (state self.new) }
         ensures unmade { IfErr result (IsCreateFault (state self.old).view.nature name.now) };
 
-    /// Creates or truncates the named file, and lends a vault in it; give the vault to `return_vault` when it is
+    /// Creates or truncates the named file, and lends a vault in it. Give the vault to `return_vault` when it is
     /// complete. `Disk` refuses to truncate a journal.
     fn vault_in(&mut self, name: &str) -> Result<Self::Filed, CreateFault>
         ensures nature { (state self.new).view.nature ≡ (state self.old).view.nature }
@@ -283,21 +295,22 @@ pub trait Store: AllocGlobal {
         ensures unmade { IfErr result (IsCreateFault (state self.old).view.nature name.now) };
 
     /// Takes back the vault that was borrowed last, and returns whether it is sealed. On lawful files, that vault is
-    /// faithful (`telling`), the file has its bytes, and if it is sealed, a host crash can leave nothing else.
+    /// faithful (`telling`), and the file then has exactly its bytes. If it is sealed, a host crash can leave nothing
+    /// else.
     fn return_vault(&mut self, vault: Self::Filed) -> bool
         ensures nature { (state self.new).view.nature ≡ (state self.old).view.nature }
         ensures sealed { result ≡ (Self.Filed.state vault).sealed }
         ensures takes { is_lawful (state self.old).view ≡ true → (name : Name) → (state self.old).borrowed ≡ Some name
             → TakesBack name (Self.Filed.state vault) (state self.old) (state self.new) };
 
-    /// Returns whether the named file still has the vault that was taken back last, if that vault was sealed: the name
-    /// refers to the same file, and the file has as many bytes as were written to the vault. Returns true if that vault
-    /// wasn't sealed.
+    /// Returns whether a later run will find the vault that was taken back last, if that vault was sealed. Its file
+    /// must still have the name `name`, and as many bytes as were written to the vault. Returns true if that vault
+    /// wasn't sealed, or if no vault was taken back. `Disk` checks only files of `vault_in_new`.
     fn is_kept(&self, name: &str) -> bool
         ensures { result ≡ false → (state self.now).view.nature.fails (Unwritten name.now) ≡ true };
 
-    /// Creates or truncates the named file, and lends it as a log. `Disk` refuses to truncate a journal. It truncates
-    /// an existing file only before the first write, or at a flush if nothing was written.
+    /// Creates or truncates the named file, and lends it as a log. `Disk` refuses to truncate a journal. It doesn't
+    /// truncate any other existing file at once, but just before the first write, or at a flush if nothing was written.
     fn log_in(&mut self, name: &str) -> Result<Self::Log, CreateFault>
         ensures nature { (state self.new).view.nature ≡ (state self.old).view.nature }
         ensures alone { is_lawful (state self.old).view ≡ true
@@ -306,11 +319,12 @@ pub trait Store: AllocGlobal {
             → OnErr result (Fails (state self.old) (state self.new)) }
         ensures unmade { IfErr result (IsCreateFault (state self.old).view.nature name.now) };
 
-    // A host crash may leave what a read returns, on every store. A killed process leaves just that.
+    // A law of every store: a host crash may leave what a read returns. A killed process leaves exactly that.
     ghost seen_may_stay: { (files : Self) (name : Name)
         → (state files).may_leave name ((state files).view.seen name) };
 
-    // On lawful files, names that aren't apart are names of one file, and so are names for which `is_one_file` may
-    // return true. Without this law, a store for which no two names are apart could change any file in each call.
+    // A law of lawful files: names that aren't apart are names of one file, and so are names for which `is_one_file`
+    // may return true. Without this law, a store could say that no two names are apart, and then change any file in
+    // each call.
     ghost names_of_one: { (files : Self) → NamesAreOfOne (state files) };
 }

@@ -26,7 +26,7 @@ pub enum Change {
     Written(Vec<u8>),
     /// The length was set to this number of bytes.
     Cut(u64),
-    /// The file was created or truncated, so it is empty, and a vault or a log in it was borrowed.
+    /// The file was created or truncated, so it is empty, and a vault or a log in it was lent.
     Lent,
 }
 
@@ -42,13 +42,13 @@ pub struct Step {
 pub enum Loss {
     /// Nothing: only the process was killed.
     Nothing,
-    /// The host crashed. The changes since the last sync are lost, and so is a file that was created, if its directory
-    /// wasn't synced since. A file that was created for a vault or log since its last sync, and that a host crash can't
-    /// remove, keeps its present bytes.
+    /// The host crashed. The changes since the last sync are lost. A file that was created is lost, too, if its
+    /// directory wasn't synced since. But a file that was created for a vault or log since the last sync of the file
+    /// keeps its present bytes, if a host crash can't remove it.
     Unsynced,
 }
 
-/// A named file, which may be missing.
+/// A file with a name, which may be missing.
 #[derive(Drop)]
 pub struct Stored {
     name: Vec<u8>,
@@ -111,8 +111,8 @@ impl Stored {
         }
     }
 
-    // Replaces the content of the file, and records the change. Memory for the record is reserved first, so nothing is
-    // changed if memory runs out.
+    // Replaces the content of the file, and records the change. Memory for the record is reserved first, so that
+    // nothing changes if memory runs out.
     fn change(&mut self, content: Content, change: Change) -> Result<(), AllocError>
         ensures { Alters result content change self.old self.new }
     {
@@ -122,9 +122,9 @@ impl Stored {
         Ok(())
     }
 
-    /// Overwrites the file in place with `bytes`, from its start. If `most` is less than their number, writes only the
-    /// first `most` bytes and returns an error. Fails with `NotFound` if the file is missing. Also fails if memory runs
-    /// out.
+    /// Overwrites the file in place with `bytes`, from its start. If `bytes` has more than `most` bytes, writes only
+    /// the first `most` of them and returns an error. Fails with `NotFound` if the file is missing. Also fails if
+    /// memory runs out.
     pub fn write(&mut self, alloc: Global, bytes: &[u8], most: usize) -> io::Result<()>
         ensures { FileWrites bytes.now result self.old self.new }
     {
@@ -154,21 +154,22 @@ impl Stored {
         Ok(())
     }
 
-    /// Syncs the file: a host crash can't undo the changes so far. It may still remove the file if it could before.
+    /// Syncs the file, so that a host crash can't undo the changes made before. It may still remove the file if it
+    /// could before.
     pub fn sync(&mut self)
         ensures { FileSyncs self.old self.new }
     {
         self.steps.clear();
     }
 
-    /// Syncs the directory: it is durable that the file exists, or that it doesn't.
+    /// Syncs the directory, so that a host crash can neither remove the file nor create it.
     pub fn place(&mut self)
         ensures { FilePlaces self.old self.new }
     {
         self.unplaced = false;
     }
 
-    /// Creates the file, empty. Fails with `AlreadyExists`, and changes nothing, if it exists.
+    /// Creates the file, which is then empty. If the file exists, fails with `AlreadyExists` and changes nothing.
     pub fn make(&mut self, alloc: Global) -> io::Result<()>
         ensures { FileCreates result self.old self.new }
     {
@@ -181,8 +182,8 @@ impl Stored {
         Ok(())
     }
 
-    /// Creates or truncates the file, for a vault or a log. Fails if memory runs out. If `is_new` is set, `lend` fails
-    /// with `AlreadyExists` if the file exists, and a host crash can't remove the file that is created.
+    /// Creates or truncates the file, to lend a vault or a log in it. Fails if memory runs out. With `is_new`, fails
+    /// with `AlreadyExists` if the file exists, and otherwise creates it so that a host crash can't remove it.
     pub fn lend(&mut self, alloc: Global, is_new: bool) -> io::Result<()>
         ensures { FileBorrows is_new result self.old self.new }
     {
@@ -196,7 +197,7 @@ impl Stored {
         Ok(())
     }
 
-    /// Gives the file these bytes; a host crash can leave nothing else.
+    /// Gives the file these bytes, so that a host crash can leave nothing else.
     pub fn settle(&mut self, bytes: Vec<u8>)
         ensures { FileIsDurable bytes.items self.old self.new }
     {
@@ -219,8 +220,8 @@ impl Stored {
         self.out = false;
     }
 
-    // Removes the file if a host crash may, else restores the content of the last sync. A file that was missing at the
-    // last sync, and that a host crash can't remove, was created for a vault or log: it keeps its present bytes.
+    // Removes the file if a host crash may remove it. Otherwise restores the content of the last sync. But if the file
+    // was missing then, it was created for a vault or log, and keeps its present bytes.
     fn forget(&mut self)
         ensures { FileForgets self.old self.new }
     {
@@ -235,8 +236,8 @@ impl Stored {
         }
     }
 
-    /// Takes back the vault in the file, whose bytes the file has from now on. If the vault is sealed, a host crash can
-    /// leave nothing else.
+    /// Takes back the vault in the file. The file then has the bytes of the vault. If the vault is sealed, a host crash
+    /// can leave nothing else.
     pub fn take_contents(&mut self, vault: MemVault)
         ensures { FileTakesBack (held_by vault) self.old self.new }
     {
