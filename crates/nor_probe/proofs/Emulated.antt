@@ -1,4 +1,4 @@
--- The emulated chips are known, even with another unique ID, so the premise that a chip is genuine can be met.
+-- The emulated chips are known, even with another unique ID. Therefore chips exist that meet the premise "genuine".
 use Rattle.std.proofs.Common.{◌≡◌, ◌∙◌, ◌⊎◌, ℕ, Bool, true, false, List, [], ◌∷◌, ap, cond, not, refl, sym, inl, inr, subst}
 use Rattle.std.specs.Prelude.{Ok, None, Some, bytes_eq, slice_index_or}
 use Rattle.std.proofs.lemmas.Slice.Eq.{bytes_eq-Decides}
@@ -42,8 +42,8 @@ tiny64_known config tiny = record {
 
 -- ---- the chips of the table
 
--- A chip is known for any SFDP if its ID has a row in the table, and its size, erase types and block protection are
--- those of the row. Its ID must differ from those that are read if nothing drives the bus (`is_no_chip`).
+-- Let the ID of a chip have a row in the table, and not be one that is read if nothing drives the bus (`is_no_chip`).
+-- If the chip has the size, erase types and block protection of the row, it is known, whatever its SFDP is.
 listed_known : (config : Config) (part : Part)
     → part_with_id (id_of config) ≡ Some part → is_no_chip (id_of config) ≡ false
     → config.size ≡ part.size → config.kinds ≡ part.kinds → config.scheme ≡ part.scheme → IsKnown config
@@ -58,7 +58,7 @@ listed_known config part listed driven size kinds scheme = record {
   shown = rw (driven, listed) refl;
 }
 
--- the first three bytes of an ID, as 9Fh reads them: FFh for each byte that the ID doesn't have
+-- the first three bytes of an ID, as 9Fh reads them, with FFh for each byte that the ID doesn't have
 abbrev read_as : List ℕ → List ℕ
 read_as id = slice_index_or id 0 255 ∷ slice_index_or id 1 255 ∷ slice_index_or id 2 255 ∷ []
 
@@ -104,11 +104,11 @@ module _ (part : Part) (config : Config) where
       tiny64_shown config (subst (λ (p : Part). IsMadeOf p config) same made) ∙ ap Ok (sym same)
   shown_by false is made = row_shown part config is made
 
--- the type of an emulated chip has a size that a chip may have
+-- The type of an emulated chip has a size that a chip may have.
 pub emulated_sized : (part : Part) → IsEmulatedPart part → is_chip_size part.size ≡ true
 emulated_sized part is = sized_by part (bytes_eq part.id tiny64.id) is
 
--- an emulated chip shows its type (`shown_as`)
+-- An emulated chip of the type `part` shows this type (`shown_as`).
 pub emulated_shown : (part : Part) (config : Config) → IsEmulatedPart part → IsMadeOf part config
     → shown_as config ≡ Ok part
 emulated_shown part config is made = shown_by part config (bytes_eq part.id tiny64.id) is made
@@ -116,7 +116,7 @@ emulated_shown part config is made = shown_by part config (bytes_eq part.id tiny
 pub emulated_known : (config : Config) → IsEmulated config → IsKnown config
 emulated_known config (part, is, made) = known_by part config (bytes_eq part.id tiny64.id) is made
 
--- the chips of `Config::tiny64`, `Config::w25q64fv` and `Config::w25q128fv` are emulated chips
+-- The chips of `Config::tiny64`, `Config::w25q64fv` and `Config::w25q128fv` are emulated chips.
 pub makers_emulated : (config : Config) → IsTiny64 config ⊎ IsW25q64fv config ⊎ IsW25q128fv config → IsEmulated config
 makers_emulated config (inl tiny) = (tiny64, refl, tiny)
 makers_emulated config (inr (inl small)) = (_, refl, small)
@@ -124,7 +124,7 @@ makers_emulated config (inr (inr large)) = (_, refl, large)
 
 -- ---- another unique ID
 
--- a known chip stays known if its unique ID is replaced
+-- A known chip stays known if its unique ID is replaced.
 pub renumbered_known : (config : Config) (unique : List ℕ) → IsKnown config → IsKnown (record config { unique = unique })
 unfolding chip_says shown
 renumbered_known config unique is = record {
@@ -139,7 +139,7 @@ renumbered_known config unique is = record {
   shown = is.shown;
 }
 
--- a chip shows the same type, or the same fault, if its unique ID is replaced
+-- A chip shows the same type, or the same fault, if its unique ID is replaced.
 pub renumbered_shown : (config : Config) (unique : List ℕ) → shown_as (record config { unique = unique }) ≡ shown_as config
 unfolding chip_says shown
 renumbered_shown config unique = refl

@@ -14,8 +14,8 @@ use Rattle.nor_probe.specs.declared.table.Part.{Part}
 use Rattle.nor_probe.specs.Found.{IsWanted, BlamesName, ProbeErrors, HasProbed, reads_by, reads_of, needed}
 use Rattle.nor_probe.specs.Steps.{IdentityErrors, IsIdentityFault}
 
--- if the chip's name isn't the requested one (`IsWanted` doesn't hold), a name was requested, so the fault `OtherName`
--- is possible
+-- If the chip doesn't have the requested name (`IsWanted` doesn't hold), a name was requested, so the fault `OtherName`
+-- is possible.
 pub blames_other : (named : Option ChipName) (name : ChipName) (wanted : Bool) → (IsTrue wanted ↔ IsWanted named name)
     → wanted ≡ false → BlamesName named OtherName
 blames_other None name wanted same other = absurd (true≢false (sym (same.1 tt) ∙ other))
@@ -32,8 +32,8 @@ reads_few_if false n few = few
 reads_few : (of_id : List ℕ) → reads_of of_id ≤ 4
 reads_few of_id = reads_few_if (is_no_chip of_id) _ (reads_by_few (part_with_id of_id))
 
--- a fault after the ID was read: `old` is the state before the probe, and `mid` the state after its polls and the read
--- of the ID
+-- A fault occurred after the ID was read. `old` is the state before the probe, and `mid` the state after its polls and
+-- the read of the ID.
 module _ (named : Option ChipName) (old mid : BusState) (rested : Rested old mid)
     (count : old.left ≡ mid.left + (old.chip.busy + 2)) (busy : old.chip.busy < 65536) where
   same : mid.chip.config ≡ old.chip.config

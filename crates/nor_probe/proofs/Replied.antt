@@ -12,7 +12,7 @@ use Rattle.nor_probe.specs.Sfdp.{sfdp_says}
 use Rattle.nor_probe.specs.Table.{part_with_id}
 use Rattle.nor_probe.specs.Replied.{RepliedSfdp, IsTypeBySfdp, IsFoundBy}
 
--- a transaction with this opcode and an address begins with the opcode
+-- If the bytes `out` begin with the opcode and this address, they begin with the opcode.
 pub names_begins : (opcode address : ℕ) (out : List ℕ) → names opcode address out ≡ true → begins_with opcode out ≡ true
 names_begins opcode address [] is = is
 names_begins opcode address (first ∷ []) is = absurd (true≢false (sym is))
@@ -24,7 +24,8 @@ pub sfdp_keeps : (address : ℕ) {old new : List Exchange} {reply : List ℕ} �
     → KeepsReplies (begins_with 0x5A) old new
 sfdp_keeps address answered = keeps_replies_less (answered_keeps answered) (names_begins 0x5A address)
 
--- if the last three transactions read SFDP bytes that are accepted, the type that these bytes give is a type by SFDP
+-- If the last three transactions read SFDP bytes that are accepted, `IsTypeBySfdp` holds for the type that they
+-- describe.
 pub type_by_sfdp : {history : List Exchange} {header first table : List ℕ} {geometry : Geometry}
     → RepliedSfdp history header first table → sfdp_says header first table ≡ Ok geometry
     → (with_id : List ℕ) → IsTypeBySfdp history (sfdp_part with_id geometry)
@@ -40,7 +41,7 @@ type_by_sfdp {history} replied says with_id = record {
   is = refl;
 }
 
--- A transaction that begins with one opcode doesn't begin with another.
+-- If the bytes `out` begin with an opcode, they don't begin with a different opcode.
 pub other_opcode : (opcode other : ℕ) → (opcode == other) ≡ false → (out : List ℕ) → begins_with opcode out ≡ true
     → begins_with other out ≡ false
 other_opcode opcode other differs [] is = refl
@@ -51,7 +52,8 @@ no_poll opcode differs [] is = refl
 no_poll opcode differs (first ∷ []) is = rw (eqb-true first opcode is) differs
 no_poll opcode differs (first ∷ x ∷ rest) is = refl
 
--- a chip found after polls, a read of the ID and, if the ID has no row, reads of the SFDP is what the bus replied
+-- Let a chip be found after polls, a read of the ID and, if the ID has no row, reads of the SFDP. Then the chip found
+-- is what the bus replied.
 pub found_by : {polled read new : List Exchange} (found : Found) → last_reply is_poll polled ≡ found.status1 ∷ []
     → Answered (begins_with 0x9F) polled read found.id → KeepsReplies (begins_with 0x5A) read new
     → (part_with_id found.id ≡ None → IsTypeBySfdp new (part_in found)) → IsFoundBy new found
@@ -62,8 +64,8 @@ found_by found status answered keeps by_sfdp = record {
   by_sfdp = by_sfdp;
 }
 
--- The chip found is still what the bus replied after transactions that leave the last replies to 9Fh and to polls as
--- they were.
+-- Let a chip found be what the bus replied. It still is after transactions that leave the last replies to 9Fh and to
+-- polls as they were.
 pub found_later : {old new : List Exchange} {found : Found} → Continues old new
     → last_reply (begins_with 0x9F) new ≡ last_reply (begins_with 0x9F) old → last_reply is_poll new ≡ last_reply is_poll old
     → IsFoundBy old found → IsFoundBy new found

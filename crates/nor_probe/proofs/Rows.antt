@@ -7,7 +7,7 @@ use Rattle.nor_probe.specs.declared.table.Part.{Part}
 use Rattle.nor_probe.specs.Table.{chips, tiny64, part_with_name, name_text, IsEmulatedPart}
 use Rattle.nor_probe.proofs.Configs.{found_has}
 
--- true if no two rows have the same ID
+-- True if no two rows of the list have the same ID.
 abbrev have_own_ids : List Part → Bool
 have_own_ids [] = true
 have_own_ids (first ∷ parts) = list_all (λ p. not (bytes_eq first.id p.id)) parts && have_own_ids parts
@@ -33,7 +33,7 @@ found_next test first parts part false apart more is =
     let other = (found_has test (λ p. not (bytes_eq first.id p.id)) parts part apart is).1 in
     rw (not_true _ other) (more is)
 
--- if no two rows have the same ID, the row that a test finds is also found by its ID
+-- If no two rows have the same ID, a row that any test finds is also the row that is found by its ID.
 found_by_id : (test : Part → Bool) (parts : List Part) (part : Part) → have_own_ids parts ≡ true
     → find test parts ≡ Some part → find (λ p. bytes_eq p.id part.id) parts ≡ Some part
 found_by_id test [] part own is = absurd (cc)
@@ -41,7 +41,7 @@ found_by_id test (first ∷ parts) part own is =
     let (apart, more) = and_true _ _ own in
     found_next test first parts part (test first) apart (found_by_id test parts part more) is
 
--- the chip of the table with a name is the emulated chip with its ID
+-- If a chip of the table has this name, its type is the type of an emulated chip.
 pub named_emulated : (text : List ℕ) (part : Part) → part_with_name text ≡ Some part → IsEmulatedPart part
 named_emulated text part is =
     let by_name = λ (p : Part). bytes_eq (name_text p.name) text in

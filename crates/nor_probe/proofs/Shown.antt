@@ -1,4 +1,4 @@
--- The SFDP that was read.
+-- A lemma about the SFDP that was read.
 use Rattle.std.proofs.Common.{◌≡◌, refl}
 use Rattle.nor_model.specs.declared.config.Config.{Config}
 use Rattle.nor_probe.specs.declared.probes.Parameters.{Parameters}
@@ -6,7 +6,8 @@ use Rattle.nor_probe.specs.Sfdp.{sfdp_says}
 use Rattle.nor_probe.specs.Known.{chip_says}
 use Rattle.nor_probe.specs.Steps.{AreParameters}
 
--- if the parts that were read are those of the chip's SFDP (`AreParameters`), they say what the chip's SFDP says
+-- If the parts that were read are those of the chip's SFDP (`AreParameters`), they describe what the chip's SFDP
+-- describes.
 pub parameters_say : (config : Config) (parameters : Parameters) → AreParameters config parameters
     → chip_says config ≡ sfdp_says parameters.header parameters.first parameters.table
 unfolding chip_says

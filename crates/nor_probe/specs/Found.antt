@@ -23,22 +23,25 @@ use Rattle.nor_probe.specs.Replied.{IsFoundBy, ProbeEndsAt}
 abbrev pub most_probe : ℕ
 most_probe = 65540
 
--- holds if no name is requested, or the chip has the requested name
+-- Holds if no name is requested, or the chip has the requested name.
 abbrev pub IsWanted : (named : Option ChipName) → ChipName → Type 0
 IsWanted None name = ⊤
 IsWanted (Some wanted) name = wanted ≡ name
 
--- holds if the fault is possible for a request with this name or none: `OtherName` needs a name
+-- Holds if a probe with the requested name `named` may return this fault. Without a requested name, `OtherName` isn't
+-- possible.
 abbrev pub BlamesName : Option ChipName → ProbeFault → Type 0
 BlamesName None OtherName = ⊥
 BlamesName named fault = ⊤
 
--- the number of reads that identify a chip with this row of the table: 9Fh, and three times 5Ah if there is no row
+-- the number of reads that identify a chip: one of its ID (9Fh), and three more of its SFDP (5Ah) if the ID has no row
+-- in the table
 abbrev pub reads_by : Option Part → ℕ
 reads_by (Some part) = 1
 reads_by None = 4
 
--- the number of reads of a probe that read this ID: 1 if the ID shows that there is no chip or has a row, else 4
+-- the number of reads of a probe that reads the ID `of_id`: 4 if the SFDP is read, because the ID has no row in the
+-- table and shows that there is a chip, and otherwise 1
 abbrev pub reads_of : List ℕ → ℕ
 reads_of of_id = if is_no_chip of_id then 1 else reads_by (part_with_id of_id)
 
@@ -47,8 +50,8 @@ reads_of of_id = if is_no_chip of_id then 1 else reads_by (part_with_id of_id)
 abbrev pub needed : Chip → ℕ
 needed chip = chip.busy + 1 + reads_of (id_of chip.config)
 
--- On every bus: the chip found has a size that a chip may have, and is a row of the table or was identified by SFDP.
--- Its ID isn't one that is read when nothing drives the bus.
+-- Holds for each chip that a probe finds, on every bus. The chip has a size that a chip may have. It has a row in the
+-- table, or was identified by SFDP. Its ID isn't one that is read if nothing drives the bus.
 pub record IsPart (found : Found) : Type 0 where
   pub driven : is_no_chip found.id ≡ false
   pub origin : (part_with_id found.id ≡ Some (part_in found))
@@ -58,18 +61,19 @@ pub record IsPart (found : Found) : Type 0 where
   pub at_most : found.size ≤ 16777216
   pub in_blocks : found.size % 65536 ≡ 0
 
--- The number of transactions of a probe that found a chip.
+-- Holds for the number of transactions of a probe that found a chip.
 pub record IsCounted (old : BusState) (probed : Probed) : Type 0 where
-  -- at least one poll and the reads
+  -- it is at least the number of one poll and the reads
   pub least : 1 + reads_of probed.found.id ≤ probed.transactions
-  -- at most 65,536 polls and four reads
+  -- it is at most the number of 65,536 polls and four reads
   pub most : probed.transactions ≤ most_probe
-  -- on a well-behaved bus (`honest`), exactly the number that the chip needs
+  -- on a well-behaved bus (`honest`), it is exactly the number that the chip needs
   pub sent : old.honest ≡ true → probed.transactions ≡ needed old.chip
 
--- On a well-behaved bus (`honest`): the chip found is what the chip shows about itself, the chip is idle, and the
--- status is the chip's. The chip's bytes, non-volatile status bits and erased sectors are unchanged. The probe sent the
--- transactions that the chip needs. The write enable latch is unchanged if the chip was idle, and otherwise clear.
+-- Holds after a probe on a well-behaved bus (`honest`) that found a chip. The chip found is what the chip on the bus
+-- shows about itself, that chip is idle, and the status is its status 1. Its bytes, non-volatile status bits and erased
+-- sectors are unchanged. The write enable latch is unchanged if the chip was idle, and otherwise clear. The probe sent
+-- exactly the transactions that the chip needs.
 pub record Finds (old new : BusState) (found : Found) : Type 0 where
   pub rested : Rested old new
   pub part : shown_as old.chip.config ≡ Ok (part_in found)
@@ -78,8 +82,8 @@ pub record Finds (old new : BusState) (found : Found) : Type 0 where
   pub status1 : found.status1 ≡ status1_of new.chip
   pub count : old.left ≡ new.left + needed old.chip
 
--- The configuration is that of a known chip, and the chip found has its ID, size, erase types and block protection. For
--- a genuine chip this follows from `shown_as config ≡ Ok (part_in found)`, which also gives the name.
+-- Holds if the configuration is that of a known chip, and the chip found has its ID, size, erase types and block
+-- protection. For a genuine chip this follows from `shown_as config ≡ Ok (part_in found)`, which also gives the name.
 pub record IsConfigOf (config : Config) (found : Found) : Type 0 where
   pub known : IsKnown config
   pub id : found.id ≡ id_of config
@@ -87,26 +91,26 @@ pub record IsConfigOf (config : Config) (found : Found) : Type 0 where
   pub kinds : found.kinds ≡ config.kinds
   pub scheme : found.scheme ≡ config.scheme
 
--- The chip shows a chip type (`shown_as`) that has the requested name, if a name is requested.
+-- Holds if the chip shows a chip type (`shown_as`) that has the requested name, if a name is requested.
 pub record IsNamed (named : Option ChipName) (config : Config) : Type 0 where
   pub part : Part
   pub shown : shown_as config ≡ Ok part
   pub wanted : IsWanted named part.name
 
--- The chip shows a chip type (`shown_as`) with another name than the requested one.
+-- Holds if the chip shows a chip type (`shown_as`) that has another name than the requested one.
 pub record HasOtherName (named : Option ChipName) (config : Config) : Type 0 where
   pub part : Part
   pub shown : shown_as config ≡ Ok part
   pub other : ¬ IsWanted named part.name
 
--- On a well-behaved bus, the probe sent all the transactions that the chip needs, and the chip's bytes, non-volatile
+-- Holds if a probe on a well-behaved bus sent all the transactions that the chip needs. The chip's bytes, non-volatile
 -- status bits and erased sectors are unchanged.
 pub record HasProbed (old new : BusState) : Type 0 where
   pub rested : Rested old new
   pub count : old.left ≡ new.left + needed old.chip
 
--- The meaning of a fault on a well-behaved bus. A stop is possible only with fewer than 65,540 transactions left, and a
--- timeout doesn't occur.
+-- The meaning of each fault on a well-behaved bus. The bus stops only if fewer transactions were left than the chip
+-- needs, and fewer than 65,540. A timeout doesn't occur.
 abbrev pub ProbeErrors : Option ChipName → (old new : BusState) → ProbeFault → Type 0
 ProbeErrors named old new NoChip = (shown_as old.chip.config ≡ Err NoChip) × HasProbed old new
 ProbeErrors named old new (UnknownChip fault) = (shown_as old.chip.config ≡ Err (UnknownChip fault)) × HasProbed old new
@@ -118,9 +122,9 @@ ProbeErrors named old new Timeout = ⊥
 
 -- The promises of a probe on every bus.
 pub record ProbeAlways (named : Option ChipName) (old new : BusState) (result : Result Found ProbeFault) : Type 0 where
-  -- no modifying command was sent; on a well-behaved bus at most 65,540 transactions were carried out
+  -- no modifying command was sent; on a well-behaved bus, at most 65,540 transactions were carried out
   pub only_reads : OnlyReads most_probe old new
-  -- a chip found is a row of the table, or was identified by SFDP, and has a size that a chip may have
+  -- a chip found has a row in the table, or was identified by SFDP, and has a size that a chip may have
   pub part : IfOk result IsPart
   -- a chip found has the requested name, or no name is requested
   pub wanted : IfOk result (λ found. IsWanted named found.name)
@@ -136,14 +140,14 @@ pub record ProbeAlways (named : Option ChipName) (old new : BusState) (result : 
 
 -- The promises of a probe on a well-behaved bus.
 pub record ProbeHonest (named : Option ChipName) (old new : BusState) (result : Result Found ProbeFault) : Type 0 where
-  -- a chip found is what the chip shows about itself; the chip is idle, and its bytes and non-volatile status bits are
-  -- unchanged
+  -- a chip found is what the chip on the bus shows about itself; that chip is idle, and its bytes and non-volatile
+  -- status bits are unchanged
   pub finds : IfOk result (Finds old new)
-  -- a fault says why no chip was found, that the chip has another name than the requested one, or that too few
+  -- a fault says that there is no known chip, that the chip has another name than the requested one, or that too few
   -- transactions were left; a timeout doesn't occur
   pub errors : IfErr result (ProbeErrors named old new)
 
--- the result of a probe without the number of transactions
+-- the result of a probe, without the number of transactions
 abbrev pub found_in : Result Probed ProbeFault → Result Found ProbeFault
 found_in (Ok probed) = Ok probed.found
 found_in (Err fault) = Err fault

@@ -18,48 +18,49 @@ abbrev pub part_in : Found → Part
 part_in found =
     record { name = found.name; id = found.id; size = found.size; kinds = found.kinds; scheme = found.scheme }
 
--- the ID is `FF FF FF` or `00 00 00`, as it reads if nothing drives the bus: the lines then rest high, or low
+-- True if the ID is `FF FF FF` or `00 00 00`, as it is read if nothing drives the bus. The lines then rest high or low.
 abbrev pub is_no_chip : (of_id : List ℕ) → Bool
 is_no_chip of_id = bytes_eq of_id (0xFF ∷ 0xFF ∷ 0xFF ∷ []) || bytes_eq of_id (0x00 ∷ 0x00 ∷ 0x00 ∷ [])
 
--- the address of the table that a parameter header points to: three bytes, little-endian (JESD216)
+-- the address of the table that a parameter header contains: three bytes, little-endian (JESD216)
 abbrev pub pointer_in : (first : List ℕ) → ℕ
 pointer_in first = slice_index first 4 + 256 * slice_index first 5 + 65536 * slice_index first 6
 
--- the geometry that the chip's SFDP gives, or its fault; the SFDP has a header, a first parameter header, and the table
--- to which that parameter header points
+-- The geometry that the chip's SFDP describes, or the fault of the SFDP. The parts of the SFDP are its header, its
+-- first parameter header, and the table whose address that parameter header contains.
 unfoldable pub chip_says : Config → Result Geometry SfdpFault
 chip_says config = sfdp_says (shown config 0 8) (shown config 8 8) (shown config (pointer_in (shown config 8 8)) 36)
 
--- the type of a chip that is known only by its SFDP; no block protection is known for it
+-- the type of a chip that is known only by its SFDP, and is assumed to have no block protection
 abbrev pub sfdp_part : (with_id : List ℕ) → Geometry → Part
 sfdp_part with_id geometry =
     record { name = Sfdp; id = with_id; size = geometry.size; kinds = geometry.kinds; scheme = false }
 
--- the type of a chip with this ID, or why it is unknown, by what its SFDP says
+-- the type of a chip with this ID that its SFDP describes, or the fault that its SFDP isn't accepted
 abbrev pub part_by_sfdp : (with_id : List ℕ) → Result Geometry SfdpFault → Result Part ProbeFault
 part_by_sfdp with_id (Ok geometry) = Ok (sfdp_part with_id geometry)
 part_by_sfdp with_id (Err fault) = Err (UnknownChip fault)
 
--- the row of the table if there is one, else the result by SFDP
+-- the row of the table if there is one, else the result of reading the SFDP
 abbrev pub listed_or : (by_sfdp : Result Part ProbeFault) → Option Part → Result Part ProbeFault
 listed_or by_sfdp (Some part) = Ok part
 listed_or by_sfdp None = by_sfdp
 
--- the chip type that a chip shows: the row of the table with its ID or, without a row, the type that its SFDP gives; or
--- the fault (no chip, unknown chip)
+-- The chip type that a chip shows: the row of the table with its ID or, without a row, the type that its SFDP
+-- describes. The result is a fault if the ID shows that there is no chip, or if the SFDP isn't accepted.
 abbrev pub shown_as : Config → Result Part ProbeFault
 shown_as config =
     if is_no_chip (id_of config) then Err NoChip
     else listed_or (part_by_sfdp (id_of config) (chip_says config)) (part_with_id (id_of config))
 
--- The configuration has the size and the erase types of this geometry.
+-- Holds if the configuration has the size and the erase types of this geometry.
 pub record HasGeometry (geometry : Geometry) (config : Config) : Type 0 where
   pub size : config.size ≡ geometry.size
   pub kinds : config.kinds ≡ geometry.kinds
 
--- A genuine chip. If its ID is in the table, its size, erase types and block protection are those of the row. Otherwise
--- it has no block protection and, if its SFDP is accepted, the size and the erase types that the SFDP gives.
+-- Holds for the configuration of a genuine chip. If the chip's ID is in the table, its size, erase types and block
+-- protection are those of the row. Otherwise it has no block protection and, if its SFDP is accepted, the size and the
+-- erase types that the SFDP describes.
 pub record IsGenuine (config : Config) : Type 0 where
   pub listed : (part : Part) → part_with_id (id_of config) ≡ Some part
       → HasGeometry (record { size = part.size; kinds = part.kinds }) config × (config.scheme ≡ part.scheme)
@@ -67,17 +68,17 @@ pub record IsGenuine (config : Config) : Type 0 where
   pub described : part_with_id (id_of config) ≡ None
       → (geometry : Geometry) → chip_says config ≡ Ok geometry → HasGeometry geometry config
 
--- A known chip: it is genuine, its ID isn't one that is read when nothing drives the bus, and it is in the table or its
--- SFDP is accepted.
+-- Holds for the configuration of a known chip. The chip is genuine, its ID isn't one that is read if nothing drives the
+-- bus, and it has a row in the table, or its SFDP is accepted.
 pub record IsKnown (config : Config) : Type 0 where
   pub genuine : IsGenuine config
   pub shown : IsOk (shown_as config)
 
--- the configuration is that of an emulated chip, with a unique ID of zeros
+-- Holds for the configuration of an emulated chip whose unique ID is all zeros.
 abbrev pub IsEmulated : Config → Type 0
 IsEmulated config = (part : Part) × IsEmulatedPart part × IsMadeOf part config
 
--- A modelled bus: it is well-behaved (`honest`), and its chip is genuine.
+-- Holds for a modelled bus: it is well-behaved (`honest`), and its chip is genuine.
 pub record IsModelled (state : BusState) : Type 0 where
   pub honest : state.honest ≡ true
   pub genuine : IsGenuine state.chip.config

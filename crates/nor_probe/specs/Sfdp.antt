@@ -1,6 +1,6 @@
 -- The meaning of SFDP bytes: the header, the first parameter header, and double words 1, 2, 8 and 9 of the basic flash
 -- parameter table (JESD216). `header` has the eight bytes at 0, `first` the eight bytes of the first parameter header,
--- and `table` the 36 bytes at the address that `first` points to. Bits that no definition here uses are ignored.
+-- and `table` the 36 bytes at the address that `first` contains. Bits that no definition here uses are ignored.
 use Rattle.std.specs.Prelude.{ℕ, ◌==◌, ◌+◌, ◌-◌, ◌*◌, ◌/◌, ◌%◌, ◌^◌, nat_lt, nat_le, Bool, not, ◌&&◌, ◌||◌, if◌then◌else◌, List, [], ◌∷◌, ◌++◌, Result, Ok, Err, slice_index}
 use Rattle.byteorder.specs.Endian.{little_from}
 use Rattle.nor_model.specs.Size.{is_chip_size}
@@ -12,38 +12,39 @@ use Rattle.nor_probe.specs.declared.sfdp.SfdpFault.TheVariants.{Signature, Major
 unfoldable pub double_word : (k : ℕ) → (table : List ℕ) → ℕ
 double_word k table = little_from (4 * (k - 1)) 4 table
 
--- the header begins with the letters SFDP
+-- true if the header begins with the letters SFDP
 unfoldable pub has_signature : (header : List ℕ) → Bool
 has_signature header =
     slice_index header 0 == 0x53 && slice_index header 1 == 0x46
     && slice_index header 2 == 0x44 && slice_index header 3 == 0x50
 
--- the first parameter header is that of the basic table, in its first major revision
+-- true if the first parameter header is that of the basic flash parameter table, in major revision 1
 unfoldable pub is_basic : (first : List ℕ) → Bool
 is_basic first = slice_index first 0 == 0 && slice_index first 2 == 1
 
--- how addresses are sent, bits 17 and 18 of double word 1: 0 for three bytes, 1 for three or four, 2 for four only; 3
--- is reserved
+-- The length of addresses that the chip takes, which is in bits 17 and 18 of double word 1: 0 for three bytes, 1 for
+-- three or four bytes, 2 for four bytes only. The value 3 is reserved.
 unfoldable pub address_mode : (table : List ℕ) → ℕ
 address_mode table = double_word 1 table / 2 ^ 17 % 4
 
--- bit 2 of double word 1: one program command may write 64 bytes or more
+-- true if the write granularity is 64 bytes or more, as bit 2 of double word 1 says
 unfoldable pub has_write_granularity : (table : List ℕ) → Bool
 has_write_granularity table = double_word 1 table / 2 ^ 2 % 2 == 1
 
--- the size in bits by double word 2: its value plus one or, if bit 31 is set, two to the power of the other bits
+-- the size in bits that double word 2 gives: its value plus one or, if bit 31 is set, two to the power of the other
+-- bits
 unfoldable pub size_in_bits : (density : ℕ) → ℕ
 size_in_bits density = if nat_lt density (2 ^ 31) then density + 1 else 2 ^ (density - 2 ^ 31)
 
--- this number of bits is a whole number of bytes, and a size that a chip may have
+-- true if this number of bits is a whole number of bytes, and a size that a chip may have
 unfoldable pub is_chip_size_in_bits : (bits : ℕ) → Bool
 is_chip_size_in_bits bits = bits % 8 == 0 && is_chip_size (bits / 8)
 
--- the erase type at byte `at` of the table has this exponent of its size and this opcode, one byte each
+-- true if the two bytes of the erase type at byte `at` of the table are this exponent of its size and this opcode
 abbrev pub is_erase_type_at : (exponent opcode : ℕ) → (table : List ℕ) → (at : ℕ) → Bool
 is_erase_type_at exponent opcode table at = slice_index table at == exponent && slice_index table (at + 1) == opcode
 
--- one of the four erase types of double words 8 and 9 has this exponent and opcode
+-- true if one of the four erase types in double words 8 and 9 has this exponent of its size and this opcode
 unfoldable pub has_erase_type : (exponent opcode : ℕ) → (table : List ℕ) → Bool
 has_erase_type exponent opcode table =
     is_erase_type_at exponent opcode table 28 || is_erase_type_at exponent opcode table 30
@@ -67,8 +68,8 @@ table_faults table =
     ∷ (not (has_erase_type 0x0C 0x20 table), NoSector)
     ∷ []
 
--- the geometry that the table gives: the size in bytes, and whether 32 KiB with opcode 52h and 64 KiB with opcode D8h
--- are among the erase types
+-- the geometry that the table describes: the size in bytes, and whether the chip has the erase types of 32 KiB with
+-- opcode 52h and of 64 KiB with opcode D8h
 abbrev pub geometry_of : (table : List ℕ) → Geometry
 geometry_of table = record {
   size = size_in_bits (double_word 2 table) / 8;
@@ -80,7 +81,7 @@ abbrev pub first_fault_or : Geometry → List (Bool × SfdpFault) → Result Geo
 first_fault_or geometry [] = Ok geometry
 first_fault_or geometry (case ∷ cases) = if case.0 then Err case.1 else first_fault_or geometry cases
 
--- the geometry that these SFDP bytes give, or why they are refused
+-- the geometry that these SFDP bytes describe, or the first fault for which they are refused
 abbrev pub sfdp_says : (header first table : List ℕ) → Result Geometry SfdpFault
 sfdp_says header first table = first_fault_or (geometry_of table) (header_faults header first ++ table_faults table)
 

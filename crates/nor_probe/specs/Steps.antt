@@ -17,24 +17,25 @@ use Rattle.nor_driver.specs.OnlyReads.{Rested, RanOut}
 use Rattle.nor_probe.specs.Known.{id_of, is_no_chip, shown, pointer_in, chip_says, shown_as}
 use Rattle.nor_probe.specs.Found.{reads_of}
 
--- the probe's fault for a wait that failed
+-- the fault that a probe returns if a wait failed for this reason
 abbrev pub fault_of : OperationError → ProbeFault
 fault_of OperationFails.Stopped = Stopped
 fault_of (OperationFails.Timeout address) = Timeout
 
--- the number of reads that identify a chip of this name
+-- the number of reads that identify a chip of this name: one of its ID, and three more of its SFDP for `Sfdp`
 abbrev pub reads_under : ChipName → ℕ
 reads_under Sfdp = 4
 reads_under _ = 1
 
--- `parameters` has the parts of the SFDP of this configuration.
+-- Holds if `parameters` has the parts of the SFDP of this configuration.
 pub record AreParameters (config : Config) (parameters : Parameters) : Type 0 where
   pub header : parameters.header ≡ shown config 0 8
   pub first : parameters.first ≡ shown config 8 8
   pub table : parameters.table ≡ shown config (pointer_in (shown config 8 8)) 36
 
--- On every bus: a chip type with this ID, from the table or by SFDP, of a size that a chip may have. The ID isn't one
--- that is read when nothing drives the bus, and the type's name gives the same number of reads as the ID.
+-- Holds, on every bus, for the type of a chip that was identified after its ID was read as `of_id`. The type has this
+-- ID and a size that a chip may have, and comes from the table or the SFDP. The ID isn't one that is read if nothing
+-- drives the bus. The name of the type requires as many reads (`reads_under`) as the ID (`reads_of`).
 pub record IsIdentified (of_id : List ℕ) (part : Part) : Type 0 where
   pub driven : is_no_chip of_id ≡ false
   pub same_id : part.id ≡ of_id
@@ -43,31 +44,31 @@ pub record IsIdentified (of_id : List ℕ) (part : Part) : Type 0 where
   pub sized : is_chip_size part.size ≡ true
   pub reads : reads_under part.name ≡ reads_of of_id
 
--- On a well-behaved bus (`honest`): the parts of the SFDP were read with three transactions, and the chip's bytes and
--- non-volatile status bits are unchanged.
+-- Holds on a well-behaved bus (`honest`) after the parts of the SFDP were read. Three transactions were sent, and the
+-- chip's bytes and non-volatile status bits are unchanged.
 pub record ReadsParameters (old new : BusState) (parameters : Parameters) : Type 0 where
   pub rested : Rested old new
   pub count : old.left ≡ new.left + 3
   -- if the chip was idle, these are the parts of its SFDP
   pub shown : old.chip.busy ≡ 0 → AreParameters old.chip.config parameters
 
--- On a well-behaved bus: the SFDP was read with three transactions, and the chip's bytes and non-volatile status bits
--- are unchanged.
+-- Holds on a well-behaved bus after the SFDP was read. Three transactions were sent, and the chip's bytes and
+-- non-volatile status bits are unchanged.
 pub record ReadsGeometry (old new : BusState) (geometry : Geometry) : Type 0 where
   pub rested : Rested old new
   pub count : old.left ≡ new.left + 3
-  -- if the chip was idle, this is the geometry that its SFDP gives
+  -- if the chip was idle, this is the geometry that its SFDP describes
   pub says : old.chip.busy ≡ 0 → chip_says old.chip.config ≡ Ok geometry
 
--- the meaning of a fault of a function that reads only the SFDP, for an idle chip on a well-behaved bus; no fault
--- except `UnknownChip` and `Stopped` is possible
+-- The meaning of each fault of a function that reads only the SFDP, for an idle chip on a well-behaved bus. Only the
+-- faults `UnknownChip` and `Stopped` are possible.
 abbrev pub GeometryErrors : (old new : BusState) → ProbeFault → Type 0
 GeometryErrors old new (UnknownChip fault) =
     (chip_says old.chip.config ≡ Err fault) × (old.left ≡ new.left + 3) × Rested old new
 GeometryErrors old new Stopped = RanOut 3 old new
 GeometryErrors old new _ = ⊥
 
--- holds for the faults that are possible after the ID was read and before names are compared
+-- Holds for the faults that are possible after the ID was read, and before names are compared.
 abbrev pub IsIdentityFault : ProbeFault → Type 0
 IsIdentityFault NoChip = ⊤
 IsIdentityFault (UnknownChip fault) = ⊤
@@ -75,14 +76,14 @@ IsIdentityFault OtherName = ⊥
 IsIdentityFault Stopped = ⊤
 IsIdentityFault Timeout = ⊥
 
--- For an idle chip on a well-behaved bus, after its ID was read: the chip type is the one that the chip shows
--- (`shown_as`), the remaining reads of the probe were sent, and the chip is unchanged.
+-- Holds for an idle chip on a well-behaved bus that was identified after its ID was read. `part` is the chip type that
+-- the chip shows (`shown_as`), the remaining reads of the probe were sent, and the chip is unchanged.
 pub record Identifies (old new : BusState) (part : Part) : Type 0 where
   pub rested : Rested old new
   pub shows : shown_as old.chip.config ≡ Ok part
   pub count : old.left + 1 ≡ new.left + reads_of (id_of old.chip.config)
 
--- the meaning of a fault for an idle chip on a well-behaved bus, after its ID was read
+-- The meaning of each fault that occurs after the ID was read, for an idle chip on a well-behaved bus.
 abbrev pub IdentityErrors : (old new : BusState) → ProbeFault → Type 0
 IdentityErrors old new Stopped = (new.left ≡ 0) × (old.left + 1 < reads_of (id_of old.chip.config))
 IdentityErrors old new fault =

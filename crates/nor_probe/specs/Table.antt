@@ -6,7 +6,7 @@ use Rattle.nor_probe.specs.declared.table.ChipName.{ChipName}
 use Rattle.nor_probe.specs.declared.table.ChipName.TheVariants.{W25Q64FV, W25Q128FV, Sfdp, Other}
 use Rattle.nor_probe.specs.declared.table.Part.{Part}
 
--- the text of a name; the text for `Other` isn't the name of a chip
+-- the text of a name; no chip has the name `other`, which is the text of `Other`
 abbrev pub name_text : ChipName → List ℕ
 name_text W25Q64FV = codes "W25Q64FV"
 name_text W25Q128FV = codes "W25Q128FV"
@@ -39,19 +39,19 @@ abbrev pub name_or : (unlisted : ChipName) → Option Part → ChipName
 name_or unlisted (Some part) = part.name
 name_or unlisted None = unlisted
 
--- the name that a text spells: that of a row of the table, or `Sfdp` for "SFDP"; `Other` for any other text
+-- the name that a text spells: that of a chip of the table, `Sfdp` for "SFDP", or `Other` for any other text
 abbrev pub name_of : List ℕ → ChipName
 name_of text = name_or (if bytes_eq text (codes "SFDP") then Sfdp else Other) (part_with_name text)
 
--- the emulated chip TINY64, as its SFDP describes it: its ID isn't in the table
+-- the type of the emulated chip TINY64, with the size and erase types that its SFDP gives; its ID isn't in the table
 abbrev pub tiny64 : Part
 tiny64 = record { name = Sfdp; id = 0xFE ∷ 0x10 ∷ 0x10 ∷ []; size = 65536; kinds = all_kinds; scheme = false }
 
--- the emulated chip with this value of `emulate=`: TINY64, or a chip of the table
+-- the type of the emulated chip with this value of `emulate=`: TINY64, or a chip of the table
 abbrev pub emulated_named : (text : List ℕ) → Option Part
 emulated_named text = if bytes_eq text (codes "TINY64") then Some tiny64 else part_with_name text
 
--- the emulated chip with this ID
+-- the type of the emulated chip with this ID, or `None` if no emulated chip has it
 abbrev pub emulated_with_id : (of_id : List ℕ) → Option Part
 emulated_with_id of_id = if bytes_eq of_id tiny64.id then Some tiny64 else part_with_id of_id
 
@@ -59,6 +59,6 @@ emulated_with_id of_id = if bytes_eq of_id tiny64.id then Some tiny64 else part_
 abbrev pub IsEmulatedPart : Part → Type 0
 IsEmulatedPart part = emulated_with_id part.id ≡ Some part
 
--- Holds for the configuration of an emulated chip of this type, with a unique ID of zeros.
+-- Holds for the configuration of an emulated chip of the type `part` whose unique ID is all zeros.
 abbrev pub IsMadeOf : Part → Config → Type 0
 IsMadeOf part config = IsEmulatedWith part.id part.size part.kinds part.scheme config

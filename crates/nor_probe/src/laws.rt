@@ -1,12 +1,12 @@
-//! Laws on known chips.
+//! A law about known chips.
 ghost use Rattle.std.specs.Prelude.{◌⊎◌, ℕ, List};
 ghost use Rattle.nor_model.specs.declared.config.Config.{Config};
 ghost use Rattle.nor_model.specs.Makers.{IsTiny64, IsW25q64fv, IsW25q128fv};
 ghost use Rattle.nor_probe.specs.Known.{IsKnown, IsEmulated};
 
-/// States that the emulated chips are known (`IsKnown`), and so genuine: promises made for genuine chips hold for them.
-/// The emulated chips include those of `Config::tiny64`, `Config::w25q64fv` and `Config::w25q128fv`. States also that a
-/// known chip stays known if only its unique ID is replaced.
+/// States that every emulated chip is known (`IsKnown`), and therefore genuine, so that promises made for genuine chips
+/// hold for it. The emulated chips include those of `Config::tiny64`, `Config::w25q64fv` and `Config::w25q128fv`. Also
+/// states that a known chip stays known if only its unique ID is replaced.
 pub fn emulated_are_known()
     ensures made { (config : Config) → IsTiny64 config ⊎ IsW25q64fv config ⊎ IsW25q128fv config → IsEmulated config }
     ensures known { (config : Config) → IsEmulated config → IsKnown config }

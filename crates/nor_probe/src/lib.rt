@@ -21,10 +21,10 @@
 //! assert_eq!(rt; probe(&mut bus, Some(other)), Err(ProbeFault::OtherName));
 //! ```
 //!
-//! `specs/Found.antt` has the promises of a probe, and `specs/Replied.antt` the replies of the bus by which a chip is
-//! identified. `specs/Known.antt` defines what a chip shows about itself, and which chips are genuine and known.
-//! `specs/Sfdp.antt` and `specs/Table.antt` define what SFDP bytes and the table say, and `specs/Steps.antt` has the
-//! contracts of a probe's steps.
+//! `specs/Found.antt` defines the promises of a probe, and `specs/Replied.antt` the replies of the bus by which a chip
+//! is identified. `specs/Known.antt` defines what a chip shows about itself, and which chips are genuine and known.
+//! `specs/Sfdp.antt` and `specs/Table.antt` define the meaning of SFDP bytes and of the table, and `specs/Steps.antt`
+//! the effect and the result of each step of a probe.
 #![tactic(auto)]
 
 mod laws;

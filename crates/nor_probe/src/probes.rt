@@ -18,7 +18,7 @@ use nor_driver::{OperationError, read_id, read_parameters, wait};
 use nor_model::{Bus, Kinds, Stopped};
 use thiserror::Error;
 
-/// The reason why a probe returned no chip. The first three variants are checked in this order.
+/// The reason why a probe returned no chip. `NoChip`, `UnknownChip` and `OtherName` are checked in this order.
 #[derive(Clone, Copy, Debug, PartialEq, Eq, Error)]
 pub enum ProbeFault {
     /// The ID reads `FF FF FF` or `00 00 00`, as it does if nothing drives the bus.
@@ -62,19 +62,21 @@ pub struct Probed {
     pub transactions: u64,
 }
 
-/// Identifies the chip on the bus. Waits until it is idle, with at most 65,536 polls (05h), and reads its ID (9Fh). If
-/// the ID isn't in the table, and isn't `FF FF FF` or `00 00 00`, also reads its SFDP with three reads (5Ah). If
-/// `named` is given, the chip must have this name.
+/// Identifies the chip on the bus. Waits until the chip is idle, with at most 65,536 polls (05h), and reads its ID
+/// (9Fh). If the ID isn't in the table, and isn't `FF FF FF` or `00 00 00`, also reads its SFDP with three reads (5Ah).
+/// If `named` is given, the chip must have this name.
 ///
-/// On any bus a returned chip has the given name, if one is given, and the last poll showed that it is ready. Its ID
-/// and status 1 are the last replies of the bus to 9Fh and 05h. It has a supported size, and is a row of the table or
-/// was identified by the SFDP that the bus replied. On a well-behaved bus (`honest`) it is what the chip shows about
-/// itself, the chip is idle, and its bytes and non-volatile status bits are unchanged. On a modelled bus the returned
-/// ID, size, erase types and block protection are those of the chip's configuration.
+/// On any bus, a returned chip has the given name, if one is given, and the last poll showed that it is ready. Its ID
+/// and status 1 are the last replies of the bus to 9Fh and 05h. Its size is supported. The chip has a row in the table,
+/// or was identified by the SFDP that the bus replied.
+///
+/// On a well-behaved bus (`honest`), the returned chip is what the chip on the bus shows about itself. That chip is
+/// idle, and its bytes and non-volatile status bits are unchanged. On a modelled bus, the returned ID, size, erase
+/// types and block protection are those of the chip's configuration.
 ///
 /// Returns `NoChip`, `UnknownChip` or `OtherName`, checked in this order. Returns `Stopped` if the bus stopped, and
-/// `Timeout` if 65,536 polls showed BUSY; a timeout doesn't occur on a well-behaved bus. Nothing is sent after a stop
-/// or a timeout.
+/// `Timeout` if 65,536 polls showed BUSY, which doesn't occur on a well-behaved bus. Nothing is sent after a stop or a
+/// timeout.
 pub fn probe<B: Bus>(bus: &mut B, named: Option<ChipName>) -> Result<Found, ProbeFault>
     ensures always { ProbeAlways named (B.state bus.old) (B.state bus.new) result }
     ensures honest { (B.state bus.old).honest ≡ true
@@ -87,9 +89,11 @@ pub fn probe<B: Bus>(bus: &mut B, named: Option<ChipName>) -> Result<Found, Prob
 }
 
 /// Identifies the chip as `probe` does, with the same errors, and also returns the number of transactions that were
-/// sent. On any bus the returned number is at least one poll and the reads, and at most 65,540. On a well-behaved bus
-/// the number is exactly what the chip needs: one poll for each BUSY that the chip still shows, one poll that shows it
-/// idle, and the reads.
+/// sent.
+///
+/// On any bus, the returned number is at least that of one poll and the reads, and at most 65,540. On a well-behaved
+/// bus, it is exactly the number that the chip needs: one poll for each BUSY that the chip still shows, one poll that
+/// shows it idle, and the reads.
 #[tactic(auto, using(crate::proofs::Sizes::size_at_least, crate::proofs::Sizes::size_at_most, crate::proofs::Sizes::size_in_blocks))]
 pub fn probe_counted<B: Bus>(bus: &mut B, named: Option<ChipName>) -> Result<Probed, ProbeFault>
     ensures always { ProbeAlways named (B.state bus.old) (B.state bus.new) (found_in result) }
@@ -112,7 +116,7 @@ pub fn probe_counted<B: Bus>(bus: &mut B, named: Option<ChipName>) -> Result<Pro
 }
 
 impl Part {
-    // Returns the found chip of this type; `status1` is status 1 as the last poll returned it.
+    // Returns a found chip of this type. `status1` is status 1, as the last poll returned it.
     fn found(self, status1: u8) -> Found
         ensures part { part_in result ≡ self }
         ensures status1 { result.status1 ≡ status1 }
@@ -136,7 +140,8 @@ impl Part {
 }
 
 // Returns the type of the chip whose ID was read as `id`: its row of the table or, without a row, the type that its
-// SFDP gives. `shown` and `errors` hold only on a well-behaved bus, if the chip is idle and `id` is its ID.
+// SFDP describes. The clauses `shown` and `errors` hold only on a well-behaved bus, if the chip is idle and `id` is its
+// ID.
 fn identify<B: Bus>(bus: &mut B, id: [u8; 3]) -> Result<Part, ProbeFault>
     ensures leaves { OnlyReads 3 (B.state bus.old) (B.state bus.new) }
     ensures polled_ready { (B.state bus.new).polled_ready ≡ (B.state bus.old).polled_ready }
@@ -170,15 +175,15 @@ fn identify<B: Bus>(bus: &mut B, id: [u8; 3]) -> Result<Part, ProbeFault>
     })
 }
 
-// True if `id` is what is read when nothing drives the bus: `FF FF FF` or `00 00 00`.
+// True if `id` is `FF FF FF` or `00 00 00`, as it is read if nothing drives the bus.
 fn is_no_chip(id: [u8; 3]) -> bool
     ensures { result ≡ is_no_chip id }
 {
     id == [0xFF; 3] || id == [0; 3]
 }
 
-// Reads the SFDP, and returns the size and the erase types that it gives. On a well-behaved bus the SFDP is the chip's
-// own if the chip is idle.
+// Reads the SFDP, and returns the size and the erase types that it describes. On a well-behaved bus, the SFDP is that
+// of the chip, if the chip is idle.
 fn read_geometry<B: Bus>(bus: &mut B) -> Result<Geometry, ProbeFault>
     ensures leaves { OnlyReads 3 (B.state bus.old) (B.state bus.new) }
     ensures polled_ready { (B.state bus.new).polled_ready ≡ (B.state bus.old).polled_ready }
@@ -200,7 +205,7 @@ fn read_geometry<B: Bus>(bus: &mut B) -> Result<Geometry, ProbeFault>
     Ok(geometry)
 }
 
-// The parts of the SFDP that are read.
+// The parts of the SFDP that are read: the header, the first parameter header, and the table.
 #[derive(Clone, Copy)]
 struct Parameters {
     header: [u8; 8],
@@ -208,8 +213,8 @@ struct Parameters {
     table: [u8; 36],
 }
 
-// Reads the SFDP header, the first parameter header, and 36 bytes of the table that the parameter header points to. On
-// a well-behaved bus these bytes are the chip's own if the chip is idle.
+// Reads the SFDP header, the first parameter header, and 36 bytes of the table whose address the parameter header
+// contains. On a well-behaved bus, these bytes are those of the chip's SFDP, if the chip is idle.
 fn read_parts<B: Bus>(bus: &mut B) -> Result<Parameters, Stopped>
     ensures leaves { OnlyReads 3 (B.state bus.old) (B.state bus.new) }
     ensures polled_ready { (B.state bus.new).polled_ready ≡ (B.state bus.old).polled_ready }
@@ -234,7 +239,7 @@ fn read_parts<B: Bus>(bus: &mut B) -> Result<Parameters, Stopped>
     })
 }
 
-// Returns the address of the table that a parameter header points to: bytes 4 to 6, little-endian (JESD216).
+// Returns the address of the table, which is in bytes 4 to 6 of a parameter header, little-endian (JESD216).
 fn pointer_in(first: &[u8; 8]) -> u32
     ensures pointer { result ≡ pointer_in first.now }
     ensures reachable { result < 2 ^ 24 }
@@ -242,7 +247,8 @@ fn pointer_in(first: &[u8; 8]) -> u32
     LittleEndian::read_u24(&first[4..])
 }
 
-// Returns the number of reads that identify a chip of this name: one (9Fh), and three more (5Ah) for `Sfdp`.
+// Returns the number of reads that identify a chip of this name: one of its ID (9Fh), and three more of its SFDP (5Ah)
+// for `Sfdp`.
 fn reads_of(name: ChipName) -> u64
     ensures { result ≡ reads_under name }
 {

@@ -14,13 +14,13 @@ use byteorder::{ByteOrder, LittleEndian};
 use nor_model::Kinds;
 use thiserror::Error;
 
-/// The size and the erase types that an accepted SFDP gives.
+/// The size and the erase types that an accepted SFDP describes.
 #[derive(Clone, Copy, Debug, PartialEq, Eq)]
 pub struct Geometry {
     /// The size in bytes. `read_sfdp` returns a power of two from 65,536 to 16,777,216.
     pub size: u32,
-    /// Whether 32 KiB with opcode 52h and 64 KiB with opcode D8h are among the erase types. An accepted SFDP always has
-    /// 4 KiB with opcode 20h.
+    /// Whether the chip also has the erase types of 32 KiB with opcode 52h and of 64 KiB with opcode D8h. A chip whose
+    /// SFDP is accepted always has the erase type of 4 KiB with opcode 20h.
     pub kinds: Kinds,
 }
 
@@ -33,22 +33,22 @@ pub enum SfdpFault {
     /// The major revision in the header isn't 1.
     #[error("the SFDP has a major revision other than 1")]
     Major,
-    /// The first parameter header isn't that of the basic table in major revision 1.
+    /// The first parameter header isn't that of the basic flash parameter table in major revision 1.
     #[error("the first parameter header is not that of the basic table")]
     FirstHeader,
-    /// The first parameter header gives the table fewer than nine double words.
+    /// According to the first parameter header, the table has fewer than nine double words.
     #[error("the basic table is too short")]
     Length,
-    /// The chip takes only four-byte addresses, or the two bits for the length of addresses have the reserved value 3.
+    /// The chip takes only four-byte addresses, or the field for the length of addresses has the reserved value 3.
     #[error("the chip doesn't take addresses of three bytes")]
     Address,
-    /// The write granularity is below 64 bytes: the chip isn't written in pages.
+    /// The write granularity is below 64 bytes, so the chip isn't written in pages.
     #[error("the chip is not written in pages")]
     Granularity,
     /// The size isn't a power of two from 64 KiB to 16 MiB.
     #[error("the size is not a power of two from 64 KiB to 16 MiB")]
     Size,
-    /// No erase type has 4 KiB with opcode 20h.
+    /// None of the four erase types is 4 KiB with opcode 20h.
     #[error("the chip erases no sectors of 4 KiB")]
     NoSector,
 }
@@ -64,21 +64,22 @@ impl SfdpFault {
     }
 }
 
-// The least number of double words of the table: the erase types are in double words 8 and 9.
+// The least number of double words that the table must have. The erase types are in double words 8 and 9.
 const TABLE_LENGTH: u8 = 9;
 
-// Bit 31 of the density double word. If it is set, the other bits are the exponent of the size in bits.
+// Bit 31 of the density double word. If it is set, the other bits are the binary logarithm of the size in bits.
 const BY_EXPONENT: u32 = 0x8000_0000;
 
-// The least supported size in bits: 64 KiB.
+// The smallest supported size, 64 KiB, in bits.
 const LEAST_BITS: u32 = 1 << 19;
 
-// The exponent of the greatest supported size in bits: 16 MiB is 2^27 bits.
+// The binary logarithm of the largest supported size in bits: 16 MiB has 2^27 bits.
 const MOST_EXPONENT: u32 = 27;
 
-/// Decodes the SFDP of a chip, and returns its size and erase types or the first fault in the order of `SfdpFault`.
-/// `header` has the bytes at 0 to 7, `first` those at 8 to 15, and `table` the 36 bytes at the address that `first`
-/// points to.
+/// Decodes the SFDP of a chip. Returns the chip's size and erase types, or the first fault in the order of `SfdpFault`.
+///
+/// `header` has the bytes of the SFDP at 0 to 7, `first` those at 8 to 15, and `table` the 36 bytes at the address that
+/// `first` contains.
 pub fn read_sfdp(header: &[u8; 8], first: &[u8; 8], table: &[u8; 36]) -> Result<Geometry, SfdpFault>
     ensures says { result ≡ sfdp_says header.now first.now table.now }
     ensures sized { IfOk result (λ geometry. is_chip_size geometry.size ≡ true) }
@@ -98,7 +99,7 @@ pub fn read_sfdp(header: &[u8; 8], first: &[u8; 8], table: &[u8; 36]) -> Result<
     read_table(table)
 }
 
-// Checks the basic table, and returns the size and the erase types or the first fault.
+// Checks the basic flash parameter table. Returns the size and the erase types, or the first fault.
 fn read_table(table: &[u8; 36]) -> Result<Geometry, SfdpFault>
     ensures says { result ≡ first_fault_or (geometry_of table.now) (table_faults table.now) }
     ensures sized { IfOk result (λ geometry. is_chip_size geometry.size ≡ true) }
@@ -130,8 +131,8 @@ fn is_sfdp(header: &[u8; 8]) -> bool
     header[0] == b'S' && header[1] == b'F' && header[2] == b'D' && header[3] == b'P'
 }
 
-// True if the first parameter header is that of the basic table in major revision 1. Only the low byte of its ID and
-// its major revision are compared.
+// True if the first parameter header is that of the basic flash parameter table in major revision 1. Only the low byte
+// of its ID and its major revision are compared.
 #[tactic(auto, unfolding(crate::specs::Sfdp::is_basic))]
 fn is_basic_table(first: &[u8; 8]) -> bool
     ensures { result ≡ is_basic first.now }
@@ -139,8 +140,8 @@ fn is_basic_table(first: &[u8; 8]) -> bool
     first[0] == 0 && first[2] == 1
 }
 
-// Returns bits 17 and 18 of double word 1: 0 for three-byte addresses, 1 for three or four bytes, 2 for four bytes
-// only. The value 3 is reserved.
+// Returns the length of addresses that the chip takes, from bits 17 and 18 of double word 1: 0 for three bytes, 1 for
+// three or four bytes, 2 for four bytes only. The value 3 is reserved.
 #[tactic(auto, unfolding(crate::specs::Sfdp::address_mode))]
 fn address_bits(table: &[u8; 36]) -> u32
     ensures { result ≡ address_mode table.now }
@@ -148,7 +149,7 @@ fn address_bits(table: &[u8; 36]) -> u32
     (double_word_of(table, 1) >> 17) % 4
 }
 
-// True if one program command may write 64 bytes or more: bit 2 of double word 1.
+// True if the write granularity is 64 bytes or more, as bit 2 of double word 1 says.
 #[tactic(auto, unfolding(crate::specs::Sfdp::has_write_granularity))]
 fn takes_pages(table: &[u8; 36]) -> bool
     ensures { result ≡ has_write_granularity table.now }
@@ -186,7 +187,7 @@ fn size_in_bytes(density: u32) -> Option<u32>
     }
 }
 
-// True if one of the four erase types has a size of 2 ^ `exponent` bytes and this opcode.
+// True if one of the four erase types has this opcode, and a size of 2 ^ `exponent` bytes.
 #[tactic(auto, unfolding(crate::specs::Sfdp::has_erase_type))]
 fn offers(table: &[u8; 36], exponent: u8, opcode: u8) -> bool
     ensures { result ≡ has_erase_type exponent opcode table.now }
@@ -197,7 +198,7 @@ fn offers(table: &[u8; 36], exponent: u8, opcode: u8) -> bool
         || offers_at(table, exponent, opcode, 34)
 }
 
-// True if the erase type at byte `at` of the table has this exponent and this opcode.
+// True if the erase type that begins at byte `at` of the table has this exponent of its size and this opcode.
 fn offers_at(table: &[u8; 36], exponent: u8, opcode: u8, at: usize) -> bool
     requires { at < 35 }
     ensures { result ≡ is_erase_type_at exponent opcode table.now at }

@@ -13,15 +13,15 @@ pub enum ChipName {
     W25Q64FV,
     /// Winbond W25Q128FV, 16 MiB.
     W25Q128FV,
-    /// Any chip that is known only by its SFDP.
+    /// The name of every chip that is known only by its SFDP.
     Sfdp,
-    /// Any name that no chip has.
+    /// Any other name. No chip has it.
     Other,
 }
 
 impl ChipName {
-    /// Returns the name that `text` spells: that of a chip of the table, or `SFDP`, in upper case. Returns `Other` for
-    /// any other text.
+    /// Returns the name that `text` spells, in upper case: the name of a chip of the table, or `SFDP`. Returns `Other`
+    /// for any other text.
     pub fn of(text: &str) -> ChipName
         ensures { result ≡ name_of text.now }
     {
@@ -78,7 +78,7 @@ const CHIPS: [Part; 2] = [
     },
 ];
 
-// The emulated chip TINY64, as its SFDP describes it. Its ID isn't in the table.
+// The emulated chip TINY64, with the size and erase types that its SFDP gives. Its ID isn't in the table.
 const TINY64: Part = Part {
     name: ChipName::Sfdp,
     id: [0xFE, 0x10, 0x10],
@@ -111,8 +111,8 @@ fn part_named(name: &str) -> Option<Part>
         .copied()
 }
 
-/// Returns the type of the emulated chip with this name: `TINY64`, which only its SFDP describes, or the name of a chip
-/// of the table. Returns `None` for any other name.
+/// Returns the type of the emulated chip that is called `name`: TINY64, which isn't in the table, or a chip of the
+/// table. Returns `None` for any other name.
 pub fn emulated_part(name: &str) -> Option<Part>
     ensures named { result ≡ emulated_named name.now }
     ensures emulated { IfSome result IsEmulatedPart }
