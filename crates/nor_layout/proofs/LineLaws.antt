@@ -13,15 +13,15 @@ use Rattle.nor_layout.specs.Line.{cut_at, without_spaces, with_start, parts_afte
 use Rattle.nor_layout.specs.Line.{parts_say, line_says}
 use Rattle.nor_layout.specs.Grammar.{IsAddress, IsLine}
 
--- if the result of two tests in turn is `Ok y`, the first test (`bad`) is false, the second (`good`) is true, and `y`
--- is `x`
+-- Let two tests be made in turn, an error if `bad` is true and another error if `good` is false. If the result is `Ok
+-- y`, `bad` is false, `good` is true, and `y` is `x`.
 passes : {A E : Type 0} (bad good : Bool) (x y : A) (first second : E)
     → (if bad then Err first else if good then Ok x else Err second) ≡ Ok y → (bad ≡ false) × (good ≡ true) × (x ≡ y)
 passes bad good x y first second e = grind arith
 
 -- ---- addresses
 
--- `digits_of` is the text, or the text after `0x`
+-- The text is `digits_of text`, with or without `0x` before it.
 digits_of-is : (text : List ℕ) → (text ≡ digits_of text) ⊎ (text ≡ 48 ∷ 120 ∷ digits_of text)
 digits_of-is text = grind (arith, nat_tests)
 
@@ -30,7 +30,7 @@ address_of-found text = cond_both (are_digits (digits_of text)) _ _ (λ found. I
     (λ is. record { digits = digits_of text; text_is = digits_of-is text; hexadecimal = is; address_is = refl })
     (λ other. tt)
 
--- hexadecimal digits have no prefix `0x`
+-- Hexadecimal digits don't begin with `0x`, so `digits_of` leaves them as they are.
 digits_of-digits : (digits : List ℕ) → list_all is_hex_digit digits ≡ true → digits_of digits ≡ digits
 digits_of-digits digits all = grind (arith, nat_tests)
 
@@ -39,7 +39,7 @@ address_of-taken text address is = grind (arith, nat_tests, digits_of-digits is.
 
 -- ---- cuts
 
--- the text is the two parts with the byte between them
+-- Holds if the text is the first part, then `byte`, then the second part.
 abbrev IsCut : ℕ → List ℕ → List ℕ × List ℕ → Type 0
 IsCut byte text parts = text ≡ parts.0 ++ byte ∷ parts.1
 
@@ -47,7 +47,7 @@ cut_at-is : (byte : ℕ) (text : List ℕ) → IfSome (cut_at byte text) (IsCut 
 cut_at-is byte [] = tt
 cut_at-is byte (b ∷ text) = grind (arith, nat_tests, cut_at-is byte text)
 
--- true if the text doesn't contain the byte
+-- True if the text doesn't contain `byte`.
 abbrev lacks : ℕ → List ℕ → Bool
 lacks byte text = list_all (λ b. not (eqb b byte)) text
 
@@ -57,7 +57,7 @@ cut_at-taken byte (b ∷ front) rest lacking = grind (arith, nat_tests, cut_at-t
 
 -- ---- spaces
 
--- splits a text into its leading spaces and the rest
+-- Splits a text into its leading spaces and the rest.
 leading : (text : List ℕ)
     → (spaces : List ℕ) × (text ≡ spaces ++ without_spaces text) × (list_all (λ b. eqb b 32) spaces ≡ true)
 leading [] = ([], refl, refl)
@@ -68,7 +68,7 @@ leading (b ∷ text) = elim (cases_Bool (eqb b 32)) [
   | inr other ↦ ([], rw other refl, refl)
 ]
 
--- removing the leading spaces before a name leaves the name, which has no spaces
+-- A name has no spaces. Therefore removing the leading spaces of a text with spaces and then a name leaves the name.
 without_spaces-taken : (spaces name : List ℕ) → list_all (λ b. eqb b 32) spaces ≡ true
     → list_all is_name_byte name ≡ true
     → without_spaces (spaces ++ name) ≡ name
@@ -78,8 +78,8 @@ without_spaces-taken (b ∷ spaces) name blank all = grind (arith, nat_tests, wi
 
 -- ---- lines
 
--- an address consists of hexadecimal digits (`digits_lack`) and an optional `0x`, so it contains no other byte, such as
--- `:` or a space (`address_lacks`)
+-- Hexadecimal digits contain no byte that isn't a hexadecimal digit (`digits_lack`). An address is an optional `0x` and
+-- such digits. Therefore it doesn't contain `:` or a space (`address_lacks`).
 digits_lack : (byte : ℕ) → is_hex_digit byte ≡ false → (digits : List ℕ) → list_all is_hex_digit digits ≡ true
     → lacks byte digits ≡ true
 digits_lack byte other [] all = refl
@@ -104,7 +104,7 @@ line_says-taken line region is =
     let forward = le-ltb region.end region.start is.forward in
     rw (is.line_is, first, second, third, start, end, forward, is.named) refl
 
--- if `gives` returns a region for the optional part `o` of a line, but not for None, the part is there
+-- Let `o` be an optional part of a line. If `gives` returns a region for `o`, but not for None, the part is there.
 some_of : {A : Type 0} (P : A → Type 0) (o : Option A) (gives : Option A → Result Region LineFault) (region : Region)
     → IfSome o P → ¬ (gives None ≡ Ok region) → gives o ≡ Ok region → (x : A) × P x × (gives (Some x) ≡ Ok region)
 some_of P o gives region is none e = grind arith

@@ -1,4 +1,4 @@
--- The positions in a sector that spans cover.
+-- Lemmas about the positions in a sector that spans cover.
 use Rattle.std.proofs.Common.{◌≡◌, ℕ, ◌+◌, ◌-◌, ◌*◌, ◌/◌, ◌<◌, ◌≤◌, ◌||◌, ltb, List, [], ◌∷◌, refl, arith, Bool}
 use Rattle.std.specs.List.{cons_option}
 use Rattle.std.proofs.lemmas.Bool.{cond_both}
@@ -46,7 +46,7 @@ rising-cons sector first span rest le forward rising = cond_both (is_outside sec
       weaker _ _ rest (grind (arith, nat_tests)) rising,
     ))
 
--- if disjoint spans follow `low` and are apart from it, their positions ascend, and are after those of `low`
+-- If disjoint spans follow `low`, and are apart from it, their positions ascend, and come after those of `low`.
 parts_rise : (sector : ℕ) (low : Span) (spans : List Span) → IsApartFrom low spans → AreDisjoint spans
     → AreRisingFrom (low.last + 1 - 4096 * sector) (parts_in_sector sector spans)
 parts_rise sector low [] from apart = tt

@@ -1,4 +1,4 @@
--- Whether a set of spans has an address in a sector, or at or above an address.
+-- Lemmas about whether a set of spans has an address in a sector, or an address that is `size` or greater.
 use Rattle.std.proofs.Common.{◌≡◌, ◌∙◌, ℕ, ◌+◌, ◌*◌, ◌/◌, ◌%◌, ◌≤◌, Bool, true, ◌&&◌, leb, max, List, [], ◌∷◌, Option}
 use Rattle.std.proofs.Common.{Some, ap, inl, inr, arith}
 use Rattle.std.specs.Prelude.{MatchBool}
@@ -10,15 +10,15 @@ use Rattle.nor_layout.specs.Ranges.{is_in_span, contains, AreDisjoint}
 use Rattle.nor_layout.specs.Sectors.{includes, sectors_included, has_in_sector, ReachesPast}
 use Rattle.nor_geometry.proofs.Below.{same_tests, any_below-some, any_below-found, count_below-most}
 
--- for disjoint spans: if each span that passes the test has an address for which `Kind` holds, and some span of the set
--- passes, the set has an address for which `Kind` holds
+-- Let the spans be disjoint, and let each span that passes the test contain an address for which `Kind` holds. If some
+-- span passes the test, the set has an address for which `Kind` holds.
 any_span : (test : Span → Bool) (Kind : ℕ → Type 0)
     → ((span : Span) → span.first ≤ span.last → test span ≡ true → (a : ℕ) × Kind a × (is_in_span span a ≡ true))
     → (spans : List Span) → AreDisjoint spans → list_any test spans ≡ true → (a : ℕ) × Kind a × (contains spans a ≡ true)
 any_span test Kind has [] apart h = absurd (cc)
 any_span test Kind has (span ∷ spans) apart h = grind (arith, has span apart.0, any_span test Kind has spans apart.2)
 
--- if each span that contains address a passes the test, and the set contains a, some span passes
+-- Let each span that contains the address a pass the test. If the set contains a, some span passes the test.
 some_span : (test : Span → Bool) (a : ℕ) → ((span : Span) → is_in_span span a ≡ true → test span ≡ true)
     → (spans : List Span) → contains spans a ≡ true → list_any test spans ≡ true
 some_span test a passes [] h = h
@@ -29,7 +29,7 @@ some_span test a passes (span ∷ spans) h = grind (arith, passes span, some_spa
 abbrev pub ends_from : ℕ → Span → Bool
 ends_from size span = leb size span.last
 
--- some span of a disjoint set ends at or above `size` if and only if the set has an address at or above `size`
+-- Some span of a disjoint set ends at `size` or above if and only if the set has an address that is `size` or greater.
 pub size_cases : (spans : List Span) (size : ℕ) → AreDisjoint spans
     → MatchBool (list_any (ends_from size) spans) (ReachesPast (Some spans) size) (¬ ReachesPast (Some spans) size)
 size_cases spans size apart = elim (cases_Bool (list_any (ends_from size) spans)) [
@@ -44,12 +44,12 @@ size_cases spans size apart = elim (cases_Bool (list_any (ends_from size) spans)
 abbrev pub is_in_sector : ℕ → Span → Bool
 is_in_sector sector span = leb (span.first / 4096) sector && leb sector (span.last / 4096)
 
--- some span of a disjoint set overlaps the sector if and only if some address of the sector is in the set
+-- Some span of a disjoint set overlaps the sector if and only if the set has an address in the sector.
 pub in_sector-is : (spans : List Span) (sector : ℕ) → AreDisjoint spans → list_any (is_in_sector sector) spans ≡ has_in_sector (contains spans) sector
 in_sector-is spans sector apart =
     same_tests (list_any (is_in_sector sector) spans) (has_in_sector (contains spans) sector)
     (λ yes.
-    -- the address is the first of the span or of the sector, whichever is greater
+    -- The address in both is the first one of the span or of the sector, whichever is greater.
     let h = any_span (is_in_sector sector) (λ a. a / 4096 ≡ sector)
     (λ span forward here. (max span.first (sector * 4096), grind (arith, nat_tests), grind (arith, nat_tests)))
     spans apart yes in

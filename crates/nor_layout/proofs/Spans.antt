@@ -1,4 +1,4 @@
--- Adding a span to a set of spans.
+-- Lemmas about adding a span to a set of spans.
 use Rattle.std.proofs.Common.{◌≡◌, ℕ, ◌+◌, ◌<◌, ◌≤◌, Bool, ◌||◌, cond, ltb, List, [], ◌∷◌, ◌++◌, length, drop, refl}
 use Rattle.std.proofs.Common.{arith}
 use Rattle.std.proofs.lemmas.Bool.Decides.{nat_tests}
@@ -10,7 +10,7 @@ use Rattle.nor_layout.specs.Steps.{join}
 abbrev is_below : Span → Span → Bool
 is_below a b = ltb (a.last + 1) b.first
 
--- the spans with one more, joined with those that it overlaps or is adjacent to
+-- the spans with the span `new` added, which is joined with the spans that it overlaps or is adjacent to
 unfoldable pub merged : Span → List Span → List Span
 merged new [] = new ∷ []
 merged new (span ∷ spans) =
@@ -26,12 +26,13 @@ contains-merged new (span ∷ spans) address forward apart =
     let joined = contains-merged (join new span) spans address (omega (arith, forward, apart.0)) apart.2 in
     grind (arith, nat_tests)
 
--- a span that is apart below the first of some disjoint spans is also apart below the spans after the first
+-- Let `span` and `spans` be disjoint. If `low` is apart below `span`, it is also apart below the spans after it.
 further : (low span : Span) (spans : List Span) → low.first ≤ low.last → low.last + 1 < span.first
     → AreDisjoint (span ∷ spans) → AreDisjoint (low ∷ spans)
 further low span spans forward lt apart = grind arith
 
--- adding a span that is apart above `low` to disjoint spans after `low` leaves the spans disjoint, and apart from `low`
+-- Let `low` and `spans` be disjoint. If a span that is apart above `low` is added to `spans`, the result is disjoint,
+-- and apart from `low`.
 apart_after : (low new : Span) (spans : List Span) → low.last + 1 < new.first → new.first ≤ new.last
     → AreDisjoint (low ∷ spans) → AreDisjoint (low ∷ merged new spans)
 unfolding merged
@@ -54,7 +55,8 @@ AreDisjoint-merged new (span ∷ spans) forward apart =
     let later = further new span spans in
     grind (arith, nat_tests)
 
--- when the loop has passed the last span, the spans so far and `new` are the set with the span added
+-- After the loop has passed the last span, the finished spans `front` and the span `new` are the set with `added`
+-- added.
 pub merged_all : (front : List Span) (new added : Span) (spans : List Span) (i : ℕ) → length spans ≤ i
     → front ++ merged new (drop i spans) ≡ merged added spans → added.first ≤ added.last → AreDisjoint spans
     → AreDisjoint (front ++ new ∷ [])

@@ -1,5 +1,5 @@
--- A list of disjoint spans (`AreDisjoint`) is at most as long as another such list, if its addresses are those of the
--- other list within a range.
+-- Disjoint spans (`AreDisjoint`) are the fewest spans that have their addresses. Therefore no set can have the
+-- addresses of more than 64 disjoint spans.
 use Rattle.std.proofs.Common.{◌≡◌, ℕ, ◌+◌, ◌<◌, ◌≤◌, true, ◌&&◌, ltb, List, [], ◌∷◌, length, inl, inr, arith}
 use Rattle.std.proofs.lemmas.Bool.{false≢true, or_cases}
 use Rattle.std.proofs.lemmas.Bool.Decides.{nat_tests}
@@ -11,12 +11,13 @@ use Rattle.nor_layout.specs.Ranges.{is_in_span, contains, AreDisjoint, IsSetOf}
 first_in : (span : Span) (spans : List Span) → span.first ≤ span.last → contains (span ∷ spans) span.first ≡ true
 first_in span spans forward = grind (arith, nat_tests)
 
--- if the spans are disjoint, each address of the spans after the first is above the address after the first span's end
+-- If the spans are disjoint, each address in the spans after the first one is above the address after the end of the
+-- first.
 above : (span : Span) (spans : List Span) (a : ℕ) → AreDisjoint (span ∷ spans) → contains spans a ≡ true → span.last + 1 < a
 above span [] a apart holds = absurd (false≢true holds)
 above span (next ∷ spans) a apart holds = grind (arith, nat_tests, above next spans a apart.2)
 
--- Holds if the addresses of `few` are exactly those of `many` from `low` up to, but excluding, `limit`.
+-- Holds if `few` has exactly those addresses of `many` that are `low` or greater and below `limit`.
 record AreCut (low limit : ℕ) (few many : List Span) : Type 0 where
   within : (a : ℕ) → contains few a ≡ true → (low ≤ a) × (a < limit)
   into : (a : ℕ) → contains few a ≡ true → contains many a ≡ true
@@ -24,8 +25,8 @@ record AreCut (low limit : ℕ) (few many : List Span) : Type 0 where
 
 module _ (low limit : ℕ) (s : Span) (ss : List Span) (b : Span) (bs : List Span) (apart : AreDisjoint (s ∷ ss))
     (apart_b : AreDisjoint (b ∷ bs)) (cut : AreCut low limit (s ∷ ss) (b ∷ bs)) where
-  -- If s begins in b, the spans after s are cut from those after b. If one of their addresses were in b, b would also
-  -- contain the address after s, which no span of the list that begins with s contains.
+  -- If s begins in b, the spans after s are cut from the spans after b (`AreCut`). None of their addresses is in b,
+  -- because b would then also contain the address after s, which isn't in the list that begins with s.
   rests : is_in_span b s.first ≡ true → AreCut (s.last + 1) limit ss bs
   rests begins = record {
     within = λ a holds. grind (arith, nat_tests, above s ss a apart, cut.within a);
@@ -36,7 +37,7 @@ module _ (low limit : ℕ) (s : Span) (ss : List Span) (b : Span) (bs : List Spa
     from = λ a least most holds. grind (arith, nat_tests, cut.from a, cut.within s.first);
   }
 
-  -- if s begins in a span after b, the list that begins with s is cut from the spans after b
+  -- If s begins in a span after b, the list that begins with s is cut from the spans after b (`AreCut`).
   without : contains bs s.first ≡ true → AreCut low limit (s ∷ ss) bs
   without later =
       let high = λ (a : ℕ). above s ss a apart in
@@ -57,8 +58,8 @@ length_cut low limit (s ∷ ss) (b ∷ bs) apart apart_many cut =
           omega (arith, length_cut low limit (s ∷ ss) bs apart apart_many.2 rest)
     ]
 
--- if more than 64 disjoint spans have exactly those addresses of `spans` that are below `done`, no set has exactly the
--- addresses of `spans`
+-- If more than 64 disjoint spans have exactly those addresses of `spans` that are below `done`, no set (`IsSetOf`) has
+-- exactly the addresses of `spans`.
 pub none_has : (spans all : List Span) (done : ℕ) → AreDisjoint all → 64 < length all
     → ((a : ℕ) → contains all a ≡ (ltb a done && contains spans a)) → (set : List Span) → ¬ IsSetOf spans set
 none_has spans all done apart many same set is =

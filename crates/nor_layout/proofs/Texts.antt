@@ -1,4 +1,4 @@
--- A text defines regions if and only if it is in the grammar: proofs line by line.
+-- A text defines regions if and only if it is in the grammar. This is proved line by line.
 use Rattle.std.proofs.Common.{◌≡◌, ◌≢◌, ◌∙◌, ℕ, ◌+◌, ◌<◌, ◌≤◌, Bool, false, not, eqb, List, [], ◌∷◌, ◌++◌, length}
 use Rattle.std.proofs.Common.{filter, append_assoc, Result, Ok, Err, refl, sym, ap, inl, inr, arith}
 use Rattle.std.specs.Str.{bytes_eq}
@@ -34,7 +34,7 @@ push_apart (first ∷ regions) region apart once =
     let named = list_any-append (λ (r : Region). bytes_eq r.name.items first.name.items) regions (region ∷ []) in
     (grind arith, push_apart regions region apart.1 (grind arith))
 
--- if no two regions of a list have the same name, no region before `region` has its name
+-- If no two regions of the list have the same name, no region before `region` has the name of `region`.
 named_before : (regions : List Region) (region : Region) (more : List Region) → AreNamedApart (regions ++ region ∷ more)
     → is_region_named regions region.name.items ≡ false
 named_before [] region more apart = refl
@@ -51,7 +51,8 @@ push_forward (first ∷ regions) region all forward = (all.0, push_forward regio
 pub no_regions : AreRegions []
 no_regions = record { few = omega arith; forward = tt; named_apart = tt }
 
--- regions that a layout may have, and one more with a new name
+-- If `regions` are regions that a layout may have, and fewer than 64, they still are with one more region that has a
+-- new name.
 pub push_region : (regions : List Region) (region : Region) → AreRegions regions → region.start ≤ region.end
     → is_region_named regions region.name.items ≡ false → length regions < 64 → AreRegions (regions ++ region ∷ [])
 push_region regions region kept forward once room = record {
@@ -62,8 +63,8 @@ push_region regions region kept forward once room = record {
 
 -- ---- what is read is in the grammar
 
--- if neither a nonempty line nor the rest of the reading (`follows`) has a fault, the line adds a region with a new
--- name, after fewer than 64 others
+-- Let neither a nonempty line nor the rest of the reading (`follows`) have a fault. Then the line adds a region with a
+-- new name, and there were fewer than 64 regions before.
 joined : (regions all : List Region) (n : ℕ) (said : Result Region LineFault)
     (follows : List Region → Result (List Region) LayoutFault) → joins_or_fault regions n said >>= follows ≡ Ok all
     → (region : Region) × (said ≡ Ok region) × (is_region_named regions region.name.items ≡ false)
@@ -73,7 +74,8 @@ joined regions all n said follows e = grind (arith, nat_tests)
 abbrev is_full : List ℕ → Bool
 is_full line = not (eqb (length line) 0)
 
--- `all` are the earlier regions followed by the regions of the remaining lines, and `all` fulfils `AreRegions`
+-- Holds if `all` are the earlier `regions` followed by the regions of the remaining lines, and a layout may have them
+-- (`AreRegions`).
 abbrev RestDefines : (lines : List (List ℕ)) (regions all : List Region) → Type 0
 RestDefines lines regions all =
     AreRegions all × ((rest : List Region) × (all ≡ regions ++ rest) × AllZip IsLine (filter is_full lines) rest)
@@ -126,7 +128,7 @@ lines_say-taken all few apart (line ∷ lines) regions (region ∷ rest) n are i
     let later = lines_say-taken all few apart lines (regions ++ region ∷ []) rest (n + 1) in
     grind (arith, nat_tests, lines_say-taken all few apart lines regions (region ∷ rest) (n + 1))
 
--- for a text in the grammar, the result of reading is its regions, or `Memory`
+-- If a text is in the grammar, the result of reading it is its regions, or `Memory`.
 pub reads_taken : (text : List ℕ) (result : Result (List Region) LayoutFault) → ReadsLayout result (layout_says text)
     → (regions : List Region) → IsLayout text regions → ReadsLayout result (Ok regions)
 unfolding layout_says
@@ -139,8 +141,8 @@ reads_taken text result reads regions is =
 pub length-lines_of : (text : List ℕ) → length (lines_of text) ≤ length text + 1
 length-lines_of text = omega (arith, length-slice_split (λ b. eqb b 10) text, count_by-le-length (λ b. eqb b 10) text)
 
--- the first n lines, `lines`, have no fault and define `regions`, and reading continues with line n + 1, for all lines
--- that may follow
+-- Holds if `lines`, the first n lines of a text, have no fault and define `regions`. Whatever lines follow, reading
+-- then continues with line n + 1 and these regions.
 abbrev pub LinesDefine : List (List ℕ) → ℕ → List Region → Type 0
 LinesDefine lines n regions = (after : List (List ℕ)) → lines_say [] 1 (lines ++ after) ≡ lines_say regions (n + 1) after
 
@@ -150,7 +152,7 @@ unfolding layout_says lines_say
 define_all text lines n regions is define = ap (lines_say [] 1) (sym (append-nil lines ∙ is)) ∙ define []
 
 module _ (before : List (List ℕ)) (n : ℕ) (line : List ℕ) (regions : List Region) (define : LinesDefine before n regions) where
-  -- reading continues with the result (`said`) of line n + 1, and then with the lines after it
+  -- Reading continues with the result (`said`) of line n + 1, and then with the lines after it.
   onward : (said : Result (List Region) LayoutFault) → with_line regions (n + 1) line ≡ said → (after : List (List ℕ))
       → lines_say [] 1 (before ++ line ∷ after) ≡ said >>= λ more. lines_say more (n + 1 + 1) after
   unfolding lines_say
@@ -169,7 +171,8 @@ module _ (before : List (List ℕ)) (n : ℕ) (line : List ℕ) (regions : List 
     unfolding layout_says
     returned said e = ap (lines_say [] 1) lines_are ∙ onward said e after
 
-    -- a text with a line that adds a region, after lines without a fault, allocates (`AsksMemory`)
+    -- Reading a text allocates memory (`AsksMemory`) if one of its lines adds a region, and no earlier line has a
+    -- fault.
     asks_memory : (region : Region) → with_line regions (n + 1) line ≡ Ok (regions ++ region ∷ []) → AsksMemory text
     unfolding lines_say
     asks_memory region e = record {
@@ -183,7 +186,7 @@ module _ (before : List (List ℕ)) (n : ℕ) (line : List ℕ) (regions : List 
       more = rw counted e;
     }
 
-    -- if a line adds a region after lines without a fault, the text defines at least one region, or a fault
+    -- If one line adds a region, and no earlier line has a fault, the text defines at least one region, or a fault.
     define_one : (region : Region) → AreRegions regions → with_line regions (n + 1) line ≡ Ok (regions ++ region ∷ [])
         → layout_says text ≢ Ok []
     define_one region kept e none =

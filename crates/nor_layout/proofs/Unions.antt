@@ -1,4 +1,4 @@
--- The addresses that names include, computed by name and by region.
+-- The addresses that names include are the same whether they are computed by name or by region.
 use Rattle.std.proofs.Common.{◌≡◌, ℕ, Bool, false, ◌&&◌, ◌||◌, List, [], ◌∷◌, refl, ap, ◌∙◌, arith}
 use Rattle.std.specs.List.{list_any}
 use Rattle.std.specs.Str.{bytes_eq}
@@ -13,7 +13,7 @@ abbrev by_region : List (List ℕ) → ℕ → List Region → Bool
 by_region names address regions =
     list_any (λ region. list_any (bytes_eq region.name.items) names && has_address region address) regions
 
--- one more name adds the addresses of its regions
+-- If one more name is listed, the addresses of the regions with this name are added.
 by_region-cons : (name : List ℕ) (names : List (List ℕ)) (address : ℕ) (regions : List Region)
     → by_region (name ∷ names) address regions ≡ (name_includes regions address name || by_region names address regions)
 by_region-cons name names address [] = refl

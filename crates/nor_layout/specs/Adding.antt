@@ -1,4 +1,4 @@
--- The result of adding a region to a layout: the regions with this one, or the reason why it can't be added.
+-- The result of adding a region to a layout: the regions with the added one, or the reason why it can't be added.
 use Rattle.std.specs.Prelude.{◌≡◌, ℕ, ◌++◌, nat_lt, not, if◌then◌else◌, List, [], ◌∷◌, length, Result, Ok, Err, ⊤}
 use Rattle.nor_layout.specs.declared.region.Region.{Region}
 use Rattle.nor_layout.specs.declared.layout.adding.RegionFault.{RegionFault}
@@ -6,8 +6,8 @@ use Rattle.nor_layout.specs.declared.layout.adding.RegionFault.TheVariants.{Name
 use Rattle.nor_layout.specs.Line.{is_name}
 use Rattle.nor_layout.specs.Text.{is_region_named}
 
--- The regions with one more after them, or the first fault of that region: a layout has at most 64 regions, each with a
--- valid name, and no two with the same name.
+-- The regions with one more after them, or the first fault of the added region. A layout has at most 64 regions, each
+-- has a valid name, and no two have the same name.
 abbrev pub with_region : List Region → Region → Result (List Region) RegionFault
 with_region regions region =
     if not (is_name region.name.items) then Err Name
@@ -15,14 +15,15 @@ with_region regions region =
     else if nat_lt (length regions) 64 then Ok (regions ++ region ∷ [])
     else Err TooMany
 
--- Holds if adding the region to the regions `old` had this result and left the regions `new`. The result is what
--- `with_region` defines, or `Memory`; `Memory` is possible only if the region has no fault. An error changes nothing.
+-- Holds if a call that adds `region` to the regions `old` may have this result, and leave the regions `new`. The result
+-- is what `with_region` defines, or `Memory`, which is possible only if the region has no fault. An error changes
+-- nothing.
 abbrev pub Adds : (old new : List Region) → Region → Result ⊤ RegionFault → Type 0
 Adds old new region (Ok x) = with_region old region ≡ Ok new
 Adds old new region (Err Memory) = (new ≡ old) × (with_region old region ≡ Ok (old ++ region ∷ []))
 Adds old new region (Err fault) = (new ≡ old) × (with_region old region ≡ Err fault)
 
--- the number of a fault
+-- the number of a fault, in the order in which faults are checked
 abbrev pub region_fault_number : RegionFault → ℕ
 region_fault_number Name = 1
 region_fault_number Twice = 2

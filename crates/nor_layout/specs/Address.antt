@@ -1,4 +1,4 @@
--- Addresses in a layout text.
+-- How an address is written in a layout text.
 use Rattle.std.specs.Prelude.{ℕ, ◌+◌, ◌-◌, ◌*◌, ◌^◌, Bool, ◌&&◌, ◌||◌, ◌==◌, nat_le, if◌then◌else◌, List, [], ◌∷◌, length, Option, Some, None}
 use Rattle.std.specs.List.{list_all}
 
@@ -12,7 +12,7 @@ is_hex_digit byte =
 abbrev pub hex_value : ℕ → ℕ
 hex_value byte = if nat_le byte 57 then byte - 48 else if nat_le byte 70 then byte - 55 else byte - 87
 
--- the number with these hexadecimal digits, the most significant first
+-- the number that these hexadecimal digits encode, the most significant digit first
 abbrev pub digits_number : List ℕ → ℕ
 digits_number [] = 0
 digits_number (digit ∷ digits) = hex_value digit * 16 ^ length digits + digits_number digits
@@ -23,10 +23,10 @@ digits_of [] = []
 digits_of (a ∷ []) = a ∷ []
 digits_of (a ∷ b ∷ digits) = if (a == 48) && (b == 120) then digits else a ∷ b ∷ digits
 
--- true for 1 to 8 hexadecimal digits
+-- true if the bytes are 1 to 8 hexadecimal digits
 abbrev pub are_digits : List ℕ → Bool
 are_digits digits = nat_le 1 (length digits) && nat_le (length digits) 8 && list_all is_hex_digit digits
 
--- the address of a text with 1 to 8 hexadecimal digits after an optional `0x`, and None for any other text
+-- the address that a text encodes by 1 to 8 hexadecimal digits after an optional `0x`, or None for any other text
 abbrev pub digits_address : List ℕ → Option ℕ
 digits_address text = if are_digits (digits_of text) then Some (digits_number (digits_of text)) else None

@@ -13,7 +13,7 @@ number_in_line Backwards = 3
 number_in_line Name = 4
 number_in_line Twice = 5
 
--- the number that messages print
+-- the number that messages print for a fault of a layout text or of names
 abbrev pub layout_fault_number : LayoutFault → ℕ
 layout_fault_number (InLine line fault) = number_in_line fault
 layout_fault_number TooMany = 6

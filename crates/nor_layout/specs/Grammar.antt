@@ -13,8 +13,8 @@ pub record IsAddress (text : List ℕ) (address : ℕ) : Type 0 where
   pub hexadecimal : are_digits digits ≡ true
   pub address_is : digits_number digits ≡ address
 
--- True if the line is an address, a `:`, an address not below the first, one or more spaces, and a name. The region has
--- these addresses and this name.
+-- True if the line is an address, a `:`, an address not below the first one, one or more spaces, and a name. `region`
+-- has these addresses and this name.
 pub record IsLine (line : List ℕ) (region : Region) : Type 0 where
   pub start_text : List ℕ
   pub end_text : List ℕ
@@ -30,8 +30,8 @@ pub record IsLine (line : List ℕ) (region : Region) : Type 0 where
 abbrev pub full_lines : List ℕ → List (List ℕ)
 full_lines text = filter (λ line. not (length line == 0)) (lines_of text)
 
--- True if the nonempty lines are those of the regions (`IsLine`), one line per region and in the same order. There must
--- be at most 64 regions, and no two of them may have the same name.
+-- True if the nonempty lines of the text are those of the regions (`IsLine`), one line per region, in the same order.
+-- There must be at most 64 regions, and no two of them may have the same name.
 pub record IsLayout (text : List ℕ) (regions : List Region) : Type 0 where
   pub lines : AllZip IsLine (full_lines text) regions
   pub few : length regions ≤ 64

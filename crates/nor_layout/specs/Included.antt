@@ -1,27 +1,27 @@
--- The addresses that comma-separated names of regions include.
+-- The addresses that the names of regions, separated by commas, include.
 use Rattle.std.specs.Prelude.{ℕ, ◌==◌, Bool, ◌&&◌, nat_le, List}
 use Rattle.std.specs.Str.{bytes_eq}
 use Rattle.std.specs.List.{slice_split, list_any, list_all}
 use Rattle.nor_layout.specs.declared.region.Region.{Region}
 use Rattle.nor_layout.specs.Text.{is_region_named}
 
--- The comma-separated parts of a text. An empty part counts as a name, but no region of a layout has an empty name.
+-- The parts of a text between its commas. An empty part counts as a name, but no region of a layout has an empty name.
 abbrev pub names_of : List ℕ → List (List ℕ)
 names_of text = slice_split (λ b. b == 44) text
 
--- true if each name is the name of a region
+-- true if each of the comma-separated names is the name of a region
 abbrev pub are_known : List Region → List ℕ → Bool
 are_known regions text = list_all (λ name. is_region_named regions name) (names_of text)
 
--- true if the address is in the region, both ends included
+-- true if the address is in the region, which includes its start and its end
 abbrev pub has_address : Region → ℕ → Bool
 has_address region address = nat_le region.start address && nat_le address region.end
 
--- true if the address is in some region with the name
+-- true if the address is in a region with the name `name`
 abbrev pub name_includes : List Region → ℕ → List ℕ → Bool
 name_includes regions address name =
     list_any (λ region. bytes_eq region.name.items name && has_address region address) regions
 
--- true if the address is in some region whose name is one of the comma-separated names
+-- true if the address is in a region whose name is one of the comma-separated names
 abbrev pub is_included : List Region → List ℕ → ℕ → Bool
 is_included regions text address = list_any (name_includes regions address) (names_of text)

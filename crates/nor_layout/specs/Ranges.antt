@@ -1,4 +1,4 @@
--- Sets of addresses, as spans.
+-- Sets of addresses, which are given by lists of spans.
 use Rattle.std.specs.Prelude.{◌≡◌, ◌⊎◌, ℕ, ◌+◌, ◌<◌, ◌≤◌, Bool, true, ◌&&◌, nat_le, nat_lt, List, [], ◌∷◌, length, ⊤}
 use Rattle.std.specs.List.{list_any}
 use Rattle.nor_layout.specs.declared.ranges.Span.{Span}
@@ -11,20 +11,19 @@ is_in_span span address = nat_le span.first address && nat_le address span.last
 abbrev pub contains : (spans : List Span) → (address : ℕ) → Bool
 contains spans address = list_any (λ span. is_in_span span address) spans
 
--- True if the first of the following spans begins above the span, with at least one address between the two. True also
--- if no span follows.
+-- True if no span follows, or if the first of the following spans begins above `span`, with at least one address
+-- between them.
 abbrev pub IsApartFrom : Span → List Span → Type 0
 IsApartFrom span [] = ⊤
 IsApartFrom span (next ∷ spans) = span.last + 1 < next.first
 
--- True if no span ends before it begins, the spans are in ascending order, and at least one address is between each
--- two.
+-- True if no span ends before it begins, the spans ascend, and at least one address is between each two neighbours.
 abbrev pub AreDisjoint : List Span → Type 0
 AreDisjoint [] = ⊤
 AreDisjoint (span ∷ spans) = (span.first ≤ span.last) × IsApartFrom span spans × AreDisjoint spans
 
--- the invariant of `Ranges`: at most 64 spans, none of which ends before it begins, in ascending order, with at least
--- one address between each two
+-- The invariant of `Ranges`. There are at most 64 spans, none of them ends before it begins, they ascend, and at least
+-- one address is between each two neighbours.
 pub record AreRanges (spans : List Span) : Type 0 where
   pub few : length spans ≤ 64
   pub apart : AreDisjoint spans
@@ -33,7 +32,7 @@ pub record AreRanges (spans : List Span) : Type 0 where
 abbrev pub has_backwards : List Span → Bool
 has_backwards spans = list_any (λ span. nat_lt span.last span.first) spans
 
--- True if `set` is a valid set with exactly the addresses of `spans`.
+-- True if `set` is a valid set (`AreRanges`) with exactly the addresses of `spans`.
 pub record IsSetOf (spans set : List Span) : Type 0 where
   pub ranges : AreRanges set
   pub same : (address : ℕ) → contains set address ≡ contains spans address

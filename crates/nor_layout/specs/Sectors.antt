@@ -4,7 +4,7 @@ use Rattle.nor_layout.specs.declared.ranges.Span.{Span}
 use Rattle.nor_geometry.specs.Below.{any_below, count_below}
 use Rattle.nor_layout.specs.Ranges.{contains}
 
--- True if a request includes the address: it is in the ranges, or there are no ranges (`None`).
+-- True if a request includes the address: the address is in the ranges, or there are no ranges (`None`).
 abbrev pub includes : Option (List Span) → (address : ℕ) → Bool
 includes None address = true
 includes (Some spans) address = contains spans address
@@ -17,28 +17,27 @@ SomeInSector set sector = (i : ℕ) × (i < 4096) × (set (4096 * sector + i) �
 abbrev pub NoneInSector : (set : ℕ → Bool) → (sector : ℕ) → Type 0
 NoneInSector set sector = (i : ℕ) → i < 4096 → set (4096 * sector + i) ≡ false
 
--- true if some address of the sector is in the set; the test for `SomeInSector`
+-- true if some address of the sector is in the set, so that `SomeInSector` holds
 abbrev pub has_in_sector : (set : ℕ → Bool) → (sector : ℕ) → Bool
 has_in_sector set sector = any_below 4096 (λ i. set (4096 * sector + i))
 
--- how many sectors of a chip of `size` bytes have an included address
+-- the number of sectors with an included address on a chip of `size` bytes
 abbrev pub sectors_included : Option (List Span) → (size : ℕ) → ℕ
 sectors_included included size = count_below (size / 4096) (has_in_sector (includes included))
 
--- Holds if some address of the ranges is `size` or greater. Never holds without ranges.
+-- Holds if some address in the ranges is `size` or greater. Never holds if there are no ranges (`None`).
 abbrev pub ReachesPast : Option (List Span) → (size : ℕ) → Type 0
 ReachesPast None size = ⊥
 ReachesPast (Some spans) size = (address : ℕ) × (size ≤ address) × (contains spans address ≡ true)
 
--- Holds if no address of the ranges is past the end of a chip of `size` bytes.
+-- Holds if no address in the ranges is past the end of a chip of `size` bytes. Always holds if there are no ranges.
 abbrev pub FitsInto : Option (List Span) → (size : ℕ) → Type 0
 FitsInto included size = ¬ ReachesPast included size
 
--- The target at an address: the image's byte if the address is included, and the chip's current byte (`content`) if
--- not.
+-- The target at the address `a`: the image's byte if the address is included, else the chip's current byte (`content`).
 abbrev pub merged_byte : (ℕ → Bool) → (image content : ℕ → ℕ) → ℕ → ℕ
 merged_byte included image content a = if included a then image a else content a
 
--- Holds if the 4,096 bytes are those of `content` in the sector.
+-- Holds if `bytes` are the 4,096 bytes of `content` in the sector.
 abbrev pub AreOfSector : (ℕ → ℕ) → ℕ → List ℕ → Type 0
 AreOfSector content sector bytes = (i : ℕ) → i < 4096 → slice_index bytes i ≡ content (4096 * sector + i)

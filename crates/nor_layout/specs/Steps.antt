@@ -1,4 +1,4 @@
--- Results of private functions. No contract of a public function uses these definitions.
+-- The results of private functions. No contract of a public function uses these definitions.
 use Rattle.std.specs.Prelude.{◌≡◌, ◌≢◌, ◌<◌, ◌≤◌, ℕ, Bool, true, false, ◌&&◌, nat_le, nat_lt, min, max, if◌then◌else◌, Option, Some, None, MatchOption, List, [], ◌∷◌, ◌++◌, length, slice_index, Result, Ok, Err, ⊤}
 use Rattle.std.specs.Str.{bytes_eq}
 use Rattle.std.specs.List.{list_any}
@@ -9,14 +9,14 @@ use Rattle.nor_layout.specs.declared.region.Region.{Region}
 use Rattle.nor_layout.specs.Included.{names_of, has_address}
 use Rattle.nor_layout.specs.Ranges.{is_in_span, contains}
 
--- Holds if the first `byte` in the text is at index `at`.
+-- Holds if the first byte of the text that equals `byte` is at index `at`.
 pub record IsFirst (byte : ℕ) (text : List ℕ) (at : ℕ) : Type 0 where
   pub within : at < length text
   pub here : slice_index text at ≡ byte
   pub before : (k : ℕ) → k < at → slice_index text k ≢ byte
 
--- The result of adding a line's region is what `with_line` defines (`said`), or `Memory`. `Memory` is possible only if
--- the line adds a region.
+-- Holds if a call that adds the region of a line may have this result. `said` is what `with_line` defines. The result
+-- is `said`, or `Memory`, which is possible only if the line adds a region.
 abbrev pub AddsRegion : (old new : List Region) → Result ⊤ LayoutFault → Result (List Region) LayoutFault → Type 0
 AddsRegion old new (Ok x) said = said ≡ Ok new
 AddsRegion old new (Err Memory) said = (region : Region) × (said ≡ Ok (old ++ region ∷ []))
@@ -26,12 +26,12 @@ AddsRegion old new (Err fault) said = said ≡ Err fault
 abbrev pub is_listed : (text name : List ℕ) → Bool
 is_listed text name = list_any (λ listed. bytes_eq name listed) (names_of text)
 
--- true if the address is in a region whose name is listed
+-- true if the address is in a region whose name is one of the comma-separated names
 abbrev pub is_listed_address : List Region → List ℕ → ℕ → Bool
 is_listed_address regions text address =
     list_any (λ region. is_listed text region.name.items && has_address region address) regions
 
--- the smallest span that contains both
+-- the smallest span that contains both spans
 abbrev pub join : (a b : Span) → Span
 join a b = record { first = min a.first b.first; last = max a.last b.last }
 
@@ -39,24 +39,24 @@ join a b = record { first = min a.first b.first; last = max a.last b.last }
 abbrev pub EndBelow : (done : ℕ) → List Span → Type 0
 EndBelow done spans = (address : ℕ) → done ≤ address → contains spans address ≡ false
 
--- Holds if `next` has only addresses of the spans, at least one of them `done` or greater, and begins at or below each
--- address of the spans that is `done` or greater.
+-- Holds if `next` contains only addresses of the spans, at least one of which is `done` or greater, and begins at or
+-- below each address of the spans that is `done` or greater.
 pub record IsNext (done : ℕ) (spans : List Span) (next : Span) : Type 0 where
   pub forward : next.first ≤ next.last
   pub reaches : done ≤ next.last
   pub taken : (address : ℕ) → is_in_span next address ≡ true → contains spans address ≡ true
   pub least : (address : ℕ) → done ≤ address → contains spans address ≡ true → next.first ≤ address
 
--- Holds if there is a next span and `IsNext` holds for it, or there is none and each address in the spans is below
--- `done`.
+-- Holds if `next` is a span for which `IsNext` holds, or if it is None and each address in the spans is below `done`.
 abbrev pub IsNextOrNone : (done : ℕ) → List Span → Option Span → Type 0
 IsNextOrNone done spans next = MatchOption next (EndBelow done spans) (IsNext done spans)
 
--- the span that begins first, or `next` if both begin at the same address, or `span` if there is no `next`
+-- the one of `next` and `span` that begins first, or `next` if both begin at the same address, or `span` if `next` is
+-- None
 abbrev pub first_of : Option Span → Span → Option Span
 first_of None span = Some span
 first_of (Some next) span = if nat_le next.first span.first then Some next else Some span
 
--- `span` if it reaches the address `done`, and either begins before `next` or there is no `next`; else `next`
+-- the result of `first_of`, or `next` if `span` ends below the address `done`
 abbrev pub sooner : Option Span → Span → (done : ℕ) → Option Span
 sooner next span done = if nat_lt span.last done then next else first_of next span

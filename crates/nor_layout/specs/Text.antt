@@ -9,39 +9,40 @@ use Rattle.nor_layout.specs.declared.fault.LayoutFault.{LayoutFault}
 use Rattle.nor_layout.specs.declared.fault.LayoutFault.TheVariants.{InLine, TooMany, Memory}
 use Rattle.nor_layout.specs.Line.{line_says}
 
--- The lines of a text, without their line feeds. The bytes after the last line feed are one more line, which may be
--- empty.
+-- The lines of a text, without their line feeds. The bytes after the last line feed, even if there are none, are one
+-- more line.
 abbrev pub lines_of : List ℕ → List (List ℕ)
 lines_of text = slice_split (λ b. b == 10) text
 
--- true if one of the regions has the name
+-- true if one of the regions has the name `name`
 abbrev pub is_region_named : List Region → List ℕ → Bool
 is_region_named regions name = list_any (λ region. bytes_eq region.name.items name) regions
 
--- The earlier regions with the region of line n added, or the fault of adding it.
+-- The earlier `regions` with the region of line n added, or the fault of adding this region.
 abbrev pub joins : List Region → ℕ → Region → Result (List Region) LayoutFault
 joins regions n region =
     if is_region_named regions region.name.items then Err (InLine n Twice)
     else if nat_lt (length regions) 64 then Ok (regions ++ region ∷ [])
     else Err TooMany
 
--- the earlier `regions` with the region of line n added, or the fault of line n or of adding its region
+-- the earlier `regions` with the region of line n added, or the fault of line n, or the fault of adding its region
 abbrev pub joins_or_fault : List Region → ℕ → Result Region LineFault → Result (List Region) LayoutFault
 joins_or_fault regions n (Ok region) = joins regions n region
 joins_or_fault regions n (Err fault) = Err (InLine n fault)
 
--- The earlier `regions` with the region of line n added, or a fault. An empty line adds no region.
+-- The earlier `regions` with the region of line n added, or the first fault of doing so. An empty line adds no region.
 unfoldable pub with_line : List Region → ℕ → List ℕ → Result (List Region) LayoutFault
 with_line regions n line = if length line == 0 then Ok regions else joins_or_fault regions n (line_says line)
 
--- applies `f` to the value of a step that succeeded, and passes a fault on, as `and_then` of Rust's `Result` does
+-- Applies `f` to the value of a step that succeeded, and passes the fault of a failed step on, as `and_then` of Rust's
+-- `Result` does.
 infixl 10 ◌>>=◌
 abbrev pub ◌>>=◌ : {A B : Type 0} → Result A LayoutFault → (A → Result B LayoutFault) → Result B LayoutFault
 (Ok x) >>= f = f x
 (Err fault) >>= f = Err fault
 
--- The regions of all lines, or the first fault. `lines` are the lines from line n on, and `regions` those of the
--- earlier lines.
+-- The regions of all lines, or the first fault. `lines` are the lines from line n on, and `regions` are the regions of
+-- the earlier lines.
 unfoldable pub lines_say : List Region → ℕ → List (List ℕ) → Result (List Region) LayoutFault
 lines_say regions n [] = Ok regions
 lines_say regions n (line ∷ lines) = with_line regions n line >>= λ more. lines_say more (n + 1) lines
@@ -55,20 +56,21 @@ abbrev pub AreNamedApart : List Region → Type 0
 AreNamedApart [] = ⊤
 AreNamedApart (region ∷ regions) = (is_region_named regions region.name.items ≡ false) × AreNamedApart regions
 
--- the invariant of `Layout`: at most 64 regions, none of which ends before it begins, and no two with the same name
+-- The invariant of `Layout`: there are at most 64 regions, none of them ends before it begins, and no two have the same
+-- name.
 pub record AreRegions (regions : List Region) : Type 0 where
   pub few : length regions ≤ 64
   pub forward : AllByRecursion (λ region. region.start ≤ region.end) regions
   pub named_apart : AreNamedApart regions
 
--- Holds if the result of reading (`answer`) is what the text defines (`said`), or is `Memory`. It can't be `Memory` if
--- the text defines a layout without regions.
+-- Holds if the result of reading (`answer`) is what the text defines (`said`), or `Memory`. It isn't `Memory` if the
+-- text defines a layout without regions.
 abbrev pub ReadsLayout : (answer said : Result (List Region) LayoutFault) → Type 0
 ReadsLayout (Ok regions) said = said ≡ Ok regions
 ReadsLayout (Err Memory) said = said ≢ Ok []
 ReadsLayout (Err fault) said = said ≡ Err fault
 
--- Holds if reading the text allocates: some line adds a region after earlier lines without a fault.
+-- Holds if reading the text allocates memory, because some line adds a region, and no earlier line has a fault.
 pub record AsksMemory (text : List ℕ) : Type 0 where
   pub before : List (List ℕ)
   pub line : List ℕ

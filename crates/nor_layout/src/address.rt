@@ -16,7 +16,8 @@ fn digits(text: &[u8]) -> &[u8]
     }
 }
 
-/// Parses an address of 1 to 8 hexadecimal digits of either case, with or without `0x`. Returns `None` for other texts.
+/// Parses an address: 1 to 8 hexadecimal digits in upper or lower case, with or without `0x`. Returns `None` for any
+/// other text.
 pub(crate) fn address(text: &[u8]) -> Option<u32>
     ensures { result ≡ digits_address text.now }
 {

@@ -38,7 +38,7 @@ impl fmt::Display for LineFault {
 
 impl Error for LineFault {}
 
-/// A fault of a layout text, or of the names that were given to `Layout::include`.
+/// A fault of a layout text, or of the names given to `Layout::include`.
 #[derive(Clone, Copy, Debug, PartialEq, Eq)]
 pub enum LayoutFault {
     /// A line has a fault. Lines are counted from 1, including empty lines.

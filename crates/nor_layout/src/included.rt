@@ -1,4 +1,4 @@
-//! The addresses that a request includes: those of its ranges or, without ranges, all addresses of the chip.
+//! The addresses that a request includes: those in its ranges or, if it has no ranges, all addresses of the chip.
 
 ghost use Rattle.std.specs.Prelude.{◌≡◌, ◌<◌, ◌+◌, ◌*◌, ℕ, length, slice_index};
 ghost use Rattle.std.specs.Prelude.{MatchBool, if◌then◌else◌, option_copied};
@@ -21,8 +21,8 @@ pub fn includes(included: Option<&Ranges>, address: u32) -> bool
     }
 }
 
-/// Returns true if some address of sector number `sector` is in the ranges, or if there are no ranges (`None`). Sectors
-/// are counted from 0.
+/// Returns true if some address of sector number `sector`, counted from 0, is in the ranges. Without ranges (`None`),
+/// every sector has included addresses.
 pub fn includes_in_sector(included: Option<&Ranges>, sector: u32) -> bool
     ensures test { result ≡ has_in_sector (includes (option_copied included.entry)) sector }
     ensures cases { MatchBool result
@@ -35,9 +35,9 @@ pub fn includes_in_sector(included: Option<&Ranges>, sector: u32) -> bool
     }
 }
 
-/// Returns true if some address of the ranges is `size` or greater, so past the end of a chip of `size` bytes.
+/// Returns true if some address in the ranges is `size` or greater, which is past the end of a chip of `size` bytes.
 ///
-/// Returns false if there are no ranges.
+/// Returns false if there are no ranges (`None`).
 pub fn reaches_past(included: Option<&Ranges>, size: u32) -> bool
     ensures { MatchBool result
         (ReachesPast (option_copied included.entry) size) (FitsInto (option_copied included.entry) size) }
@@ -48,10 +48,10 @@ pub fn reaches_past(included: Option<&Ranges>, size: u32) -> bool
     }
 }
 
-/// Copies from `other` to `bytes` those bytes of sector number `sector` that aren't included.
+/// Replaces the bytes of sector number `sector` whose addresses aren't included by those of `other`.
 ///
-/// Both slices must have 4,096 bytes. The included bytes of `bytes` don't change. If `bytes` has the sector's bytes of
-/// an image and `other` those of a chip, `bytes` then has the target of a write (`merged_byte`).
+/// `bytes` and `other` must have 4,096 bytes each. The included bytes of `bytes` don't change. If `bytes` are the
+/// sector's bytes of an image, and `other` those of a chip, the result is the target of a write (`merged_byte`).
 pub fn fill_excluded(included: Option<&Ranges>, sector: u32, bytes: &mut [u8], other: &[u8])
     requires long { length bytes.old ≡ 4096 }
     requires other_long { length other.now ≡ 4096 }
@@ -67,7 +67,7 @@ pub fn fill_excluded(included: Option<&Ranges>, sector: u32, bytes: &mut [u8], o
     }
 }
 
-/// Sets the bytes of sector number `sector` that aren't included to FFh. `bytes` must have 4,096 bytes.
+/// Sets the bytes of sector number `sector` whose addresses aren't included to FFh. `bytes` must have 4,096 bytes.
 pub fn blank_excluded(included: Option<&Ranges>, sector: u32, bytes: &mut [u8])
     requires long { length bytes.old ≡ 4096 }
     ensures { (i : ℕ) → i < 4096 → slice_index bytes.new i

@@ -1,4 +1,4 @@
-//! Layout texts, and the addresses of their regions by name.
+//! Layout texts, and the addresses that names of regions stand for.
 
 ghost use Rattle.std.specs.Prelude.{◌≡◌, ◌↔◌, ℕ, List, IsTrue, IsOk, IfOk, IfErr};
 ghost use Rattle.nor_layout.specs.Text.{is_region_named, with_line, layout_says, AreRegions, ReadsLayout, AsksMemory};
@@ -17,7 +17,7 @@ pub use adding::RegionFault;
 use std::alloc::Global;
 use std::marker::Model;
 
-/// Regions in order, those of a layout text or those that were added: at most 64, and no two with the same name.
+/// Regions in order, which were read from a layout text or added. There are at most 64, and no two have the same name.
 #[derive(Debug, Drop)]
 pub struct Layout {
     regions: Vec<Region>,
@@ -35,7 +35,7 @@ impl Model for Layout {
     ghost invariant = { λ l. AreRegions l.regions.items };
 }
 
-/// Returns true if one of the regions has the name.
+/// Returns true if one of the regions has the name `name`.
 fn is_named(regions: &[Region], name: &[u8]) -> bool
     ensures { result ≡ is_region_named regions.now name.now }
 {
@@ -58,10 +58,10 @@ fn are_known(regions: &[Region], names: &[u8]) -> bool
         .all(|name| is_named(regions, name))
 }
 
-/// Adds the region of line `number` to `regions`, or nothing if the line is empty.
+/// Adds the region of line number `number` to `regions`. Adds nothing if the line is empty.
 ///
-/// Returns the first fault of the line, or `TooMany` if it has none but there are 64 regions already, or `Memory` if an
-/// allocation fails.
+/// Returns the first fault of the line. If the line has none, returns `TooMany` if there are 64 regions already, or
+/// `Memory` if an allocation fails.
 #[tactic(auto, unfolding(crate::specs::Text::with_line))]
 fn add_line(regions: &mut Vec<Region>, number: usize, line: &[u8]) -> Result<(), LayoutFault>
     ensures { AddsRegion regions.old.items regions.new.items result (with_line regions.old.items number line.now) }
@@ -90,22 +90,22 @@ impl Layout {
     /// Reads a layout text (flashrom's manual page, layout files).
     ///
     /// Lines end with a line feed, which is optional after the last line. Empty lines are skipped. Every other line is
-    /// `start:end name`: the start ends at the first `:`, the end at the next space, and the name follows one or more
-    /// spaces and is the rest of the line. An address is 1 to 8 hexadecimal digits of either case, with or without
-    /// `0x`; both the start and the end belong to the region. A name has 1 to 32 visible ASCII characters except `,`
-    /// and `:`. Regions may overlap.
+    /// `start:end name`. The start ends at the first `:`, and the end at the next space. The name follows one or more
+    /// spaces, and is the rest of the line. An address is 1 to 8 hexadecimal digits in upper or lower case, with or
+    /// without `0x`. Both the start and the end belong to the region. A name has 1 to 32 visible ASCII characters
+    /// except `,` and `:`. Regions may overlap.
     ///
-    /// Returns the fault of the first line that has one. Faults of one line are checked in the order of `LineFault`,
-    /// and after them `TooMany`. Returns `Memory` if an allocation fails, which can only happen at a line that adds a
-    /// region, after lines without a fault.
+    /// Returns the fault of the first line that has one. The faults of a line are checked in the order of `LineFault`,
+    /// and `TooMany` after them. Returns `Memory` if an allocation fails, which is possible only at a line that adds a
+    /// region, if no earlier line has a fault.
     pub fn read(alloc: Global, text: &[u8]) -> Result<Layout, LayoutFault>
-        // The result is what the text defines, or `Memory`. If it is `Memory`, some line adds a region after lines
-        // without a fault.
+        // The result is what the text defines, or `Memory`. It can be `Memory` only if some line adds a region, and no
+        // earlier line has a fault.
         ensures exact { ReadsLayout result (layout_says text.now) }
         ensures asks { IfErr result (λ fault. fault ≡ LayoutFault.Memory → AsksMemory text.now) }
 
-        // If a layout is returned, the text is in the grammar, with these regions. A text in the grammar is read,
-        // except if memory runs out.
+        // If a layout is returned, the text is in the grammar, with the regions of this layout. Every text in the
+        // grammar is read, unless memory runs out.
         ensures found { IfOk result (λ layout. IsLayout text.now layout) }
         ensures taken { (regions : List Region) → IsLayout text.now regions → ReadsLayout result (Ok regions) }
     {
@@ -126,13 +126,14 @@ impl Layout {
         self.regions.as_slice()
     }
 
-    /// Returns the set of all addresses of the regions with the comma-separated `names`, both ends included.
+    /// Returns the set of all addresses of the regions with the comma-separated `names`. Both the start and the end of
+    /// a region belong to it.
     ///
     /// A name may be repeated. Allocates nothing.
     ///
-    /// Returns `NoRegion` if a name isn't the name of a region. An empty name is never the name of a region.
+    /// Returns `NoRegion` if one of the names isn't the name of a region. No region has an empty name.
     pub fn include(&self, names: &str) -> Result<Ranges, LayoutFault>
-        // Succeeds if and only if each name is the name of a region.
+        // The call succeeds if and only if each name is the name of a region.
         ensures known { IsOk result ↔ IsTrue (are_known self.now names.now) }
         ensures unknown { IfErr result (λ fault. fault ≡ LayoutFault.NoRegion) }
 

@@ -1,7 +1,7 @@
 //! Layout files, which name regions of a flash chip, and the sets of addresses that a request includes.
 //!
-//! A layout file has one region per line: `start:end name` (flashrom's manual page, layout files). A request with names
-//! includes the addresses of the regions with these names. A request without ranges includes the whole chip.
+//! A layout file has one region per line: `start:end name` (flashrom's manual page, layout files). A request that names
+//! regions includes their addresses. A request without ranges includes the whole chip.
 //!
 //! ```rust
 //! use nor_layout::{Layout, LayoutFault, Ranges, Span};
@@ -26,11 +26,11 @@
 //! - `fault.rt`: the faults of layout texts and of names, with their numbers and messages
 //! - `ranges.rt`: `Ranges`, a set of addresses as at most 64 spans
 //! - `positions.rt`: the positions of one sector that are in a set
-//! - `merge.rt`: joins the included bytes of one copy of a sector with the other bytes of a second copy
-//! - `included.rt`: tests and fills for the included addresses of a request, with ranges or for the whole chip
+//! - `merge.rt`: fills the bytes of a sector that aren't included from a second copy of the sector
+//! - `included.rt`: tests and fills for the addresses that a request includes, with ranges or for the whole chip
 //!
-//! `specs/Text.antt` defines the regions or the fault of a text, `Grammar.antt` the accepted texts as a grammar, and
-//! `Included.antt` the addresses that names include.
+//! `specs/Text.antt` defines the regions that a text defines, or its first fault. `Grammar.antt` defines the accepted
+//! texts as a grammar, and `Included.antt` the addresses that names include.
 #![tactic(auto)]
 
 mod address;

@@ -45,8 +45,8 @@ fn trim_spaces(text: &[u8]) -> &[u8]
     rest
 }
 
-/// Splits a line at its first `:` and the next space, and removes further spaces before the name. Returns `None` if the
-/// line has no `:`, or no space after the first `:`.
+/// Splits a line at its first `:` and at the next space, and removes further spaces before the name. Returns `None` if
+/// the line has no `:`, or no space after the first `:`.
 fn parts_of(line: &[u8]) -> Option<Parts<'_>>
     ensures { MatchOption result (parts_of line.now ≡ None)
         (λ parts. parts_of line.now
@@ -68,7 +68,7 @@ fn is_name_byte(byte: u8) -> bool
     byte.is_ascii_graphic() && byte != b',' && byte != b':'
 }
 
-/// Returns true if the bytes are a name: 1 to 32 bytes, each of them allowed in a name.
+/// Returns true if the bytes are a valid name: 1 to 32 bytes, each of which is allowed in a name.
 pub(crate) fn is_name(bytes: &[u8]) -> bool
     ensures { result ≡ is_name bytes.now }
 {
@@ -78,7 +78,7 @@ pub(crate) fn is_name(bytes: &[u8]) -> bool
     bytes.iter().all(|b| is_name_byte(*b))
 }
 
-/// Parses the region of a line that isn't empty, or returns its first fault.
+/// Returns the region that a nonempty line defines, or the first fault of the line.
 pub(crate) fn read_region(line: &[u8]) -> Result<Region, LineFault>
     ensures { result ≡ line_says line.now }
 {

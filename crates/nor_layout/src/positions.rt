@@ -7,7 +7,7 @@ ghost use Rattle.nor_layout.specs.Positions.{part_in_sector, parts_in_sector, po
 use crate::ranges::Span;
 use nor_geometry::SECTOR_LEN;
 
-/// Consecutive positions in a sector, in bytes from its beginning: from `start` to `end`, excluding `end`.
+/// Consecutive positions in a sector from `start` to `end`, excluding `end`, in bytes from the beginning of the sector.
 #[derive(Clone, Copy, Debug, PartialEq, Eq)]
 pub struct Positions {
     pub start: usize,
@@ -29,7 +29,7 @@ impl<'a> PositionsIn<'a> {
     }
 }
 
-/// Returns the positions in a sector that a span covers, or `None` if it covers none.
+/// Returns the positions in sector number `sector` that a span covers, or `None` if it covers none.
 fn part_of(span: &Span, sector: u32) -> Option<Positions>
     ensures { result ≡ part_in_sector sector span.now }
 {

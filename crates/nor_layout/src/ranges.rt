@@ -1,4 +1,4 @@
-//! Sets of addresses, as at most 64 sorted spans.
+//! Sets of addresses, which are stored as at most 64 sorted spans.
 
 ghost use Rattle.std.specs.Prelude.{◌≡◌, ◌≤◌, ◌<◌, ◌+◌, ◌||◌, ◌*◌, ℕ, false, MatchBool, MatchOption, length, nat_lt, [], slice_index, if◌then◌else◌};
 ghost use Rattle.nor_layout.specs.Ranges.{is_in_span, contains, has_backwards, AreDisjoint, AreRanges, IsSetOf, MakeNoSet};
@@ -13,14 +13,14 @@ use arrayvec::ArrayVec;
 use nor_geometry::SECTOR_LEN;
 use std::marker::Model;
 
-/// Consecutive addresses, in bytes from the chip's beginning, both ends included.
+/// Consecutive addresses from `first` to `last`, both included, in bytes from the chip's beginning.
 #[derive(Clone, Copy, Debug, Default, PartialEq, Eq)]
 pub struct Span {
     pub first: u32,
     pub last: u32,
 }
 
-// One span more than a set may have: the length is checked after a span was added and joined with others.
+// One span more than a set may have, because the number of spans is checked only after a span was added.
 const ROOM: usize = REGIONS + 1;
 
 /// A set of addresses: at most 64 spans in ascending order, neither overlapping nor adjacent.
@@ -44,14 +44,14 @@ impl Model for Ranges {
 }
 
 impl Span {
-    /// Returns true if this span ends below the other, and at least one address is between the two.
+    /// Returns true if this span ends below `other`, and at least one address is between the two.
     fn is_apart_below(&self, other: &Span) -> bool
         ensures { result ≡ nat_lt (self.now.last + 1) other.now.first }
     {
         self.last < other.first && other.first - self.last > 1
     }
 
-    /// Returns the smallest span that contains both.
+    /// Returns the smallest span that contains both spans.
     fn joined(&self, other: &Span) -> Span
         ensures { result ≡ join self.now other.now }
     {
@@ -69,7 +69,8 @@ fn has_backwards(spans: &[Span]) -> bool
     spans.iter().any(|span| span.last < span.first)
 }
 
-// Returns `span` if it reaches the address `done`, and either begins before `next` or there is no `next`; else `next`.
+// Returns the one of `next` and `span` that begins first, or `next` if both begin at the same address. A `span` that
+// ends below the address `done` is ignored.
 fn sooner(next: Option<Span>, span: &Span, done: u64) -> Option<Span>
     ensures { result ≡ sooner next span.now done }
 {
@@ -80,8 +81,8 @@ fn sooner(next: Option<Span>, span: &Span, done: u64) -> Option<Span>
     }
 }
 
-// Returns the span that begins first among those that end at or above the address `done`, or `None` if no span does. No
-// span may end before it begins.
+// Returns the span that begins first among those that end at or above the address `done`, or `None` if there are none.
+// No span may end before it begins.
 fn next_span(spans: &[Span], done: u64) -> Option<Span>
     requires { has_backwards spans.now ≡ false }
     ensures { IsNextOrNone done spans.now result }
@@ -93,8 +94,8 @@ fn next_span(spans: &[Span], done: u64) -> Option<Span>
     next
 }
 
-/// Returns the spans of the set with one more span added. The set must have at most 64 spans, ascending and neither
-/// overlapping nor adjacent, and `added` must not end before it begins.
+/// Returns the spans of a set with `added` added. `spans` must be the spans of a set: at most 64, ascending, neither
+/// overlapping nor adjacent. `added` must not end before it begins.
 fn with_span(spans: &[Span], added: Span) -> ArrayVec<Span, ROOM>
     requires room { length spans.now ≤ 64 }
     requires forward { added.first ≤ added.last }
@@ -121,7 +122,8 @@ fn with_span(spans: &[Span], added: Span) -> ArrayVec<Span, ROOM>
 }
 
 impl Ranges {
-    /// Returns the set with the addresses of the given spans, which may be in any order, adjacent, or overlapping.
+    /// Returns the set of the addresses in the given spans. The spans may be in any order, and may be adjacent or
+    /// overlap.
     ///
     /// Returns `None` if a span ends before it begins, or if more than 64 spans are left after adjacent and overlapping
     /// spans were joined. Allocates nothing. The time of the call grows at most with the square of the number of spans.
@@ -154,7 +156,7 @@ impl Ranges {
         }
     }
 
-    /// Returns the set with the addresses of one more span. The set must have fewer than 64 spans, and `added` must not
+    /// Returns the set with the addresses of `added` added. The set must have fewer than 64 spans, and `added` must not
     /// end before it begins.
     pub(crate) fn with(&self, added: Span) -> Ranges
         requires room { length self.now < 64 }
@@ -203,17 +205,18 @@ impl Ranges {
         self.spans.iter().any(|span| size <= span.last)
     }
 
-    /// Returns the positions in sector number `sector`, counted from 0, whose addresses are in the set, in ascending
-    /// order.
+    /// Returns the positions in sector number `sector`, counted from 0, whose addresses are in the set. The positions
+    /// are in ascending order.
     pub(crate) fn positions_in(&self, sector: u32) -> PositionsIn<'_>
         ensures { AreIncludedIn self.now sector (positions_left result) }
     {
         PositionsIn::new(self.spans(), sector)
     }
 
-    /// Copies from `other` to `bytes` those bytes of sector number `sector` whose addresses aren't in the set.
+    /// Replaces the bytes of sector number `sector` whose addresses aren't in the set by those of `other`.
     ///
-    /// Both slices must have 4,096 bytes. The other bytes of `bytes` don't change.
+    /// `bytes` and `other` must have 4,096 bytes each. The bytes of `bytes` whose addresses are in the set don't
+    /// change.
     pub(crate) fn fill_excluded(&self, sector: u32, bytes: &mut [u8], other: &[u8])
         requires long { length bytes.old ≡ 4096 }
         requires other_long { length other.now ≡ 4096 }

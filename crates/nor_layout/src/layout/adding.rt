@@ -1,4 +1,4 @@
-//! Layouts made of regions that no layout text has, such as those of a table in an image.
+//! Layouts that are made by adding regions, such as those of a table in an image, instead of reading a layout text.
 
 ghost use Rattle.std.specs.Prelude.{◌≡◌, ◌≤◌};
 ghost use Rattle.nor_layout.specs.Adding.{region_fault_number};
@@ -58,7 +58,7 @@ impl Layout {
     ghost use Rattle.std.specs.Prelude.{[]};
     ghost use Rattle.nor_layout.specs.Adding.{Adds};
 
-    /// Returns a layout without regions, which allocates nothing.
+    /// Returns a layout without regions. Allocates nothing.
     pub fn new(alloc: Global) -> Layout
         ensures { result ≡ [] }
     {
@@ -67,11 +67,11 @@ impl Layout {
         }
     }
 
-    /// Adds a region after the others. Its end must not be below its start; both ends belong to it, and it may overlap
-    /// others.
+    /// Adds a region after the others. Its end must not be below its start. Both addresses belong to the region, and it
+    /// may overlap others.
     ///
     /// Returns the first fault in the order of `RegionFault`, and then the layout is unchanged. Returns `Memory` if an
-    /// allocation fails, which can only happen if the region has no other fault.
+    /// allocation fails, which is possible only if the region has no other fault.
     pub fn add(&mut self, region: Region) -> Result<(), RegionFault>
         requires { region.start ≤ region.end }
         ensures { Adds self.old self.new region result }

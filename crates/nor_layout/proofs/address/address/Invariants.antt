@@ -3,7 +3,7 @@ use Rattle.std.specs.List.{list_all}
 use Rattle.nor_layout.specs.Address.{is_hex_digit, digits_number}
 use Rattle.nor_layout.proofs.address.address.Given as goal
 
--- the value read so far, followed by the remaining digits, is the number of all digits
+-- The number of the digits read so far is `value`. With the remaining digits it makes up the number of all digits.
 abbrev pub invariant-loop-byte : goal.invariant-loop-byte
 invariant-loop-byte l = record {
   hexadecimal : list_all is_hex_digit (take l.byte-index l.digits) ≡ true;

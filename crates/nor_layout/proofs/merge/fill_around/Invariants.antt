@@ -2,7 +2,7 @@ use Rattle.std.proofs.Common.{◌≡◌, ◌<◌, ◌≤◌, ℕ, slice_index, i
 use Rattle.nor_layout.specs.Positions.{is_covered, AreRisingFrom, positions_left}
 use Rattle.nor_layout.proofs.merge.fill_around.Given as goal
 
--- the bytes below `done` have their final values, and those from `done` on haven't changed
+-- The bytes below index `done` have their final values, and the bytes from `done` on are unchanged.
 abbrev pub invariant-loop-part : goal.invariant-loop-part
 invariant-loop-part l = record {
   reached : l.done ≤ 4096;

@@ -2,6 +2,7 @@ use Rattle.std.proofs.Common.{take}
 use Rattle.nor_layout.specs.Steps.{IsNextOrNone}
 use Rattle.nor_layout.proofs.ranges.next_span.Given as goal
 
--- `next` is the span that begins first among the spans read so far that reach `done`, if there is one
+-- Among the spans read so far that end at or above `done`, `next` is the one that begins first, or None if there are
+-- none.
 abbrev pub invariant-loop-span : goal.invariant-loop-span
 invariant-loop-span l = IsNextOrNone l.done (take l.span-index l.spans) l.next

@@ -2,7 +2,7 @@ use Rattle.std.proofs.Common.{◌≡◌, ◌≤◌, ◌++◌, length, drop}
 use Rattle.nor_layout.proofs.Spans.{merged}
 use Rattle.nor_layout.proofs.ranges.with_span.Given as goal
 
--- the finished spans, and the result of adding `last` to the remaining ones, are together the result
+-- The final result is the finished spans `all`, followed by the result of adding `last` to the spans not read yet.
 abbrev pub invariant-loop-span : goal.invariant-loop-span
 invariant-loop-span l = record {
   few : length l.all.items ≤ l.span-index;

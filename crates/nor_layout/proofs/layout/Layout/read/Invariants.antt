@@ -3,7 +3,7 @@ use Rattle.nor_layout.specs.Text.{AreRegions}
 use Rattle.nor_layout.proofs.Texts.{LinesDefine}
 use Rattle.nor_layout.proofs.layout.Layout.read.Given as goal
 
--- the regions are those of the lines read so far
+-- The regions are those that the lines read so far define.
 abbrev pub invariant-loop-line : goal.invariant-loop-line
 invariant-loop-line l = record {
   counted : l.number ≡ length l.yielded;

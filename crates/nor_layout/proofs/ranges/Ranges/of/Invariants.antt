@@ -2,7 +2,7 @@ use Rattle.std.proofs.Common.{◌≡◌, ◌≤◌, ◌&&◌, ◌-◌, ltb, ℕ,
 use Rattle.nor_layout.specs.Ranges.{contains, AreDisjoint}
 use Rattle.nor_layout.proofs.ranges.Ranges.of.Given as goal
 
--- the set so far has exactly those addresses of the spans that are below `done`
+-- The set `all` has exactly those addresses of the spans that are below `done`.
 abbrev pub invariant-loop-next : goal.invariant-loop-next
 invariant-loop-next l = record {
   few : length l.all.items ≤ 64;
