@@ -13,53 +13,53 @@ use Rattle.nor_maps.specs.declared.fault.MapFault.TheVariants.{Missing, Short, R
 use Rattle.nor_layout.specs.declared.layout.adding.RegionFault.TheVariants.{Name, Twice, TooMany}
 use Rattle.nor_maps.specs.Records.{with_found, records_say, AsksAt}
 
--- where the signature is: at 10h, or at 0 in descriptors up to the ICH10
+-- the index of the signature: 10h, or 0 in descriptors up to the ICH10
 abbrev pub signature_at : List ℕ → Option ℕ
 signature_at bytes =
     if little_from 16 4 bytes == 0x0FF0A55A then Some 16
     else if little_from 0 4 bytes == 0x0FF0A55A then Some 0
     else None
 
--- FRBA, in bytes
+-- the address of the region table (FRBA), in bytes; `signature` is the index of the signature
 unfoldable pub region_table : (signature : ℕ) → List ℕ → ℕ
 region_table signature bytes = 16 * (little_from (signature + 4) 4 bytes / 2 ^ 16 % 2 ^ 8)
 
--- FMBA, in bytes
+-- the address of the masters' section (FMBA), in bytes; `signature` is the index of the signature
 abbrev pub masters_at : (signature : ℕ) → List ℕ → ℕ
 masters_at signature bytes = 16 * (little_from (signature + 8) 4 bytes % 2 ^ 8)
 
--- The number of entries: 16 if they fit between the region table and the masters' section. If not, the number that the
--- descriptor states, but at least 5.
+-- The number of entries of the region table. It is 16 if a table of 16 entries ends before the masters' section.
+-- Otherwise it is the number that the descriptor states, but at least 5.
 unfoldable pub entry_count : (signature : ℕ) → List ℕ → ℕ
 entry_count signature bytes =
     if nat_le (region_table signature bytes + 64) (masters_at signature bytes) then 16
     else max (little_from (signature + 4) 4 bytes / 2 ^ 24 % 2 ^ 3 + 1) 5
 
--- flashrom's names of the regions, by the index of their entries
+-- flashrom's names of the regions, in the order of the entries that describe them
 abbrev pub region_names : List (List ℕ)
 region_names =
     codes "fd" ∷ codes "bios" ∷ codes "me" ∷ codes "gbe" ∷ codes "pd" ∷ codes "reg5" ∷ codes "bios2" ∷ codes "reg7"
     ∷ codes "ec" ∷ codes "reg9" ∷ codes "ie" ∷ codes "10gbe" ∷ codes "reg12" ∷ codes "reg13" ∷ codes "reg14"
     ∷ codes "reg15" ∷ []
 
--- the name of the region of entry `index`
+-- the name of the region that entry `index` describes
 abbrev pub region_name : (index : ℕ) → List ℕ
 region_name index = slice_index_or region_names index []
 
--- base and limit of an entry, in units of 4 KiB
+-- the base of an entry (`base_of`) and its limit (`limit_of`), in units of 4 KiB
 abbrev pub base_of : (entry : ℕ) → ℕ
 base_of entry = entry % 2 ^ 15
 
 abbrev pub limit_of : (entry : ℕ) → ℕ
 limit_of entry = entry / 2 ^ 16 % 2 ^ 15
 
--- True if an entry has no region: its base is above its limit, it is erased, or it is 0 and not the first. The first 4
--- KiB are the descriptor's, so no other region is there.
+-- True if an entry describes no region: its base is above its limit, it is erased, or it is 0 and not the first entry.
+-- (An entry of 0 would be the first 4 KiB of the image. These are the descriptor, which the first entry describes.)
 abbrev pub is_unused : (index entry : ℕ) → Bool
 is_unused index entry =
     nat_lt (limit_of entry) (base_of entry) || entry == 2 ^ 32 - 1 || (entry == 0 && not (index == 0))
 
--- the region of an entry; its limit is its last 4 KiB
+-- the region of an entry, which ends with the last byte of the 4 KiB that its limit names
 abbrev pub entry_region : (index entry : ℕ) → Region
 entry_region index entry = record {
   start = base_of entry * 4096;
@@ -67,35 +67,36 @@ entry_region index entry = record {
   name = record { items = region_name index };
 }
 
--- the regions with that of entry `index`, or its fault
+-- the `regions` with the region of entry `index` added, or the fault of this entry
 abbrev pub with_number : (size : ℕ) → List Region → (index entry : ℕ) → Result (List Region) MapFault
 with_number size regions index entry =
     if is_unused index entry then Ok regions else with_found size regions index (entry_region index entry)
 
--- the regions with that of entry `index`, which the bytes begin with, or its fault
+-- the `regions` with the region of entry `index` added, or the fault of this entry; the bytes begin with the entry
 abbrev pub with_entry : (size : ℕ) → List Region → (index : ℕ) → List ℕ → Result (List Region) MapFault
 with_entry size regions index bytes = with_number size regions index (little_from 0 4 bytes)
 
--- the regions of a descriptor whose signature is at this address, or the first fault
+-- the regions of a descriptor whose signature is at this index, or the first fault
 abbrev pub entries_say : (size : ℕ) → List ℕ → Option ℕ → Result (List Region) MapFault
 entries_say size image None = Err Missing
 entries_say size image (Some signature) =
     if nat_lt 4096 (region_table signature image + 4 * entry_count signature image) then Err Short
     else records_say (with_entry size) 4 [] 0 (entry_count signature image) (drop (region_table signature image) image)
 
--- the regions of the descriptor of an image, for a chip of `size` bytes, or the first fault
+-- the regions that the descriptor of an image defines for a chip of `size` bytes, or the first fault
 abbrev pub descriptor_says : (size : ℕ) → (image : List ℕ) → Result (List Region) MapFault
 descriptor_says size image =
     if nat_lt (length image) 4096 then Err Short else entries_say size image (signature_at image)
 
--- Holds for the faults of a descriptor. A layout can have all of its regions, because their names are valid and differ.
+-- Holds for the faults that a descriptor may have. A layout can have all of its regions, because there are at most 16,
+-- and their names are valid and differ.
 abbrev pub IsDescriptorFault : MapFault → Type 0
 IsDescriptorFault (InRecord index Name) = ⊥
 IsDescriptorFault (InRecord index Twice) = ⊥
 IsDescriptorFault (InRecord index TooMany) = ⊥
 IsDescriptorFault fault = ⊤
 
--- Holds if entry `index` has a region and no fault, and no entry before it has a fault.
+-- Holds if entry `index` describes a region and has no fault, and no entry before it has a fault.
 abbrev pub AsksInDescriptor : (size : ℕ) → (image : List ℕ) → (index : ℕ) → Type 0
 AsksInDescriptor size image index =
     (signature : ℕ) × (signature_at image ≡ Some signature)

@@ -16,7 +16,7 @@ use Rattle.nor_maps.specs.Records.{before_nul, with_found, records_say, AsksAt}
 abbrev pub is_visible : ℕ → Bool
 is_visible b = nat_le 33 b && nat_le b 126
 
--- the number of areas of a header
+-- the number of areas that a header states
 abbrev pub area_count : (header : List ℕ) → ℕ
 area_count header = little_from 54 2 header
 
@@ -24,23 +24,23 @@ area_count header = little_from 54 2 header
 abbrev pub fmap_length : (header : List ℕ) → ℕ
 fmap_length header = 56 + 42 * area_count header
 
--- true for a name of visible ASCII characters that ends with NUL
+-- true for a name of visible ASCII characters that ends with NUL within its field
 abbrev pub is_ended_name : (field : List ℕ) → Bool
 is_ended_name field = nat_lt (length (before_nul field)) 32 && list_all is_visible (before_nul field)
 
--- True if the bytes begin with a valid header: signature, major version 1, name, and a size of the image that is not
--- less than the length of the FMAP.
+-- True if the bytes begin with a valid header. A valid header has the signature, major version 1, a name that ends with
+-- NUL, and a size of the image that is not less than the length of the FMAP.
 unfoldable pub is_fmap_header : List ℕ → Bool
 is_fmap_header bytes =
     nat_le 56 (length bytes) && bytes_eq (slice_range bytes 0 8) (codes "__FMAP__") && slice_index bytes 8 == 1
     && is_ended_name (slice_range bytes 22 54) && nat_le (fmap_length bytes) (little_from 18 4 bytes)
 
--- the bytes of an image from the first valid header on, or `None` if it has none
+-- the bytes of an image from its first valid header on, or `None` if it has no valid header
 unfoldable pub first_fmap : (image : List ℕ) → Option (List ℕ)
 first_fmap [] = None
 first_fmap (b ∷ bytes) = if is_fmap_header (b ∷ bytes) then Some (b ∷ bytes) else first_fmap bytes
 
--- the region of an area with at least one byte, which the bytes begin with
+-- the region of the area with which the bytes begin; the size of the area must not be 0
 abbrev pub area_region : (area : List ℕ) → Region
 area_region area = record {
   start = little_from 0 4 area;
@@ -48,19 +48,21 @@ area_region area = record {
   name = record { items = before_nul (slice_range area 8 40) };
 }
 
--- The regions with that of area `number`, which the bytes begin with, or its fault. An area of size 0 is no region.
+-- The `regions` with the region of area `number` added, or the fault of this area. The bytes `area` begin with the
+-- area. An area of size 0 is no region.
 abbrev pub with_area : (size : ℕ) → List Region → (number : ℕ) → (area : List ℕ) → Result (List Region) MapFault
 with_area size regions number area =
     if little_from 4 4 area == 0 then Ok regions else with_found size regions number (area_region area)
 
--- the regions of the FMAP that the bytes begin with, or its first fault
+-- the regions of the FMAP with which the bytes begin, or its first fault; without an FMAP (None), the fault is
+-- `Missing`
 abbrev pub areas_say : (size : ℕ) → Option (List ℕ) → Result (List Region) MapFault
 areas_say size None = Err Missing
 areas_say size (Some map) =
     if nat_lt (length map) (fmap_length map) then Err Short
     else records_say (with_area size) 42 [] 1 (area_count map) (drop 56 map)
 
--- the regions of the first FMAP of an image, for a chip of `size` bytes, or the first fault
+-- the regions that the first FMAP of an image defines for a chip of `size` bytes, or the first fault
 abbrev pub fmap_says : (size : ℕ) → (image : List ℕ) → Result (List Region) MapFault
 fmap_says size image = areas_say size (first_fmap image)
 

@@ -9,17 +9,17 @@ use std::fmt;
 
 /// The reason why no layout can be read from an image. The variants are in the order of their numbers.
 ///
-/// `record` is the number of the entry of a flash descriptor, counted from 0 as its regions are, or of the area of an
-/// FMAP, counted from 1.
+/// `record` is the number of the record with the fault. The entries of a flash descriptor are counted from 0, as its
+/// regions are, and the areas of an FMAP are counted from 1.
 #[derive(Clone, Copy, Debug, PartialEq, Eq)]
 pub enum MapFault {
     /// The image has no flash descriptor, or no FMAP.
     Missing,
-    /// The bytes end before the descriptor or the FMAP does, or the descriptor's table runs past its end.
+    /// The bytes end before the descriptor or the FMAP does, or the region table runs past the end of the descriptor.
     Short,
-    /// A region doesn't lie in the chip.
+    /// A region reaches past the end of the chip.
     Outside { record: u16 },
-    /// A layout can't have a region, because of its name, because it is the 65th, or because memory was refused.
+    /// A layout can't have a region, because of its name, because it is the 65th region, or because memory ran out.
     Region { record: u16, fault: RegionFault },
 }
 

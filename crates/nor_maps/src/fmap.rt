@@ -1,4 +1,4 @@
-//! FMAP: the map of its regions that Chromium's firmware has in its image.
+//! Finds and reads an FMAP, the map of its regions that an image of Chromium's firmware contains.
 
 ghost use Rattle.std.specs.Prelude.{◌≡◌, ◌≤◌, ◌+◌, ◌*◌, [], length, IfSome, IsTrue, MatchOption, None, Some};
 ghost use Rattle.std.specs.List.{list_all};
@@ -12,10 +12,10 @@ use byteorder::{ByteOrder, LittleEndian};
 use nor_layout::Layout;
 use std::alloc::Global;
 
-/// The first bytes of an FMAP.
+/// The signature, with which an FMAP begins.
 const SIGNATURE: [u8; 8] = *b"__FMAP__";
 
-/// The length of the header in bytes.
+/// The length of the header of an FMAP in bytes.
 const HEADER_LEN: usize = 56;
 
 /// The length of an area in bytes.
@@ -28,7 +28,7 @@ fn are_visible(bytes: &[u8]) -> bool
     bytes.iter().all(|b| b.is_ascii_graphic())
 }
 
-/// Returns the number of areas that a header gives.
+/// Returns the number of areas that the header states.
 fn count_areas(header: &[u8]) -> u16
     requires { 56 ≤ length header.now }
     ensures { result ≡ area_count header.now }
@@ -66,7 +66,8 @@ fn find_fmap(bytes: &[u8]) -> Option<&[u8]>
     None
 }
 
-/// Adds the region of area `number`, which `area` begins with, or nothing if the area has no bytes.
+/// Adds the region of area `number` to the layout. The bytes `area` must begin with this area. Adds nothing if the size
+/// of the area is 0.
 fn add_area(layout: &mut Layout, size: u32, number: u16, area: &[u8]) -> Result<(), MapFault>
     requires { 42 ≤ length area.now }
     ensures { AddsRecord layout.old layout.new number result (with_area size layout.old number area.now) }
@@ -80,7 +81,7 @@ fn add_area(layout: &mut Layout, size: u32, number: u16, area: &[u8]) -> Result<
     add_found(layout, size, number, start, end, name)
 }
 
-/// Reads the given number of areas, which `areas` begins with.
+/// Reads the first `count` of the areas that follow a header, as the layout of a chip of `size` bytes.
 fn read_areas(alloc: Global, areas: &[u8], count: u16, size: u32) -> Result<Layout, MapFault>
     requires { 42 * count ≤ length areas.now }
     ensures { ReadsTable (records_say (with_area size) 42 [] 1 count areas.now)
@@ -97,17 +98,18 @@ fn read_areas(alloc: Global, areas: &[u8], count: u16, size: u32) -> Result<Layo
 /// Reads the first FMAP of an image as the layout of a chip of `size` bytes (Chromium's flashmap, lib/fmap.h;
 /// flashrom's manual page, `--fmap`).
 ///
-/// An FMAP begins at any address with a valid header: the signature `__FMAP__`, major version 1, a name of visible
-/// ASCII characters that ends with NUL, and a size of the image that is not less than the length of the FMAP. If the
-/// image has several, the one at the lowest address is read. The minor version, the base address and the flags of areas
-/// are ignored.
+/// An FMAP begins, at any address, with a valid header. A header is valid if it has the signature `__FMAP__`, major
+/// version 1, a name of visible ASCII characters that ends with NUL, and a size of the image that is not less than the
+/// length of the FMAP. If the image contains several FMAPs, the one at the lowest address is read. The minor version,
+/// the base address and the flags of areas are ignored.
 ///
-/// The regions are the areas, in their order and at their offsets, and may overlap. A name ends before its first NUL,
-/// or has all 32 bytes of its field. An area of size 0 is no region.
+/// The regions are the areas, in their order and at their offsets, and may overlap. The name of an area ends before the
+/// first NUL in its field, or has all 32 bytes of the field. An area of size 0 is no region.
 ///
-/// Returns `Missing` if there is no valid header, `Short` if the bytes end before the last area, or the fault of the
-/// first area that has one: `Outside` if it reaches past the chip, then why a layout can't have it (`RegionFault`).
-/// `Memory` can only be the fault of an area without another fault, after areas without a fault.
+/// Returns `Missing` if there is no valid header, or `Short` if the bytes end before the end of the last area.
+/// Otherwise returns the fault of the first area that has one: `Outside` if it reaches past the chip, or `Region` with
+/// the reason why a layout can't have it (`RegionFault`). The reason is `Memory` only for an area without another
+/// fault.
 pub fn read_fmap(alloc: Global, bytes: &[u8], size: u32) -> Result<Layout, MapFault>
     ensures { ReadsTable (fmap_says size bytes.now) (AsksInFmap size bytes.now) result }
 {

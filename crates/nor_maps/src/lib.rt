@@ -1,7 +1,7 @@
 //! Layouts that an image itself contains: the flash descriptor of Intel's chipsets, and Chromium's FMAP.
 //!
-//! Both are tables of named regions. `read_descriptor` and `read_fmap` turn them into a `Layout` of nor_layout, as a
-//! layout file is, so that names of regions can be included in a request.
+//! Both are tables of named regions. `read_descriptor` and `read_fmap` turn them into a `Layout` of nor_layout, which
+//! is also what a layout file is read into. A request can then include regions by their names.
 //!
 //! ```rust
 //! use nor_maps::{MapFault, read_descriptor, read_fmap};
@@ -23,7 +23,8 @@
 //! - `record.rt`: numbers, names and regions of records, for both formats
 //! - `fault.rt`: `MapFault`, with its numbers and messages
 //!
-//! `specs/Descriptor.antt` and `specs/Fmap.antt` define the formats, and `specs/Records.antt` defines how a table of records is read.
+//! `specs/Descriptor.antt` and `specs/Fmap.antt` define the two formats, and `specs/Records.antt` defines how a table
+//! of records is read.
 #![tactic(auto)]
 
 mod descriptor;

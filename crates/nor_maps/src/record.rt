@@ -1,4 +1,4 @@
-//! Numbers and names in an image, and adding the region of a record to a layout.
+//! Reads numbers and names in an image, and adds the region of a record to a layout.
 
 ghost use Rattle.std.specs.Prelude.{◌≡◌, ◌≤◌, ◌+◌, drop, length};
 ghost use Rattle.byteorder.specs.Endian.{little_from};
@@ -12,7 +12,7 @@ use nor_layout::{Layout, Region};
 /// The greatest length of a region's name, and the length of an FMAP's field for a name, in bytes.
 pub(crate) const NAME_LEN: usize = 32;
 
-/// Returns the number of four bytes at index `at`, little-endian.
+/// Returns the little-endian number that the four bytes from index `at` on encode.
 pub(crate) fn number_at(bytes: &[u8], at: usize) -> u32
     requires { at + 4 ≤ length bytes.now }
     ensures { result ≡ little_from at 4 bytes.now }
@@ -45,9 +45,10 @@ pub(crate) fn name_in(field: &[u8]) -> ArrayVec<u8, NAME_LEN>
     name
 }
 
-/// Adds the region that record `number` describes to the layout of a chip of `size` bytes.
+/// Adds the region that record `number` describes to the layout of a chip of `size` bytes. The region has the addresses
+/// from `start` to `end`, both included.
 ///
-/// Returns `Outside` if the region reaches past the chip, or why the layout can't have it.
+/// Returns `Outside` if the region reaches past the chip, or `Region` with the reason why the layout can't have it.
 pub(crate) fn add_found(
     layout: &mut Layout,
     size: u32,
