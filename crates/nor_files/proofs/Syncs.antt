@@ -29,7 +29,8 @@ or_missing true May Might seen left more (inl gone) = inl gone
 or_missing true May Might seen left more (inr may) = inr (more may)
 or_missing false May Might seen left more (there, may) = (there, more may)
 
--- If a host crash may leave `left` of a file that it can't remove, it may leave `left` also if it may remove the file.
+-- If `OrMissing` allows `left` for a file that a host crash can't remove, it allows `left` also for a file that it may
+-- remove.
 placed_or : (unplaced : Bool) (May : Type 0) (seen left : Found) → OrMissing false May seen left
     → OrMissing unplaced May seen left
 placed_or true May seen left (there, may) = inr may

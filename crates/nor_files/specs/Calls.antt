@@ -14,16 +14,17 @@ ReadsFile name most found view = IsKnownFile name view → found ≡ option_map 
 
 -- ---- how many calls are left
 
--- The effect of a successful call on the number of calls left: it is one less.
+-- The effect of a successful call: the number of calls that can still succeed is one less.
 pub record Succeeds (old new : FilesState) : Type 0 where
   pub left : old.left ≡ new.left + 1
 
--- The effect of a failed call: the number of calls left didn't grow. If it was 0 before, each file is as it was.
+-- The effect of a failed call: the number of calls that can still succeed is at most what it was. If it was 0, each
+-- file is as it was.
 pub record Fails (old new : FilesState) : Type 0 where
   pub left : new.left ≤ old.left
   pub none_left : old.left ≡ 0 → AllStay old new
 
--- The effect of a call on the number of calls left, after success or failure.
+-- The effect of a call on the number of calls that can still succeed, after success or failure.
 abbrev pub Counts : {T E : Type 0} → Result T E → (old new : FilesState) → Type 0
 Counts (Ok _) old new = Succeeds old new
 Counts (Err _) old new = Fails old new

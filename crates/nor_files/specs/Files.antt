@@ -40,7 +40,7 @@ pub record Nature : Type 0 where
   -- file. On the system's files, which aren't lawful, two names are apart if they differ
   pub apart : Name → Name → Bool
 
--- The part of the state that reads can observe.
+-- The part of the state that determines what a read returns.
 pub record View : Type 0 where
   pub nature : Nature
   -- whether a vault or a log in the file of this name is borrowed, so that its bytes are unknown

@@ -63,17 +63,17 @@ Becomes (Written bytes) MayHaveBeen left = IsMixOf bytes.items MayHaveBeen left
 Becomes (Cut len) MayHaveBeen left = IsCutOf len MayHaveBeen left
 Becomes Lent MayHaveBeen left = ⊤
 
--- Holds if the changes allow the content `left` for a file. The file may have `left` if it is the content `seen` that a
--- read returns, or if the file may have had it before the newest change. The newest change may also turn a content that
--- the file may have had before into `left` (`Becomes`).
+-- Holds if the changes of a file allow the content `left`. It may be the content `seen`, which a read returns. It may
+-- be a content that the file may have had before the newest change. Or the newest change may turn such a content into
+-- `left` (`Becomes`).
 abbrev pub MayBe : List Step → Found → Found → Type 0
 MayBe [] seen left = left ≡ seen
 MayBe (step ∷ earlier) seen left = (left ≡ seen) ⊎ (MayBe earlier (content_found step.before) left
     ⊎ Becomes step.change (MayBe earlier (content_found step.before)) left)
 
--- Holds if a host crash may leave `left`. The changes of the file must allow it, which `May` says. If the first
--- argument is true, the host crash may remove the file instead. If it is false, the file must exist if and only if a
--- read finds it now.
+-- Holds if a host crash may leave `left`. The changes of the file must allow `left`, which `May` says. If the first
+-- argument is true, the host crash may also remove the file. If it is false, `left` must be a file if and only if a
+-- read finds a file now.
 abbrev pub OrMissing : Bool → Type 0 → (seen left : Found) → Type 0
 OrMissing true May seen left = (left ≡ None) ⊎ May
 OrMissing false May seen left = (is_some left ≡ is_some seen) × May

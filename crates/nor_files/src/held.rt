@@ -70,8 +70,8 @@ fn own(alloc: Global, name: &str) -> Result<String, LockFault> {
     }
 }
 
-// Returns whether a regular file of this name exists. The error for a directory or a failed look-up is `Unread`. For a
-// file of another kind or a dangling link, which can't be overwritten in place, it is `Unheld`.
+// Returns whether a regular file of this name exists. The error is `Unread` for a directory or a failed look-up. It is
+// `Unheld` for a file of another kind or a dangling link, because these can't be overwritten in place.
 fn is_there<R: Files>(files: &R, name: &str) -> Result<bool, LockFault> {
     match fs::metadata(files, name) {
         Ok(metadata) if metadata.is_file() => Ok(true),

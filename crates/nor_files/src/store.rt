@@ -137,7 +137,7 @@ pub trait Store: AllocGlobal {
     /// this name as the error.
     ///
     /// If the result is false, the names are apart. On lawful files, a call on one of them then leaves the file of the
-    /// other as it is. On the system's files, this says only that the names differ.
+    /// other as it is. For the system's files it is only proved that the names differ.
     fn is_one_file<'n>(&self, one: &'n str, other: &'n str) -> Result<bool, &'n str>
         ensures shared { IfOk result (λ is_one. is_one ≡ true
             → (state self.now).view.nature.fails (Shared one.now other.now) ≡ true) }
@@ -185,8 +185,8 @@ pub trait Store: AllocGlobal {
     /// Opens and locks the named file, if it exists, so that it can be overwritten later. Returns whether the file
     /// exists. On lawful files, all files are as they were.
     ///
-    /// The lock of a `Disk` keeps other runs off until the store is dropped, if the file system has locks. Contracts
-    /// don't describe locks.
+    /// The lock of a `Disk` keeps other runs from locking the file until the store is dropped, if the file system has
+    /// locks. Contracts don't describe locks.
     fn hold(&mut self, name: &str) -> Result<bool, LockFault>
         ensures nature { (state self.new).view.nature ≡ (state self.old).view.nature }
         ensures holds { is_lawful (state self.old).view ≡ true
@@ -195,8 +195,8 @@ pub trait Store: AllocGlobal {
 
     /// Locks the named file, if it exists, for reading. All files are as they were.
     ///
-    /// The lock of a `Disk` keeps other runs from overwriting the file until the store is dropped, if the file system
-    /// has locks. Contracts don't describe locks.
+    /// The lock of a `Disk` keeps other runs from locking the file in order to overwrite it, until the store is
+    /// dropped, if the file system has locks. Contracts don't describe locks.
     fn share(&mut self, name: &str) -> Result<(), LockFault>
         ensures same { AreUntouched (state self.old) (state self.new) }
         ensures fails { IfErr result (IsLockFault (state self.old).view.nature name.now) };
@@ -294,18 +294,18 @@ pub trait Store: AllocGlobal {
             → OthersStay name.now (state self.old) (state self.new) }
         ensures unmade { IfErr result (IsCreateFault (state self.old).view.nature name.now) };
 
-    /// Takes back the vault that was borrowed last, and returns whether it is sealed. On lawful files, that vault is
-    /// faithful (`telling`), and the file then has exactly its bytes. If it is sealed, a host crash can leave nothing
-    /// else.
+    /// Takes back the vault that was borrowed last, and returns whether it is sealed. On lawful files, this vault is
+    /// faithful (`telling`), and the file then has exactly the bytes of the vault. If the vault is sealed, a host crash
+    /// can leave nothing else.
     fn return_vault(&mut self, vault: Self::Filed) -> bool
         ensures nature { (state self.new).view.nature ≡ (state self.old).view.nature }
         ensures sealed { result ≡ (Self.Filed.state vault).sealed }
         ensures takes { is_lawful (state self.old).view ≡ true → (name : Name) → (state self.old).borrowed ≡ Some name
             → TakesBack name (Self.Filed.state vault) (state self.old) (state self.new) };
 
-    /// Returns whether a later run will find the vault that was taken back last, if that vault was sealed. Its file
-    /// must still have the name `name`, and as many bytes as were written to the vault. Returns true if that vault
-    /// wasn't sealed, or if no vault was taken back. `Disk` checks only files of `vault_in_new`.
+    /// Returns whether a later run will find the vault that was taken back last, if this vault was sealed. The file of
+    /// the vault must still have the name `name`, and as many bytes as were written to the vault. Returns true if this
+    /// vault wasn't sealed, or if no vault was taken back. `Disk` checks only files that `vault_in_new` created.
     fn is_kept(&self, name: &str) -> bool
         ensures { result ≡ false → (state self.now).view.nature.fails (Unwritten name.now) ≡ true };
 

@@ -11,7 +11,7 @@ use std::alloc::{AllocError, Global};
 use std::io::ErrorKind;
 use std::{io, mem};
 
-/// The bytes of a file.
+/// The content of a file.
 #[derive(Drop)]
 pub enum Content {
     Plain(Vec<u8>),
@@ -220,8 +220,8 @@ impl Stored {
         self.out = false;
     }
 
-    // Removes the file if a host crash may remove it. Otherwise restores the content of the last sync. But if the file
-    // was missing then, it was created for a vault or log, and keeps its present bytes.
+    // Removes the file if a host crash may remove it. Otherwise restores the content that the file had at the last
+    // sync. But a file that was missing at the last sync was created for a vault or log, and keeps its present bytes.
     fn forget(&mut self)
         ensures { FileForgets self.old self.new }
     {

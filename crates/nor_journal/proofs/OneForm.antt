@@ -76,8 +76,8 @@ begins_record sectors least s rest bytes few is rises e =
 abbrev pub NoRecord : (sectors least : ℕ) → List ℕ → Type 0
 NoRecord sectors least bytes = BeginsRecord sectors least bytes (number_at bytes) → ⊥
 
--- Let `ss` and `ts` be ascending lists (`AreRising`) for a chip with at most 4,096 sectors. Let `x` not begin with a
--- valid record that may follow `ss`, and `y` not with one that may follow `ts`. If the encoding of `ss` followed by `x`
+-- Let `ss` and `ts` be ascending lists (`AreRising`) for a chip with at most 4,096 sectors. No valid record that may
+-- follow `ss` begins `x`, and no valid record that may follow `ts` begins `y`. If the encoding of `ss` followed by `x`
 -- equals the encoding of `ts` followed by `y`, then `ss` equals `ts`, and `x` equals `y`.
 same_records : (sectors least : ℕ) (ss ts : List SavedSector) (x y : List ℕ) → sectors ≤ 4096
     → AreRising sectors least ss → AreRising sectors least ts → NoRecord sectors (least_after least ss) x
@@ -147,9 +147,8 @@ pub text_opened : (c : Content) → text c ≡ front c ++ (end_mark ++ sha256 (b
 unfolding text body
 text_opened c = rw append_assoc
 
--- Let `c` and `d` be valid contents. Let `x` not begin with a valid record that may follow those of `c`, and `y` not
--- with one that may follow those of `d`. If `front c ++ x` equals `front d ++ y`, then `c` equals `d`, and `x` equals
--- `y`.
+-- Let `c` and `d` be valid contents. No valid record that may follow those of `c` begins `x`, and no valid record that
+-- may follow those of `d` begins `y`. If `front c ++ x` equals `front d ++ y`, then `c` equals `d`, and `x` equals `y`.
 pub same_fronts : (c d : Content) (x y : List ℕ) → IsContent c → IsContent d
     → NoRecord (c.size / 4096) (next_number c) x → NoRecord (d.size / 4096) (next_number d) y
     → front c ++ x ≡ front d ++ y → (c ≡ d) × (x ≡ y)
@@ -184,7 +183,7 @@ head_number c x is =
     rw (append_assoc before (number_text c.size) x, drop_at before (number_text c.size ++ x) _ len)
     (number_at-number_text c.size x (omega (arith, few_sectors c.size is.size)))
 
--- the header of a valid content has no fault
+-- The header of a valid content has no fault.
 none_in_head : (c : Content) (x : List ℕ) (f : JournalFault) → IsContent c → HeaderFault (head c ++ x) f → ⊥
 none_in_head c x f is found =
     let begins = ap (take 8) (head_opened c x) ∙ take_at _ _ _ (length-magic c.unique) in
@@ -237,7 +236,7 @@ one_fault bytes f g (inr p) (inr q) =
     (faulty _ _ f p.is_content p.next) (faulty _ _ g q.is_content q.next) (sym p.split ∙ q.split) in
     one_in_rest p.content p.rest f g p.is_content p.next (rw (same.0, same.1) q.next)
 
--- a journal has no fault
+-- A journal has no fault.
 pub faultless : (c : Content) (bytes : List ℕ) (fault : JournalFault) → IsContent c → bytes ≡ text c → HasFault bytes fault → ⊥
 faultless c bytes fault is e (inl found) =
     not_in_head bytes fault c (end_mark ++ sha256 (body c)) is (e ∙ text_opened c) found

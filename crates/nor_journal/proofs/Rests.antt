@@ -70,7 +70,7 @@ module _ {M : Type 1} {𝓤 : Ura M} (𝓛 : Logic 𝓤) (A E : RattleType) (w :
   abbrev fields : RattleType → List Field
   fields R = row_field R ∷ []
 
-  -- ownership of a value implies ownership of `Ok` of this value
+  -- Ownership of a value implies ownership of `Ok` of this value.
   pub ok_owns : (x : A.Denot) → ent 𝓤 (sem 𝓛 (A.own_val x (w ∷ []))) (sem 𝓛 ((result.the_row A E).own_val (Ok x) (live 0 (vcons w vnil) ∷ [])))
   ok_owns x =
       qed 𝓛 (‵ (A.own_val x (w ∷ [])) ∷ []) ∵ nothing ! $ move ! (1 ∷ 0 ∷ []) $ fjoin ! $
@@ -79,7 +79,7 @@ module _ {M : Type 1} {𝓤 : Ura M} (𝓛 : Logic 𝓤) (A E : RattleType) (w :
       feq_i ! (List Val) (live 0 (vcons w vnil) ∷ []) (live 0 (vcons w vnil) ∷ []) refl $ fjoin ! $
       fpack ! (List Val) (tagged_with (form_of (shape N)) (payload (rowss N.parts)) (inl (x, tt)) (live 0 (vcons w vnil) ∷ [])) (w ∷ []) $ done !
 
-  -- ownership of an error implies ownership of `Err` of this error
+  -- Ownership of an error implies ownership of `Err` of this error.
   pub err_owns : (x : E.Denot) → ent 𝓤 (sem 𝓛 (E.own_val x (w ∷ []))) (sem 𝓛 ((result.the_row A E).own_val (Err x) (live 1 (vcons w vnil) ∷ [])))
   err_owns x =
       qed 𝓛 (‵ (E.own_val x (w ∷ [])) ∷ []) ∵ nothing ! $ move ! (1 ∷ 0 ∷ []) $ fjoin ! $

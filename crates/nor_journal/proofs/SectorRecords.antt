@@ -103,7 +103,7 @@ records_text-sectors_in (suc k) bytes fits long =
 
 -- ---- one record more
 
--- If `bytes` begin with k valid records, and a valid record begins the bytes after these, `bytes` begin with k + 1
+-- Let `bytes` begin with k valid records. If the bytes after these begin with a valid record, `bytes` begin with k + 1
 -- valid records.
 pub has_one_more : (h : Head) (bytes : List ℕ) (k : ℕ) (least : ℕ) (rest : List ℕ) (n : ℕ) → HasRecords h bytes k → rest ≡ drop (4100 * k) bytes → least ≡ next_number (content_at h k bytes)
     → BeginsRecord (h.size / 4096) least rest n → HasRecords h bytes (k + 1)

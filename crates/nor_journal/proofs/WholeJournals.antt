@@ -46,8 +46,8 @@ none_more_below set n is s = grind (arith, nat_tests)
 
 -- ---- completing a content
 
--- Holds if a content continues `c`, so that it saves exactly the chip's sectors that are in the set and below n. It has
--- the header of `c`, and each prefix of the header and records of `c` is a prefix of its header and records.
+-- Holds if some content continues `c`. That content has the header of `c`, and saves exactly the chip's sectors that
+-- are in the set and below n. Each prefix of the header and records of `c` is also a prefix of its header and records.
 pub record GoesOn (chip : ℕ → ℕ) (set : ℕ → Bool) (c : Content) (n : ℕ) : Type 0 where
   pub content : Content
   pub same : SameHeader c content
@@ -103,7 +103,7 @@ front_begins c part rest bytes is begins =
     (begins_longer (front c ++ end_mark) (sha256 (front c ++ end_mark)) bytes (begins_longer (front c) end_mark bytes
     (rw is (begins_longer part rest bytes begins))))
 
--- Let `c` save the chip's sectors that are in the set and below n, where n is at most the chip's number of sectors.
+-- Let n be at most the chip's number of sectors, and let `c` save the chip's sectors that are in the set and below n.
 -- Then each prefix of the header and records of `c` is a prefix of a journal that saves all of the chip's sectors in
 -- the set.
 pub begins_whole : (head : Content) (chip : ℕ → ℕ) (set : ℕ → Bool) (c : Content) (n : ℕ) (bytes : List ℕ)
@@ -135,7 +135,7 @@ begins_all_of_it head chip saved bytes journal begun is e =
     subst (λ (c : Content). SameHeader head c × Saves chip saved c)
     (sym (one_text journal begun.content rest [] is begun.saves.is whole).0) (begun.same, begun.saves)
 
--- no journal is empty
+-- No journal is empty.
 pub never_empty : (c : Content) → text c ≡ [] → ⊥
 never_empty c none =
     let long = length-append (front c ++ end_mark) (sha256 (front c ++ end_mark)) in

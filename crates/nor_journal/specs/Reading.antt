@@ -26,8 +26,8 @@ abbrev pub content_at : Head → ℕ → List ℕ → Content
 content_at h k bytes =
     record { id = h.id; unique = h.unique; status = h.status; size = h.size; saved = saved_records k bytes }
 
--- Holds if the ID, the status bytes and the unique ID, if there is one, have their lengths, and the size is one that a
--- chip may have.
+-- Holds if the ID, the status bytes and the unique ID, if there is one, have the right lengths, and the size is one
+-- that a chip may have.
 pub record IsHeader (h : Head) : Type 0 where
   pub id : length h.id ≡ 3
   pub unique : IfSome h.unique (λ unique. length unique ≡ 8)

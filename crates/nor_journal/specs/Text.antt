@@ -38,7 +38,7 @@ AreRising sectors least [] = ⊤
 AreRising sectors least (s ∷ rest) =
     IsSectorBelow sectors s × (least ≤ s.number) × AreRising sectors (s.number + 1) rest
 
--- Holds if the content is valid: the fields have their lengths, the size is one that a chip may have, and the saved
+-- Holds if the content is valid: the fields have the right lengths, the size is one that a chip may have, and the saved
 -- sectors are complete sectors of the chip in ascending order.
 pub record IsContent (c : Content) : Type 0 where
   pub id : length c.id ≡ 3

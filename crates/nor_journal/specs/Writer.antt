@@ -10,7 +10,7 @@ use Rattle.nor_journal.specs.Vault.{VaultState}
 use Rattle.nor_journal.specs.Text.{Content, IsContent, SameHeader, next_number, front}
 use Rattle.nor_journal.specs.Saved.{Saves}
 
--- the vault that a writer borrows
+-- the reference to the vault that a writer borrows
 abbrev pub vault_of : {V : Type 0} → Writer V → MutBor V
 vault_of writer = writer.vault
 

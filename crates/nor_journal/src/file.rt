@@ -20,7 +20,7 @@ pub trait VaultFile {
 
     /// Appends a prefix of the piece to the file, and returns the length of the prefix, which may be 0.
     ///
-    /// If it fails, known contents don't change.
+    /// If the call fails, known contents don't change.
     fn append(&mut self, piece: &[u8]) -> io::Result<usize>
         ensures bound { WritesAtMost result piece.now }
         ensures bytes { WriteAppends (contents self.old) (contents self.new) result piece.now };

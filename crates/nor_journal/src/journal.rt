@@ -41,7 +41,7 @@ impl<'a> Journal<'a> {
     /// If `bytes` aren't a journal, returns the first fault that occurs when they are read from the beginning (see
     /// `JournalFault`).
     pub fn read(bytes: &'a [u8]) -> Result<Journal<'a>, JournalFault>
-        // If it succeeds, the returned content is valid, and the bytes are its encoding.
+        // If the call succeeds, the returned content is valid, and the bytes are its encoding.
         ensures found { IfOk result (λ journal. IsContent journal × (bytes.now ≡ text journal)) }
         // If the bytes are the encoding of a valid content, the call succeeds and returns this content.
         ensures only { (c : Content) → IsContent c → bytes.now ≡ text c
@@ -51,7 +51,7 @@ impl<'a> Journal<'a> {
         ensures kept { (head : Content) (old : ℕ → ℕ) (saved : ℕ → Bool)
             → JournalSaves head old saved bytes.now
             → IsOkAnd result (λ journal. SameHeader head journal × Saves old saved journal) }
-        // If it succeeds, no proper prefix of the bytes is a journal.
+        // If the call succeeds, no proper prefix of the bytes is a journal.
         ensures whole { OnOk result ((c : Content) (n : ℕ) → IsContent c → take n bytes.now ≡ text c
             → length bytes.now ≤ n) }
         // An error is the first fault of the bytes.
@@ -129,7 +129,7 @@ impl<'a> Journal<'a> {
         record_at(self.records, i)
     }
 
-    /// Returns the 4,096 bytes saved for sector number `sector`, or `None` if it isn't saved.
+    /// Returns the 4,096 bytes saved for sector number `sector`, or `None` if this sector isn't saved.
     ///
     /// Uses binary search, because the numbers of the records ascend.
     pub fn find(&self, sector: u32) -> Option<&'a [u8]>

@@ -15,7 +15,7 @@ use crate::vault::{Vault, VaultFault};
 use nor_geometry::SECTOR_LEN;
 use sha2::{Digest, Sha256};
 
-/// A writer of a journal of format 2: first the header, then the sectors in ascending order, then the end.
+/// A writer of a journal of format 2. The header is written first, then the sectors in ascending order, then the end.
 ///
 /// The writer borrows the vault until the journal is complete. It allocates nothing itself, because it updates the
 /// digest with each piece.

@@ -78,8 +78,8 @@ without_spaces-taken (b ∷ spaces) name blank all = grind (arith, nat_tests, wi
 
 -- ---- lines
 
--- Hexadecimal digits contain no byte that isn't a hexadecimal digit (`digits_lack`). An address is an optional `0x` and
--- such digits. Therefore it doesn't contain `:` or a space (`address_lacks`).
+-- Hexadecimal digits contain no byte that isn't a hexadecimal digit (`digits_lack`). An address consists of an optional
+-- `0x` and hexadecimal digits, so it doesn't contain `:` or a space (`address_lacks`).
 digits_lack : (byte : ℕ) → is_hex_digit byte ≡ false → (digits : List ℕ) → list_all is_hex_digit digits ≡ true
     → lacks byte digits ≡ true
 digits_lack byte other [] all = refl

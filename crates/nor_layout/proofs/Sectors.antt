@@ -49,7 +49,7 @@ pub in_sector-is : (spans : List Span) (sector : ℕ) → AreDisjoint spans → 
 in_sector-is spans sector apart =
     same_tests (list_any (is_in_sector sector) spans) (has_in_sector (contains spans) sector)
     (λ yes.
-    -- The address in both is the first one of the span or of the sector, whichever is greater.
+    -- The address in both is the greater one of the first address of the span and the first address of the sector.
     let h = any_span (is_in_sector sector) (λ a. a / 4096 ≡ sector)
     (λ span forward here. (max span.first (sector * 4096), grind (arith, nat_tests), grind (arith, nat_tests)))
     spans apart yes in

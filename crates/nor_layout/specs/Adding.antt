@@ -23,7 +23,7 @@ Adds old new region (Ok x) = with_region old region ≡ Ok new
 Adds old new region (Err Memory) = (new ≡ old) × (with_region old region ≡ Ok (old ++ region ∷ []))
 Adds old new region (Err fault) = (new ≡ old) × (with_region old region ≡ Err fault)
 
--- the number of a fault, in the order in which faults are checked
+-- the number of a fault, 1 to 4 in the order in which the faults are checked
 abbrev pub region_fault_number : RegionFault → ℕ
 region_fault_number Name = 1
 region_fault_number Twice = 2

@@ -12,5 +12,5 @@ pub mod Positions
 -- The numbers of faults, and the results of private functions.
 pub mod Faults
 pub mod Steps
--- The name of a region is an `ArrayVec`.
+-- Exported, too, because the name of a region is an `ArrayVec`.
 pub use Rattle.arrayvec.specs.ArrayVec

@@ -19,7 +19,7 @@
 //! The source files:
 //!
 //! - `layout.rt`: `Layout`, which reads a layout text and returns the addresses of named regions
-//! - `layout/adding.rt`: layouts made of regions that no layout text has
+//! - `layout/adding.rt`: layouts that are made by adding regions, such as those of a table in an image
 //! - `line.rt`: one line of a layout text
 //! - `address.rt`: hexadecimal addresses
 //! - `region.rt`: `Region`, the name and addresses of a region

@@ -94,8 +94,8 @@ fn next_span(spans: &[Span], done: u64) -> Option<Span>
     next
 }
 
-/// Returns the spans of a set with `added` added. `spans` must be the spans of a set: at most 64, ascending, neither
-/// overlapping nor adjacent. `added` must not end before it begins.
+/// Returns the spans of a set to which the span `added` was added. `spans` must be the spans of the set before: at most
+/// 64, ascending, neither overlapping nor adjacent. `added` must not end before it begins.
 fn with_span(spans: &[Span], added: Span) -> ArrayVec<Span, ROOM>
     requires room { length spans.now ≤ 64 }
     requires forward { added.first ≤ added.last }
@@ -156,8 +156,8 @@ impl Ranges {
         }
     }
 
-    /// Returns the set with the addresses of `added` added. The set must have fewer than 64 spans, and `added` must not
-    /// end before it begins.
+    /// Returns the set to which the addresses of the span `added` were added. The set must have fewer than 64 spans,
+    /// and `added` must not end before it begins.
     pub(crate) fn with(&self, added: Span) -> Ranges
         requires room { length self.now < 64 }
         requires forward { added.first ≤ added.last }

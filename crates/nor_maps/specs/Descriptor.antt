@@ -2,7 +2,7 @@
 -- flashrom's ich_descriptors.c). Numbers are little-endian, of 4 bytes. FLVALSIG, the signature, is followed by FLMAP0
 -- and FLMAP1, whose fields say where tables are, in units of 16 bytes from the first byte of the image:
 --
---   FLMAP0: bits 23:16 region table (FRBA), bits 26:24 number of regions less one (NR)
+--   FLMAP0: bits 23:16 region table (FRBA), bits 26:24 number of regions minus one (NR)
 --   FLMAP1: bits 7:0 masters' section (FMBA)
 --   entry of the region table (FLREG): bits 14:0 base, bits 30:16 limit, both in units of 4 KiB
 use Rattle.std.specs.Prelude.{◌≡◌, ℕ, ◌+◌, ◌-◌, ◌*◌, ◌/◌, ◌%◌, ◌^◌, ◌==◌, nat_le, nat_lt, max, Bool, not, ◌&&◌, ◌||◌, if◌then◌else◌, List, [], ◌∷◌, length, drop, codes, slice_index_or, Option, Some, None, Result, Ok, Err, ⊤}
@@ -13,7 +13,7 @@ use Rattle.nor_maps.specs.declared.fault.MapFault.TheVariants.{Missing, Short, R
 use Rattle.nor_layout.specs.declared.layout.adding.RegionFault.TheVariants.{Name, Twice, TooMany}
 use Rattle.nor_maps.specs.Records.{with_found, records_say, AsksAt}
 
--- the index of the signature: 10h, or 0 in descriptors up to the ICH10
+-- the index of the signature: 10h, or 0 in descriptors up to the ICH10, or None if it is at neither
 abbrev pub signature_at : List ℕ → Option ℕ
 signature_at bytes =
     if little_from 16 4 bytes == 0x0FF0A55A then Some 16
@@ -59,7 +59,7 @@ abbrev pub is_unused : (index entry : ℕ) → Bool
 is_unused index entry =
     nat_lt (limit_of entry) (base_of entry) || entry == 2 ^ 32 - 1 || (entry == 0 && not (index == 0))
 
--- the region of an entry, which ends with the last byte of the 4 KiB that its limit names
+-- the region of an entry: the blocks of 4 KiB from its base to its limit, both included
 abbrev pub entry_region : (index entry : ℕ) → Region
 entry_region index entry = record {
   start = base_of entry * 4096;
@@ -96,7 +96,8 @@ IsDescriptorFault (InRecord index Twice) = ⊥
 IsDescriptorFault (InRecord index TooMany) = ⊥
 IsDescriptorFault fault = ⊤
 
--- Holds if entry `index` describes a region and has no fault, and no entry before it has a fault.
+-- Holds if entry `index` describes a region and has no fault, and no entry before it has a fault. Memory may run out
+-- only at such an entry.
 abbrev pub AsksInDescriptor : (size : ℕ) → (image : List ℕ) → (index : ℕ) → Type 0
 AsksInDescriptor size image index =
     (signature : ℕ) × (signature_at image ≡ Some signature)

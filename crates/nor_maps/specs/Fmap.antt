@@ -66,7 +66,8 @@ areas_say size (Some map) =
 abbrev pub fmap_says : (size : ℕ) → (image : List ℕ) → Result (List Region) MapFault
 fmap_says size image = areas_say size (first_fmap image)
 
--- Holds if area `number` of the first FMAP has a region and no fault, and no area before it has a fault.
+-- Holds if area `number` of the first FMAP has a region and no fault, and no area before it has a fault. Memory may run
+-- out only at such an area.
 abbrev pub AsksInFmap : (size : ℕ) → (image : List ℕ) → (number : ℕ) → Type 0
 AsksInFmap size image number =
     (map : List ℕ) × (first_fmap image ≡ Some map) × AsksAt (with_area size) 42 1 (drop 56 map) number

@@ -43,7 +43,7 @@ tiny64_known config tiny = record {
 -- ---- the chips of the table
 
 -- Let the ID of a chip have a row in the table, and not be one that is read if nothing drives the bus (`is_no_chip`).
--- If the chip has the size, erase types and block protection of the row, it is known, whatever its SFDP is.
+-- If the chip has the size, erase types and block protection of the row, it is known. Its SFDP may be any.
 listed_known : (config : Config) (part : Part)
     → part_with_id (id_of config) ≡ Some part → is_no_chip (id_of config) ≡ false
     → config.size ≡ part.size → config.kinds ≡ part.kinds → config.scheme ≡ part.scheme → IsKnown config

@@ -63,11 +63,11 @@ pub record IsPart (found : Found) : Type 0 where
 
 -- Holds for the number of transactions of a probe that found a chip.
 pub record IsCounted (old : BusState) (probed : Probed) : Type 0 where
-  -- it is at least the number of one poll and the reads
+  -- the number is at least that of one poll and the reads
   pub least : 1 + reads_of probed.found.id ≤ probed.transactions
-  -- it is at most the number of 65,536 polls and four reads
+  -- the number is at most that of 65,536 polls and four reads
   pub most : probed.transactions ≤ most_probe
-  -- on a well-behaved bus (`honest`), it is exactly the number that the chip needs
+  -- on a well-behaved bus (`honest`), the number is exactly what the chip needs
   pub sent : old.honest ≡ true → probed.transactions ≡ needed old.chip
 
 -- Holds after a probe on a well-behaved bus (`honest`) that found a chip. The chip found is what the chip on the bus

@@ -13,7 +13,7 @@ use Rattle.nor_probe.specs.declared.probes.ProbeFault.TheVariants.{NoChip, Unkno
 use Rattle.nor_probe.specs.Sfdp.{sfdp_says}
 use Rattle.nor_probe.specs.Table.{part_with_id, IsEmulatedPart, IsMadeOf}
 
--- the chip type that was found
+-- the type of a chip that was found
 abbrev pub part_in : Found → Part
 part_in found =
     record { name = found.name; id = found.id; size = found.size; kinds = found.kinds; scheme = found.scheme }

@@ -40,7 +40,8 @@ size_in_bits density = if nat_lt density (2 ^ 31) then density + 1 else 2 ^ (den
 unfoldable pub is_chip_size_in_bits : (bits : ℕ) → Bool
 is_chip_size_in_bits bits = bits % 8 == 0 && is_chip_size (bits / 8)
 
--- true if the two bytes of the erase type at byte `at` of the table are this exponent of its size and this opcode
+-- True if the erase type at byte `at` of the table has this exponent of its size, in its first byte, and this opcode,
+-- in its second byte.
 abbrev pub is_erase_type_at : (exponent opcode : ℕ) → (table : List ℕ) → (at : ℕ) → Bool
 is_erase_type_at exponent opcode table at = slice_index table at == exponent && slice_index table (at + 1) == opcode
 
@@ -68,8 +69,8 @@ table_faults table =
     ∷ (not (has_erase_type 0x0C 0x20 table), NoSector)
     ∷ []
 
--- the geometry that the table describes: the size in bytes, and whether the chip has the erase types of 32 KiB with
--- opcode 52h and of 64 KiB with opcode D8h
+-- the geometry that the table describes: the size in bytes, and which of the erase types of 32 KiB with opcode 52h and
+-- of 64 KiB with opcode D8h the chip has
 abbrev pub geometry_of : (table : List ℕ) → Geometry
 geometry_of table = record {
   size = size_in_bits (double_word 2 table) / 8;

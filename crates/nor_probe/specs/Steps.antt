@@ -35,7 +35,7 @@ pub record AreParameters (config : Config) (parameters : Parameters) : Type 0 wh
 
 -- Holds, on every bus, for the type of a chip that was identified after its ID was read as `of_id`. The type has this
 -- ID and a size that a chip may have, and comes from the table or the SFDP. The ID isn't one that is read if nothing
--- drives the bus. The name of the type requires as many reads (`reads_under`) as the ID (`reads_of`).
+-- drives the bus. The name of the type requires the same number of reads (`reads_under`) as the ID (`reads_of`).
 pub record IsIdentified (of_id : List ℕ) (part : Part) : Type 0 where
   pub driven : is_no_chip of_id ≡ false
   pub same_id : part.id ≡ of_id

@@ -19,7 +19,7 @@ use thiserror::Error;
 pub struct Geometry {
     /// The size in bytes. `read_sfdp` returns a power of two from 65,536 to 16,777,216.
     pub size: u32,
-    /// Whether the chip also has the erase types of 32 KiB with opcode 52h and of 64 KiB with opcode D8h. A chip whose
+    /// Which of two more erase types the chip has: 32 KiB with opcode 52h, and 64 KiB with opcode D8h. A chip whose
     /// SFDP is accepted always has the erase type of 4 KiB with opcode 20h.
     pub kinds: Kinds,
 }
