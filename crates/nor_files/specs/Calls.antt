@@ -91,14 +91,14 @@ Places name (Err _) old new = KeepsFile name old new
 -- ---- changing
 
 -- Holds if `has` is a mix of the old bytes `had` and the written `bytes`. At each index, `has` has the byte of `had` or
--- the byte of `bytes`, where a byte past the end of a list counts as 0. `has` is at least as long as `had`, and at most
--- as long as the longer of the two lists.
+-- the byte of `bytes`. A byte past the end of a list counts as 0. `has` is at least as long as `had`, and at most as
+-- long as the longer of the two lists.
 pub record IsMixed (had bytes has : List ℕ) : Type 0 where
   pub shortest : length had ≤ length has
   pub longest : length has ≤ max (length had) (length bytes)
   pub each : (i : ℕ) → (slice_index has i ≡ slice_index had i) ⊎ (slice_index has i ≡ slice_index bytes i)
 
--- Holds if a host crash can leave only what it could leave before, or a mix of such a content and `bytes`.
+-- Holds if a host crash can leave only what it could leave before, or a mix of one of these contents and `bytes`.
 abbrev pub LeavesMixes : Name → List ℕ → (old new : FilesState) → Type 0
 LeavesMixes name bytes old new = (left : Found) → new.may_leave name left → old.may_leave name left
     ⊎ ((had : List ℕ) × old.may_leave name (Some had) × ((has : List ℕ) × (left ≡ Some has) × IsMixed had bytes has))
@@ -112,16 +112,16 @@ abbrev pub with_length : ℕ → List ℕ → List ℕ
 with_length len had = take len had ++ replicate (len - length had) 0
 
 -- The effect of overwriting a file in place. After success, a read returns the old content with its beginning replaced
--- by `bytes`. After success or failure, a host crash can leave only what it could leave before, or a mix of such a
--- content and `bytes`.
+-- by `bytes`. After success or failure, a host crash can leave only what it could leave before, or a mix of one of
+-- these contents and `bytes`.
 pub record WritesOver {T E : Type 0} (name : Name) (bytes : List ℕ) (result : Result T E)
     (old new : FilesState) : Type 0 where
   pub seen : (any : T) → result ≡ Ok any → new.view.seen name ≡ option_map (written_over bytes) (old.view.seen name)
   pub leaves : LeavesMixes name bytes old new
 
 -- The effect of setting the length of a file. After success, a read returns the old content, truncated to `len` bytes
--- or extended by zeros. After success or failure, a host crash can leave only what it could leave before, or such a
--- content with its length changed to `len`.
+-- or extended by zeros. After success or failure, a host crash can leave only what it could leave before, or one of
+-- these contents with its length changed to `len`.
 pub record SetsLength {T E : Type 0} (name : Name) (len : ℕ) (result : Result T E) (old new : FilesState) : Type 0 where
   pub seen : (any : T) → result ≡ Ok any → new.view.seen name ≡ option_map (with_length len) (old.view.seen name)
   pub leaves : (left : Found) → new.may_leave name left → old.may_leave name left

@@ -35,9 +35,9 @@ pub record Nature : Type 0 where
   pub lawful : Bool
   -- true for each failure that a call may ever find or return
   pub fails : Failure → Bool
-  -- whether two names are apart. On lawful files they then refer to different files: a call on the first leaves the
+  -- Whether two names are apart. On lawful files they then refer to different files: a call on the first leaves the
   -- second as it is. A file may have several names (`a` and `./a`, links), so two names that differ may be names of one
-  -- file. On the system's files, which aren't lawful, two names are apart if they differ
+  -- file. On the system's files, which aren't lawful, two names are apart if they differ.
   pub apart : Name → Name → Bool
 
 -- The part of the state that determines what a read returns.
@@ -51,9 +51,9 @@ pub record View : Type 0 where
 -- The files, as contracts see them.
 pub record FilesState : Type 1 where
   pub view : View
-  -- the greatest number of calls that can still succeed, counting `hold`, `sync`, `sync_folder`, `write_over`,
+  -- The greatest number of calls that can still succeed, counting `hold`, `sync`, `sync_folder`, `write_over`,
   -- `set_len`, `make`, `vault_in_new` and `vault_in`. No program can read this number. If the files obey the contract
-  -- and `left` is 0, each of these calls fails and changes nothing, as after a kill or a host crash
+  -- and `left` is 0, each of these calls fails and changes nothing, as after a kill or a host crash.
   pub left : ℕ
   -- the file whose vault was borrowed last and not yet taken back
   pub borrowed : Option Name

@@ -64,8 +64,8 @@ Becomes (Cut len) MayHaveBeen left = IsCutOf len MayHaveBeen left
 Becomes Lent MayHaveBeen left = ⊤
 
 -- Holds if the changes of a file allow the content `left`. It may be the content `seen`, which a read returns. It may
--- be a content that the file may have had before the newest change. Or the newest change may turn such a content into
--- `left` (`Becomes`).
+-- be a content that the file may have had before the newest change. Or the newest change may turn one of these earlier
+-- contents into `left` (`Becomes`).
 abbrev pub MayBe : List Step → Found → Found → Type 0
 MayBe [] seen left = left ≡ seen
 MayBe (step ∷ earlier) seen left = (left ≡ seen) ⊎ (MayBe earlier (content_found step.before) left
@@ -121,7 +121,7 @@ Alters (Err _) content change old new = IsUnchanged old new
 
 -- The effect of overwriting the file in place. After success, a read returns the old content with its beginning
 -- replaced by `bytes`. After success or failure, a host crash can leave only what it could leave before, or a mix of
--- such a content and `bytes`.
+-- one of these contents and `bytes`.
 pub record FileWrites {T E : Type 0} (bytes : List ℕ) (result : Result T E) (old new : Stored) : Type 0 where
   pub name : new.name ≡ old.name
   pub out : new.out ≡ old.out
@@ -130,8 +130,8 @@ pub record FileWrites {T E : Type 0} (bytes : List ℕ) (result : Result T E) (o
       → MayLeave (file_in old) left ⊎ IsMixOf bytes (MayLeave (file_in old)) left
 
 -- The effect of setting the length of the file. After success, a read returns the old content, truncated to `len` bytes
--- or extended by zeros. After success or failure, a host crash can leave only what it could leave before, or such a
--- content with its length changed to `len`.
+-- or extended by zeros. After success or failure, a host crash can leave only what it could leave before, or one of
+-- these contents with its length changed to `len`.
 pub record FileSets {T E : Type 0} (len : ℕ) (result : Result T E) (old new : Stored) : Type 0 where
   pub name : new.name ≡ old.name
   pub out : new.out ≡ old.out

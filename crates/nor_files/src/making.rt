@@ -41,8 +41,8 @@ where
     }
 }
 
-/// Creates the named file, or opens it for a log. A regular file is locked, and is truncated only when the log is
-/// written. A FIFO, a device or a terminal is opened as it is, without a lock.
+/// Creates the named file, or opens it for a log. A regular file is locked, and is truncated only at the first write or
+/// flush of the log. A FIFO, a device or a terminal is opened as it is, without a lock.
 ///
 /// A journal is never truncated, because it may be the only way to restore a chip. For a journal, the error is `There`.
 pub fn open_log<R: Files>(files: &R, name: &str) -> Result<LogFile<R::File>, CreateFault>

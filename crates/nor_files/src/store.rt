@@ -244,7 +244,7 @@ pub trait Store: AllocGlobal {
 
     /// Sets the length of the named file to `len` bytes. If the file grows, the added bytes are 0. For lawful files
     /// without a borrowed vault or log, a host crash before the next sync may leave a content that it could leave
-    /// before, or such a content with its length changed to `len`.
+    /// before, or one of these contents with its length changed to `len`.
     fn set_len(&mut self, name: &str, len: u64) -> io::Result<()>
         ensures nature { (state self.new).view.nature ≡ (state self.old).view.nature }
         ensures alone { is_lawful (state self.old).view ≡ true

@@ -46,7 +46,7 @@ text_is c = refl
 
 -- ---- lists
 
--- Each prefix of `whole` is a prefix of `whole ++ following`.
+-- A prefix of `whole` is also a prefix of `whole ++ following`.
 pub begins_longer : (whole following bytes : List ℕ) → StartsWith whole bytes → StartsWith (whole ++ following) bytes
 begins_longer whole following bytes begins =
     take-append-le (length bytes) whole following (omega (arith, ap length begins, length-take (length bytes) whole))

@@ -15,7 +15,8 @@ use Rattle.nor_journal.proofs.SectorRecords.{IsBytes, IsBytes-drop, number_text-
 use Rattle.std.proofs.Math.Seq.{take-add}
 use Rattle.std.proofs.lemmas.Grind.{elements}
 
--- These two lemmas give the first two elements of a list that has at least two, and the first three if it has three.
+-- A list with at least two elements begins with the elements 0 and 1. A list with at least three elements begins with
+-- the elements 0, 1 and 2 (`three_first`).
 two_first : (bytes : List ℕ) → 2 ≤ length bytes → take 2 bytes ≡ get_or bytes 0 0 ∷ get_or bytes 1 0 ∷ []
 two_first bytes long = grind (arith, elements)
 

@@ -5,7 +5,7 @@ use std::io::Write;
 
 /// A file to which pieces are appended, and which is synced at the end.
 ///
-/// Contracts can use its contents and its synced contents only if these are known (`Some`).
+/// Contracts can use the contents of the file, and its synced contents, only if these are known (`Some`).
 pub trait VaultFile {
     ghost use Rattle.std.specs.Prelude.{ℕ, List, Option};
     ghost use Rattle.std.specs.Io.KnownBytes.{WriteAppends};
