@@ -34,7 +34,7 @@ pub struct Disk<'a, R: Files> {
     unseen: RefCell<Vec<String>>,
     // The file whose vault was taken back last. It stays open, and therefore locked.
     vaulted: Option<VaultedFile<'a, R>>,
-    // Whether that vault was sealed.
+    // Whether the vault that was taken back last was sealed.
     sealed: bool,
 }
 

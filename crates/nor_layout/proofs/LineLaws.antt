@@ -13,8 +13,8 @@ use Rattle.nor_layout.specs.Line.{cut_at, without_spaces, with_start, parts_afte
 use Rattle.nor_layout.specs.Line.{parts_say, line_says}
 use Rattle.nor_layout.specs.Grammar.{IsAddress, IsLine}
 
--- Let two tests be made in turn, an error if `bad` is true and another error if `good` is false. If the result is `Ok
--- y`, `bad` is false, `good` is true, and `y` is `x`.
+-- Let a result be the error `first` if `bad` is true, else `Ok x` if `good` is true, else the error `second`. If the
+-- result is `Ok y`, then `bad` is false, `good` is true, and `x` equals `y`.
 passes : {A E : Type 0} (bad good : Bool) (x y : A) (first second : E)
     → (if bad then Err first else if good then Ok x else Err second) ≡ Ok y → (bad ≡ false) × (good ≡ true) × (x ≡ y)
 passes bad good x y first second e = grind arith

@@ -51,8 +51,8 @@ push_forward (first ∷ regions) region all forward = (all.0, push_forward regio
 pub no_regions : AreRegions []
 no_regions = record { few = omega arith; forward = tt; named_apart = tt }
 
--- If `regions` are regions that a layout may have, and fewer than 64, they still are with one more region that has a
--- new name.
+-- If a layout may have `regions` (`AreRegions`), and they are fewer than 64, it may also have them with one more region
+-- that has a new name and doesn't end before it begins.
 pub push_region : (regions : List Region) (region : Region) → AreRegions regions → region.start ≤ region.end
     → is_region_named regions region.name.items ≡ false → length regions < 64 → AreRegions (regions ++ region ∷ [])
 push_region regions region kept forward once room = record {

@@ -20,8 +20,8 @@ pub enum ChipName {
 }
 
 impl ChipName {
-    /// Returns the name that `text` spells, in upper case: the name of a chip of the table, or `SFDP`. Returns `Other`
-    /// for any other text.
+    /// Returns the name whose text is `text`: the name of a chip of the table, or `Sfdp` for `SFDP`. The text must be
+    /// in upper case. Returns `Other` for any other text.
     pub fn of(text: &str) -> ChipName
         ensures { result ≡ name_of text.now }
     {

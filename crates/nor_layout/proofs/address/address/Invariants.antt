@@ -3,7 +3,8 @@ use Rattle.std.specs.List.{list_all}
 use Rattle.nor_layout.specs.Address.{is_hex_digit, digits_number}
 use Rattle.nor_layout.proofs.address.address.Given as goal
 
--- The number of the digits read so far is `value`. With the remaining digits it makes up the number of all digits.
+-- `value`, followed by the remaining digits, encodes the same number as all digits. The digits read so far are
+-- hexadecimal.
 abbrev pub invariant-loop-byte : goal.invariant-loop-byte
 invariant-loop-byte l = record {
   hexadecimal : list_all is_hex_digit (take l.byte-index l.digits) ≡ true;
