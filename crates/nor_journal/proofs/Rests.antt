@@ -53,7 +53,7 @@ module _ {M : Type 1} {𝓤 : Ura M} (𝓛 : Logic 𝓤) (R : RattleType) (γ : 
 
 module _ {M : Type 1} {𝓤 : Ura M} (𝓛 : Logic 𝓤) (R : RattleType) (γ : GName) (m : Option GName)
     (P : R.Denot → R.Denot → Type 0) (Q Q' : R.Denot → Type 0) where
-  -- A fact `Q` about the final value may be replaced by a weaker fact `Q'`.
+  -- A fact `Q` about the final value if the result holds no reference may be replaced by a weaker fact `Q'`.
   pub rests_more : ((n : R.Denot) → Q n → Q' n)
       → ent 𝓤 (sem 𝓛 (follows_so R R γ m P Q)) (sem 𝓛 (follows_so R R γ m P Q'))
   unfolding such_by

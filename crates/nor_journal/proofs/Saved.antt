@@ -136,8 +136,8 @@ saved_in-nil n = refl
 
 -- ---- the records at the beginning of bytes
 
--- For `Journal::sector`: if `bytes` begin with k valid records (`HasRecords`), which are those of the content `j`, its
--- record i is a complete sector of the chip, and `j` saves its bytes.
+-- For `Journal::sector`: let `j` be the content whose records are the first k records of `bytes`, which are all valid
+-- (`HasRecords`). Then record i is a complete sector of the chip, and `j` saves this sector with its bytes.
 pub sector_saved : (h : Head) (bytes : List ℕ) (k i : ℕ) (s : SavedSector) (j : Content) → content_at h k bytes ≡ j
     → HasRecords h bytes k → i < length j.saved → s ≡ sector_at bytes i
     → (slice_get j.saved i ≡ Some s) × (saved_in j.saved s.number ≡ Some s.bytes) × IsSectorBelow (j.size / 4096) s

@@ -26,7 +26,7 @@ contains-merged new (span ∷ spans) address forward apart =
     let joined = contains-merged (join new span) spans address (omega (arith, forward, apart.0)) apart.2 in
     grind (arith, nat_tests)
 
--- Let `span` and `spans` be disjoint. If `low` is apart below `span`, it is also apart below the spans after it.
+-- If `span` and `spans` are disjoint, and `low` is apart below `span`, then `low` and `spans` are disjoint, too.
 further : (low span : Span) (spans : List Span) → low.first ≤ low.last → low.last + 1 < span.first
     → AreDisjoint (span ∷ spans) → AreDisjoint (low ∷ spans)
 further low span spans forward lt apart = grind arith

@@ -72,8 +72,8 @@ module _ (reading : Reading) (len first : ℕ) (bytes : List ℕ) where
           let same : count ≡ before + suc (count - (before + 1)) = omega arith in
           ap (λ n. records_say reading len [] first n bytes) same ∙ onward (Err fault) adds (count - (before + 1))
 
--- Let a result fit the definition `said`. It fits an equal definition `other`, too, if memory may run out at the same
--- records.
+-- If `other` equals `said`, and `may_ask` holds for each record for which `asks` holds, then `ReadsTable` allows with
+-- `other` and `may_ask` every result that it allows with `said` and `asks`.
 pub reads_same : (said other : Result (List Region) MapFault) (asks may_ask : ℕ → Type 0) → said ≡ other
     → ((number : ℕ) → asks number → may_ask number) → (result : Result (List Region) MapFault)
     → ReadsTable said asks result → ReadsTable other may_ask result
