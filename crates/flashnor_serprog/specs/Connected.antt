@@ -1,8 +1,8 @@
 -- The bus of a run, as contracts see it: the device that it belongs to, and the image that it expects.
 use Rattle.std.specs.Prelude.{◌≡◌, ◌&&◌, ℕ, Bool, true, false, List, [], Option, None, Some, option_map, string_bytes, ⊤}
 use Rattle.nor_model.specs.Bus.{BusState}
-use Rattle.nor_serprog.specs.Ahead.{ahead_of}
-use Rattle.nor_serprog.specs.Twice.{expected_of}
+use Rattle.nor_buses.specs.Ahead.{ahead_of}
+use Rattle.nor_buses.specs.Twice.{expected_of}
 use Rattle.nor_words.specs.Text.{Text}
 use Rattle.nor_words.specs.declared.job.Operation.{Operation}
 use Rattle.nor_words.specs.declared.job.Task.{Task}

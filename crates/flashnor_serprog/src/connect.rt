@@ -1,17 +1,15 @@
 //! Opens the device of a programmer and identifies the programmer.
 ghost use Rattle.std.specs.Prelude.{◌≡◌, [], IfOk, option_map, string_bytes};
-ghost use Rattle.nor_serprog.specs.Twice.{expected_of, history_of, twice_of};
+ghost use Rattle.nor_buses.specs.Twice.{expected_of, history_of, twice_of};
 ghost use Rattle.flashnor_serprog.specs.Connected.{IsUnused, device_of, expected_by};
 
 use crate::port::{DevicePort, PortFault};
 use crate::progress::{Shown, Terminal};
 use crate::trouble::ProgrammerFault;
+use nor_buses::{CheckedStatus, Paced, ReadAhead, ReadTwice, SplittingBus};
 use nor_chip::Bus;
 use nor_files::LockFile;
-use nor_serprog::{
-    AnyProgrammer, BatchingBus, CheckedStatus, Command, HandshakeFault, Link, Paced, ReadAhead,
-    ReadTwice, SplittingBus,
-};
+use nor_serprog::{AnyProgrammer, BatchingBus, Command, HandshakeFault, Link};
 use std::fs;
 use std::fs::{File, OpenOptions};
 use std::os::unix::fs::FileTypeExt;

@@ -1,6 +1,6 @@
 //! The lines of `-V`: one for each modifying transaction.
 ghost use Rattle.std.specs.Prelude.{◌≡◌, IfSome};
-ghost use Rattle.nor_serprog.specs.ReadsAs.{address_in};
+ghost use Rattle.nor_buses.specs.ReadsAs.{address_in};
 ghost use Rattle.flashnor_serprog.specs.Estimates.{millis_in, whole_seconds_in};
 
 use std::fmt;

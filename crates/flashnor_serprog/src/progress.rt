@@ -6,8 +6,8 @@ use crate::gauge::{Gauge, micros_between};
 use crate::steps::{Phase, Step, Total, step_of};
 use crate::terminal::Look;
 pub use crate::terminal::Terminal;
+use nor_buses::ReadAhead;
 use nor_chip::{Bus, Stopped, is_changing};
-use nor_serprog::ReadAhead;
 use std::fmt;
 use std::time::Instant;
 

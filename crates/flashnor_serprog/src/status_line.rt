@@ -1,6 +1,6 @@
 //! The lines for a chip that is lost, and for a status write that was refused or that the chip did not store.
 
-use nor_serprog::CheckFault;
+use nor_buses::CheckFault;
 use std::fmt;
 
 /// The line that follows the line of error 12 if a `CheckedStatus` stopped: two replies differ, the chip is lost, or a

@@ -4,8 +4,9 @@ ghost use Rattle.std.specs.Prelude.{◌≡◌};
 use crate::port::PortFault;
 use crate::setting::WrongSetting;
 use crate::status_line::{DIFFERED, StatusLine};
+use nor_buses::CheckFault;
 use nor_lines::{Escaped, Fault, text_of_flaw};
-use nor_serprog::{CheckFault, Failure, HandshakeFault};
+use nor_serprog::{Failure, HandshakeFault};
 use nor_words::WrongArguments;
 use std::fmt;
 

@@ -1,12 +1,6 @@
-pub mod Pauses
-pub mod SameReply
-pub mod ReadParts
 pub mod Exchanges
 pub mod Replied
 pub mod Skipped
 pub mod Synchronized
 pub mod Handshaken
 pub mod Stops
-pub mod Held
-pub mod StatusRead
-pub mod Splits

@@ -21,12 +21,13 @@ mod played;
 
 use device::DevicePort;
 use fault::Fault;
+use nor_buses::{Paced, ReadTwice};
 use nor_chip::{Bus, Config, Delays, Meter, SimBus};
 use nor_files::{CreateFault, Disk, Store};
 use nor_journal::{Journal, Vault};
 use nor_probe::probe;
 use nor_read::{read_out, verify};
-use nor_serprog::{HandshakeFault, Link, Paced, Port, Programmer, ReadTwice, SerprogBus};
+use nor_serprog::{HandshakeFault, Link, Port, Programmer, SerprogBus};
 use nor_session::{Report, Request, restore, session};
 use own::OwnBus;
 use played::{PlayedPort, PlayedWires};

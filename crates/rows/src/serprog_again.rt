@@ -1,7 +1,7 @@
 //! Which sectors of a read `ReadTwice` reads again, if it expects an image.
 
+use nor_buses::ReadTwice;
 use nor_chip::{Bus, Config, Delays, Meter, SimBus, Spoil, SpoiltBus, TraceBus};
-use nor_serprog::ReadTwice;
 use std::alloc::Global;
 use std::process::Abort;
 

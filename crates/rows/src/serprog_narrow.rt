@@ -1,8 +1,9 @@
 //! A bus over a serprog programmer whose limits are too small for a page program or for the read of a sector.
 
 use crate::serprog_model::{Fault, Model};
+use nor_buses::SplittingBus;
 use nor_chip::{Bus, Config, Delays, Meter, SimBus};
-use nor_serprog::{AnyProgrammer, BatchingBus, Link, SplittingBus};
+use nor_serprog::{AnyProgrammer, BatchingBus, Link};
 use std::alloc::Global;
 use std::process::Abort;
 

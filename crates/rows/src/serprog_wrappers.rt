@@ -1,8 +1,9 @@
 //! Pauses between polls that show BUSY, and two reads of the same bytes that differ.
 
 use crate::serprog_model::{Fault, Model};
+use nor_buses::{Paced, ReadTwice};
 use nor_chip::{Bus, Config, Delays, Meter, SimBus, Spoil, SpoiltBus};
-use nor_serprog::{Link, Paced, Programmer, ReadTwice, SerprogBus};
+use nor_serprog::{Link, Programmer, SerprogBus};
 use std::alloc::Global;
 use std::cell::Cell;
 use std::io;

@@ -1,0 +1,55 @@
+-- Lemmas: if a status register was read twice in a history, this stays true when the history grows.
+use Rattle.std.proofs.Common.{◌≡◌, ◌∙◌, ℕ, Bool, true, false, List, [], ◌∷◌, Option, None, Some, refl, ap, sym, eq-eqb}
+use Rattle.std.specs.Prelude.{◌||◌, ◌&&◌, ◌==◌}
+use Rattle.std.specs.Option.{ForSome}
+use Rattle.std.proofs.lemmas.Bool.{false≢true}
+use Rattle.nor_model.specs.Exchange.{Exchange}
+use Rattle.nor_buses.specs.StatusRead.{IsReadTwice, KeepsId, confirmed, has_read, has_read_id, is_known, pair, second, was_read_twice}
+
+or_true : (a : Bool) → (a || true) ≡ true
+or_true true = refl
+or_true false = refl
+
+-- If a status register was read twice in a history, it was read twice in the history with one more transaction.
+pub read_grown : (opcode byte : ℕ) (more : Exchange) (old : List Exchange)
+    → was_read_twice opcode byte old ≡ true → was_read_twice opcode byte (more ∷ old) ≡ true
+read_grown opcode byte more [] read = absurd (false≢true read)
+read_grown opcode byte more (d ∷ []) read = absurd (false≢true read)
+read_grown opcode byte more (d ∷ c ∷ []) read = absurd (false≢true read)
+read_grown opcode byte more (d ∷ c ∷ b ∷ earlier) read =
+    ap (λ (x : Bool). (has_read_id more && has_read opcode byte d && has_read_id c && has_read opcode byte b) || x) read
+    ∙ or_true _
+
+-- If each status byte that is known was read twice in the history, this stays true after one more transaction.
+pub still_read : (known : Option ℕ) (opcode : ℕ) (more : Exchange) (old new : List Exchange) → new ≡ more ∷ old
+    → ForSome known (λ byte. was_read_twice opcode byte old ≡ true)
+    → ForSome known (λ byte. was_read_twice opcode byte new ≡ true)
+still_read known opcode more old new grows read =
+    λ byte is. ap (λ (h : List Exchange). was_read_twice opcode byte h) grows ∙ read_grown opcode byte more old (read byte is)
+
+-- The comparison of a byte with itself is true.
+byte_is : (byte : ℕ) → (byte == byte) ≡ true
+byte_is byte = eq-eqb byte byte refl
+
+-- If `IsReadTwice` holds for a poll whose two reply bytes are `byte`, status 1 was read twice as `byte`.
+pub pair_read : (byte : ℕ) (known : Option (List ℕ)) (old new : List Exchange) → IsReadTwice (pair byte) known old new
+    → was_read_twice 5 byte new ≡ true
+pair_read byte None old new twice = absurd (false≢true twice.knows)
+pair_read byte (Some id) old new twice =
+    ap (λ (h : List Exchange). was_read_twice 5 byte h) twice.is ∙ rw byte_is refl
+
+-- If `IsReadTwice` holds for a read of status 2 whose reply is `byte`, status 2 was read twice as `byte`.
+pub second_read : (byte : ℕ) (known : Option (List ℕ)) (old new : List Exchange)
+    → IsReadTwice (second byte) known old new → was_read_twice 53 byte new ≡ true
+second_read byte None old new twice = absurd (false≢true twice.knows)
+second_read byte (Some id) old new twice =
+    ap (λ (h : List Exchange). was_read_twice 53 byte h) twice.is ∙ rw byte_is refl
+
+-- If an ID was known after two reads (`IsReadTwice`), it is still the known ID later.
+pub still_known : (read : Exchange) (known later : Option (List ℕ)) (old new : List Exchange)
+    → IsReadTwice read known old new → KeepsId known later → IsReadTwice read later old new
+still_known read known later old new twice keeps =
+    let same = keeps.same twice.knows in record {
+      knows = ap is_known same ∙ twice.knows;
+      is = twice.is ∙ sym (ap (λ (k : Option (List ℕ)). confirmed k (read ∷ confirmed k (read ∷ old))) same);
+    }

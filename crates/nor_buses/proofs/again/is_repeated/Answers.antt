@@ -1,0 +1,15 @@
+use Rattle.std.proofs.Common.{ℕ, length, arith, sym, subst}
+use Rattle.std.proofs.lemmas.Grind.{common_steps}
+use Rattle.std.proofs.lemmas.List.{length-take-le}
+use Rattle.nor_model.specs.Bus.{IsHonestFor}
+use Rattle.nor_buses.proofs.again.is_repeated.Goals as goal
+
+pub returns-clause-differs : goal.returns-clause-differs
+returns-clause-differs g c honest other =
+    let whole = length-take-le (length c.args.reply.now) c.args.again.now c.requires in
+    let P : ℕ → Type 0 = λ n. IsHonestFor c.args.out.now n (g.B.Bus.state c.args.bus.now) in record {
+      other = c.transfer.new.reply;
+      carries = c.in_ok-transfer.ensures.carries (subst P (sym whole) honest);
+      len = grind (arith, common_steps, c.transfer.auto.reply);
+      differs = c.are_same.ensures.differ other;
+    }

@@ -1,0 +1,14 @@
+use Rattle.std.proofs.Common.{◌≤◌, ◌-◌, length}
+use Rattle.nor_buses.proofs.Splits.{ProgramsInParts}
+use Rattle.nor_buses.proofs.parts.program_parts.Given as goal
+
+abbrev pub invariant-loop-done : goal.invariant-loop-done
+invariant-loop-done g l =
+    record {
+      programs : ProgramsInParts l.longest l.address l.bytes l.done (g.B.Bus.state l.fn.bus).history
+          (g.B.Bus.state l.bus).history;
+      within : l.done ≤ length l.bytes;
+    }
+
+abbrev pub decreases-loop-done : goal.decreases-loop-done
+decreases-loop-done g l = length l.bytes - l.done

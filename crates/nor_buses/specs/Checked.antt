@@ -1,0 +1,35 @@
+-- A bus that notices a lost chip, reads status registers twice and checks status writes, as contracts see it.
+use Rattle.std.specs.Prelude.{ℕ, Bool, List, Option}
+use Rattle.nor_model.specs.Bus.{BusState, unknown_bus}
+use Rattle.nor_model.specs.Exchange.{Exchange}
+use Rattle.nor_model.specs.declared.bus.Bus.{Ghosts}
+use Rattle.nor_buses.specs.declared.status.CheckedStatus.{CheckedStatus}
+use Rattle.nor_buses.specs.declared.known.Known.{Known}
+
+-- The bus inside, which carries out the transactions of a `CheckedStatus`.
+abbrev pub bus_of : {B : Type 0} {over : Ghosts B} → CheckedStatus B over → B
+bus_of checked = checked.bus
+
+-- The state of the bus inside.
+abbrev pub inner_state : {B : Type 0} {over : Ghosts B} → CheckedStatus B over → BusState
+inner_state {over = over} checked = over.state (bus_of checked)
+
+-- What the bus knows about the chip: its status registers, its ID, and the modifying commands so far.
+abbrev pub known_of : {B : Type 0} {over : Ghosts B} → CheckedStatus B over → Known
+known_of checked = checked.known
+
+-- True if a modifying command was passed on to the bus inside.
+abbrev pub has_begun : {B : Type 0} {over : Ghosts B} → CheckedStatus B over → Bool
+has_begun checked = checked.known.is_changing
+
+-- The bytes of a status write that was passed on and is not read back yet, if there is one.
+abbrev pub written_of : {B : Type 0} {over : Ghosts B} → CheckedStatus B over → Option (List ℕ)
+written_of checked = checked.known.written
+
+-- The transactions that the bus was asked to carry out, each with its reply, the last one first.
+abbrev pub history_of : {B : Type 0} {over : Ghosts B} → CheckedStatus B over → List Exchange
+history_of checked = checked.history.exchanges
+
+-- The state of the bus. Only its history is known.
+abbrev pub checked_state : {B : Type 0} {over : Ghosts B} → CheckedStatus B over → BusState
+checked_state checked = unknown_bus (history_of checked)

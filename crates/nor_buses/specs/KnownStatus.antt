@@ -1,0 +1,76 @@
+-- What a `CheckedStatus` knows about the chip, which replies it believes, and which status writes it sends.
+use Rattle.std.specs.Prelude.{◌≡◌, ◌/◌, ◌%◌, ◌||◌, ◌⊎◌, ℕ, true, false, List, [], ◌∷◌, Option, None, Some, length, slice_index}
+use Rattle.nor_model.specs.Bus.{BusState}
+use Rattle.nor_model.specs.Command.{begins_change}
+use Rattle.nor_model.specs.Exchange.{Exchange}
+use Rattle.nor_model.specs.Sent.{begins_status_write, with_sent}
+use Rattle.nor_buses.specs.StatusRead.{AgreesWithSent, IsReadTwice, IsStatusKept, pair, second}
+use Rattle.nor_buses.specs.declared.known.Known.{Known}
+
+-- Holds if a transaction that sends `out` is a status write of the two bytes `sent`, and keeps what is known: both
+-- status registers are known, and `sent` has SRP0 and bits 0 to 5 of status 2 as they are known. BUSY, WEL and SUS are
+-- clear in `sent`.
+pub record KeepsKnown (known : Known) (out sent : List ℕ) : Type 0 where
+  pub one : ℕ
+  pub two : ℕ
+  pub is : out ≡ 0x01 ∷ one ∷ two ∷ []
+  pub sends : sent ≡ one ∷ two ∷ []
+  pub one_known : ℕ
+  pub two_known : ℕ
+  pub first : known.one ≡ Some one_known
+  pub last : known.two ≡ Some two_known
+  pub srp0 : one / 128 ≡ one_known / 128
+  pub low : two % 64 ≡ two_known % 64
+  pub idle : one % 4 ≡ 0
+  pub awake : two / 128 ≡ 0
+
+-- Holds for a poll that returned `status`, which shows that the chip is ready. `known` is the knowledge before the
+-- poll, `known'` the one after it. Each poll of the bus inside returned two bytes, which were both `status`. Before the
+-- first modifying command there were two such polls, and the ID was read after each (`IsReadTwice`). After the first
+-- modifying command there was one such poll. If a status write of `sent` was not read back yet, there were two such
+-- polls, again with the ID after each, and then the status was read back (`AgreesWithSent`).
+pub record PollAgrees (known known' : Known) (status : ℕ) (old new : List Exchange) : Type 0 where
+  pub unchanged : known.is_changing ≡ false → known.written ≡ None → IsReadTwice (pair status) known'.id old new
+  pub changing : known.is_changing ≡ true → known.written ≡ None → new ≡ pair status ∷ old
+  pub stored : (sent : List ℕ) → known.written ≡ Some sent → AgreesWithSent sent status known'.id old new
+
+-- Holds if `out` is a status write, and `remembered` has its two bytes, which are to be read back.
+pub record IsWritten (out : List ℕ) (remembered : Option (List ℕ)) : Type 0 where
+  pub one : ℕ
+  pub two : ℕ
+  pub is : out ≡ 0x01 ∷ one ∷ two ∷ []
+  pub written : remembered ≡ Some (one ∷ two ∷ [])
+
+-- Holds if two facts are as before: whether a modifying command was passed on, and which status write is to be read
+-- back.
+pub record KeepsTask (old new : Known) : Type 0 where
+  pub is_changing : new.is_changing ≡ old.is_changing
+  pub written : new.written ≡ old.written
+
+-- Holds if all knowledge except the ID is as before.
+pub record KeepsStatus (old new : Known) : Type 0 where
+  pub one : new.one ≡ old.one
+  pub two : new.two ≡ old.two
+  pub is_changing : new.is_changing ≡ old.is_changing
+  pub written : new.written ≡ old.written
+
+-- Holds at every exit of a transaction that sends `out`. The bus inside is sent nothing that may modify the chip,
+-- except this transaction itself, at most once. If the transaction is a status write, it is sent only if it keeps the
+-- bits that were read (`IsStatusKept`).
+pub record SendsKept (out : List ℕ) (old new : BusState) : Type 0 where
+  pub sent : (new.sent ≡ old.sent) ⊎ (new.sent ≡ with_sent out old.sent)
+  pub kept : begins_status_write out ≡ true → (new ≡ old) ⊎ IsStatusKept out old.history
+
+-- Holds after a transaction that sent `out` and succeeded with the reply `answer`. The fields say which transactions
+-- the bus inside made before the reply was believed, and what is remembered.
+pub record BelievesStatus (out answer : List ℕ) (known known' : Known) (old new : List Exchange) : Type 0 where
+  -- If a poll shows that the chip is ready, both reply bytes of each poll over the bus inside were equal to the
+  -- returned status. `PollAgrees` says how often the bus inside was polled, and when the ID was read.
+  pub poll : out ≡ 0x05 ∷ [] → length answer ≡ 1 → slice_index answer 0 % 2 ≡ 0
+      → PollAgrees known known' (slice_index answer 0) old new
+  -- Status 2 was read twice with the same reply, and the known ID was read after each read.
+  pub twice : out ≡ 0x35 ∷ [] → length answer ≡ 1 → IsReadTwice (second (slice_index answer 0)) known'.id old new
+  -- The bytes of a status write are remembered, to be read back by the next poll that shows that the chip is ready.
+  pub written : begins_status_write out ≡ true → IsWritten out known'.written
+  -- If the transaction begins with a modifying command, this is remembered.
+  pub begun : known'.is_changing ≡ (known.is_changing || begins_change out)

@@ -1,0 +1,11 @@
+pub mod Pace
+pub mod Paced
+pub mod Again
+pub mod Twice
+pub mod Splitting
+pub mod Parts
+pub mod Ahead
+pub mod ReadsAs
+pub mod StatusRead
+pub mod KnownStatus
+pub mod Checked

@@ -1,0 +1,16 @@
+-- A bus that pauses between polls, as contracts see it.
+use Rattle.std.specs.Prelude.{ℕ}
+use Rattle.nor_buses.specs.declared.paced.Paced.{Paced}
+
+-- The bus inside, which carries out the transactions of a `Paced`.
+abbrev pub paced_of : {B C : Type 0} → Paced B C → B
+paced_of paced = paced.bus
+
+-- The number of polls in a row that showed BUSY, up to the last transaction that succeeded; at most 2^64 - 1.
+abbrev pub busy_row : {B C : Type 0} → Paced B C → ℕ
+busy_row paced = paced.busy_polls
+
+-- The typical duration in microseconds of the operation that the last command began. Only transactions that succeeded
+-- count; the duration is 0 if none of them began an operation.
+abbrev pub typical_in : {B C : Type 0} → Paced B C → ℕ
+typical_in paced = paced.typical

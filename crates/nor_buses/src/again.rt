@@ -1,0 +1,148 @@
+//! Repeats a read and compares the replies: the whole read, or only the sectors whose bytes differ from an image.
+ghost use Rattle.std.specs.Prelude.{◌≡◌, ◌≢◌, ◌<◌, ◌≤◌, ◌+◌, ◌/◌, ◌∷◌, true, false, ℕ, length, OnErr, IfOk};
+ghost use Rattle.nor_model.specs.Bus.{IsHonestFor, SameNature, Carries};
+ghost use Rattle.nor_model.specs.History.{replied};
+ghost use Rattle.nor_buses.specs.ReadsAs.{part, KeepsRecord};
+ghost use Rattle.nor_buses.specs.Twice.{begins_read};
+ghost use Rattle.nor_buses.specs.Again.{CarriesOther};
+ghost use Rattle.nor_buses.specs.Again.{IsExpected, DiffersInSector, DiffersBetween, data_read, RepeatsBelow, HasData};
+
+use nor_geometry::SECTOR_LEN;
+use nor_model::{Bus, Stopped};
+
+const READ_DATA: u8 = 0x03;
+
+// A run of neighbouring sectors of a reply that all equal the image, or that all differ from it.
+#[derive(Clone, Copy)]
+struct Run {
+    // The index in the reply of the first byte after the run.
+    end: usize,
+    is_expected: bool,
+}
+
+// Repeats the read `out`, whose first reply was `reply`. Returns whether the second reply is the same. Overwrites
+// `again` with the second reply.
+pub(crate) fn is_repeated<B: Bus>(
+    bus: &mut B,
+    out: &[u8],
+    reply: &[u8],
+    again: &mut [u8],
+) -> Result<bool, Stopped>
+    requires { length reply.now ≤ length again.old }
+    ensures nature { SameNature (B.state bus.old) (B.state bus.new) }
+    ensures record { begins_read out.now ≡ true → KeepsRecord (B.state bus.old) (B.state bus.new) }
+    ensures repeated { IfOk result (λ same. same ≡ true
+        → (B.state bus.new).history ≡ replied out.now reply.now ∷ (B.state bus.old).history) }
+    ensures carries { IsHonestFor out.now (length reply.now) (B.state bus.old) → IfOk result (λ same. same ≡ true
+        → Carries out.now reply.now (B.state bus.old) (B.state bus.new)) }
+    ensures differs { IsHonestFor out.now (length reply.now) (B.state bus.old) → IfOk result (λ same. same ≡ false
+        → CarriesOther out.now reply.now (B.state bus.old) (B.state bus.new)) }
+    ensures stops { IsHonestFor out.now (length reply.now) (B.state bus.old)
+        → OnErr result ((B.state bus.new).left ≡ 0) }
+{
+    let second = &mut again[..reply.len()];
+    bus.transfer(out, &mut *second)?;
+    Ok(are_same(reply, second))
+}
+
+// Compares `reply`, which was read from `address` on, with the image, and reads the sectors that differ a second time.
+// Returns whether each second reply is the same as the first. Neighbouring sectors are read with one transaction.
+// Overwrites `again` with the second replies.
+pub(crate) fn is_repeated_or_expected<B: Bus>(
+    bus: &mut B,
+    image: &[u8],
+    address: u32,
+    reply: &[u8],
+    again: &mut [u8],
+) -> Result<bool, Stopped>
+    requires fits { address + length reply.now ≤ 16777216 }
+    requires len { length reply.now ≤ length again.old }
+    ensures nature { SameNature (B.state bus.old) (B.state bus.new) }
+    ensures record { KeepsRecord (B.state bus.old) (B.state bus.new) }
+    ensures repeated { IfOk result (λ same. same ≡ true
+        → RepeatsBelow image.now address reply.now (length reply.now) (B.state bus.old) (B.state bus.new)) }
+    ensures same { IsHonestFor (data_read address) (length reply.now) (B.state bus.old)
+        → HasData (B.state bus.old).chip address reply.now → IfOk result (λ same. same ≡ true) }
+    ensures stops { IsHonestFor (data_read address) (length reply.now) (B.state bus.old)
+        → OnErr result ((B.state bus.new).left ≡ 0) }
+{
+    let mut done = 0;
+    while done < reply.len() {
+        let run = run_from(image, address, reply, done);
+        if !run.is_expected {
+            let out = data_read(address + done as u32);
+            if !is_repeated(bus, &out, &reply[done..run.end], again)? {
+                return Ok(false);
+            }
+        }
+        done = run.end;
+    }
+    Ok(true)
+}
+
+// Returns the longest run of sectors that begins at the index `from` of a reply. The reply was read from `address` on.
+fn run_from(image: &[u8], address: u32, reply: &[u8], from: usize) -> Run
+    requires fits { address + length reply.now ≤ 16777216 }
+    requires some { from < length reply.now }
+    ensures after { from < result.end }
+    ensures within { result.end ≤ length reply.now }
+    ensures expected { result.is_expected ≡ true → (i : ℕ) → from ≤ i → i < result.end
+        → IsExpected image.now address reply.now i }
+    ensures differs { result.is_expected ≡ false → (i : ℕ) → from ≤ i → i < result.end
+        → DiffersInSector image.now address reply.now i }
+{
+    let mut end = sector_end(address, from, reply.len());
+    let is_expected = is_at(image, address, reply, from, end);
+    while end < reply.len() {
+        let next = sector_end(address, end, reply.len());
+        if is_at(image, address, reply, end, next) != is_expected {
+            break;
+        }
+        end = next;
+    }
+    Run { end, is_expected }
+}
+
+// Returns the index of the first byte after the sector that contains the byte with the index `from`. The reply has
+// `len` bytes and was read from `address` on. Returns `len` if the reply ends inside this sector.
+fn sector_end(address: u32, from: usize, len: usize) -> usize
+    requires fits { address + len ≤ 16777216 }
+    requires some { from < len }
+    ensures after { from < result }
+    ensures within { result ≤ len }
+    ensures sector { (i : ℕ) → from ≤ i → i < result → (address + i) / 4096 ≡ (address + from) / 4096 }
+{
+    let left = SECTOR_LEN as usize - (address as usize + from) % SECTOR_LEN as usize;
+    len.min(from + left)
+}
+
+// Returns whether the bytes of the reply with the indices `from` to `to - 1` equal the image at their addresses.
+fn is_at(image: &[u8], address: u32, reply: &[u8], from: usize, to: usize) -> bool
+    requires some { from < to }
+    requires within { to ≤ length reply.now }
+    requires fits { address + to ≤ 16777216 }
+    ensures equal { result ≡ true → (i : ℕ) → from ≤ i → i < to → IsExpected image.now address reply.now i }
+    ensures differs { result ≡ false → DiffersBetween image.now address reply.now from to }
+{
+    let start = address as usize;
+    match image.get(start + from..start + to) {
+        Some(expected) => are_same(expected, &reply[from..to]),
+        None => false,
+    }
+}
+
+// Returns the bytes that a read of data (03h) from this address on sends.
+fn data_read(address: u32) -> [u8; 4]
+    requires { address ≤ 16777215 }
+    ensures { result ≡ data_read address }
+{
+    let [_, high, middle, low] = address.to_be_bytes();
+    [READ_DATA, high, middle, low]
+}
+
+fn are_same(first: &[u8], second: &[u8]) -> bool
+    ensures same { result ≡ true → second.now ≡ first.now }
+    ensures differ { result ≡ false → second.now ≢ first.now }
+{
+    first == second
+}

@@ -1,0 +1,245 @@
+//! A bus that reads ahead.
+ghost use Rattle.std.specs.Prelude.{◌≡◌, ◌<◌, ◌≤◌, ◌+◌, ◌-◌, ◌∷◌, [], true, false, length, take, OnOk, OnErr, IfSome};
+ghost use Rattle.std.proofs.lemmas.Bool.{false≢true};
+ghost use Rattle.nor_model.specs.Bus.{IsHonestFor, SameNature, Stops, Carries, Records};
+ghost use Rattle.nor_model.specs.History.{exchange_of};
+ghost use Rattle.nor_buses.specs.ReadsAs.{reads_data, address_in, view_of, KeepsRecord};
+ghost use Rattle.nor_buses.specs.ReadsAs.{HoldsReply, EndsWithRead, EndsWithData};
+
+use nor_geometry::SECTOR_LEN;
+use nor_model::{Bus, History, Stopped};
+
+// The greatest length of a block. The size of a chip is a power of two and at least 64 KiB, so it is a multiple of this
+// length. Therefore a block that lies between two multiples of this length does not reach past the end of a chip.
+const LONGEST_BLOCK: u32 = 1 << 16;
+
+const READ_DATA: u8 = 0x03;
+
+/// A bus that reads data (03h) ahead, if reads follow each other. It returns the bytes of a read inside the last block
+/// from memory. A read that begins where the last block ended doubles the length of the next block, up to 64 KiB. Any
+/// other read sets this length to its own length. A block is longer if the read needs more bytes, and shorter if it
+/// would pass a multiple of 64 KiB.
+///
+/// The bus forgets the block at each transaction that it passes on unchanged, and if the bus inside stops. A block ends
+/// at a multiple of 64 KiB at the latest, so it never reaches past the end of a chip. A block is never longer than the
+/// bus inside can read, and `end_blocks_at` ends it earlier. A transaction is passed on unchanged if it is no read of
+/// data, reads more than the longest block, or reaches past a multiple of 64 KiB.
+///
+/// If a read of data of at least one byte returns `Ok`, the last transaction over the bus inside is a read of data, and
+/// the bytes returned are the bytes that the reply to it has for the same addresses.
+///
+/// A read over this bus may be no transaction over the bus inside, or a longer one, so this bus is not well-behaved as
+/// `Bus` defines it, even if the bus inside is. While this bus is used, nobody else may modify the chip.
+///
+/// The history lists each transaction over this bus with its reply, even a read whose bytes came from memory; a
+/// transaction that failed is listed without a reply. In contracts, the modifying commands that were sent and the
+/// result of the last poll are those of the bus inside.
+#[derive(Drop)]
+pub struct ReadAhead<B: Bus + Drop> {
+    bus: B,
+    block: [u8; LONGEST_BLOCK as usize],
+    start: u32,
+    len: u32,
+    // The intended length of the last block. The block is shorter if it would pass a multiple of 64 KiB, and longer if
+    // the read needed more bytes.
+    step: u32,
+    longest: u32,
+    // The address at which a block ends at the latest, unless the read needs more bytes.
+    end: u32,
+    history: History,
+    ghost fits: { len ≤ 65536 },
+    ghost below: { start ≤ 16777216 },
+    ghost longest_fits: { longest ≤ 65536 },
+    ghost step_fits: { step ≤ 65536 },
+    // If the block holds bytes, they are the whole reply to the last transaction over the bus inside.
+    ghost holds: { HoldsReply block start len (B.state bus).history },
+}
+
+impl<B: Bus + Drop> ReadAhead<B> {
+    ghost use Rattle.nor_buses.specs.Ahead.{ahead_of, held, history_of};
+
+    /// Returns a bus that reads ahead over `bus`. A transaction over `bus` can read `longest_read` bytes. If that is
+    /// less than 4,096, nothing is read ahead.
+    pub fn new(bus: B, longest_read: u32) -> ReadAhead<B>
+        ensures bus { ahead_of result ≡ bus }
+        ensures empty { held result ≡ 0 }
+        ensures history { history_of result ≡ [] }
+    {
+        let longest = longest_read.min(LONGEST_BLOCK) / SECTOR_LEN * SECTOR_LEN;
+        ReadAhead {
+            bus,
+            block: [0; LONGEST_BLOCK as usize],
+            start: 0,
+            len: 0,
+            step: 0,
+            longest,
+            end: u32::MAX,
+            history: History::new(),
+        }
+    }
+
+    /// Sets the address at which each further block ends at the latest, unless the read itself needs more bytes.
+    /// `u32::MAX` removes this limit.
+    pub fn end_blocks_at(&mut self, address: u32)
+        ensures bus { ahead_of self.new ≡ ahead_of self.old }
+        ensures history { history_of self.new ≡ history_of self.old }
+    {
+        self.end = address;
+    }
+
+    /// Returns the bus inside, which carries out the transactions of this bus.
+    pub fn inner(&self) -> &B
+        ensures { result.now ≡ ahead_of self.now }
+    {
+        &self.bus
+    }
+}
+
+impl<B: Bus + Drop> ReadAhead<B> {
+    ghost use Rattle.nor_buses.specs.Ahead.{begin, held, history_of, inside_of, ahead_state};
+
+    // Makes one transaction, and does not add it to the history. The clause `records` describes the state after the
+    // caller has added the transaction.
+    fn carry(&mut self, out: &[u8], reply: &mut [u8]) -> Result<(), Stopped>
+        ensures records { Records out.now reply.new result (ahead_state self.old)
+            (view_of (inside_of self.new) (exchange_of out.now reply.new result ∷ history_of self.old)) }
+        ensures history { history_of self.new ≡ history_of self.old }
+        ensures forgets { reads_data out.now ≡ false → held self.new ≡ 0 }
+        ensures read { reads_data out.now ≡ true → 0 < length reply.old
+            → OnOk result (EndsWithData (address_in out.now) reply.new (inside_of self.new).history) }
+    {
+        match data_address(out) {
+            Some(address) if is_in_block(address, reply.len(), self.longest) => {
+                self.read(address, reply)
+            }
+            _ => {
+                self.len = 0;
+                self.bus.transfer(out, reply)
+            }
+        }
+    }
+
+    // Fills `reply` with the bytes of the chip from `address` on, which are copied from the block. Reads a new block
+    // first if the block does not hold all of these bytes.
+    fn read(&mut self, address: u32, reply: &mut [u8]) -> Result<(), Stopped>
+        requires address { address ≤ 16777215 }
+        requires len { length reply.old ≤ 65536 }
+        ensures record { KeepsRecord (inside_of self.old) (inside_of self.new) }
+        ensures history { history_of self.new ≡ history_of self.old }
+        ensures read { 0 < length reply.old
+            → OnOk result (EndsWithData address reply.new (inside_of self.new).history) }
+    {
+        self.hold(address, reply.len() as u32)?;
+        let at = (address - self.start) as usize;
+        reply.copy_from_slice(&self.block[at..at + reply.len()]);
+        Ok(())
+    }
+
+    // Makes the block hold the `len` bytes from `address` on. If it does not hold them already, reads a new block that
+    // begins at `address`.
+    fn hold(&mut self, address: u32, len: u32) -> Result<(), Stopped>
+        requires address { address ≤ 16777215 }
+        requires len { len ≤ 65536 }
+        ensures record { KeepsRecord (inside_of self.old) (inside_of self.new) }
+        ensures history { history_of self.new ≡ history_of self.old }
+        ensures begins { OnOk result (begin self.new ≤ address) }
+        ensures ends { OnOk result (address + len ≤ begin self.new + held self.new) }
+    {
+        if self.start <= address && address + len <= self.start + self.len {
+            return Ok(());
+        }
+        let goes_on = self.len > 0 && address == self.start + self.len;
+        self.step = if goes_on {
+            (2 * self.step).min(self.longest)
+        } else {
+            len
+        };
+        let ahead = self
+            .step
+            .min(LONGEST_BLOCK - address % LONGEST_BLOCK)
+            .min(self.end.saturating_sub(address));
+        self.fill(address, ahead.max(len))
+    }
+
+    // Reads a block of `len` bytes from `address` on. If that fails, the block holds no bytes.
+    fn fill(&mut self, address: u32, len: u32) -> Result<(), Stopped>
+        requires address { address ≤ 16777215 }
+        requires len { len ≤ 65536 }
+        ensures record { KeepsRecord (inside_of self.old) (inside_of self.new) }
+        ensures history { history_of self.new ≡ history_of self.old }
+        ensures begins { OnOk result (begin self.new ≡ address) }
+        ensures filled { OnOk result (held self.new ≡ len) }
+    {
+        self.len = 0;
+        read_block(&mut self.bus, address, len, &mut self.block[..])?;
+        self.start = address;
+        self.len = len;
+        Ok(())
+    }
+}
+
+impl<B: Bus + Drop> Bus for ReadAhead<B> {
+    ghost use Rattle.nor_buses.specs.Ahead.{held, inside_of, ahead_state};
+
+    ghost state = { ahead_state };
+
+    ghost reaches = { λ ahead honest. absurd (false≢true honest) };
+
+    fn transfer(&mut self, out: &[u8], reply: &mut [u8]) -> Result<(), Stopped>
+        ensures nature { SameNature (ahead_state self.old) (ahead_state self.new) }
+        ensures stops { IsHonestFor out.now (length reply.old) (ahead_state self.old)
+            → OnErr result (Stops out.now (ahead_state self.old) (ahead_state self.new)) }
+        ensures unread { IsHonestFor out.now (length reply.old) (ahead_state self.old)
+            → OnErr result (reply.new ≡ reply.old) }
+        ensures carries { IsHonestFor out.now (length reply.old) (ahead_state self.old)
+            → OnOk result (Carries out.now reply.new (ahead_state self.old) (ahead_state self.new)) }
+        ensures records { Records out.now reply.new result (ahead_state self.old) (ahead_state self.new) }
+        ensures forgets { reads_data out.now ≡ false → held self.new ≡ 0 }
+        ensures read { reads_data out.now ≡ true → 0 < length reply.old
+            → OnOk result (EndsWithData (address_in out.now) reply.new (inside_of self.new).history) }
+    {
+        match self.carry(out, reply) {
+            Ok(()) => {
+                self.history = self.history.replied(out, reply);
+                Ok(())
+            }
+            Err(Stopped) => {
+                self.history = self.history.stopped(out);
+                Err(Stopped)
+            }
+        }
+    }
+}
+
+// Reads `len` bytes of the chip from `address` on into the first bytes of `block`, with one transaction.
+fn read_block<B: Bus>(bus: &mut B, address: u32, len: u32, block: &mut [u8]) -> Result<(), Stopped>
+    requires address { address ≤ 16777215 }
+    requires len { len ≤ length block.old }
+    ensures record { KeepsRecord (B.state bus.old) (B.state bus.new) }
+    ensures read { OnOk result (EndsWithRead address (take len block.new) (B.state bus.new).history) }
+{
+    let [_, high, middle, low] = address.to_be_bytes();
+    let out = [READ_DATA, high, middle, low];
+    bus.transfer(&out, &mut block[..len as usize])
+}
+
+// Returns the address of a read of data (03h and three address bytes), or `None` for any other transaction.
+pub(crate) fn data_address(out: &[u8]) -> Option<u32>
+    ensures reads { IfSome result (λ address. reads_data out.now ≡ true) }
+    ensures fits { IfSome result (λ address. address ≤ 16777215) }
+    ensures address { IfSome result (λ address. address ≡ address_in out.now) }
+{
+    match out {
+        [READ_DATA, high, middle, low] => Some(u32::from_be_bytes([0, *high, *middle, *low])),
+        _ => None,
+    }
+}
+
+// Returns whether `len` bytes from `address` on fit into a block. A block has at most `longest` bytes, and ends at the
+// next multiple of 64 KiB at the latest.
+fn is_in_block(address: u32, len: usize, longest: u32) -> bool
+    requires { longest ≤ 65536 }
+    ensures { result ≡ true → len ≤ 65536 }
+{
+    len <= longest as usize && len <= (LONGEST_BLOCK - address % LONGEST_BLOCK) as usize
+}

@@ -1,0 +1,65 @@
+//! What a `CheckedStatus` knows about the chip, and why it stops.
+ghost use Rattle.std.specs.Prelude.{◌≡◌, true, IfSome};
+ghost use Rattle.nor_model.specs.Status.{bytes_of};
+ghost use Rattle.nor_buses.specs.KnownStatus.{KeepsKnown};
+
+use nor_model::Status;
+
+const WRITE_STATUS: u8 = 0x01;
+
+/// The reason why a `CheckedStatus` stopped although the bus inside did not.
+#[derive(Clone, Copy, Debug, PartialEq, Eq)]
+pub enum CheckFault {
+    /// Two reads of the same status register (05h or 35h) had different replies.
+    Differs,
+    /// A status write was not sent, because it could change a bit that is not a protection bit, and some of these bits
+    /// can be set only once. Status 1 or status 2 was not read yet, or such a bit differs from the one that was read,
+    /// or BUSY, WEL or SUS is set, or the status write doesn't have exactly two data bytes.
+    Refused,
+    /// The status write of `sent` was not stored: afterwards the status registers are `found`, which differs in a
+    /// non-volatile bit.
+    NotStored { sent: [u8; 2], found: [u8; 2] },
+    /// The chip first replied the ID `id`, and later `found`. If contact or supply fails, all replies are FFh or 00h,
+    /// and so are the bytes of `found`.
+    Lost { id: [u8; 3], found: [u8; 3] },
+}
+
+// The state of the knowledge of a `CheckedStatus` about the chip.
+#[derive(Clone, Copy)]
+pub(crate) struct Known {
+    // Status 1 and status 2. Each is known if the register was read twice with the same value, and the known ID was
+    // read after each of these reads.
+    pub(crate) one: Option<u8>,
+    pub(crate) two: Option<u8>,
+    // True if a modifying command was passed on.
+    pub(crate) is_changing: bool,
+    // The bytes of a status write that was passed on and is not read back yet.
+    pub(crate) written: Option<[u8; 2]>,
+    // The ID of the chip: the first reply to 9Fh.
+    pub(crate) id: Option<[u8; 3]>,
+}
+
+// Returns the two bytes of the status write `out`, if both status registers are known and `out` keeps all their bits
+// except the protection bits, with BUSY, WEL and SUS clear. Returns `None` for any other transaction.
+pub(crate) fn kept_status(known: &Known, out: &[u8]) -> Option<[u8; 2]>
+    ensures { IfSome result (KeepsKnown known.now out.now) }
+{
+    match (out, known.one, known.two) {
+        ([WRITE_STATUS, one, two], Some(one_read), Some(two_read)) => {
+            let sent = Status::of([*one, *two]);
+            let read = Status::of([one_read, two_read]);
+            if are_same(sent.fixed(), read.fixed()) && are_same(sent.kept(), sent) {
+                Some([*one, *two])
+            } else {
+                None
+            }
+        }
+        _ => None,
+    }
+}
+
+pub(crate) fn are_same(one: Status, other: Status) -> bool
+    ensures { result ≡ true → bytes_of one ≡ bytes_of other }
+{
+    one == other
+}

@@ -1,0 +1,29 @@
+//! Buses over a bus of any programmer. Each passes transactions on to the bus inside, and adds one thing. The program
+//! `flashnor_serprog` uses this crate; the program `flashnor` does not.
+//!
+//! - `paced.rt`: a bus that pauses between polls of a busy chip
+//! - `splitting.rt`: a bus that splits transactions that exceed the limits of a programmer
+//! - `parts.rt`: reads and programs that are carried out in parts
+//! - `status.rt`: a bus that notices a lost chip, reads the status registers twice, and checks status writes
+//! - `status/reads.rt`: how the bus of `status.rt` reads IDs and status registers
+//! - `known.rt`: what the bus of `status.rt` knows about the chip, and why it stops
+//! - `twice.rt`: a bus that reads IDs, SFDP and data twice and compares the replies
+//! - `again.rt`: repeats a read, as a whole or only for the sectors whose bytes differ from an image
+//! - `ahead.rt`: a bus that reads ahead
+#![tactic(auto)]
+
+mod again;
+mod ahead;
+mod known;
+mod paced;
+mod parts;
+mod splitting;
+mod status;
+mod twice;
+
+pub use ahead::ReadAhead;
+pub use known::CheckFault;
+pub use paced::Paced;
+pub use splitting::SplittingBus;
+pub use status::CheckedStatus;
+pub use twice::ReadTwice;

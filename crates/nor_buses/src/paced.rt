@@ -1,0 +1,197 @@
+//! A bus that pauses between polls of a busy chip.
+ghost use Rattle.std.specs.Prelude.{◌≡◌, ◌≤◌, not, true, ℕ, length, OnOk, OnErr, IfSome};
+ghost use Rattle.nor_model.specs.Bus.{IsHonestFor, SameNature, Stops, Carries, Records};
+ghost use Rattle.nor_model.specs.PolledReady.{polled_ready_after};
+ghost use Rattle.nor_buses.specs.Pace.{pause_before, pauses, typical_of, typical_after, busy_row_after};
+
+use nor_model::{Bus, Stopped};
+use std::thread;
+use std::time::{Clock, Duration, Instant};
+
+// The shortest pause before the third poll of a wait, in microseconds: a seventh of the time of a page program.
+const SHORTEST: u64 = 100;
+
+// The longest pause before the third and each later poll of a wait, in microseconds.
+const LONGEST: u64 = 6250;
+
+/// A bus that pauses between polls that show BUSY. A poll of a chip that is certainly still busy costs time on the
+/// wire, and without pauses a fast bus may use up the 65,536 polls of a wait before an erase ends.
+///
+/// The pause before a transaction depends on how many polls in a row showed BUSY before it:
+///
+/// - none: no pause. The first poll after a command may be sent together with it (`BatchingBus`).
+/// - one: the typical duration of the operation that the last command began, minus the time since this command was
+///   passed to the bus. A page program typically takes 0.7 ms, a status write 10 ms, an erase of 4 KiB 45 ms, of 32 KiB
+///   120 ms, of 64 KiB 150 ms (W25Q64FV datasheet, AC characteristics). An erase of the whole chip, whose duration
+///   depends on the chip, counts as one of 64 KiB. If the clock fails, the pause has the whole duration. If no command
+///   began an operation, there is no pause.
+/// - two or more: a sixteenth of the typical duration, but at least 0.1 ms. This pause doubles after every 16 polls, up
+///   to 6.25 ms.
+///
+/// No pause is longer than 150 ms. The pauses of a wait whose 65,536 polls all show BUSY add up to at least 400 s, and
+/// to at most 410 s. The longest operation of the known chips is the erase of a whole W25Q128FV, which takes at most
+/// 200 s (datasheet, AC characteristics). It is not proved that `Clock::sleep` is called, or that it waits for the
+/// requested time.
+///
+/// The bus has the state of the bus inside, so it is well-behaved if and only if the bus inside is.
+#[derive(Drop)]
+pub struct Paced<B, C> {
+    bus: B,
+    clock: C,
+    // The typical duration in microseconds of the operation that the last command began; 0 if no command began one.
+    typical: u64,
+    // When the last command that began an operation was passed to the bus; `None` if there was none, or if the clock
+    // failed.
+    sent: Option<Instant>,
+    busy_polls: u64,
+    ghost typical_is_short: { typical ≤ 150000 },
+}
+
+impl<B: Bus + Drop, C: Clock + Drop> Paced<B, C> {
+    ghost use Rattle.nor_buses.specs.Paced.{paced_of, busy_row, typical_in};
+
+    /// Returns a bus that paces `bus` with this clock.
+    pub fn new(bus: B, clock: C) -> Paced<B, C>
+        ensures bus { paced_of result ≡ bus }
+        ensures none_yet { busy_row result ≡ 0 }
+        ensures no_operation { typical_in result ≡ 0 }
+        ensures lasts { (typical elapsed : ℕ) → 400000000 ≤ pauses typical elapsed 65536 }
+        ensures ends { (typical elapsed : ℕ) → typical ≤ 150000 → pauses typical elapsed 65536 ≤ 410000000 }
+    {
+        Paced {
+            bus,
+            clock,
+            typical: 0,
+            sent: None,
+            busy_polls: 0,
+        }
+    }
+
+    /// Returns the bus inside, which carries out the transactions of this bus.
+    pub fn inner(&self) -> &B
+        ensures { result.now ≡ paced_of self.now }
+    {
+        &self.bus
+    }
+
+    /// Returns the bus inside, without the pacing.
+    pub fn into_inner(self) -> B
+        ensures { result ≡ paced_of self }
+    {
+        let Paced {
+            bus,
+            clock: _,
+            typical: _,
+            sent: _,
+            busy_polls: _,
+        } = self;
+        bus
+    }
+}
+
+impl<B, C: Clock> Paced<B, C> {
+    // Pauses before the next transaction, for the time that `pause_micros` returns.
+    fn pause(&self) {
+        let micros = pause_micros(self.typical, self.elapsed(), self.busy_polls);
+        if micros > 0 {
+            thread::sleep(&self.clock, Duration::from_micros(micros));
+        }
+    }
+
+    // Returns the time in microseconds since the last command that began an operation was passed to the bus, or 0 if
+    // that time isn't known.
+    fn elapsed(&self) -> u64 {
+        let Some(sent) = self.sent else {
+            return 0;
+        };
+        match sent.elapsed(&self.clock) {
+            Ok(time) => u64::try_from(time.as_micros()).unwrap_or(u64::MAX),
+            Err(_) => 0,
+        }
+    }
+}
+
+impl<B: Bus, C: Clock> Bus for Paced<B, C> {
+    ghost use Rattle.nor_buses.specs.Paced.{paced_of, busy_row, typical_in};
+
+    ghost state = { λ paced. B.state paced.bus };
+
+    ghost reaches = { λ paced honest. B.reaches paced.bus honest };
+
+    fn transfer(&mut self, out: &[u8], reply: &mut [u8]) -> Result<(), Stopped>
+        ensures nature { SameNature (B.state (paced_of self.old)) (B.state (paced_of self.new)) }
+        ensures stops { IsHonestFor out.now (length reply.old) (B.state (paced_of self.old))
+            → OnErr result (Stops out.now (B.state (paced_of self.old)) (B.state (paced_of self.new))) }
+        ensures unread { IsHonestFor out.now (length reply.old) (B.state (paced_of self.old))
+            → OnErr result (reply.new ≡ reply.old) }
+        ensures carries { IsHonestFor out.now (length reply.old) (B.state (paced_of self.old))
+            → OnOk result (Carries out.now reply.new (B.state (paced_of self.old)) (B.state (paced_of self.new))) }
+        ensures records { Records out.now reply.new result (B.state (paced_of self.old)) (B.state (paced_of self.new)) }
+        ensures row { OnOk result (busy_row self.new ≡ busy_row_after out.now reply.new (busy_row self.old)) }
+        ensures operation { OnOk result (typical_in self.new ≡ typical_after out.now (typical_in self.old)) }
+        ensures stopped { OnErr result (busy_row self.new ≡ busy_row self.old) }
+        ensures stopped_operation { OnErr result (typical_in self.new ≡ typical_in self.old) }
+        ensures short { (elapsed : ℕ) → pause_before (typical_in self.old) elapsed (busy_row self.old) ≤ 150000 }
+    {
+        if self.busy_polls > 0 {
+            self.pause();
+        }
+        let begun = typical_micros(out);
+        let sent = match begun {
+            Some(_) => Instant::now(&self.clock).ok(),
+            None => self.sent,
+        };
+        self.bus.transfer(out, reply)?;
+        self.typical = begun.unwrap_or(self.typical);
+        self.sent = sent;
+        self.busy_polls = if shows_busy(out, reply) {
+            self.busy_polls.saturating_add(1)
+        } else {
+            0
+        };
+        Ok(())
+    }
+}
+
+// Returns whether a transaction that sent `out` and received `reply` is a poll that shows BUSY: it sends only 05h, and
+// the last byte of its reply has bit 0 set. (W25Q64FV datasheet, Read Status Register-1.)
+fn shows_busy(out: &[u8], reply: &[u8]) -> bool
+    ensures { result ≡ not (polled_ready_after out.now reply.now true) }
+{
+    match reply.last() {
+        Some(status) if matches!(out, [0x05]) => status % 2 != 0,
+        _ => false,
+    }
+}
+
+// Returns the typical duration in microseconds of the operation that a transaction which sends `out` begins, or `None`
+// if it begins none. (W25Q64FV datasheet, AC characteristics.)
+fn typical_micros(out: &[u8]) -> Option<u64>
+    ensures typical { result ≡ typical_of out.now }
+    ensures short { IfSome result (λ typical. typical ≤ 150000) }
+{
+    match out {
+        [0x02, ..] => Some(700),
+        [0x01, ..] => Some(10_000),
+        [0x20, ..] => Some(45_000),
+        [0x52, ..] => Some(120_000),
+        [0xD8 | 0xC7, ..] => Some(150_000),
+        _ => None,
+    }
+}
+
+// Returns the pause in microseconds before a transaction that follows `busy_polls` polls in a row which showed BUSY.
+// The operation typically takes `typical` microseconds, and its command was sent `elapsed` microseconds ago.
+fn pause_micros(typical: u64, elapsed: u64, busy_polls: u64) -> u64
+    ensures { result ≡ pause_before typical elapsed busy_polls }
+{
+    match busy_polls {
+        0 => 0,
+        1 => typical.saturating_sub(elapsed),
+        _ => {
+            let doublings = (busy_polls / 16).min(6);
+            let first = (typical / 16).clamp(SHORTEST, LONGEST);
+            (first << doublings).min(LONGEST)
+        }
+    }
+}

@@ -1,0 +1,151 @@
+//! A bus that splits transactions that exceed the limits of a programmer.
+ghost use Rattle.std.specs.Prelude.{◌≡◌, ◌<◌, ◌≤◌, [], true, false, length, drop, OnOk, OnErr};
+ghost use Rattle.std.proofs.lemmas.Bool.{false≢true};
+ghost use Rattle.nor_model.specs.Bus.{IsHonestFor, SameNature, Stops, Carries, Records};
+ghost use Rattle.nor_buses.specs.ReadsAs.{address_in};
+ghost use Rattle.nor_model.specs.Sent.{begins_program};
+ghost use Rattle.nor_buses.specs.Parts.{can_split_read, SplitsRead, SplitsProgram};
+
+use crate::parts::{split_program, split_read};
+use nor_model::{Bus, History, Stopped};
+
+/// A bus that splits transactions which are too long for the bus inside, so that a programmer with small limits can
+/// carry them out. A transaction within both limits is passed on unchanged.
+///
+/// - A read of data (03h) or of SFDP bytes (5Ah) becomes several reads of consecutive addresses. A read of status 1
+///   (05h) or status 2 (35h) that requests several bytes becomes several reads.
+/// - A program (02h) becomes several programs of the same page, in ascending order of addresses. The caller's write
+///   enable enables the first part. Before each further part this bus polls (05h) until the chip is ready, and sends a
+///   write enable (06h). The caller polls after the last part.
+///
+/// Any other transaction that exceeds a limit is rejected, and nothing is sent: for example, an ID (9Fh, 4Bh) can't be
+/// read in parts. A read that passes address FFFFFFh, or a program that passes the end of its page, is also rejected if
+/// it is too long for the bus inside.
+///
+/// A program in parts stops if the bus inside stops, or after 65,536 polls in a row that show BUSY. Then perhaps only
+/// some of its bytes are programmed, as after an interrupted program. A restore can undo this, because the bytes lie in
+/// a sector that the journal saves.
+///
+/// The history lists each transaction over this bus with its reply. A transaction that failed or was rejected is listed
+/// without a reply, and a transaction that was split is listed once. One transaction over this bus may be many over the
+/// bus inside, so this bus is not well-behaved as `Bus` defines it, even if the bus inside is.
+#[derive(Drop)]
+pub struct SplittingBus<B> {
+    bus: B,
+    longest_write: u32,
+    longest_read: u32,
+    history: History,
+    // A program sends 4 bytes before its data, so a part with one data byte sends 5 bytes. A part of a read reads at
+    // least one byte.
+    ghost writes: { 5 ≤ longest_write },
+    ghost reads: { 1 ≤ longest_read },
+}
+
+impl<B: Bus + Drop> SplittingBus<B> {
+    ghost use Rattle.nor_buses.specs.Splitting.{split_of, sends_most, receives_most, history_of};
+
+    /// Returns a bus over `bus`. A transaction over `bus` can send `longest_write` bytes and read `longest_read` bytes.
+    pub fn new(bus: B, longest_write: u32, longest_read: u32) -> SplittingBus<B>
+        requires writes { 5 ≤ longest_write }
+        requires reads { 1 ≤ longest_read }
+        ensures bus { split_of result ≡ bus }
+        ensures sends { sends_most result ≡ longest_write }
+        ensures receives { receives_most result ≡ longest_read }
+        ensures history { history_of result ≡ [] }
+    {
+        SplittingBus {
+            bus,
+            longest_write,
+            longest_read,
+            history: History::new(),
+        }
+    }
+
+    /// Returns the bus inside, which carries out the transactions of this bus.
+    pub fn inner(&self) -> &B
+        ensures { result.now ≡ split_of self.now }
+    {
+        &self.bus
+    }
+}
+
+impl<B: Bus> SplittingBus<B> {
+    ghost use Rattle.nor_buses.specs.Splitting.{split_of, sends_most, receives_most, history_of};
+
+    // Makes one transaction, and does not add it to the history.
+    fn carry(&mut self, out: &[u8], reply: &mut [u8]) -> Result<(), Stopped>
+        ensures history { history_of self.new ≡ history_of self.old }
+        ensures sends { sends_most self.new ≡ sends_most self.old }
+        ensures receives { receives_most self.new ≡ receives_most self.old }
+        ensures whole { length out.now ≤ sends_most self.old → length reply.old ≤ receives_most self.old
+            → Records out.now reply.new result (B.state (split_of self.old)) (B.state (split_of self.new)) }
+        ensures read { length out.now ≤ sends_most self.old → receives_most self.old < length reply.old
+            → SplitsRead (receives_most self.old) out.now reply.new result
+            (B.state (split_of self.old)).history (B.state (split_of self.new)).history }
+        ensures no_read { length out.now ≤ sends_most self.old → receives_most self.old < length reply.old
+            → can_split_read out.now ≡ false → (split_of self.new ≡ split_of self.old) × OnOk result ⊥ }
+        ensures program { sends_most self.old < length out.now
+            → SplitsProgram (sends_most self.old) (address_in out.now) (drop 4 out.now) result
+            (B.state (split_of self.old)).history (B.state (split_of self.new)).history }
+        ensures no_program { sends_most self.old < length out.now → begins_program out.now ≡ false
+            → (split_of self.new ≡ split_of self.old) × OnOk result ⊥ }
+    {
+        if out.len() > self.longest_write as usize {
+            return split_program(
+                &mut self.bus,
+                self.longest_write,
+                self.longest_read,
+                out,
+                reply,
+            );
+        }
+        if reply.len() > self.longest_read as usize {
+            return split_read(&mut self.bus, self.longest_read, out, reply);
+        }
+        self.bus.transfer(out, reply)
+    }
+}
+
+impl<B: Bus> Bus for SplittingBus<B> {
+    ghost use Rattle.nor_buses.specs.Splitting.{split_of, sends_most, receives_most, splitting_state};
+
+    ghost state = { splitting_state };
+
+    ghost reaches = { λ splitting honest. absurd (false≢true honest) };
+
+    fn transfer(&mut self, out: &[u8], reply: &mut [u8]) -> Result<(), Stopped>
+        ensures nature { SameNature (splitting_state self.old) (splitting_state self.new) }
+        ensures stops { IsHonestFor out.now (length reply.old) (splitting_state self.old)
+            → OnErr result (Stops out.now (splitting_state self.old) (splitting_state self.new)) }
+        ensures unread { IsHonestFor out.now (length reply.old) (splitting_state self.old)
+            → OnErr result (reply.new ≡ reply.old) }
+        ensures carries { IsHonestFor out.now (length reply.old) (splitting_state self.old)
+            → OnOk result (Carries out.now reply.new (splitting_state self.old) (splitting_state self.new)) }
+        ensures records { Records out.now reply.new result (splitting_state self.old) (splitting_state self.new) }
+        ensures sends { sends_most self.new ≡ sends_most self.old }
+        ensures receives { receives_most self.new ≡ receives_most self.old }
+        ensures whole { length out.now ≤ sends_most self.old → length reply.old ≤ receives_most self.old
+            → Records out.now reply.new result (B.state (split_of self.old)) (B.state (split_of self.new)) }
+        ensures read { length out.now ≤ sends_most self.old → receives_most self.old < length reply.old
+            → SplitsRead (receives_most self.old) out.now reply.new result
+            (B.state (split_of self.old)).history (B.state (split_of self.new)).history }
+        ensures no_read { length out.now ≤ sends_most self.old → receives_most self.old < length reply.old
+            → can_split_read out.now ≡ false → (split_of self.new ≡ split_of self.old) × OnOk result ⊥ }
+        ensures program { sends_most self.old < length out.now
+            → SplitsProgram (sends_most self.old) (address_in out.now) (drop 4 out.now) result
+            (B.state (split_of self.old)).history (B.state (split_of self.new)).history }
+        ensures no_program { sends_most self.old < length out.now → begins_program out.now ≡ false
+            → (split_of self.new ≡ split_of self.old) × OnOk result ⊥ }
+    {
+        match self.carry(out, reply) {
+            Ok(()) => {
+                self.history = self.history.replied(out, reply);
+                Ok(())
+            }
+            Err(Stopped) => {
+                self.history = self.history.stopped(out);
+                Err(Stopped)
+            }
+        }
+    }
+}

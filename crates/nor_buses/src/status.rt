@@ -1,0 +1,324 @@
+//! A bus that notices a lost chip, reads status registers twice, and checks each status write.
+ghost use Rattle.std.specs.Prelude.{◌≡◌, ◌⊎◌, ◌%◌, ◌||◌, ◌∷◌, [], true, false, length, ℕ, List, None, Some, OnOk, OnErr, IfOk};
+ghost use Rattle.std.specs.Option.{ForSome};
+ghost use Rattle.std.proofs.lemmas.Bool.{false≢true};
+ghost use Rattle.nor_model.specs.Bus.{IsHonestFor, SameNature, Stops, Carries, Records};
+ghost use Rattle.nor_model.specs.Command.{begins_change};
+ghost use Rattle.nor_model.specs.History.{replied};
+ghost use Rattle.nor_model.specs.Sent.{with_sent};
+ghost use Rattle.nor_buses.specs.KnownStatus.{BelievesStatus, IsWritten, KeepsTask, PollAgrees, SendsKept};
+ghost use Rattle.nor_buses.specs.StatusRead.{HasStored, IsConfirmed, IsReadTwice, IsStatusKept, KeepsId};
+ghost use Rattle.nor_buses.specs.StatusRead.{begins_confirmed, second, was_read_twice};
+
+mod reads;
+
+use crate::known::{CheckFault, Known, are_same, kept_status};
+use nor_model::{Bus, History, Status, Stopped, is_changing};
+
+const WRITE_STATUS: u8 = 0x01;
+
+const READ_STATUS1: u8 = 0x05;
+
+const READ_STATUS2: u8 = 0x35;
+
+const READ_DATA: u8 = 0x03;
+
+const READ_UNIQUE: u8 = 0x4B;
+
+const READ_SFDP: u8 = 0x5A;
+
+const READ_ID: u8 = 0x9F;
+
+const BUSY: u8 = 0x01;
+
+/// A bus that notices a lost chip, reads status registers twice, refuses status writes that would change other bits
+/// than the protection bits, and reads each status write back.
+///
+/// - If contact or supply fails, each reply is FFh or 00h, however often it is read. Therefore the ID is read (9Fh with
+///   three reply bytes) after each reply on which a decision depends, except for polls that are believed at once (see
+///   below). Each ID must equal the first one, even if the caller requested it; otherwise the call returns `Stopped`.
+///   With this check, a wrong reply is believed only if the chip is lost each time the reply is read, and has contact
+///   again each time for the ID after it.
+/// - The ID is read after each transaction that begins with the opcode of a read of data (03h), of SFDP (5Ah) or of the
+///   unique ID (4Bh).
+/// - A poll (05h with one reply byte) is carried out with two reply bytes, since a chip repeats its status (W25Q64FV
+///   datasheet, Read Status Register). If one of them shows BUSY, that byte is returned. If both show that the chip is
+///   ready, they must be equal. Before the first modifying command, and until a status write is read back, the poll is
+///   then repeated and must have the same reply, and the ID is read after each of the two polls. Other polls are
+///   believed at once.
+/// - Status 2 (35h with one reply byte) is read twice, and the ID is read after each read. Both replies must be equal.
+/// - A status write (01h) is passed on only if both status registers were read in this way before. Outside the
+///   protection bits it must have the bits that were read: SRP0, SRP1, QE, the reserved bit, and the one-time bits LB1,
+///   LB2 and LB3. BUSY, WEL and SUS must be clear. Otherwise nothing is sent.
+/// - After a status write, the first poll that shows that the chip is ready also reads status 2, twice. If a
+///   non-volatile bit isn't as it was sent, the poll returns `Stopped`.
+///
+/// `fault` returns why this bus stopped, if the bus inside did not.
+///
+/// A busy chip ignores a read of its ID (W25Q64FV datasheet, Instructions), so it would count as lost. Therefore the ID
+/// is read only after a poll that shows that the chip is ready, and data, SFDP, the unique ID and status 2 must be read
+/// only while the chip is ready. The engine does so: a probe waits first, and each operation waits at its end (`wait`
+/// of nor_driver).
+///
+/// A transaction over this bus may be several over the bus inside, so this bus is not well-behaved as `Bus` defines it,
+/// even if the bus inside is. The history lists each transaction over this bus with its reply; a transaction that
+/// failed or was refused is listed without a reply.
+#[derive(Drop)]
+pub struct CheckedStatus<B: Bus + Drop> {
+    bus: B,
+    known: Known,
+    fault: Option<CheckFault>,
+    history: History,
+    // Each status byte that is known was read twice over the bus inside, and an ID was read after each of the two
+    // reads.
+    ghost one_read: { ForSome known.one (λ byte. was_read_twice 0x05 byte (B.state bus).history ≡ true) },
+    ghost two_read: { ForSome known.two (λ byte. was_read_twice 0x35 byte (B.state bus).history ≡ true) },
+}
+
+impl<B: Bus + Drop> CheckedStatus<B> {
+    ghost use Rattle.nor_buses.specs.Checked.{bus_of, history_of, has_begun, written_of};
+
+    /// Returns a bus over `bus` that checks the status registers.
+    pub fn new(bus: B) -> CheckedStatus<B>
+        ensures bus { bus_of result ≡ bus }
+        ensures begun { has_begun result ≡ false }
+        ensures written { written_of result ≡ None }
+        ensures history { history_of result ≡ [] }
+    {
+        CheckedStatus {
+            bus,
+            known: Known {
+                one: None,
+                two: None,
+                is_changing: false,
+                written: None,
+                id: None,
+            },
+            fault: None,
+            history: History::new(),
+        }
+    }
+
+    /// Returns the bus inside, which carries out the transactions of this bus.
+    pub fn inner(&self) -> &B
+        ensures { result.now ≡ bus_of self.now }
+    {
+        &self.bus
+    }
+
+    /// Returns the reason of the last stop that the bus inside did not cause, or `None` if there was none.
+    pub fn fault(&self) -> Option<CheckFault> {
+        self.fault
+    }
+
+    /// Returns whether a modifying command was ever passed on, even if the bus inside stopped there.
+    pub fn has_begun(&self) -> bool
+        ensures { result ≡ has_begun self.now }
+    {
+        self.known.is_changing
+    }
+}
+
+impl<B: Bus + Drop> CheckedStatus<B> {
+    ghost use Rattle.nor_buses.specs.Checked.{has_begun, history_of, inner_state, known_of, written_of};
+
+    // Reads status 2 twice. If both replies are equal, the byte is known from now on.
+    #[tactic(auto, using(crate::proofs::StatusRead::second_read))]
+    fn read_second(&mut self) -> Result<u8, Stopped>
+        ensures history { history_of self.new ≡ history_of self.old }
+        ensures known { KeepsTask (known_of self.old) (known_of self.new) }
+        ensures id { KeepsId (known_of self.old).id (known_of self.new).id }
+        ensures sent { (inner_state self.new).sent ≡ (inner_state self.old).sent }
+        ensures twice { IfOk result (λ status. IsReadTwice (second status) (known_of self.new).id
+            (inner_state self.old).history (inner_state self.new).history) }
+    {
+        let status = self.second_twice()?;
+        self.known.two = Some(status);
+        Ok(status)
+    }
+
+    // Polls, and returns status 1. Polls twice before the first modifying command and after a status write, otherwise
+    // once. If a status write is not read back yet, and the chip is ready, reads it back.
+    #[tactic(auto, using(crate::proofs::StatusRead::pair_read, crate::proofs::StatusRead::still_known))]
+    fn poll(&mut self) -> Result<u8, Stopped>
+        ensures history { history_of self.new ≡ history_of self.old }
+        ensures begun { has_begun self.new ≡ has_begun self.old }
+        ensures id { KeepsId (known_of self.old).id (known_of self.new).id }
+        ensures sent { (inner_state self.new).sent ≡ (inner_state self.old).sent }
+        ensures agrees { IfOk result (λ status. status % 2 ≡ 0 → PollAgrees (known_of self.old) (known_of self.new)
+            status (inner_state self.old).history (inner_state self.new).history) }
+        ensures waits { IfOk result (λ status. status % 2 ≡ 1 → written_of self.new ≡ written_of self.old) }
+    {
+        if self.known.is_changing && self.known.written.is_none() {
+            return self.poll_once();
+        }
+        let status = self.poll_twice()?;
+        if status & BUSY != 0 {
+            return Ok(status);
+        }
+        self.known.one = Some(status);
+        self.read_back(status)?;
+        Ok(status)
+    }
+
+    // If a status write is not read back yet, reads status 2, and compares it and `one`, the value of status 1, with
+    // the bytes of the status write.
+    fn read_back(&mut self, one: u8) -> Result<(), Stopped>
+        ensures history { history_of self.new ≡ history_of self.old }
+        ensures begun { has_begun self.new ≡ has_begun self.old }
+        ensures id { KeepsId (known_of self.old).id (known_of self.new).id }
+        ensures sent { (inner_state self.new).sent ≡ (inner_state self.old).sent }
+        ensures none { written_of self.old ≡ None → OnOk result (self.new ≡ self.old) }
+        ensures stored { (sent : List ℕ) → written_of self.old ≡ Some sent → OnOk result
+            (HasStored sent one (known_of self.new).id (inner_state self.old).history (inner_state self.new).history) }
+    {
+        let Some(sent) = self.known.written else {
+            return Ok(());
+        };
+        let two = self.read_second()?;
+        let found = [one, two];
+        if !are_same(Status::of(found).kept(), Status::of(sent).kept()) {
+            return Err(self.stop(CheckFault::NotStored { sent, found }));
+        }
+        self.known.written = None;
+        Ok(())
+    }
+
+    // Passes a status write on if both status registers are known and the write keeps all their bits except the
+    // protection bits. Otherwise stops.
+    fn write(&mut self, out: &[u8], reply: &mut [u8]) -> Result<(), Stopped>
+        ensures history { history_of self.new ≡ history_of self.old }
+        ensures kept { (inner_state self.new ≡ inner_state self.old)
+            ⊎ IsStatusKept out.now (inner_state self.old).history }
+        ensures sent { ((inner_state self.new).sent ≡ (inner_state self.old).sent)
+            ⊎ ((inner_state self.new).sent ≡ with_sent out.now (inner_state self.old).sent) }
+        ensures begun { OnOk result (has_begun self.new ≡ true) }
+        ensures id { KeepsId (known_of self.old).id (known_of self.new).id }
+        ensures written { OnOk result (IsWritten out.now (written_of self.new)) }
+        ensures carried { OnOk result ((inner_state self.new).history
+            ≡ replied out.now reply.new ∷ (inner_state self.old).history) }
+    {
+        let Some(sent) = kept_status(&self.known, out) else {
+            return Err(self.stop(CheckFault::Refused));
+        };
+        self.known.is_changing = true;
+        self.known.written = Some(sent);
+        self.pass(out, reply)
+    }
+}
+
+impl<B: Bus + Drop> CheckedStatus<B> {
+    ghost use Rattle.nor_buses.specs.Checked.{history_of, inner_state, known_of};
+
+    // Makes one transaction, and does not add it to the history.
+    fn carry(&mut self, out: &[u8], reply: &mut [u8]) -> Result<(), Stopped>
+        ensures history { history_of self.new ≡ history_of self.old }
+        ensures sends { SendsKept out.now (inner_state self.old) (inner_state self.new) }
+        ensures believes { OnOk result (BelievesStatus out.now reply.new (known_of self.old) (known_of self.new)
+            (inner_state self.old).history (inner_state self.new).history) }
+        ensures id { KeepsId (known_of self.old).id (known_of self.new).id }
+        ensures identified { out.now ≡ 0x9F ∷ [] → length reply.new ≡ 3
+            → OnOk result ((known_of self.new).id ≡ Some reply.new) }
+        ensures read { begins_confirmed out.now ≡ true → OnOk result (IsConfirmed (replied out.now reply.new)
+            (known_of self.new).id (inner_state self.old).history (inner_state self.new).history) }
+    {
+        match (out, reply.len()) {
+            ([READ_STATUS1], 1) => {
+                reply[0] = self.poll()?;
+                Ok(())
+            }
+            ([READ_STATUS2], 1) => {
+                reply[0] = self.read_second()?;
+                Ok(())
+            }
+            ([WRITE_STATUS, ..], _) => self.write(out, reply),
+            _ => self.pass_on(out, reply),
+        }
+    }
+
+    // Makes a transaction that is neither a poll, nor a read of status 2, nor a status write.
+    fn pass_on(&mut self, out: &[u8], reply: &mut [u8]) -> Result<(), Stopped>
+        ensures history { history_of self.new ≡ history_of self.old }
+        ensures sent { (inner_state self.new).sent ≡ with_sent out.now (inner_state self.old).sent }
+        ensures begun { (known_of self.new).is_changing ≡ ((known_of self.old).is_changing || begins_change out.now) }
+        ensures id { KeepsId (known_of self.old).id (known_of self.new).id }
+        ensures identified { out.now ≡ 0x9F ∷ [] → length reply.new ≡ 3
+            → OnOk result ((known_of self.new).id ≡ Some reply.new) }
+        ensures read { begins_confirmed out.now ≡ true → OnOk result (IsConfirmed (replied out.now reply.new)
+            (known_of self.new).id (inner_state self.old).history (inner_state self.new).history) }
+    {
+        match (out, reply.len()) {
+            ([READ_ID], 3) => {
+                reply.copy_from_slice(&self.read_id()?);
+                Ok(())
+            }
+            _ => self.pass_confirmed(out, reply),
+        }
+    }
+
+    // Makes a transaction whose own reply is not checked. Reads the ID after a read of data, of SFDP or of the unique
+    // ID.
+    fn pass_confirmed(&mut self, out: &[u8], reply: &mut [u8]) -> Result<(), Stopped>
+        ensures history { history_of self.new ≡ history_of self.old }
+        ensures sent { (inner_state self.new).sent ≡ with_sent out.now (inner_state self.old).sent }
+        ensures begun { (known_of self.new).is_changing ≡ ((known_of self.old).is_changing || begins_change out.now) }
+        ensures id { KeepsId (known_of self.old).id (known_of self.new).id }
+        ensures read { begins_confirmed out.now ≡ true → OnOk result (IsConfirmed (replied out.now reply.new)
+            (known_of self.new).id (inner_state self.old).history (inner_state self.new).history) }
+    {
+        if is_changing(out) {
+            self.known.is_changing = true;
+        }
+        self.pass(out, reply)?;
+        if is_confirmed(out) {
+            self.read_id()?;
+        }
+        Ok(())
+    }
+}
+
+impl<B: Bus + Drop> Bus for CheckedStatus<B> {
+    ghost use Rattle.nor_buses.specs.Checked.{checked_state, inner_state, known_of};
+
+    ghost state = { checked_state };
+
+    ghost reaches = { λ checked honest. absurd (false≢true honest) };
+
+    fn transfer(&mut self, out: &[u8], reply: &mut [u8]) -> Result<(), Stopped>
+        ensures nature { SameNature (checked_state self.old) (checked_state self.new) }
+        ensures stops { IsHonestFor out.now (length reply.old) (checked_state self.old)
+            → OnErr result (Stops out.now (checked_state self.old) (checked_state self.new)) }
+        ensures unread { IsHonestFor out.now (length reply.old) (checked_state self.old)
+            → OnErr result (reply.new ≡ reply.old) }
+        ensures carries { IsHonestFor out.now (length reply.old) (checked_state self.old)
+            → OnOk result (Carries out.now reply.new (checked_state self.old) (checked_state self.new)) }
+        ensures records { Records out.now reply.new result (checked_state self.old) (checked_state self.new) }
+        ensures sends { SendsKept out.now (inner_state self.old) (inner_state self.new) }
+        ensures believes { OnOk result (BelievesStatus out.now reply.new (known_of self.old) (known_of self.new)
+            (inner_state self.old).history (inner_state self.new).history) }
+        ensures id { KeepsId (known_of self.old).id (known_of self.new).id }
+        ensures identified { out.now ≡ 0x9F ∷ [] → length reply.new ≡ 3
+            → OnOk result ((known_of self.new).id ≡ Some reply.new) }
+        ensures read { begins_confirmed out.now ≡ true → OnOk result (IsConfirmed (replied out.now reply.new)
+            (known_of self.new).id (inner_state self.old).history (inner_state self.new).history) }
+    {
+        match self.carry(out, reply) {
+            Ok(()) => {
+                self.history = self.history.replied(out, reply);
+                Ok(())
+            }
+            Err(Stopped) => {
+                self.history = self.history.stopped(out);
+                Err(Stopped)
+            }
+        }
+    }
+}
+
+// Returns whether a transaction begins with the opcode of a read of data (03h), of SFDP (5Ah) or of the unique ID
+// (4Bh).
+fn is_confirmed(out: &[u8]) -> bool
+    ensures { result ≡ begins_confirmed out.now }
+{
+    matches!(out, [READ_DATA | READ_SFDP | READ_UNIQUE, ..])
+}

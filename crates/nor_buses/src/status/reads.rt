@@ -1,0 +1,151 @@
+//! How a `CheckedStatus` reads IDs and status registers. Each ID must equal the first one, and an ID is read after each
+//! read of a status register that must be confirmed.
+ghost use Rattle.std.specs.Prelude.{◌≡◌, ◌%◌, ◌∷◌, Some, OnOk, IfOk};
+ghost use Rattle.nor_model.specs.History.{exchange_of};
+ghost use Rattle.nor_model.specs.Sent.{with_sent};
+ghost use Rattle.nor_buses.specs.KnownStatus.{KeepsStatus};
+ghost use Rattle.nor_buses.specs.StatusRead.{IsReadTwice, KeepsId, confirmed, pair, second};
+
+use super::CheckedStatus;
+use crate::known::CheckFault;
+use nor_model::{Bus, Stopped};
+
+const READ_STATUS1: u8 = 0x05;
+
+const READ_STATUS2: u8 = 0x35;
+
+const READ_ID: u8 = 0x9F;
+
+const BUSY: u8 = 0x01;
+
+impl<B: Bus + Drop> CheckedStatus<B> {
+    ghost use Rattle.nor_buses.specs.Checked.{history_of, inner_state, known_of};
+
+    // Passes one transaction on to the bus inside. The knowledge about the chip does not change.
+    pub(super) fn pass(&mut self, out: &[u8], reply: &mut [u8]) -> Result<(), Stopped>
+        ensures history { history_of self.new ≡ history_of self.old }
+        ensures known { known_of self.new ≡ known_of self.old }
+        ensures carried { (inner_state self.new).history
+            ≡ exchange_of out.now reply.new result ∷ (inner_state self.old).history }
+        ensures sent { (inner_state self.new).sent ≡ with_sent out.now (inner_state self.old).sent }
+    {
+        self.bus.transfer(out, reply)
+    }
+
+    // Records `fault` as the reason why the bus stops, and returns `Stopped`.
+    pub(super) fn stop(&mut self, fault: CheckFault) -> Stopped
+        ensures history { history_of self.new ≡ history_of self.old }
+        ensures known { known_of self.new ≡ known_of self.old }
+        ensures inside { inner_state self.new ≡ inner_state self.old }
+    {
+        self.fault = Some(fault);
+        Stopped
+    }
+
+    // Reads the ID, and stops if it differs from the known ID. If no ID is known yet, the one that was read is known
+    // from now on.
+    pub(super) fn read_id(&mut self) -> Result<[u8; 3], Stopped>
+        ensures history { history_of self.new ≡ history_of self.old }
+        ensures status { KeepsStatus (known_of self.old) (known_of self.new) }
+        ensures id { KeepsId (known_of self.old).id (known_of self.new).id }
+        ensures sent { (inner_state self.new).sent ≡ (inner_state self.old).sent }
+        ensures known { IfOk result (λ id. (known_of self.new).id ≡ Some id) }
+        ensures reads { OnOk result ((inner_state self.new).history
+            ≡ confirmed (known_of self.new).id (inner_state self.old).history) }
+    {
+        let mut found = [0; 3];
+        self.pass(&[READ_ID], &mut found)?;
+        if let Some(id) = self.known.id
+            && id != found
+        {
+            return Err(self.stop(CheckFault::Lost { id, found }));
+        }
+        self.known.id = Some(found);
+        Ok(found)
+    }
+
+    // Stops because two replies differ. Reads the ID first: if it is not the known one, the recorded reason is that the
+    // chip is lost.
+    fn differ(&mut self) -> Stopped
+        ensures history { history_of self.new ≡ history_of self.old }
+        ensures status { KeepsStatus (known_of self.old) (known_of self.new) }
+        ensures id { KeepsId (known_of self.old).id (known_of self.new).id }
+        ensures sent { (inner_state self.new).sent ≡ (inner_state self.old).sent }
+    {
+        match self.read_id() {
+            Ok(_) => self.stop(CheckFault::Differs),
+            Err(stopped) => stopped,
+        }
+    }
+
+    // Polls once, with two reply bytes. Returns one that shows BUSY, if there is one. Otherwise both must be equal, and
+    // the function returns their value.
+    pub(super) fn poll_once(&mut self) -> Result<u8, Stopped>
+        ensures history { history_of self.new ≡ history_of self.old }
+        ensures status { KeepsStatus (known_of self.old) (known_of self.new) }
+        ensures id { KeepsId (known_of self.old).id (known_of self.new).id }
+        ensures known { OnOk result (known_of self.new ≡ known_of self.old) }
+        ensures sent { (inner_state self.new).sent ≡ (inner_state self.old).sent }
+        ensures ready { IfOk result (λ status. status % 2 ≡ 0
+            → (inner_state self.new).history ≡ pair status ∷ (inner_state self.old).history) }
+    {
+        let mut bytes = [0; 2];
+        self.pass(&[READ_STATUS1], &mut bytes)?;
+        let [first, last] = bytes;
+        if first & BUSY != 0 {
+            return Ok(first);
+        }
+        if last & BUSY != 0 {
+            return Ok(last);
+        }
+        if first != last {
+            return Err(self.differ());
+        }
+        Ok(first)
+    }
+
+    // Polls twice, and reads the ID after each poll. If a byte of the first poll shows BUSY, returns it at once.
+    // Otherwise all reply bytes must be equal, and the function returns their value.
+    pub(super) fn poll_twice(&mut self) -> Result<u8, Stopped>
+        ensures history { history_of self.new ≡ history_of self.old }
+        ensures status { KeepsStatus (known_of self.old) (known_of self.new) }
+        ensures id { KeepsId (known_of self.old).id (known_of self.new).id }
+        ensures sent { (inner_state self.new).sent ≡ (inner_state self.old).sent }
+        ensures twice { IfOk result (λ status. status % 2 ≡ 0 → IsReadTwice (pair status) (known_of self.new).id
+            (inner_state self.old).history (inner_state self.new).history) }
+    {
+        let status = self.poll_once()?;
+        if status & BUSY != 0 {
+            return Ok(status);
+        }
+        self.read_id()?;
+        let again = self.poll_once()?;
+        if again != status {
+            return Err(self.differ());
+        }
+        self.read_id()?;
+        Ok(status)
+    }
+
+    // Reads status 2 twice, and reads the ID after each read. Both replies must be equal, and the function returns
+    // their value.
+    pub(super) fn second_twice(&mut self) -> Result<u8, Stopped>
+        ensures history { history_of self.new ≡ history_of self.old }
+        ensures status { KeepsStatus (known_of self.old) (known_of self.new) }
+        ensures id { KeepsId (known_of self.old).id (known_of self.new).id }
+        ensures sent { (inner_state self.new).sent ≡ (inner_state self.old).sent }
+        ensures twice { IfOk result (λ status. IsReadTwice (second status) (known_of self.new).id
+            (inner_state self.old).history (inner_state self.new).history) }
+    {
+        let mut first = [0];
+        let mut last = [0];
+        self.pass(&[READ_STATUS2], &mut first)?;
+        self.read_id()?;
+        self.pass(&[READ_STATUS2], &mut last)?;
+        if first != last {
+            return Err(self.differ());
+        }
+        self.read_id()?;
+        Ok(first[0])
+    }
+}

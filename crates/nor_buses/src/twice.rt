@@ -1,0 +1,230 @@
+//! A bus that reads IDs, SFDP and data twice.
+ghost use Rattle.std.specs.Prelude.{◌≡◌, ◌≤◌, ◌⊎◌, ◌∷◌, [], true, false, None, Some, length, OnOk, OnErr, IfOk};
+ghost use Rattle.std.proofs.lemmas.Bool.{false≢true};
+ghost use Rattle.nor_model.specs.Bus.{BusState, IsHonestFor, SameNature, Stops, Carries, Records};
+ghost use Rattle.nor_model.specs.History.{exchange_of, replied};
+ghost use Rattle.nor_buses.specs.ReadsAs.{view_of, KeepsRecord};
+ghost use Rattle.nor_buses.specs.Again.{FirstRead};
+ghost use Rattle.nor_buses.specs.Twice.{twice_of, has_differed, expected_of, begins_read, history_of, twice_state};
+ghost use Rattle.nor_buses.specs.Twice.{EndsTwice, ReadsTwice, RepeatsUnexpected, CarriesUnexpected};
+
+use crate::again::{is_repeated, is_repeated_or_expected};
+use crate::ahead::data_address;
+use nor_model::{Bus, History, Stopped};
+
+// The greatest length of a read, which is the greatest length of a block of `ReadAhead`.
+const LONGEST_READ: usize = 65536;
+
+// The least address that doesn't fit in three bytes.
+const ADDRESSES_END: usize = 1 << 24;
+
+const READ_DATA: u8 = 0x03;
+
+const READ_UNIQUE: u8 = 0x4B;
+
+const READ_SFDP: u8 = 0x5A;
+
+const READ_ID: u8 = 0x9F;
+
+/// A bus that carries out each read of data (03h), of the ID (9Fh), of SFDP (5Ah) and of the unique ID (4Bh) twice, and
+/// stops if the replies differ. A poor contact flips bits in some reads. Without a second read a flipped bit could get
+/// into the journal, and a restore would write it to the chip; or a wrong ID could be read. If such a read requests
+/// more than 65,536 bytes, it is rejected: nothing is sent.
+///
+/// If an image is expected (`expecting`), a read of data that sends four bytes is carried out once. After that only the
+/// sectors of its reply that differ from the image at the same addresses are read again, neighbouring ones together. If
+/// the reply has only a part of a sector, only this part is compared. If the expected image is the image of a session,
+/// each sector that the session's journal saves was read twice: a session saves only sectors that differ from its
+/// image, and reads each one with a single transaction.
+///
+/// An error that is the same in both reads is not detected. A read over this bus may be several transactions over the
+/// bus inside, so this bus is not well-behaved as `Bus` defines it, even if the bus inside is. On any bus, each byte
+/// that a successful read returned is the expected one, or was returned a second time by a later transaction. If the
+/// bus inside is well-behaved and accepts a read of this length, a read of at most 65,536 bytes fails only if no
+/// transaction is left afterwards.
+///
+/// The history lists each transaction over this bus with its reply; a transaction that failed is listed without a
+/// reply. A read that the bus inside repeated, as a whole or in part, is listed once. In contracts, the modifying
+/// commands that were sent and the result of the last poll are those of the bus inside.
+#[derive(Drop)]
+pub struct ReadTwice<B> {
+    bus: B,
+    again: [u8; LONGEST_READ],
+    expected: Option<Vec<u8>>,
+    differed: bool,
+    history: History,
+}
+
+impl<B: Bus + Drop> ReadTwice<B> {
+    /// Returns a bus over `bus` that carries out each read twice.
+    pub fn new(bus: B) -> ReadTwice<B>
+        ensures bus { twice_of result ≡ bus }
+        ensures differed { has_differed result ≡ false }
+        ensures history { history_of result ≡ [] }
+        ensures expected { expected_of result ≡ None }
+    {
+        ReadTwice {
+            bus,
+            again: [0; LONGEST_READ],
+            expected: None,
+            differed: false,
+            history: History::new(),
+        }
+    }
+
+    /// Returns a bus over `bus` that reads data twice, except for sectors that equal `image` at their addresses. The
+    /// first byte of `image` is the one at address 0.
+    pub fn expecting(bus: B, image: Vec<u8>) -> ReadTwice<B>
+        ensures bus { twice_of result ≡ bus }
+        ensures differed { has_differed result ≡ false }
+        ensures history { history_of result ≡ [] }
+        ensures expected { expected_of result ≡ Some image }
+    {
+        ReadTwice {
+            bus,
+            again: [0; LONGEST_READ],
+            expected: Some(image),
+            differed: false,
+            history: History::new(),
+        }
+    }
+
+    /// Returns the bus inside, which carries out the transactions of this bus.
+    pub fn inner(&self) -> &B
+        ensures { result.now ≡ twice_of self.now }
+    {
+        &self.bus
+    }
+
+    /// Returns whether two reads of the same bytes ever differed.
+    pub fn differed(&self) -> bool
+        ensures { result ≡ has_differed self.now }
+    {
+        self.differed
+    }
+}
+
+impl<B: Bus> ReadTwice<B> {
+    // Makes one transaction, and does not add it to the history. The clause `records` describes the state after the
+    // caller has added the transaction.
+    fn carry(&mut self, out: &[u8], reply: &mut [u8]) -> Result<(), Stopped>
+        ensures once { IsHonestFor out.now (length reply.old) (B.state (twice_of self.old))
+            → begins_read out.now ≡ false
+            → OnOk result (Carries out.now reply.new (B.state (twice_of self.old)) (B.state (twice_of self.new))) }
+        ensures same { begins_read out.now ≡ true → OnOk result (
+            RepeatsUnexpected self.old out.now reply.new
+            (B.state (twice_of self.old)).history (B.state (twice_of self.new)).history
+            ⊎ EndsTwice out.now reply.new (B.state (twice_of self.old)).history (B.state (twice_of self.new)).history) }
+        ensures twice { IsHonestFor out.now (length reply.old) (B.state (twice_of self.old))
+            → begins_read out.now ≡ true → OnOk result (
+            CarriesUnexpected self.old out.now reply.new (B.state (twice_of self.old)) (B.state (twice_of self.new))
+            ⊎ ReadsTwice out.now reply.new (B.state (twice_of self.old)) (B.state (twice_of self.new))) }
+        ensures no_difference { IsHonestFor out.now (length reply.old) (B.state (twice_of self.old))
+            → length reply.old ≤ 65536 → OnErr result ((B.state (twice_of self.new)).left ≡ 0) }
+        ensures records { Records out.now reply.new result (twice_state B.state self.old)
+            (view_of (B.state (twice_of self.new)) (exchange_of out.now reply.new result ∷ history_of self.old)) }
+        ensures history { history_of self.new ≡ history_of self.old }
+        ensures expected { expected_of self.new ≡ expected_of self.old }
+        ensures remembers { has_differed self.old ≡ true → has_differed self.new ≡ true }
+    {
+        if !is_read(out) {
+            return self.bus.transfer(out, reply);
+        }
+        if reply.len() > LONGEST_READ {
+            return Err(Stopped);
+        }
+        self.bus.transfer(out, &mut *reply)?;
+        if !self.is_confirmed(out, reply)? {
+            self.differed = true;
+            return Err(Stopped);
+        }
+        Ok(())
+    }
+
+    // Repeats the read `out`, whose first reply was `reply`. If an image is expected, repeats only the sectors that
+    // differ from the image. Returns whether all second replies are the same. In the clauses, `before` is the state
+    // before the first read.
+    fn is_confirmed(&mut self, out: &[u8], reply: &[u8]) -> Result<bool, Stopped>
+        requires reads { begins_read out.now ≡ true }
+        requires len { length reply.now ≤ 65536 }
+        ensures nature { SameNature (B.state (twice_of self.old)) (B.state (twice_of self.new)) }
+        ensures record { KeepsRecord (B.state (twice_of self.old)) (B.state (twice_of self.new)) }
+        ensures history { history_of self.new ≡ history_of self.old }
+        ensures expected { expected_of self.new ≡ expected_of self.old }
+        ensures remembers { has_differed self.new ≡ has_differed self.old }
+        ensures same { (before : BusState)
+            → (B.state (twice_of self.old)).history ≡ replied out.now reply.now ∷ before.history
+            → IfOk result (λ same. same ≡ true → RepeatsUnexpected self.old out.now reply.now before.history
+            (B.state (twice_of self.new)).history
+            ⊎ EndsTwice out.now reply.now before.history (B.state (twice_of self.new)).history) }
+        ensures twice { (before : BusState) → IsHonestFor out.now (length reply.now) before
+            → FirstRead out.now reply.now before (B.state (twice_of self.old))
+            → IfOk result (λ same. same ≡ true
+            → CarriesUnexpected self.old out.now reply.now before (B.state (twice_of self.new))
+            ⊎ ReadsTwice out.now reply.now before (B.state (twice_of self.new))) }
+        ensures no_difference { (before : BusState) → IsHonestFor out.now (length reply.now) before
+            → FirstRead out.now reply.now before (B.state (twice_of self.old)) → IfOk result (λ same. same ≡ true) }
+        ensures fails { IsHonestFor out.now (length reply.now) (B.state (twice_of self.old))
+            → OnErr result ((B.state (twice_of self.new)).left ≡ 0) }
+    {
+        let again = &mut self.again[..];
+        match (&self.expected, data_address(out)) {
+            (Some(image), Some(address)) if address as usize + reply.len() <= ADDRESSES_END => {
+                is_repeated_or_expected(&mut self.bus, image, address, reply, again)
+            }
+            _ => is_repeated(&mut self.bus, out, reply, again),
+        }
+    }
+}
+
+impl<B: Bus> Bus for ReadTwice<B> {
+    ghost state = { twice_state B.state };
+
+    ghost reaches = { λ twice honest. absurd (false≢true honest) };
+
+    fn transfer(&mut self, out: &[u8], reply: &mut [u8]) -> Result<(), Stopped>
+        ensures nature { SameNature (twice_state B.state self.old) (twice_state B.state self.new) }
+        ensures stops { IsHonestFor out.now (length reply.old) (twice_state B.state self.old)
+            → OnErr result (Stops out.now (twice_state B.state self.old) (twice_state B.state self.new)) }
+        ensures unread { IsHonestFor out.now (length reply.old) (twice_state B.state self.old)
+            → OnErr result (reply.new ≡ reply.old) }
+        ensures carries { IsHonestFor out.now (length reply.old) (twice_state B.state self.old)
+            → OnOk result (Carries out.now reply.new (twice_state B.state self.old) (twice_state B.state self.new)) }
+        ensures records { Records out.now reply.new result
+            (twice_state B.state self.old) (twice_state B.state self.new) }
+        ensures once { IsHonestFor out.now (length reply.old) (B.state (twice_of self.old))
+            → begins_read out.now ≡ false
+            → OnOk result (Carries out.now reply.new (B.state (twice_of self.old)) (B.state (twice_of self.new))) }
+        ensures same { begins_read out.now ≡ true → OnOk result (
+            RepeatsUnexpected self.old out.now reply.new
+            (B.state (twice_of self.old)).history (B.state (twice_of self.new)).history
+            ⊎ EndsTwice out.now reply.new (B.state (twice_of self.old)).history (B.state (twice_of self.new)).history) }
+        ensures twice { IsHonestFor out.now (length reply.old) (B.state (twice_of self.old))
+            → begins_read out.now ≡ true → OnOk result (
+            CarriesUnexpected self.old out.now reply.new (B.state (twice_of self.old)) (B.state (twice_of self.new))
+            ⊎ ReadsTwice out.now reply.new (B.state (twice_of self.old)) (B.state (twice_of self.new))) }
+        ensures no_difference { IsHonestFor out.now (length reply.old) (B.state (twice_of self.old))
+            → length reply.old ≤ 65536 → OnErr result ((B.state (twice_of self.new)).left ≡ 0) }
+        ensures expected { expected_of self.new ≡ expected_of self.old }
+        ensures remembers { has_differed self.old ≡ true → has_differed self.new ≡ true }
+    {
+        match self.carry(out, reply) {
+            Ok(()) => {
+                self.history = self.history.replied(out, reply);
+                Ok(())
+            }
+            Err(Stopped) => {
+                self.history = self.history.stopped(out);
+                Err(Stopped)
+            }
+        }
+    }
+}
+
+// Returns whether a transaction begins with the opcode of a read of data, of the ID, of the unique ID or of SFDP. Only
+// the first byte counts, so a read with an incomplete address counts, too.
+fn is_read(out: &[u8]) -> bool
+    ensures { result ≡ begins_read out.now }
+{
+    matches!(out, [READ_DATA | READ_ID | READ_SFDP | READ_UNIQUE, ..])
+}

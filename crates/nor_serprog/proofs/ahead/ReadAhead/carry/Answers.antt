@@ -1,7 +1,0 @@
-use Rattle.nor_serprog.proofs.Held.{passed}
-use Rattle.nor_serprog.proofs.ahead.ReadAhead.carry.Goals as goal
-
-pub returns-in_default-clause-read : goal.returns-in_default-clause-read
-returns-in_default-clause-read g c reads some =
-    passed c.args.out.now c.transfer.new.reply c.transfer.result (g.B.Bus.state c.args.self.now.bus)
-    (g.B.Bus.state c.transfer.new.self) c.transfer.ensures.records reads

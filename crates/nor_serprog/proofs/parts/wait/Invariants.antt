@@ -1,5 +1,0 @@
-use Rattle.nor_serprog.proofs.Splits.{OnlyPolls}
-use Rattle.nor_serprog.proofs.parts.wait.Given as goal
-
-abbrev pub invariant-loop : goal.invariant-loop
-invariant-loop g l = OnlyPolls (g.B.Bus.state l.fn.bus).history (g.B.Bus.state l.bus).history
