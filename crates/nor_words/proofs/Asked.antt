@@ -1,4 +1,4 @@
--- The job or fault of the arguments follows from that of the options that they give.
+-- If the options ask for a job or have a fault, so do the arguments that contain these options.
 use Rattle.std.proofs.Common.{◌≡◌, arith, Bool, false, List, [], Some, None, Result, Ok, Err, inl, inr, refl, subst, sym}
 use Rattle.std.specs.Prelude.{MatchResult}
 use Rattle.clap.specs.declared.error.Error.{Error}
@@ -16,7 +16,7 @@ use Rattle.nor_words.specs.declared.words.UsageFault.{UsageFault}
 use Rattle.nor_words.specs.declared.words.UsageFault.TheVariants as why
 use Rattle.nor_words.proofs.Sound.{cases}
 
--- none of the faults 2 to 9 is the fault 1, which `clap` reports
+-- The first fault in a list of the faults 2 to 9 is never `Words`, the fault 1 that `clap` reports.
 not-words : (a b c d e f g h : Bool) (error : Error) → first_fault (cases a b c d e f g h) ≡ Some (why.Words error) → ⊥
 not-words a b c d e f g h error is = grind arith
 
@@ -28,7 +28,8 @@ fault-returned : (words : List Text) (fault : UsageFault) → refusals_of words 
 fault-returned words (why.Words error) taken h = absurd (not-words _ _ _ _ _ _ _ _ error h)
 fault-returned words _ taken h = search
 
--- if `clap` accepts the arguments, the job or fault of the options that they give is that of the arguments
+-- If `clap` accepts `words`, and `r` is the job or the fault of their options `given`, then `r` is the job or the fault
+-- of `words`.
 pub asked-by_words : (words : List Text) (given : Texts) (r : Result Job UsageFault) → refusals_of words ≡ []
     → given ≡ given_by words
     → MatchResult r (λ job. (first_fault (usage_faults given) ≡ None) × IsAsked given job)
@@ -36,7 +37,8 @@ pub asked-by_words : (words : List Text) (given : Texts) (r : Result Job UsageFa
     → MatchResult r (IsJob words) (IsFault words)
 asked-by_words words given r taken same h = grind (arith, fault-returned)
 
--- if `clap` accepts the arguments, the fault and the reason of the options that they give are those of the arguments
+-- If `clap` accepts `words`, and `wrong` has the first fault of their options `given` and its reason, then `words` have
+-- this fault and reason.
 pub wrong-by_words : (words : List Text) (given : Texts) (fault : UsageFault) (wrong : WrongArguments)
     → refusals_of words ≡ [] → given ≡ given_by words → first_fault (usage_faults given) ≡ Some fault
     → wrong.fault ≡ fault → IsReason given fault wrong.reason → AreWrong words wrong
@@ -49,14 +51,15 @@ wrong-by_words words given fault wrong taken same is named because =
 
 -- ---- programs for hardware
 
--- the options have a fault, with its reason
+-- If `wrong` is wrong for the options of a program for hardware, the options ask for no job because of the fault in
+-- `wrong`, and `wrong` has the reason of this fault.
 no-job : (given : Texts) (wrong : WrongArguments) → IsWrongForHardware given wrong
     → HasNoJob given wrong.fault × IsReason given wrong.fault wrong.reason
 no-job given wrong (inl checked) = (inl (checked.0, checked.1.fault), checked.1.reason)
 no-job given wrong (inr other) =
     (inr (other.0, (other.1.fault, other.1.lacks)), rw (other.1.fault, other.1.reason) refl)
 
--- none of the faults 4 to 9 is the fault 1, which `clap` reports
+-- The first of the faults 4 to 9 is never `Words`, the fault 1 that `clap` reports.
 no-words : (given : Texts) (error : Error) → first_fault (operation_faults given) ≡ Some (why.Words error) → ⊥
 no-words given error is = not-words false false _ _ _ _ _ _ error is
 
@@ -68,8 +71,8 @@ hardware_fault-returned program words (why.Words error) taken (inl checked) =
 hardware_fault-returned program words (why.Words error) taken (inr other) = absurd (words-apart other.1.0)
 hardware_fault-returned program words _ taken h = search
 
--- if `clap` accepts the arguments of a program for hardware, the job or fault of the options that they give is that of
--- the arguments
+-- If `clap` accepts the arguments `words` of a program for hardware, and `r` is the job or the fault of their options
+-- `given`, then `r` is the job or the fault of `words`.
 pub hardware_asked-by_words : (program : Text) (words : List Text) (given : Texts)
     (r : Result HardwareJob WrongArguments)
     → hardware_refusals_of program words ≡ [] → given ≡ hardware_given_by program words

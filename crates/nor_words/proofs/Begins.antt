@@ -5,7 +5,8 @@ use Rattle.std.specs.Borrow.{Bor}
 use Rattle.std.specs.Option.{MatchOption}
 use Rattle.nor_words.specs.Text.{Text}
 
--- a parser applied to an optional value returns what `option_and_then` does
+-- If `r` is the result of the parser `f` on the optional text `o`, or `None` if there is no text, `r` equals the result
+-- of `option_and_then`.
 pub and_then_read : {T : Type 0} (f : Text → Option T) (o : Option (Bor Text)) (r : Option T)
     → MatchOption o (r ≡ None) (λ x. r ≡ f x.now) → option_and_then f (option_map (λ x. x.now) o) ≡ r
 and_then_read f o r h = grind arith

@@ -1,4 +1,4 @@
--- The operation of a program for hardware, from the job on an emulated chip.
+-- The operation of a program for hardware follows from the job that the same options ask for on an emulated chip.
 use Rattle.std.proofs.Common.{◌≡◌, Bool, None, Option, Some, arith, codes, option_map}
 use Rattle.std.specs.Prelude.{is_some, not}
 use Rattle.std.specs.Borrow.{Bor}
@@ -14,19 +14,20 @@ use Rattle.nor_words.specs.declared.job.Task.{Task}
 abbrev any_chip : Text
 any_chip = codes "dummy:emulate=TINY64"
 
--- the same options on an emulated chip
+-- the same options, with an emulated chip as the value of `-p`
 abbrev pub emulated : Texts → Texts
 emulated given = record given { programmer = Some any_chip }
 
 task-same : (given : Texts) (asked : Task) → IsTask (emulated given) asked → IsTask given asked
 task-same given asked is = grind arith
 
--- an option with a value has one, whether its text is seen as a borrow or as bytes
+-- Whether an option has a value is the same if its text is represented as bytes instead of a borrow.
 pub given_text : (text : Option (Bor Text)) (is : Bool) → is ≡ is_some text → is ≡ is_some (option_map (λ t. t.now) text)
 given_text None is same = same
 given_text (Some text) is same = same
 
--- an operation that the options ask for on an emulated chip is the one that they ask for
+-- If the options ask for the job `on_chip` on an emulated chip, they ask a program for hardware for the operation with
+-- the same name and task, and with the other fields from their options.
 pub operation-asked : (given : Texts) (on_chip : ChipJob) (backup : Bool)
     (progress : ProgressMode) → backup ≡ is_some given.backup → progress ≡ progress_mode given
     → (first_fault (usage_faults (emulated given)) ≡ None) × IsAsked (emulated given) (job.Chip on_chip)

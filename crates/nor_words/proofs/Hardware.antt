@@ -1,4 +1,4 @@
--- The options of a program for hardware, from the rows of the two tables.
+-- The rows of the tables `CHOICES` and `HARDWARE_CHOICES` result in the options of a program for hardware.
 use Rattle.std.proofs.Common.{◌≡◌, ◌∙◌, List, ap, cond, map, sym}
 use Rattle.std.specs.Prelude.{fold}
 use Rattle.std.proofs.lemmas.List.Folds.{fold-map}
@@ -7,7 +7,7 @@ use Rattle.nor_words.specs.Options.{by_name, chosen, for_hardware, is_for_hardwa
 use Rattle.nor_words.specs.Options.{with_hardware_choice, with_rules}
 use Rattle.nor_words.specs.declared.options.Choice.{Choice}
 
--- the command with one more option and its long name, if a program for hardware has it
+-- the command with the option `rule` and its long name appended, if a program for hardware has this option
 abbrev with_hardware_rule : App → Rule → App
 with_hardware_rule app rule = cond (is_for_hardware rule.id) (with_rule app (by_name rule)) app
 

@@ -1,4 +1,4 @@
--- The list of stops, read one after the other.
+-- The list of stops, read piece by piece.
 use Rattle.std.proofs.Common.{◌≡◌, ℕ, ◌+◌, ◌<◌, ◌≤◌, ◌&&◌, List, [], ◌∷◌, ◌++◌, Option, Some}
 use Rattle.std.proofs.Common.{None, length, drop, get_or, cond, arith, nat_le}
 use Rattle.std.specs.Prelude.{filter_map}
@@ -10,13 +10,14 @@ use Rattle.nor_words.specs.Numbers.{decimal_number}
 use Rattle.nor_words.specs.Stops.{stops_of}
 use Rattle.nor_words.proofs.InTurn.{turned}
 
--- the stops so far and those in the remaining pieces, or `None` if one of these pieces isn't a number or there are more
--- than 64 stops
+-- the list `stops` and then the numbers in `pieces`, or `None` if one of the pieces isn't a number or there are more
+-- than 64 stops in all
 abbrev pub with_stops : List ℕ → List Text → Option (List ℕ)
 with_stops stops pieces = cond (list_all (reads decimal_number) pieces && nat_le (length stops + length pieces) 64)
     (Some (stops ++ filter_map decimal_number pieces)) None
 
--- the piece at `n`: it isn't a number, or comes after 64 stops, or is one more stop
+-- The piece at index `n` either isn't a number, or follows 64 stops, or is one more stop. In the first two cases
+-- `with_stops` is `None`; in the third, the stop moves from the remaining pieces to the list of stops.
 module _ (stops : List ℕ) (pieces : List Text) (n : ℕ) (piece : Text)
     (at : (n < length pieces) × (piece ≡ get_or pieces n piece)) where
   pub stops-refused : decimal_number piece ≡ None → with_stops stops (drop n pieces) ≡ None

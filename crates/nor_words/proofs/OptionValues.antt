@@ -1,4 +1,4 @@
--- The value of an option, as its parser reads it.
+-- The result of parsing the value of an option.
 use Rattle.std.proofs.Common.{◌≡◌, false, Option, None, arith, option_map}
 use Rattle.std.specs.Prelude.{option_and_then}
 use Rattle.std.specs.Borrow.{Bor}

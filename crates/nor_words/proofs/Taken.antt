@@ -1,4 +1,4 @@
--- The facts that follow from a successful parse of the program's options.
+-- What follows from the result of parsing the arguments with the options of flashnor or of a program for hardware.
 use Rattle.std.proofs.Common.{◌≡◌, [], true, List, Ok, Err, inl, inr, refl}
 use Rattle.clap.specs.Words.{App, FailsBy, HasMatchesOf, fault_of, found_of, is_simple, is_simple_and_free, matches_of}
 use Rattle.clap.specs.Words.{rows_of}
@@ -15,7 +15,8 @@ use Rattle.nor_words.specs.declared.reasons.Reason.TheVariants as because
 use Rattle.nor_words.specs.declared.reasons.WrongArguments.{WrongArguments}
 use Rattle.nor_words.specs.declared.words.UsageFault.{UsageFault}
 
--- no option requires or excludes another, and all options have a form for which `clap` defines the matches
+-- No option of flashnor requires or excludes another option, and each option has a form for which the specification of
+-- `clap` defines the matches.
 pub options_are_free : is_simple_and_free options ≡ true
 unfolding clap_on_literals
 options_are_free = refl
@@ -32,8 +33,8 @@ pub hardware_options_are_simple : (program : Text) → is_simple (hardware_optio
 unfolding clap_on_literals
 hardware_options_are_simple program = refl
 
--- If a parse succeeds, `clap` doesn't reject the arguments, and the rows of the matches that it found are those that
--- `matches_of` defines for the options and the arguments.
+-- If a parse with the options `own` succeeds, the specification of `clap` lists no error for these arguments, and the
+-- matches `m` have exactly the rows that `matches_of` defines for `own` and `words`.
 module _ (app own : App) (same : app ≡ own) (words : List Text) (m : ArgMatches) where
   pub none-refused : is_simple_and_free own ≡ true → (is_simple_and_free app ≡ true → FailsBy (fault_of app words) (Ok m))
       → fault_of own words ≡ []
@@ -42,7 +43,7 @@ module _ (app own : App) (same : app ≡ own) (words : List Text) (m : ArgMatche
   pub rows-taken : is_simple own ≡ true → HasMatchesOf app words m → rows_of (found_of m) ≡ matches_of own words
   rows-taken simple matches = let rows = rw same at matches in (rows simple).0
 
--- an error of `clap` becomes a fault that the arguments may have
+-- If `clap` fails with `error` for flashnor's options, the fault that `error` becomes is one that `words` may have.
 refused : (words : List Text) (app : App) → app ≡ options → (error : Error) (fault : UsageFault)
     → (is_simple_and_free app ≡ true → FailsBy {T = ArgMatches} (fault_of app words) (Err error))
     → BecomesFault error fault → IsFault words fault
@@ -53,7 +54,7 @@ refused words app same error fault fails (inr other) =
       | inr among ↦ among
     ])
 
--- an error of `clap` has no reason
+-- For a fault that an error of `clap` becomes, the reason `Unsaid` is correct.
 unsaid : (given : Texts) (error : Error) (fault : UsageFault) (reason : Reason) → BecomesFault error fault
     → reason ≡ because.Unsaid → IsReason given fault reason
 unsaid given error fault reason (inl memory) is = rw memory.1 is
@@ -67,7 +68,8 @@ refused-wrong words app same error wrong fails becomes = record {
   reason = unsaid (given_by words) error wrong.fault wrong.reason becomes.fault becomes.reason;
 }
 
--- an error of `clap` becomes a fault that the arguments of a program for hardware may have
+-- If `clap` fails with `error` for the options of a program for hardware, the fault that `error` becomes is one that
+-- `words` may have.
 hardware-refused : (program : Text) (app : App) → app ≡ hardware_options program → (words : List Text)
     (error : Error) (fault : UsageFault)
     → (is_simple_and_free app ≡ true → FailsBy {T = ArgMatches} (fault_of app words) (Err error))

@@ -10,41 +10,43 @@ use Rattle.nor_words.specs.Stops.{stops_of}
 use Rattle.nor_words.specs.declared.words.UsageFault.{UsageFault}
 use Rattle.nor_words.specs.declared.words.UsageFault.TheVariants as why
 
--- a fault, and whether the options have it
+-- whether the options have a fault, and this fault
 abbrev pub Case : Type 0
 Case = Bool × UsageFault
 
--- true if there is a value, and it passes the test
+-- true if `text` is a value, not `None`, and the value passes `test`
 abbrev pub passes_test : (Text → Bool) → Option Text → Bool
 passes_test test text = option_map_or test text false
 
--- true if there is a value, and it fails the test
+-- true if `text` is a value, not `None`, and the value fails `test`
 abbrev pub is_no : (Text → Bool) → Option Text → Bool
 is_no test = passes_test (λ text. not (test text))
 
--- fault 6: true if `-w`, `-E` or `--wp-range` is given without exactly one of `--journal` and `--rehearse`, or if none
--- of the three is given, and `--journal` or `--rehearse` is
+-- fault 6: true if a change (`-w`, `-E` or `--wp-range`) is given without exactly one of `--journal` and `--rehearse`,
+-- or if `--journal` or `--rehearse` is given without a change
 abbrev pub has_wrong_journal : Texts → Bool
 has_wrong_journal given =
     not (nat_eq (how_many (is_some given.journal ∷ is_some given.rehearse ∷ [])) (if asks_change given then 1 else 0))
 
--- fault 5: true if the value of `--wp-range` isn't a start and a length, or that of `--progress` no mode; flashnor lacks
--- `--progress`
+-- fault 5: true if the value of `--wp-range` isn't a start and a length, or the value of `--progress` isn't a mode;
+-- flashnor lacks `--progress`
 abbrev pub has_wrong_value : Texts → Bool
 has_wrong_value given = is_no (reads range_of) given.wp_range || is_no (reads progress_of) given.progress
 
--- fault 7: true if there is only one of a layout and `-i`, or both without any of `-r`, `-v`, `-w` and `-E`, or more than
--- one layout; flashnor has only the layout of `-l`
+-- fault 7: true if a layout (`-l`, `--fmap-file` or `--ifd-file`) is given without `-i`, or `-i` without a layout; if
+-- both are given without any of `-r`, `-v`, `-w` and `-E`; or if more than one layout is given. flashnor has only the
+-- layout of `-l`.
 abbrev pub has_wrong_regions : Texts → Bool
 has_wrong_regions given = (is_some (layout_file given) || is_some given.names)
     && not (is_some (layout_file given) && (is_some given.names && (takes_regions given && not (has_two_layouts given))))
 
--- true for `-N` without `-w`, `-E` or `--restore`, and for `--quick` without `--restore`; flashnor has neither option
+-- true if `-N` is given without any of `-w`, `-E` and `--restore`, or `--quick` without `--restore`; flashnor has
+-- neither option
 abbrev pub has_unneeded_for_hardware : Texts → Bool
 has_unneeded_for_hardware given = (given.no_verify_all && not (is_new_content given || is_some given.restore))
     || (given.quick && not (is_some given.restore))
 
--- fault 8: true for `-n` or `--unlock` without `-w` or `-E`, or if `has_unneeded_for_hardware` is true
+-- fault 8: true if `-n` or `--unlock` is given without `-w` or `-E`, or if `has_unneeded_for_hardware` is true
 abbrev pub has_unneeded : Texts → Bool
 has_unneeded given =
     ((given.no_verify || given.unlock) && not (is_new_content given)) || has_unneeded_for_hardware given
@@ -66,12 +68,12 @@ usage_faults given =
     )
     ∷ []
 
--- the faults 4 to 9, in this order, for a `-p` whose programmer is sound and has no `stop=`; a program for hardware has
--- no `--rehearse`, and so no fault 9
+-- the faults 4 to 9, in this order, each with whether the options have it. The value of `-p` is ignored, as if it were
+-- correct and had no `stop=`. A program for hardware never has fault 9, because it lacks `--rehearse`.
 abbrev pub operation_faults : Texts → List Case
 operation_faults given = drop 2 (usage_faults (record given { programmer = None }))
 
--- the first fault that the options have, or `None` if they have none
+-- the first fault in the list that the options have, or `None` if they have none of them
 abbrev pub first_fault : List Case → Option UsageFault
 first_fault [] = None
 first_fault (case ∷ cases) = if case.0 then Some case.1 else first_fault cases
@@ -91,12 +93,12 @@ usage_fault_number why.Unneeded = 8
 usage_fault_number why.Stops = 9
 usage_fault_number why.Memory = 10
 
--- the message of the fault with this number
+-- the message of the fault with the given number
 abbrev pub numbered : ℕ → List ℕ
 numbered number = codes "Usage fault " ++ (decimal number ++ codes ".")
 
--- the message of a fault, or `None` for fault 1: nothing is specified about its message, which begins with that of
--- `clap`
+-- the message of a fault, or `None` for fault 1. The message of fault 1 begins with the message of `clap`, and isn't
+-- specified.
 abbrev pub usage_fault_text : UsageFault → Option (List ℕ)
 usage_fault_text (why.Words error) = None
 usage_fault_text fault = Some (numbered (usage_fault_number fault))

@@ -1,4 +1,4 @@
--- The values that the arguments give the options.
+-- The values of the options in the arguments.
 use Rattle.std.specs.Prelude.{◌&&◌, ◌||◌, ℕ, Bool, false, Option, Some, None, List, [], ◌∷◌, codes, is_some, option_and_then, option_map, unwrap_or, if◌then◌else◌}
 use Rattle.std.specs.List.{count_by}
 use Rattle.std.specs.Option.{option_map_or, option_or}
@@ -12,59 +12,60 @@ use Rattle.nor_words.specs.declared.job.LayoutForm.TheVariants as form
 use Rattle.nor_words.specs.declared.job.ProgressMode.{ProgressMode}
 use Rattle.nor_words.specs.declared.job.ProgressMode.TheVariants as mode
 
--- The values of the options that take one, and for each flag whether it is set.
+-- The options in the arguments. An option that takes a value has that value, or `None` if it isn't given. A flag is
+-- true if it is set.
 pub record Texts : Type 0 where
-  -- `-p TEXT`, `-c NAME`
+  -- The values of `-p TEXT` and `-c NAME`.
   pub programmer : Option Text
   pub chip : Option Text
-  -- `-L`, `--flash-size`, `--flash-name`, `--wp-status`, `--wp-list`
+  -- Whether `-L`, `--flash-size`, `--flash-name`, `--wp-status` and `--wp-list` are set.
   pub list : Bool
   pub flash_size : Bool
   pub flash_name : Bool
   pub wp_status : Bool
   pub wp_list : Bool
-  -- `-r FILE`, `-v FILE`
+  -- The values of `-r FILE` and `-v FILE`.
   pub read : Option Text
   pub verify : Option Text
-  -- `-w FILE`, `-E`, `--wp-range S,L`, `--restore FILE`
+  -- The values of `-w FILE`, `--wp-range S,L` and `--restore FILE`, and whether `-E` is set.
   pub write : Option Text
   pub erase : Bool
   pub wp_range : Option Text
   pub restore : Option Text
-  -- `--backup FILE`, `--check-journal FILE`
+  -- The values of `--backup FILE` and `--check-journal FILE`.
   pub backup : Option Text
   pub check_journal : Option Text
-  -- `--quick`
+  -- Whether `--quick` is set.
   pub quick : Bool
-  -- `--journal FILE`, `--rehearse N,N,..`
+  -- The values of `--journal FILE` and `--rehearse N,N,..`.
   pub journal : Option Text
   pub rehearse : Option Text
-  -- `-l FILE`, `--fmap-file FILE`, `--ifd-file FILE`, `-i NAMES`
+  -- The values of `-l FILE`, `--fmap-file FILE`, `--ifd-file FILE` and `-i NAMES`.
   pub layout : Option Text
   pub fmap_file : Option Text
   pub ifd_file : Option Text
   pub names : Option Text
-  -- `-n`, `-N`, `--unlock`
+  -- Whether `-n`, `-N` and `--unlock` are set.
   pub no_verify : Bool
   pub no_verify_all : Bool
   pub unlock : Bool
-  -- `--progress MODE`, `-V`, `-o FILE`
+  -- The value of `--progress MODE`, and whether `-V` is set.
   pub progress : Option Text
   pub verbose : Bool
 
--- true if the value is `true`, which `clap` gives a flag that is set
+-- true if the value is the text `true`, which `clap` gives a flag that is set
 abbrev pub is_flag_set : Option Text → Bool
 is_flag_set value = option_map_or (λ text. bytes_eq text (codes "true")) value false
 
--- the value of the option with this ID in the matches of a parse
+-- the value of the option with the given ID in the rows, which are the result of a parse by `clap`
 abbrev pub text_in : List Row → Text → Option Text
 text_in rows id = first_of id rows
 
--- true if the flag with this ID is set in the matches of a parse
+-- true if the flag with the given ID is set in the rows, which are the result of a parse by `clap`
 abbrev pub is_set_in : List Row → Text → Bool
 is_set_in rows id = is_flag_set (first_of id rows)
 
--- the options in the matches of a parse for flashnor, which lacks those that only programs for hardware have
+-- the options of flashnor in the rows of a parse; flashnor lacks the options that only programs for hardware have
 abbrev pub given_in : List Row → Texts
 given_in rows = record {
   programmer = text_in rows (codes "programmer");
@@ -96,12 +97,12 @@ given_in rows = record {
   verbose = false;
 }
 
--- the options that the arguments give, as `clap` parses them
+-- the options that flashnor's arguments contain, as `clap` parses them
 abbrev pub given_by : List Text → Texts
 given_by words = given_in (matches_of options words)
 
--- the options in the matches of a parse for a program for hardware, which has more than flashnor, but neither `-L` nor
--- `--rehearse`
+-- the options of a program for hardware in the rows of a parse. The program has more options than flashnor, but neither
+-- `-L` nor `--rehearse`.
 abbrev pub hardware_given_in : List Row → Texts
 hardware_given_in rows = record (given_in rows) {
   list = false;
@@ -117,11 +118,12 @@ hardware_given_in rows = record (given_in rows) {
   verbose = is_set_in rows (codes "verbose");
 }
 
--- the options that the arguments give a program for hardware with this name, as `clap` parses them
+-- the options that the arguments of a program for hardware contain, as `clap` parses them; `program` is the program's
+-- name
 abbrev pub hardware_given_by : (program : Text) → List Text → Texts
 hardware_given_by program words = hardware_given_in (matches_of (hardware_options program) words)
 
--- the options in a `Given`, the type of the code, with each text as its bytes
+-- the options in `given` of the type `Given`, which the code uses, with each text as its bytes
 abbrev pub texts_of : Given → Texts
 texts_of given = record {
   programmer = option_map (λ text. text.now) given.programmer;
@@ -153,7 +155,7 @@ texts_of given = record {
   verbose = given.verbose;
 }
 
--- how many of these are true
+-- the number of elements of the list that are true
 abbrev pub how_many : List Bool → ℕ
 how_many = count_by (λ asked. asked)
 
@@ -165,11 +167,11 @@ operations given = how_many (
     ∷ is_some given.write ∷ given.erase ∷ is_some given.wp_range ∷ is_some given.restore
     ∷ is_some given.backup ∷ is_some given.check_journal ∷ [])
 
--- the file of the layout: the value of `-l`, or else of `--fmap-file`, or else of `--ifd-file`
+-- the file name of the layout: the value of the first of `-l`, `--fmap-file` and `--ifd-file` that is given
 abbrev pub layout_file : Texts → Option Text
 layout_file given = option_or given.layout (option_or given.fmap_file given.ifd_file)
 
--- the form in which that file has its layout
+-- the form of the layout in the file `layout_file`; it has a meaning only if a layout is given
 abbrev pub layout_form : Texts → LayoutForm
 layout_form given =
     if is_some given.layout then form.Lines else if is_some given.fmap_file then form.Fmap else form.Descriptor
@@ -179,7 +181,7 @@ abbrev pub has_two_layouts : Texts → Bool
 has_two_layouts given = (is_some given.layout && (is_some given.fmap_file || is_some given.ifd_file))
     || (is_some given.fmap_file && is_some given.ifd_file)
 
--- the mode that a value of `--progress` names, if it names one
+-- the mode with the given name, or `None` if `--progress` has no such mode
 abbrev pub progress_of : Text → Option ProgressMode
 progress_of text =
     if bytes_eq text (codes "auto") then Some mode.Auto
@@ -187,22 +189,23 @@ progress_of text =
     else if bytes_eq text (codes "none") then Some mode.Hidden
     else None
 
--- the mode that `--progress` names; `auto` without that option
+-- the mode that `--progress` names, or `Auto` if the option is missing or its value isn't a mode
 abbrev pub progress_mode : Texts → ProgressMode
 progress_mode given = unwrap_or (option_and_then progress_of given.progress) mode.Auto
 
--- the file that the chip is read into: the value of `-r`, or else of `--backup`
+-- the file into which the chip is read: the value of `-r`, or if `-r` is missing the value of `--backup`
 abbrev pub output_of : Texts → Option Text
 output_of given = option_or given.read given.backup
 
--- true for `-w` or `-E`, which change the bytes of the chip
+-- true if `-w` or `-E` is given; both options change the bytes of the chip
 abbrev pub is_new_content : Texts → Bool
 is_new_content given = is_some given.write || given.erase
 
--- true for `-w`, `-E` or `--wp-range`, which change the chip and write a journal or rehearse
+-- true if `-w`, `-E` or `--wp-range` is given; each of these options changes the chip, and needs a journal or a
+-- rehearsal
 abbrev pub asks_change : Texts → Bool
 asks_change given = is_new_content given || is_some given.wp_range
 
--- true for `-r`, `-v`, `-w` or `-E`, which may include only some regions
+-- true if `-r`, `-v`, `-w` or `-E` is given; each of these options can be limited to regions of the chip
 abbrev pub takes_regions : Texts → Bool
 takes_regions given = is_some given.read || (is_some given.verify || is_new_content given)

@@ -1,4 +1,4 @@
--- The meaning of values: texts, numbers, lists of stops, and the settings of a programmer.
+-- The parsed form of values: texts, numbers, lists of stops, and the settings of a programmer.
 pub mod Text
 pub mod Numbers
 pub mod Stops

@@ -1,4 +1,4 @@
--- The options of the program, as rules of `clap`.
+-- The options of flashnor and of programs for hardware, as rules of `clap`.
 use Rattle.std.specs.Prelude.{◌≡◌, ◌&&◌, Bool, true, false, List, [], ◌∷◌, ◌++◌, None, Some, codes, fold, is_some, map, not, slice_get, if◌then◌else◌}
 use Rattle.std.specs.List.{filter}
 use Rattle.std.specs.Str.{bytes_eq}
@@ -8,19 +8,19 @@ use Rattle.clap.specs.declared.builder.action.ArgAction.TheVariants.{Set, SetTru
 use Rattle.nor_words.specs.declared.options.Choice.{Choice}
 use Rattle.nor_words.specs.Text.{Text}
 
--- an option that takes one value
+-- the option with this ID, which takes one value
 abbrev pub valued : Text → Rule
 valued id = record (new_rule id) { action = Some Set; value_names = 1 }
 
--- a flag, which takes no value
+-- the flag with this ID; a flag is an option that takes no value
 abbrev pub flag : Text → Rule
 flag id = record (new_rule id) { action = Some SetTrue }
 
--- this option, when it is written as `-` and the given letter
+-- the same option, written as `-` and the given letter
 abbrev pub by_letter : Text → Rule → Rule
 by_letter letter rule = record rule { short = slice_get letter 0 }
 
--- this option, when it is written as `--` and its name
+-- the same option, with its ID as a long name after `--`
 abbrev pub by_name : Rule → Rule
 by_name rule = record rule { long = Some rule.id }
 
@@ -32,7 +32,7 @@ chip_rules =
     ∷ by_letter (codes "L") (flag (codes "list"))
     ∷ []
 
--- the operations that only read the chip
+-- the options for operations that only read the chip
 abbrev pub reader_rules : List Rule
 reader_rules =
     by_name (flag (codes "flash-size"))
@@ -42,7 +42,7 @@ reader_rules =
     ∷ by_letter (codes "v") (valued (codes "verify"))
     ∷ []
 
--- the operations that change the chip
+-- the options for operations that change the chip
 abbrev pub change_rules : List Rule
 change_rules =
     by_letter (codes "w") (valued (codes "write"))
@@ -66,30 +66,30 @@ manner_rules =
 abbrev pub help_rule : Rule
 help_rule = by_letter (codes "h") (record (new_rule (codes "usage")) { action = Some HelpShort })
 
--- all options except `-h`: those of the rows of the table in src/options.rt
+-- all options of flashnor except `-h`: the rows of the table `CHOICES` in src/options.rt describe them
 abbrev pub most_rules : List Rule
 most_rules = chip_rules ++ reader_rules ++ change_rules ++ manner_rules
 
--- Holds if this `Arg` of `clap` has this rule and isn't a global one.
+-- Holds if `arg`, an option of `clap`, has the rule `option` and isn't a global option.
 pub record IsOption (option : Rule) (arg : Arg) : Type 0 where
   pub rule : rule_of arg ≡ option
   pub local : arg.global ≡ false
 
--- the command of a program with this name, without options: the name isn't among the arguments, and `clap`'s own help
--- option is disabled
+-- the `clap` command of a program with this name, without options. The program's name isn't among the arguments that it
+-- parses, and `clap`'s own help option is disabled.
 abbrev pub no_options_of : Text → App
 no_options_of program = let app = new_app program in
     record app { top = record app.top { no_binary_name = true; disable_help_flag = true } }
 
--- the command of flashnor without options
+-- the `clap` command of flashnor without options
 abbrev pub no_options : App
 no_options = no_options_of (codes "flashnor")
 
--- the command with these options appended
+-- the command with the options of the list appended
 abbrev pub with_rules : App → List Rule → App
 with_rules = fold with_rule
 
--- the command with all options
+-- the `clap` command of flashnor with all options
 abbrev pub options : App
 options =
     with_rule (with_rules (with_rules (with_rules (with_rules no_options chip_rules) reader_rules) change_rules)
@@ -97,11 +97,12 @@ options =
 
 -- ---- programs for hardware
 
--- true for an option of flashnor that a program for hardware has, too: all except `-L` and `--rehearse`
+-- true for the ID of an option that a program for hardware has: every option except `-L` and `--rehearse`
 abbrev pub is_for_hardware : Text → Bool
 is_for_hardware id = not (bytes_eq id (codes "list")) && not (bytes_eq id (codes "rehearse"))
 
--- the options that only programs for hardware have, except `-R`; before they have their long names
+-- the options that only programs for hardware have, except `-R`. Here the options with a letter still lack their long
+-- names.
 abbrev pub own_rules : List Rule
 own_rules =
     by_name (valued (codes "backup"))
@@ -115,13 +116,13 @@ own_rules =
     ∷ by_letter (codes "V") (flag (codes "verbose"))
     ∷ []
 
--- the command of a program for hardware with this name, without options: it has a version, and `clap`'s own version
--- option is disabled
+-- the `clap` command of a program for hardware with this name, without options. It has a version, and `clap`'s own
+-- version option is disabled.
 abbrev pub no_hardware_options_of : (program : Text) → App
 no_hardware_options_of program = let app = no_options_of program in
     record app { top = record app.top { has_version = true; disable_version_flag = true } }
 
--- the options of these that a program for hardware has, all with a long name
+-- the options of the list that a program for hardware has, all with a long name
 abbrev pub for_hardware : List Rule → List Rule
 for_hardware rules = map by_name (filter (λ rule. is_for_hardware rule.id) rules)
 
@@ -136,8 +137,8 @@ version_rule = record (by_letter (codes "R") (new_rule (codes "release"))) {
 abbrev pub hardware_help_rule : Rule
 hardware_help_rule = record help_rule { long = Some (codes "help") }
 
--- the command of a program for hardware with this name: the options of flashnor except `-L` and `--rehearse`, and
--- those of `own_rules`, `-R` and `-h`, all with a long name
+-- the `clap` command of a program for hardware with this name. It has the options of flashnor except `-L` and
+-- `--rehearse`, the options `own_rules`, and `-R` and `-h`, all with a long name.
 abbrev pub hardware_options : (program : Text) → App
 hardware_options program =
     let shared = with_rules (no_hardware_options_of program) (for_hardware most_rules) in
@@ -145,7 +146,7 @@ hardware_options program =
 
 -- ---- the tables in src/options.rt and src/options/hardware.rt
 
--- the option with a row's name and letter, before it says whether it takes a value
+-- the option with the name and the letter of a row, before it is set whether the option takes a value
 abbrev pub named : Choice → Rule
 named choice = record (new_rule choice.name.now) {
   short = choice.letter;
@@ -159,11 +160,11 @@ chosen choice = record (named choice) {
   value_names = if is_some choice.value then 1 else 0;
 }
 
--- the command with the option of one more row
+-- the command with the option of this row appended
 abbrev pub with_choice : App → Choice → App
 with_choice app choice = with_rule app (chosen choice)
 
--- the command with the option of one more row and its long name, if a program for hardware has it
+-- the command with the option of this row and its long name appended, if a program for hardware has this option
 abbrev pub with_hardware_choice : App → Choice → App
 with_hardware_choice app choice =
     if is_for_hardware choice.name.now then with_rule app (by_name (chosen choice)) else app

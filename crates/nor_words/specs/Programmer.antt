@@ -9,11 +9,11 @@ use Rattle.nor_words.specs.declared.programmer.Programmer.{Programmer}
 use Rattle.nor_words.specs.Numbers.{byte_number, decimal_number, polls_of, unique_number}
 use Rattle.nor_words.specs.Text.{Text, pieces_of, key_of, value_of, reads}
 
--- Holds for the configuration of this emulated chip with a unique ID of zeros.
+-- Holds for the configuration of `chip`, an emulated chip, with a unique ID of zeros.
 abbrev pub IsConfigOfEmulated : Emulated → Config → Type 0
 IsConfigOfEmulated chip = IsMadeOf chip.part
 
--- true if the name of a file isn't empty
+-- true if `name` isn't empty, and so may be the name of a file
 abbrev pub is_file : Text → Bool
 is_file name = nat_lt 0 (length name)
 
@@ -30,11 +30,11 @@ keys =
     ∷ (codes "power", reads byte_number)
     ∷ []
 
--- true if the setting has this key
+-- true if the key of `setting` is `key`
 abbrev pub has_key : (key setting : Text) → Bool
 has_key key setting = bytes_eq (key_of setting) key
 
--- true if the key is known and the value passes its test
+-- true if `key` is known and `value` passes the test of this key
 abbrev pub may_have : (key value : Text) → Bool
 may_have key value = list_any (λ known. bytes_eq key known.0 && known.1 value) keys
 
@@ -50,19 +50,20 @@ is_alone_in settings setting = nat_le (count_by (has_key (key_of setting)) setti
 abbrev pub are_settings : List Text → Bool
 are_settings settings = list_all (λ setting. is_setting setting && is_alone_in settings setting) settings
 
--- the settings after `dummy:`
+-- the settings that follow `dummy:` in the value of `-p`
 abbrev pub settings_of : Text → List Text
 settings_of text = pieces_of (drop 6 text)
 
--- the value of the first setting with this key, if there is one
+-- the value of the first of `settings` that has this key, or `None` if none has it
 abbrev pub value_in : List Text → Text → Option Text
 value_in settings key = option_map value_of (find (has_key key) settings)
 
--- the value that the text of `-p` gives the key, or `None` if it lacks the key
+-- the value of the key in `text`, the value of `-p`, or `None` if `text` lacks the key
 abbrev pub said : (text key : Text) → Option Text
 said text = value_in (settings_of text)
 
--- true if the text describes a programmer: `dummy:` and then settings, one of which names the chip
+-- true if the text describes a programmer: it consists of `dummy:` and correct settings, and one of these names the
+-- chip
 abbrev pub is_programmer_text : Text → Bool
 is_programmer_text text = starts_with nat_eq text (codes "dummy:")
     && (are_settings (settings_of text) && is_some (option_and_then emulated_named (said text (codes "emulate"))))

@@ -1,4 +1,5 @@
--- The reasons of usage faults: what is wrong with the options, for each fault that they have (specs/Faults.antt).
+-- The reasons of usage faults: for each fault that the options may have (specs/Faults.antt), what is wrong with the
+-- options.
 use Rattle.std.specs.Prelude.{◌≡◌, ◌&&◌, ◌||◌, ℕ, Bool, true, false, ⊤, List, [], ◌∷◌, Option, Some, None, codes, find, is_some, nat_eq, not, option_map, reverse, if◌then◌else◌}
 use Rattle.std.specs.List.{list_any, starts_with}
 use Rattle.nor_words.specs.Text.{Text, pieces_of, reads}
@@ -42,11 +43,11 @@ option_text option.Unlock = codes "--unlock"
 
 -- ---- fault 3
 
--- true if the setting has an unknown key, a wrong value, or a key that another setting has too
+-- true if `setting`, one of `settings`, has an unknown key, a wrong value, or a key that another of `settings` has, too
 unfoldable pub is_flawed : List Text → Text → Bool
 is_flawed settings setting = not (is_setting setting) || not (is_alone_in settings setting)
 
--- the first setting that `is_flawed` is true for
+-- the first of `settings` for which `is_flawed` is true
 abbrev pub first_flawed : List Text → Option Text
 first_flawed settings = find (is_flawed settings) settings
 
@@ -54,17 +55,17 @@ first_flawed settings = find (is_flawed settings) settings
 abbrev pub has_known_key : Text → Bool
 has_known_key setting = list_any (λ known. has_key known.0 setting) keys
 
--- The flaw of a setting that has one, if its key is `known` or not, and its value `valid` or not. If both are true,
--- another setting has the same key.
+-- The flaw of a setting that has a flaw. `known` says whether its key is known, and `valid` says whether the key is
+-- known and may have the setting's value. If both are true, another setting has the same key.
 abbrev pub flaw_by : (known valid : Bool) → Flaw
 flaw_by known valid = if not known then flaw.Key else if valid then flaw.Twice else flaw.Value
 
--- what is wrong with a setting that has a flaw
+-- what is wrong with `setting`, which must have a flaw
 abbrev pub flaw_of : Text → Flaw
 flaw_of setting = flaw_by (has_known_key setting) (is_setting setting)
 
--- Holds if this is the reason why the value of `-p` is wrong: it doesn't begin with `dummy:`, or this is the first
--- setting with a flaw, or no setting has one, so that `emulate=` is missing.
+-- Holds if this is the reason why the value of `-p` is wrong. `NoPrefix`: the value doesn't begin with `dummy:`.
+-- `Setting`: this is the first setting with a flaw. `NoChip`: no setting has a flaw, so `emulate=` is missing.
 abbrev pub IsWrongProgrammer : Text → Reason → Type 0
 IsWrongProgrammer text because.NoPrefix = starts_with nat_eq text (codes "dummy:") ≡ false
 IsWrongProgrammer text (because.Setting setting wrong) = (starts_with nat_eq text (codes "dummy:") ≡ true)
@@ -75,11 +76,11 @@ IsWrongProgrammer text _ = ⊥
 
 -- ---- fault 4
 
--- an option, and whether it is given
+-- whether an option is given, and this option
 abbrev pub Choosing : Type 0
 Choosing = Bool × OptionName
 
--- the operations in the order of the help
+-- each operation with whether it is given, in the order of the help except that `--flash-name` follows `--flash-size`
 abbrev pub operation_choices : Texts → List Choosing
 operation_choices given =
     (given.list, option.List) ∷ (given.flash_size, option.FlashSize) ∷ (given.flash_name, option.FlashName)
@@ -88,12 +89,12 @@ operation_choices given =
     ∷ (is_some given.wp_range, option.WpRange) ∷ (is_some given.restore, option.Restore)
     ∷ (is_some given.backup, option.Backup) ∷ (is_some given.check_journal, option.CheckJournal) ∷ []
 
--- the first option that is given
+-- the first option in the list that is given, or `None` if none is given
 abbrev pub first_given : List Choosing → Option OptionName
 first_given choices =
     option_map (λ (choosing : Choosing). choosing.1) (find (λ (choosing : Choosing). choosing.0) choices)
 
--- the reason with the first and the last of some options that are given
+-- the reason that names `first` and `last`, the first and the last of the options that are given
 abbrev pub operations_reason : (first last : Option OptionName) → Reason
 operations_reason (Some first) (Some last) = because.Operations first last
 operations_reason first last = because.Unsaid
@@ -112,12 +113,13 @@ IsWrongMode (Some value) (because.Progress text) = text.now ≡ value
 IsWrongMode None because.Unsaid = ⊤
 IsWrongMode value _ = ⊥
 
--- Holds if this is the reason of fault 5: the value of `--progress` if it is wrong, otherwise that of `--wp-range`.
+-- Holds if this is the reason of fault 5: the value of `--progress` if `wrong_mode` is true, otherwise the value of
+-- `--wp-range`.
 abbrev pub IsWrongValue : (wrong_mode : Bool) → Texts → Reason → Type 0
 IsWrongValue true given reason = IsWrongMode given.progress reason
 IsWrongValue false given reason = IsWrongRange given.wp_range reason
 
--- the option of a change that is given first, in the order of the help
+-- the first of `-w`, `-E` and `--wp-range` that is given; `--wp-range` also if none of them is given
 abbrev pub change_option : Texts → OptionName
 change_option given = if is_some given.write then option.Write else if given.erase then option.Erase else option.WpRange
 
@@ -142,20 +144,20 @@ last_layout given =
     else if is_some given.fmap_file then Some option.FmapFile
     else if is_some given.layout then Some option.Layout else None
 
--- the reason of fault 7 for at most one layout
+-- the reason of fault 7 if at most one layout is given: `layout` is its option, and `names` is the value of `-i`
 abbrev pub names_reason : (layout : Option OptionName) → (names : Option Text) → Reason
 names_reason (Some layout) (Some names) = because.NoRegions layout
 names_reason (Some layout) None = because.NoNames layout
 names_reason None names = because.NoLayout
 
--- the reason of fault 7: two layouts, or what is missing
+-- the reason of fault 7: more than one layout is given, or something is missing
 abbrev pub regions_reason : Texts → Reason
 regions_reason given =
     if has_two_layouts given then operations_reason (first_layout given) (last_layout given)
     else names_reason (first_layout given) given.names
 
--- the reason of fault 8: an option that needs `-w` or `-E`; or `-N`, which needs one of these or `--restore`; or
--- `--quick`, which needs `--restore`
+-- the reason of fault 8: the option that is given without the operation that it needs. `-n` and `--unlock` need `-w` or
+-- `-E`, `-N` needs one of these or `--restore`, and `--quick` needs `--restore`.
 abbrev pub unneeded_reason : Texts → Reason
 unneeded_reason given =
     if is_new_content given then because.NoRestore
@@ -168,8 +170,9 @@ unneeded_reason given =
 abbrev pub first_unread : Text → Option Text
 first_unread text = find (λ piece. not (reads decimal_number piece)) (pieces_of text)
 
--- Holds if this is the reason of fault 9: the first part of the value of `--rehearse` that isn't a number, or too many
--- numbers, or a `stop=` of `-p`.
+-- Holds if this is the reason of fault 9. `Stop`: the first part of the value of `--rehearse` that isn't a number.
+-- `ManyStops`: the value has more than 64 numbers. `StopAndRehearse`: the value is correct, so the fault is the `stop=`
+-- of `-p`.
 abbrev pub IsWrongStops : Option Text → Reason → Type 0
 IsWrongStops (Some text) (because.Stop piece) = first_unread text ≡ Some piece.now
 IsWrongStops (Some text) because.ManyStops = (first_unread text ≡ None) × (stops_of text ≡ None)
@@ -179,12 +182,12 @@ IsWrongStops text _ = ⊥
 
 -- ---- all faults
 
--- Holds if this is the reason of fault 3 for this value of `-p`.
+-- Holds if this is the reason of fault 3 for this value of `-p`, which is `None` if `-p` is missing.
 abbrev pub IsProgrammerReason : Option Text → Reason → Type 0
 IsProgrammerReason (Some text) reason = IsWrongProgrammer text reason
 IsProgrammerReason None reason = reason ≡ because.Unsaid
 
--- Holds if this is the reason of a fault that these options have.
+-- Holds if `reason` is the reason of this fault. It says what is wrong if the options have the fault.
 abbrev pub IsReason : Texts → UsageFault → Reason → Type 0
 IsReason given why.NoProgrammer reason = reason ≡ because.NoProgrammer
 IsReason given why.Programmer reason = IsProgrammerReason given.programmer reason

@@ -10,22 +10,22 @@ Text = List ℕ
 abbrev pub pieces_of : Text → List Text
 pieces_of = slice_split (λ byte. byte == 44)
 
--- all before the first comma, or the whole text if it has no comma
+-- the bytes that precede the first comma, or the whole text if it has no comma
 abbrev pub front_of : Text → Text
 front_of = before_first (λ byte. byte == 44)
 
--- all after the first comma, or nothing if the text has no comma
+-- the bytes that follow the first comma, or no bytes if the text has no comma
 abbrev pub rest_of : Text → Text
 rest_of = after_first (λ byte. byte == 44)
 
--- all before the first `=`, or the whole text if it has no `=`
+-- the bytes that precede the first `=`, or the whole text if it has no `=`
 abbrev pub key_of : Text → Text
 key_of = before_first (λ byte. byte == 61)
 
--- all after the first `=`, or nothing if the text has no `=`
+-- the bytes that follow the first `=`, or no bytes if the text has no `=`
 abbrev pub value_of : Text → Text
 value_of = after_first (λ byte. byte == 61)
 
--- true if the parser returns a value for the text
+-- true if the parser `reading` returns a value for the text
 abbrev pub reads : {T : Type 0} → (Text → Option T) → Text → Bool
 reads reading text = is_some (reading text)

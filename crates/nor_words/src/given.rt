@@ -1,4 +1,5 @@
-//! The values that the arguments give the options; the job that the options ask for, or the first fault that they have.
+//! The values of the options in the arguments, and the job that these options ask for or the first usage fault that
+//! they have.
 ghost use Rattle.std.specs.Prelude.{◌≡◌, None, Some, codes, false, is_some, true, option_map, option_and_then, MatchOption, MatchResult};
 ghost use Rattle.std.specs.Option.{IsSomeAnd};
 ghost use Rattle.clap.specs.Words.{found_of, rows_of};
@@ -29,10 +30,12 @@ mod faults;
 mod flags;
 mod reasons;
 
-// A value of `-p` without a fault.
+// A correct value of `-p`, without a `stop=`. The options of a program for hardware are checked with this value in
+// place of their own.
 const ANY_CHIP: &str = "dummy:emulate=TINY64";
 
-/// The values of the options that take one, and for each flag whether it is set.
+/// The options in the arguments. An option that takes a value has that value, or `None` if it isn't given. A flag is
+/// true if it is set.
 #[derive(Clone, Copy)]
 pub struct Given<'a> {
     programmer: Option<&'a str>,
@@ -67,8 +70,8 @@ pub struct Given<'a> {
 impl<'a> Given<'a> {
     ghost use Rattle.nor_words.specs.Given.{texts_of};
 
-    /// Collects the options of flashnor, which lacks those that only programs for hardware have, from the matches of
-    /// `clap`.
+    /// Collects the options of flashnor from the result of `clap`. The options that only programs for hardware have are
+    /// missing or false.
     pub fn of(matches: &ArgMatches<'a>) -> Given<'a>
         ensures { texts_of result ≡ given_in (rows_of (found_of matches.now)) }
     {
@@ -103,8 +106,8 @@ impl<'a> Given<'a> {
         }
     }
 
-    /// Collects the options of a program for hardware: also those that only these programs have, but neither `-L` nor
-    /// `--rehearse`.
+    /// Collects the options of a program for hardware from the result of `clap`. `-L` and `--rehearse`, which these
+    /// programs lack, are false and missing.
     pub fn of_hardware(matches: &ArgMatches<'a>) -> Given<'a>
         ensures { texts_of result ≡ hardware_given_in (rows_of (found_of matches.now)) }
     {
@@ -124,8 +127,8 @@ impl<'a> Given<'a> {
         }
     }
 
-    /// Returns the job that the options ask for, or the first of the faults 2 to 9 that they have. Requires options
-    /// without `--check-journal`.
+    /// Returns the job that the options ask for, or the first of the faults 2 to 9 that they have. The options must not
+    /// include `--check-journal`.
     pub fn job(self) -> Result<Job<'a>, UsageFault>
         requires { (texts_of self).check_journal ≡ None }
         ensures { MatchResult result
@@ -145,10 +148,11 @@ impl<'a> Given<'a> {
         }
     }
 
-    /// Returns the job of a program for hardware: with `--check-journal` the name of the journal, otherwise the value of
-    /// `-p`, and the operation or its fault. Returns the first of the faults 4 to 9 if there is one and
-    /// `--check-journal` is given, and fault 2 if both `-p` and `--check-journal` are missing. Requires options without
-    /// `-L`.
+    /// Returns the job of a program for hardware. With `--check-journal` the job has the file name of the journal.
+    /// Otherwise it has the value of `-p`, and the operation or the first of the faults 4 to 9 that the options have.
+    ///
+    /// With `--check-journal`, returns the first of the faults 4 to 9 if the options have one. Returns fault 2 if `-p`
+    /// and `--check-journal` are missing. The options must not include `-L`.
     pub fn hardware_job(self) -> Result<HardwareJob<'a>, WrongArguments<'a>>
         requires { self.list ≡ false }
         ensures { MatchResult result (IsHardwareAsked (texts_of self.entry)) (IsWrongForHardware (texts_of self.entry)) }
@@ -167,7 +171,7 @@ impl<'a> Given<'a> {
     }
 
     // Returns the operation that the options ask for, or the first of the faults 4 to 9 that they have, with its
-    // reason. Requires options without `-L`, so the job is never a list, and without `--check-journal`.
+    // reason. The options must include neither `-L`, so that the job is never a list of chips, nor `--check-journal`.
     fn operation(self) -> Result<Operation<'a>, WrongArguments<'a>>
         requires { (self.list ≡ false) × ((texts_of self).check_journal ≡ None) }
         ensures { MatchResult result (IsOperation (texts_of self.entry)) (IsWrongOperation (texts_of self.entry)) }
@@ -188,8 +192,8 @@ impl<'a> Given<'a> {
         }
     }
 
-    // Returns the same options with an emulated chip without a `stop=`. The faults of the other options are the same
-    // for each such chip, so any will do.
+    // Returns the same options with `ANY_CHIP` as the value of `-p`. The faults of the other options are the same for
+    // each correct value without a `stop=`, so any such value will do.
     fn emulated(&self) -> Given<'a>
         ensures { texts_of result
             ≡ record (texts_of self.now) { programmer = Some (codes "dummy:emulate=TINY64") } }
@@ -200,7 +204,7 @@ impl<'a> Given<'a> {
         }
     }
 
-    // Returns the mode that `--progress` names; `auto` if it is missing or names none.
+    // Returns the mode that `--progress` names, or `Auto` if the option is missing or its value isn't a mode.
     fn progress_mode(&self) -> ProgressMode
         ensures { result ≡ progress_mode (texts_of self.now) }
     {
@@ -210,7 +214,7 @@ impl<'a> Given<'a> {
         }
     }
 
-    // Returns the programmer that `-p` describes, or `None` if `-p` is missing or describes none.
+    // Returns the programmer that the value of `-p` describes, or `None` if `-p` is missing or its value is wrong.
     #[tactic(auto, using(crate::proofs::OptionValues::means_read))]
     fn parsed_programmer(&self) -> Option<Programmer<'a>>
         ensures { MatchOption result (passes_test is_programmer_text (texts_of self.now).programmer ≡ false)
@@ -235,7 +239,8 @@ impl<'a> Given<'a> {
         self.rehearse.and_then(read_stops)
     }
 
-    // Returns the file of the layout: the value of `-l`, or else of `--fmap-file`, or else of `--ifd-file`.
+    // Returns the file name of the layout: the value of the first of `-l`, `--fmap-file` and `--ifd-file` that is
+    // given. Returns `None` if none is given.
     fn layout_file(&self) -> Option<&'a str>
         ensures { option_map (λ file. file.now) result ≡ layout_file (texts_of self.now) }
     {
@@ -246,7 +251,8 @@ impl<'a> Given<'a> {
         }
     }
 
-    // Returns the form in which the file of the layout has it.
+    // Returns the form of the layout in the file that `layout_file` returns. Without a layout the result has no
+    // meaning.
     fn layout_form(&self) -> LayoutForm
         ensures { result ≡ layout_form (texts_of self.now) }
     {
@@ -259,7 +265,8 @@ impl<'a> Given<'a> {
         }
     }
 
-    // Returns the operation on the chip. Requires options without `-L`, `--check-journal` and a fault.
+    // Returns the operation on the chip. The options must have no fault, and must include neither `-L` nor
+    // `--check-journal`.
     fn task(&self) -> Task<'a>
         requires { ((texts_of self.now).list ≡ false) × ((texts_of self.now).check_journal ≡ None)
             × (first_fault (usage_faults (texts_of self.now)) ≡ None) }
@@ -277,7 +284,8 @@ impl<'a> Given<'a> {
         })
     }
 
-    // Returns the target of a change, or `None` if the options have neither `-w` nor `-E`, and no range can be parsed.
+    // Returns the target of a change, or `None` if the options include neither `-w` nor `-E` nor a `--wp-range` whose
+    // value can be parsed.
     fn wanted(&self) -> Option<Wanted<'a>>
         ensures { MatchOption result ((is_new_content (texts_of self.now) ≡ false)
             × (option_and_then range_of (texts_of self.now).wp_range ≡ None))
@@ -291,7 +299,8 @@ impl<'a> Given<'a> {
         }
     }
 
-    // Returns the use of a change's journal. Requires stops if there is no `--journal`, so the `unwrap` can't fail.
+    // Returns what is done with the journal of a change. If there is no `--journal`, the value of `--rehearse` must be
+    // a list of stops, so the `unwrap` can't fail.
     fn journal_use(&self) -> JournalUse<'a>
         requires { (texts_of self.now).journal ≡ None
             → is_some (option_and_then stops_of (texts_of self.now).rehearse) ≡ true }
@@ -305,8 +314,8 @@ impl<'a> Given<'a> {
         }
     }
 
-    // Returns the regions that are included, or `None` if a layout and `-i` are missing. Requires options without
-    // fault 7.
+    // Returns the layout and the names of the included regions, or `None` if both are missing. The options must not
+    // have fault 7.
     fn regions(&self) -> Option<Regions<'a>>
         requires { has_wrong_regions (texts_of self.now) ≡ false }
         ensures { IsRegions (texts_of self.now) result }
@@ -322,8 +331,8 @@ impl<'a> Given<'a> {
     }
 
     // Returns an operation other than `Change`: a read or a backup, a comparison, a report, a restore, or only the
-    // identification.
-    // Requires options without `-L`, `--check-journal`, `-w`, `-E`, `--wp-range` and fault 7.
+    // identification. The options must not have fault 7, and must include none of `-L`, `--check-journal`, `-w`, `-E`
+    // and `--wp-range`.
     fn plain_task(&self) -> Task<'a>
         requires { ((texts_of self.now).list ≡ false) × ((texts_of self.now).check_journal ≡ None)
             × (asks_change (texts_of self.now) ≡ false)

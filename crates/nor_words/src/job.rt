@@ -1,4 +1,4 @@
-//! The job that the arguments ask for.
+//! The types of the jobs that the arguments may ask for.
 ghost use Rattle.std.specs.Prelude.{◌≡◌};
 
 use crate::programmer::Programmer;
@@ -7,7 +7,7 @@ use crate::stops::MOST_STOPS;
 use arrayvec::ArrayVec;
 use nor_probe::ChipName;
 
-/// The job that the arguments ask for.
+/// The job that the arguments of flashnor ask for.
 #[derive(Drop)]
 pub enum Job<'a> {
     /// `-L`: list the table of chips.
@@ -19,13 +19,15 @@ pub enum Job<'a> {
 /// A job on the chip that `-p` names.
 #[derive(Drop)]
 pub struct ChipJob<'a> {
+    /// The parsed value of `-p`: the emulated chip and its files.
     pub programmer: Programmer<'a>,
     /// `-c NAME`: the name that the chip must have.
     pub named: Option<ChipName>,
+    /// The operation on the chip.
     pub task: Task<'a>,
 }
 
-/// The job of a program for hardware, as its arguments give it.
+/// The job that the arguments of a program for hardware ask for.
 #[derive(Drop)]
 pub enum HardwareJob<'a> {
     /// `--check-journal FILE`: describe the journal in the named file. No programmer is needed, and `-p` is ignored.
@@ -37,42 +39,44 @@ pub enum HardwareJob<'a> {
 /// A job on the chip of a programmer.
 #[derive(Drop)]
 pub struct ProgrammerJob<'a> {
-    /// The value of `-p`, which isn't parsed.
+    /// The value of `-p` as you typed it. This crate doesn't parse it.
     pub programmer: &'a str,
-    /// The operation, or the first of the usage faults 4 to 8 with its reason. Fault 9 can't occur, because there is no
-    /// `--rehearse`.
-    /// If the program finds that the value of `-p` is wrong, it must report usage fault 3 instead of these faults.
+    /// The operation that the options ask for. If the options have one of the usage faults 4 to 8, the first of these
+    /// faults with its reason. Fault 9 can't occur, because there is no `--rehearse`. If the program finds that the
+    /// value of `-p` is wrong, it must report usage fault 3 instead of these faults.
     pub operation: Result<Operation<'a>, WrongArguments<'a>>,
 }
 
-/// An operation on a chip that is not emulated.
+/// An operation of a program for hardware, and how the program performs and shows it.
 #[derive(Drop)]
 pub struct Operation<'a> {
     /// `-c NAME`: the name that the chip must have.
     pub named: Option<ChipName>,
-    /// Without `-N`: after a write, an erase or a restore compare the sectors that it did not change, too.
+    /// True without `-N`: after a write, an erase or a restore, the program also compares the sectors that this
+    /// operation did not change.
     pub verifies_all: bool,
-    /// `--quick`: a restore rewrites only the saved sectors that differ.
+    /// True with `--quick`: a restore rewrites only the saved sectors that differ.
     pub is_quick: bool,
-    /// `--backup`: the file of `Task::Read` is a new journal, which saves the whole chip.
+    /// True with `--backup`: `task` is `Task::Read`, and its file is a new journal that saves the whole chip.
     pub is_backup: bool,
-    /// `--flash-name`: print only the name of the chip that `Task::Probe` identifies.
+    /// True with `--flash-name`: `task` is `Task::Probe`, and the program prints only the name of the identified chip.
     pub is_flash_name: bool,
-    /// `--progress MODE`: how the progress is shown.
+    /// The mode of `--progress MODE`: how the program shows its progress.
     pub progress: ProgressMode,
-    /// `-V`: print more about the run.
+    /// True with `-V`: the program prints more about the run.
     pub is_verbose: bool,
+    /// The operation on the chip.
     pub task: Task<'a>,
 }
 
 /// How a program for hardware shows the progress of its job.
 #[derive(Clone, Copy)]
 pub enum ProgressMode {
-    /// `auto`, and without `--progress`: on a terminal.
+    /// `auto`, also without `--progress`: progress is shown if standard error is a terminal.
     Auto,
-    /// `plain`: one line per step, also if standard error is no terminal.
+    /// `plain`: one line is printed per step, even if standard error isn't a terminal.
     Plain,
-    /// `none`: not at all.
+    /// `none`: no progress is shown.
     Hidden,
 }
 
@@ -96,11 +100,11 @@ impl ProgressMode {
     }
 }
 
-/// The operation on a chip.
+/// An operation on a chip.
 #[derive(Drop)]
 pub enum Task<'a> {
-    /// No operation: only identify the chip. A program for hardware also has `--flash-name`, which is this task with
-    /// `Operation::is_flash_name`.
+    /// Only identify the chip, because no operation is given. For `--flash-name` of a program for hardware the task is
+    /// the same, and `Operation::is_flash_name` is true.
     Probe,
     /// `--flash-size`: print the size of the chip.
     FlashSize,
@@ -108,8 +112,8 @@ pub enum Task<'a> {
     WpStatus,
     /// `--wp-list`: list the ranges that can be protected.
     WpList,
-    /// `-r FILE`: read the chip into the named file. A program for hardware also has `--backup FILE`, which is this
-    /// task with `Operation::is_backup`.
+    /// `-r FILE`: read the chip into the named file. For `--backup FILE` of a program for hardware the task is the
+    /// same, and `Operation::is_backup` is true.
     Read {
         file: &'a str,
         regions: Option<Regions<'a>>,
@@ -121,18 +125,18 @@ pub enum Task<'a> {
     },
     /// `-w FILE`, `-E` or `--wp-range S,L`: change the chip.
     Change(Change<'a>),
-    /// `--restore FILE`: restore what the journal in the named file saved.
+    /// `--restore FILE`: restore the chip from the journal in the named file.
     Restore {
         journal: &'a str,
     },
 }
 
-/// The regions that an operation includes.
+/// The regions to which an operation is limited: a layout, and the names of the included regions.
 #[derive(Clone, Copy)]
 pub struct Regions<'a> {
     /// `-l FILE`, or for a program for hardware `--fmap-file FILE` or `--ifd-file FILE`: the name of the layout file.
     pub layout: &'a str,
-    /// The form in which that file has the layout.
+    /// The form of the layout in the file `layout`.
     pub form: LayoutForm,
     /// `-i NAMES`: the names of the regions, separated by commas.
     pub names: &'a str,
@@ -152,13 +156,15 @@ pub enum LayoutForm {
 /// A write, an erase or a change of protection, either with a journal or as a rehearsal.
 #[derive(Drop)]
 pub struct Change<'a> {
+    /// The target: what the chip or its protection must become.
     pub wanted: Wanted<'a>,
     /// The regions of the layout that are included, or `None` for the whole chip.
     pub regions: Option<Regions<'a>>,
-    /// `--unlock`: lift protection that is in the way, and set it again at the end.
+    /// True with `--unlock`: lift protection that is in the way, and set it again at the end.
     pub unlock: bool,
-    /// Without `-n`: read back what was written, and compare it.
+    /// True without `-n`: read back what was written, and compare it.
     pub verify: bool,
+    /// What is done with the journal of this change.
     pub journal_use: JournalUse<'a>,
 }
 
@@ -169,16 +175,18 @@ pub enum Wanted<'a> {
     Write { image: &'a str },
     /// `-E`: FFh for each included byte.
     Erase,
-    /// `--wp-range S,L`: protection of exactly the `len` bytes that begin at `start`.
+    /// `--wp-range S,L`: protection of the `len` bytes from address `start` on, and of no others.
     Range { start: u32, len: u32 },
 }
 
-/// The use of the journal of a change: it is written into a file, or a rehearsal restores from it in memory.
+/// What is done with the journal of a change: it is written into a file, or a rehearsal restores the chip from it in
+/// memory.
 #[derive(Drop)]
 pub enum JournalUse<'a> {
     /// `--journal FILE`: write the journal into the named file.
     Journal { file: &'a str },
-    /// `--rehearse N,N,..`: rehearse the change. The first number stops the change after that many transactions; each
-    /// further number stops one restore after that many. The last restore isn't stopped.
+    /// `--rehearse N,N,..`: rehearse the change. The first number of `stops` is the number of transactions after which
+    /// the change is stopped. Each further number is the number of transactions after which one of the following
+    /// restores is stopped. The last restore isn't stopped.
     Rehearse { stops: ArrayVec<u64, MOST_STOPS> },
 }

@@ -1,4 +1,4 @@
-//! The numbers in the values of options.
+//! Parses the numbers in the values of options.
 ghost use Rattle.std.specs.Prelude.{◌≡◌, ◌≤◌, option_map};
 ghost use Rattle.std.specs.Char.{is_digit};
 ghost use Rattle.std.specs.List.{list_all};
@@ -6,16 +6,14 @@ ghost use Rattle.nor_words.specs.Numbers.{numeral, decimal_number, polls_of, num
 
 use hex::FromHex;
 
-/// Returns the number that `text` is: 1 to 20 decimal digits, at most the greatest `u64`. Returns `None` for any other
-/// text.
+/// Parses 1 to 20 decimal digits with a value that fits in a `u64`. Returns `None` for any other text.
 pub fn read_number(text: &str) -> Option<u64>
     ensures { result ≡ decimal_number text.now }
 {
     read_numeral(text, 10, 20, u64::MAX)
 }
 
-/// Returns the number of polls that `text` is: 1 to 20 decimal digits, at most 65,535. Returns `None` for any other
-/// text.
+/// Parses a number of polls: 1 to 20 decimal digits with a value of at most 65,535. Returns `None` for any other text.
 pub fn read_polls(text: &str) -> Option<u16>
     ensures { result ≡ polls_of text.now }
 {
@@ -23,8 +21,8 @@ pub fn read_polls(text: &str) -> Option<u16>
     u16::try_from(polls).ok()
 }
 
-/// Returns the start and the length that `text` is, each as `read_place` reads it, with a comma between them. Returns
-/// `None` for any other text.
+/// Parses a start and a length with a comma between them, each in the form that `read_place` accepts. Returns `None`
+/// for any other text.
 pub fn read_range(text: &str) -> Option<(u32, u32)>
     ensures { result ≡ range_of text.now }
 {
@@ -32,8 +30,8 @@ pub fn read_range(text: &str) -> Option<(u32, u32)>
     Some((read_place(start)?, read_place(len)?))
 }
 
-// Returns the address or the length that `text` is: `0x` and 1 to 8 hexadecimal digits of either case, or 1 to 10
-// decimal digits, at most the greatest `u32`. Returns `None` for any other text.
+// Parses an address or a length: either `0x` and 1 to 8 hexadecimal digits of either case, or 1 to 10 decimal digits
+// with a value that fits in a `u32`. Returns `None` for any other text.
 fn read_place(text: &str) -> Option<u32>
     ensures { result ≡ number_or_length text.now }
 {
@@ -44,8 +42,7 @@ fn read_place(text: &str) -> Option<u32>
     u32::try_from(place).ok()
 }
 
-// Returns the number that `text` is: 1 to `most` digits of this radix, with a value of at most `greatest`. Returns
-// `None` for any other text.
+// Parses 1 to `most` digits to the base `radix`, with a value of at most `greatest`. Returns `None` for any other text.
 fn read_numeral(text: &str, radix: u32, most: usize, greatest: u64) -> Option<u64>
     requires { (2 ≤ radix) × (radix ≤ 36) }
     ensures { result ≡ numeral radix most greatest text.now }
@@ -61,8 +58,8 @@ fn read_numeral(text: &str, radix: u32, most: usize, greatest: u64) -> Option<u6
     }
 }
 
-// True if each byte of the text is a digit of this radix, so for an empty text, too. This test excludes the leading
-// plus that `from_str_radix` accepts.
+// True if each byte of `text` is a digit to the base `radix`, also if `text` is empty. This test excludes the leading
+// plus sign that `from_str_radix` accepts.
 fn has_digits(text: &str, radix: u32) -> bool
     requires { (2 ≤ radix) × (radix ≤ 36) }
     ensures { result ≡ list_all (λ digit. is_digit digit radix) text.now }
@@ -70,14 +67,14 @@ fn has_digits(text: &str, radix: u32) -> bool
     text.bytes().all(|digit| char::from(digit).is_digit(radix))
 }
 
-/// Decodes a text of 16 hexadecimal digits to eight bytes. Returns `None` for any other text.
+/// Decodes 16 hexadecimal digits to the eight bytes of a unique ID. Returns `None` for any other text.
 pub fn read_unique(text: &str) -> Option<[u8; 8]>
     ensures { result ≡ unique_number text.now }
 {
     <[u8; 8] as FromHex>::from_hex(text).ok()
 }
 
-/// Returns the byte that `text` is, in two hexadecimal digits. Returns `None` for any other text.
+/// Decodes two hexadecimal digits to a byte. Returns `None` for any other text.
 pub fn read_byte(text: &str) -> Option<u8>
     ensures { result ≡ byte_number text.now }
 {

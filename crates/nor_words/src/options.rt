@@ -1,4 +1,4 @@
-//! The options of the program, for `clap` and in its help.
+//! The options of flashnor and of programs for hardware, as `clap` parses them and as the help shows them.
 ghost use Rattle.std.specs.Prelude.{◌≡◌, IfOk, fold, map};
 ghost use Rattle.clap.specs.Words.{app_of};
 ghost use Rattle.nor_words.specs.Options.{options, no_options_of, help_rule, most_rules, IsOption};
@@ -11,7 +11,7 @@ use std::alloc::{AllocError, Global};
 
 mod hardware;
 
-// The help of flashnor.
+// The name, the version and the texts of flashnor's help.
 const FLASHNOR: Help = Help {
     program: "flashnor",
     version: "1.0",
@@ -84,16 +84,20 @@ The manual page, flashnor(8), says what each fault asks for.";
 
 // An option: how it is written, and its line in the help.
 struct Choice {
-    // The letter after `-`. Without one, the option is written as `--` and its name, also in flashnor.
+    // The letter of the option, such as `r` in `-r`. An option without a letter is written with its long name in every
+    // program.
     letter: Option<char>,
-    // The option's ID, and its long name: in flashnor only if it has no letter.
+    // The option's ID for `clap`, and its long name, such as `read` in `--read`. In flashnor only options without a
+    // letter have a long name.
     name: &'static str,
-    // The placeholder of its value in the help. Without one, the option is a flag and takes no value.
+    // The placeholder of the option's value in the help. An option without a placeholder is a flag, which takes no
+    // value.
     value: Option<&'static str>,
+    // The description of the option in the help.
     help: &'static str,
 }
 
-// All options except `-h`, in the order of the help.
+// All options of flashnor except `-h`, in the order of the help.
 static CHOICES: [Choice; 18] = [
     Choice {
         letter: Some('p'),
@@ -205,7 +209,8 @@ static CHOICES: [Choice; 18] = [
     },
 ];
 
-/// Returns the `clap` command that parses the arguments, without the program's name. Fails only if memory runs out.
+/// Returns the `clap` command that parses the arguments of flashnor, without the program's name. Fails only if memory
+/// runs out.
 pub fn make_options<'a>(alloc: Global) -> Result<Command<'a>, AllocError>
     ensures { IfOk result (λ command. app_of command ≡ options) }
 {
@@ -213,7 +218,7 @@ pub fn make_options<'a>(alloc: Global) -> Result<Command<'a>, AllocError>
     chosen.arg(help_option(alloc))
 }
 
-/// The name of a program, and the lines of its help around the options.
+/// The name and the version of a program, and the texts of its help above and below the options.
 #[derive(Clone, Copy)]
 pub struct Help {
     /// The name of the program.
@@ -226,10 +231,10 @@ pub struct Help {
     pub notes: &'static str,
 }
 
-/// Returns the `clap` command of a program for hardware. It has all options except `-L`, which needs no chip, and
-/// `--rehearse`, which needs an emulated one; those that only programs for hardware have; and `-R`, which prints the
-/// version. Each option with a letter has a long name too, as in flashrom: `-r` is also `--read`, and `-h` is also
-/// `--help`. Fails only if memory runs out.
+/// Returns the `clap` command of a program for hardware. Its options are those of flashnor except `-L`, which needs no
+/// chip, and `--rehearse`, which needs an emulated chip. It also has the options that only programs for hardware have,
+/// and `-R`, which prints the version. Each option with a letter has a long name, too, as in flashrom: `-r` is also
+/// `--read`, and `-h` is also `--help`. Fails only if memory runs out.
 pub fn make_hardware_options<'a>(alloc: Global, help: Help) -> Result<Command<'a>, AllocError>
     ensures { IfOk result (λ command. app_of command ≡ hardware_options help.program.now) }
 {
@@ -239,7 +244,8 @@ pub fn make_hardware_options<'a>(alloc: Global, help: Help) -> Result<Command<'a
     versioned.arg(hardware_help_option(alloc))
 }
 
-// Adds an option for each row that a program for hardware has, in the order of the table. Each has a long name.
+// Adds the option of each row of `choices` to `command`, in the order of the table, except the options that a program
+// for hardware lacks. Each added option has a long name.
 fn add_hardware_choices<'a>(
     alloc: Global,
     command: Command<'a>,
@@ -256,14 +262,15 @@ fn add_hardware_choices<'a>(
     Ok(longer)
 }
 
-// True if a program for hardware has the option with this name.
+// True if a program for hardware has the option with the ID `name`: all options except `-L` and `--rehearse`.
 fn is_for_hardware(name: &str) -> bool
     ensures { result ≡ is_for_hardware name.now }
 {
     name != "list" && name != "rehearse"
 }
 
-// Returns the command of the program without options. The help option of `clap` itself is disabled.
+// Returns the `clap` command of the program that `help` describes, without options. `clap`'s own help option is
+// disabled.
 fn new_command<'a>(alloc: Global, help: Help) -> Command<'a>
     ensures { app_of result ≡ no_options_of help.program.now }
 {
@@ -274,7 +281,7 @@ fn new_command<'a>(alloc: Global, help: Help) -> Command<'a>
         .after_help(help.notes)
 }
 
-// Returns the command of a program for hardware without options. The version option of `clap` itself is disabled.
+// Returns the `clap` command of a program for hardware, without options. `clap`'s own version option is disabled.
 fn new_hardware_command<'a>(alloc: Global, help: Help) -> Command<'a>
     ensures { app_of result ≡ no_hardware_options_of help.program.now }
 {
@@ -283,14 +290,14 @@ fn new_hardware_command<'a>(alloc: Global, help: Help) -> Command<'a>
         .disable_version_flag(true)
 }
 
-// Returns the table `CHOICES`, whose options are `most_rules`.
+// Returns the table `CHOICES`. Its rows describe the options that the specification lists as `most_rules`.
 fn choices() -> &'static [Choice; 18]
     ensures { map chosen result.now ≡ most_rules }
 {
     &CHOICES
 }
 
-// Adds an option for each row, in the order of the table.
+// Adds the option of each row of `choices` to `command`, in the order of the table.
 fn add_choices<'a>(
     alloc: Global,
     command: Command<'a>,
@@ -306,7 +313,7 @@ fn add_choices<'a>(
 }
 
 impl Choice {
-    // Returns the option of this row: one that takes a value, or a flag.
+    // Returns the option that this row describes: an option that takes a value, or a flag.
     fn option<'a>(&self, alloc: Global) -> Arg<'a>
         ensures { IsOption (chosen self.now) result }
     {
@@ -317,7 +324,8 @@ impl Choice {
         }
     }
 
-    // Returns an option with this row's name, letter and help, which doesn't say yet whether it takes a value.
+    // Returns an option with this row's name, letter and help. The caller must still set whether the option takes a
+    // value.
     fn named<'a>(&self, alloc: Global) -> Arg<'a>
         ensures { IsOption (named self.now) result }
     {
@@ -329,7 +337,8 @@ impl Choice {
     }
 }
 
-// Its ID can't be `version`, which is that of the option of `clap` itself.
+// Returns the option `-R`, which prints the version. Its ID can't be `version`, because that is the ID of `clap`'s own
+// version option.
 fn version_option<'a>(alloc: Global) -> Arg<'a>
     ensures { IsOption version_rule result }
 {

@@ -1,4 +1,4 @@
-//! The value of the option `-p`, and the chips that it can name.
+//! The value of the option `-p`, and the emulated chips that it can name.
 ghost use Rattle.std.specs.Prelude.{◌≡◌, false, option_map};
 ghost use Rattle.std.specs.Option.{MatchOption};
 ghost use Rattle.nor_probe.specs.Table.{IsEmulatedPart};
@@ -12,8 +12,9 @@ use nor_probe::{Part, emulated_part};
 /// A chip that the program emulates: `TINY64`, or a chip of the table.
 #[derive(Clone, Copy)]
 pub struct Emulated {
-    /// The chip type that a probe of the chip finds.
+    /// The chip type that the program identifies when it reads the ID and the SFDP of this chip.
     pub part: Part,
+    /// For proofs: `part` is the type of a chip that the program emulates.
     pub ghost emulated: { IsEmulatedPart part },
 }
 

@@ -5,7 +5,7 @@ use crate::words::UsageFault;
 use clap::Error as WordsError;
 use std::alloc::AllocError;
 
-/// An option, as a reason names it.
+/// An option that a reason may name.
 #[derive(Clone, Copy)]
 pub enum OptionName {
     List,
@@ -65,19 +65,19 @@ impl OptionName {
 /// What is wrong with a setting of `-p`.
 #[derive(Clone, Copy)]
 pub enum Flaw {
-    /// Its key is unknown.
+    /// The setting's key is unknown.
     Key,
-    /// Its key is known, but does not have this value.
+    /// The setting's key is known, but may not have this value.
     Value,
-    /// Another setting has the same key.
+    /// Another setting has the same key as this one.
     Twice,
 }
 
 impl Flaw {
     ghost use Rattle.nor_words.specs.Reasons.{flaw_by};
 
-    /// Returns the flaw of a setting that has one. `known` is true if its key is known, and `valid` if also its value
-    /// is one that this key may have.
+    /// Returns the flaw of a setting that has a flaw. `known` says whether the setting's key is known, and `valid` says
+    /// whether the key is known and may have the setting's value.
     pub fn of(known: bool, valid: bool) -> Flaw
         ensures { result ≡ flaw_by known valid }
     {
@@ -89,36 +89,39 @@ impl Flaw {
     }
 }
 
-/// The reason of a usage fault.
+/// The reason of a usage fault. The number at each variant is the number of this fault.
 #[derive(Clone, Copy)]
 pub enum Reason<'a> {
-    /// No reason: the parser's own message has it (fault 1), or memory ran out (fault 10).
+    /// 1 and 10: there is no reason, because `clap`'s message contains it (fault 1), or because memory ran out (fault
+    /// 10).
     Unsaid,
     /// 2: `-p` is missing.
     NoProgrammer,
     /// 3: the value of `-p` doesn't begin with `dummy:`.
     NoPrefix,
-    /// 3: this is the first setting of `-p` with a flaw.
+    /// 3: `setting` is the first setting of `-p` that has a flaw, and `flaw` says which.
     Setting { setting: &'a str, flaw: Flaw },
     /// 3: no setting of `-p` has a flaw, but `emulate=` is missing.
     NoChip,
-    /// 4: the first and the last of the given operations, in the order of the help. 7: those of the given layouts.
+    /// 4: the first and the last of the given operations. They are in the order of the help, except that `--flash-name`
+    /// follows `--flash-size`. 7: the first and the last of the given layouts, in the order `-l`, `--fmap-file`,
+    /// `--ifd-file`.
     Operations { first: OptionName, last: OptionName },
-    /// 5: the value of `--wp-range`.
+    /// 5: this value of `--wp-range` isn't a start and a length.
     Range(&'a str),
-    /// 5: the value of `--progress`.
+    /// 5: this value of `--progress` isn't a mode.
     Progress(&'a str),
-    /// 6: this change has neither `--journal` nor `--rehearse`.
+    /// 6: this option asks for a change, but neither `--journal` nor `--rehearse` is given.
     NoJournal(OptionName),
     /// 6: both `--journal` and `--rehearse` are given.
     JournalAndRehearse,
-    /// 6: this option is given, but no change.
+    /// 6: this option (`--journal` or `--rehearse`) is given without any of `-w`, `-E` and `--wp-range`.
     NoChange(OptionName),
-    /// 7: this layout is given, but `-i` is missing.
+    /// 7: this option names a layout, but `-i` is missing.
     NoNames(OptionName),
-    /// 7: `-i` is given, but no layout.
+    /// 7: `-i` is given, but an option that names a layout is missing.
     NoLayout,
-    /// 7: this layout and `-i` are given, but no operation that takes regions.
+    /// 7: this option names a layout and `-i` is given, but without any of `-r`, `-v`, `-w` and `-E`.
     NoRegions(OptionName),
     /// 8: this option is given with neither `-w` nor `-E`.
     NoContent(OptionName),
@@ -137,7 +140,9 @@ pub enum Reason<'a> {
 /// A usage fault with its reason.
 #[derive(Drop)]
 pub struct WrongArguments<'a> {
+    /// The fault that the arguments have.
     pub fault: UsageFault,
+    /// What is wrong with the arguments.
     pub reason: Reason<'a>,
 }
 

@@ -21,7 +21,8 @@ pub fn read_stops(text: &str) -> Option<ArrayVec<u64, MOST_STOPS>>
     Some(stops)
 }
 
-/// Returns the first part of `text` between its commas that `read_number` doesn't read.
+/// Splits `text` at its commas, and returns the first part that `read_number` doesn't accept. Returns `None` if each
+/// part is a number.
 pub fn first_unread(text: &str) -> Option<&str>
     ensures { option_map (λ part. part.now) result ≡ first_unread text.now }
 {

@@ -13,29 +13,31 @@ use std::alloc::{AllocError, Global};
 use std::fmt;
 use thiserror::Error;
 
-/// A usage fault: why the arguments aren't a job. Its message has the number that is given here. The first of the
-/// faults 1 to 9 is returned; fault 10 may be returned for any arguments.
+/// A usage fault: why the arguments ask for no job. Its message has the number that is given at each variant.
+/// `request_of` returns the first of the faults 1 to 9 that the arguments have; it may return fault 10 for any
+/// arguments.
 #[derive(Debug, Drop, Error)]
 pub enum UsageFault {
-    /// 1: `clap` rejects the arguments. The error has its message; a request for help is this fault, too.
+    /// 1: `clap` rejects the arguments, or they ask for the help. The error has the message or the help to print.
     Words(WordsError),
-    /// 2: `-p` is missing, and `-L` wasn't given, either.
+    /// 2: `-p` and `-L` are missing, or for a program for hardware `-p` and `--check-journal`.
     NoProgrammer,
     /// 3: the value of `-p` doesn't describe a programmer.
     Programmer,
     /// 4: more than one operation.
     TwoOperations,
-    /// 5: the value of `--wp-range` isn't a start and a length. For a program for hardware also: that of `--progress` is
-    /// no mode.
+    /// 5: the value of `--wp-range` isn't a start and a length. For a program for hardware also: the value of
+    /// `--progress` isn't a mode.
     Range,
-    /// 6: `-w`, `-E` or `--wp-range` without exactly one of `--journal` and `--rehearse`, or any other arguments with
-    /// `--journal` or `--rehearse`.
+    /// 6: `-w`, `-E` or `--wp-range` is given without exactly one of `--journal` and `--rehearse`, or `--journal` or
+    /// `--rehearse` is given without any of `-w`, `-E` and `--wp-range`.
     Journal,
-    /// 7: `-l` or `-i` without the other, or both without any of `-r`, `-v`, `-w` and `-E`. In a program for hardware
-    /// `--fmap-file` and `--ifd-file` may be in place of `-l`; more than one of the three is this fault, too.
+    /// 7: `-l` or `-i` is given without the other, or both without any of `-r`, `-v`, `-w` and `-E`. A program for
+    /// hardware also has `--fmap-file` and `--ifd-file` in place of `-l`; more than one of the three is this fault,
+    /// too.
     Layout,
-    /// 8: `-n` or `--unlock` without `-w` or `-E`. For a program for hardware also `-N` without `-w` or `-E`, or
-    /// `--quick` without `--restore`.
+    /// 8: `-n` or `--unlock` is given without `-w` or `-E`. For a program for hardware also: `-N` is given without any
+    /// of `-w`, `-E` and `--restore`, or `--quick` without `--restore`.
     Unneeded,
     /// 9: the value of `--rehearse` isn't 1 to 64 numbers, or both `--rehearse` and a `stop=` of the programmer are
     /// given.
@@ -47,7 +49,7 @@ pub enum UsageFault {
 impl UsageFault {
     ghost use Rattle.nor_words.specs.Faults.{usage_fault_number};
 
-    /// Returns the number of the fault, which its message has: 1 to 10.
+    /// Returns the number of the fault, 1 to 10, which its message contains.
     pub fn number(&self) -> u8
         ensures { result ≡ usage_fault_number self.now }
     {
@@ -104,8 +106,8 @@ impl From<WordsError> for UsageFault {
     }
 }
 
-/// Returns the job that the arguments ask for, or the first usage fault that they have. `words` has the arguments
-/// without the program's name. Fault 10, out of memory, may be returned for any arguments.
+/// Returns the job that the arguments ask for, or the first usage fault that they have. `words` has the arguments that
+/// follow the program's name. Fault 10, out of memory, may be returned for any arguments.
 pub fn request_of<'a>(alloc: Global, words: &'a [String]) -> Result<Job<'a>, UsageFault>
     ensures { MatchResult result (IsJob (map string_bytes words.now)) (IsFault (map string_bytes words.now)) }
 {
@@ -115,7 +117,7 @@ pub fn request_of<'a>(alloc: Global, words: &'a [String]) -> Result<Job<'a>, Usa
     }
 }
 
-/// Returns what `request_of` returns, and the reason of the fault.
+/// Returns the job or the fault that `request_of` returns, and with a fault also its reason.
 pub fn explained_request_of<'a>(
     alloc: Global,
     words: &'a [String],
@@ -130,11 +132,14 @@ pub fn explained_request_of<'a>(
     }
 }
 
-/// Returns the job of a program for hardware that the arguments ask for, or one of the usage faults 1, 2 and 10 with
-/// its reason; with `--check-journal`, which needs no `-p`, one of the faults 4 to 8 in place of fault 2. `words` has
-/// the arguments without the program's name. The options are those of flashnor except `-L` and `--rehearse`, and those
-/// that only programs for hardware have. The value of `-p` isn't parsed. Fault 10, out of memory, may be returned for any
-/// arguments.
+/// Returns the job that the arguments of a program for hardware ask for. `words` has the arguments that follow the
+/// program's name. The options are those of flashnor except `-L` and `--rehearse`, and those that only programs for
+/// hardware have. The value of `-p` isn't parsed.
+///
+/// Returns a usage fault with its reason in these cases: fault 1 if `clap` rejects the arguments, fault 2 if `-p` and
+/// `--check-journal` are missing, and the first of the faults 4 to 8 if `--check-journal` is given and the options have
+/// one of them. Without `--check-journal`, a fault from 4 to 8 is part of the job (`ProgrammerJob::operation`). Fault
+/// 10, out of memory, may be returned for any arguments.
 pub fn operation_of<'a>(
     alloc: Global,
     help: Help,
@@ -147,8 +152,8 @@ pub fn operation_of<'a>(
     Given::of_hardware(&matches).hardware_job()
 }
 
-// Parses the arguments. If one is unknown, the error's text has no tip: the parser would name an option that is spelled
-// alike but may do something else, as `--rehearse` for `--read`.
+// Parses the arguments. If an argument is unknown, the tip of `clap` is removed from the error's text. The tip would
+// name an option that is spelled alike but may do something else, such as `--rehearse` for `--read`.
 fn parse_words<'a>(
     alloc: Global,
     mut options: Command<'a>,
@@ -167,7 +172,8 @@ fn parse_words<'a>(
     }
 }
 
-// Returns an error of the same kind, with the first paragraph of the error's text and the usage of the program.
+// Returns an error of the same kind as `error`. Its text is the first paragraph of the text of `error`, followed by the
+// usage of the program.
 fn without_tip(
     alloc: Global,
     options: &mut Command<'_>,

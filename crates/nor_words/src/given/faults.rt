@@ -89,7 +89,7 @@ impl Given<'_> {
         }
     }
 
-    // Returns the number of operations that are asked for.
+    // Returns the number of operations that the options ask for.
     fn operations(&self) -> usize
         ensures { result ≡ operations (texts_of self.now) }
     {
@@ -111,29 +111,30 @@ impl Given<'_> {
         asked.iter().filter(|asked| **asked).count()
     }
 
-    // True for `-w` or `-E`, which change the bytes of the chip.
+    // True if `-w` or `-E` is given. Both options change the bytes of the chip.
     pub(super) fn is_new_content(&self) -> bool
         ensures { result ≡ is_new_content (texts_of self.now) }
     {
         self.write.is_some() || self.erase
     }
 
-    // True for `-w`, `-E` or `--wp-range`, which change the chip and write a journal or rehearse.
+    // True if `-w`, `-E` or `--wp-range` is given. Each of these options changes the chip, and needs a journal or a
+    // rehearsal.
     pub(super) fn is_change(&self) -> bool
         ensures { result ≡ asks_change (texts_of self.now) }
     {
         self.is_new_content() || self.wp_range.is_some()
     }
 
-    // True for `-r`, `-v`, `-w` or `-E`, which may include only some regions.
+    // True if `-r`, `-v`, `-w` or `-E` is given. Each of these options can be limited to regions of the chip.
     fn takes_regions(&self) -> bool
         ensures { result ≡ takes_regions (texts_of self.now) }
     {
         self.read.is_some() || self.verify.is_some() || self.is_new_content()
     }
 
-    // Fault 6: true if `-w`, `-E` or `--wp-range` is given without exactly one of `--journal` and `--rehearse`, or if
-    // none of the three is given, and `--journal` or `--rehearse` is.
+    // Fault 6: true if a change (`-w`, `-E` or `--wp-range`) is given without exactly one of `--journal` and
+    // `--rehearse`, or if `--journal` or `--rehearse` is given without a change.
     fn has_wrong_journal(&self) -> bool
         ensures { result ≡ has_wrong_journal (texts_of self.now) }
     {
@@ -144,7 +145,8 @@ impl Given<'_> {
         }
     }
 
-    // Fault 8: true if `-n`, `-N`, `--unlock` or `--quick` is given without an operation that takes it.
+    // Fault 8: true if `-n` or `--unlock` is given without `-w` or `-E`, `-N` without any of `-w`, `-E` and
+    // `--restore`, or `--quick` without `--restore`.
     fn has_unneeded(&self) -> bool
         ensures { result ≡ has_unneeded (texts_of self.now) }
     {
@@ -153,8 +155,8 @@ impl Given<'_> {
         ((self.no_verify || self.unlock) && !changes) || unneeded
     }
 
-    // Fault 7: true if there is only one of a layout and `-i`, or both without any of `-r`, `-v`, `-w` and `-E`, or more
-    // than one layout.
+    // Fault 7: true if a layout (`-l`, `--fmap-file` or `--ifd-file`) is given without `-i`, or `-i` without a layout;
+    // if both are given without any of `-r`, `-v`, `-w` and `-E`; or if more than one layout is given.
     fn has_wrong_regions(&self) -> bool
         ensures { result ≡ has_wrong_regions (texts_of self.now) }
     {

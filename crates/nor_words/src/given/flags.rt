@@ -1,11 +1,11 @@
-//! The flags, which take no value.
+//! Whether a flag is set. A flag is an option that takes no value.
 ghost use Rattle.std.specs.Prelude.{◌≡◌};
 ghost use Rattle.clap.specs.Words.{found_of, rows_of};
 ghost use Rattle.nor_words.specs.Given.{is_set_in};
 
 use clap::ArgMatches;
 
-/// Returns whether the flag is set: `clap` then has the value `true` for it.
+/// Returns whether the flag with the ID `flag` is set. `clap` gives a flag that is set the value `true`.
 pub fn is_set(matches: &ArgMatches<'_>, flag: &str) -> bool
     ensures { result ≡ is_set_in (rows_of (found_of matches.now)) flag.now }
 {

@@ -1,4 +1,4 @@
-//! The reason of each usage fault that the options have.
+//! For each usage fault that the options may have, its reason: what is wrong with the options.
 ghost use Rattle.std.specs.Prelude.{◌≡◌, reverse};
 ghost use Rattle.nor_words.specs.Given.{texts_of};
 ghost use Rattle.nor_words.specs.Reasons.{IsProgrammerReason, IsReason, IsWrongMode, IsWrongRange, IsWrongStops};
@@ -13,7 +13,8 @@ use crate::stops::{first_unread, read_stops};
 use crate::words::UsageFault;
 
 impl<'a> Given<'a> {
-    /// Returns the fault with its reason. Requires that the options have this fault, or none of the faults 2 to 9.
+    /// Returns `fault` with its reason. The reason says what is wrong if the options have this fault; otherwise it has
+    /// no meaning.
     pub fn explained(&self, fault: UsageFault) -> WrongArguments<'a>
         ensures fault { result.fault ≡ fault }
         ensures reason { IsReason (texts_of self.now) fault result.reason }
@@ -22,7 +23,7 @@ impl<'a> Given<'a> {
         WrongArguments { fault, reason }
     }
 
-    // Returns the reason of this fault.
+    // Returns the reason of `fault`. It has a meaning only if the options have this fault.
     fn reason(&self, fault: &UsageFault) -> Reason<'a>
         ensures { IsReason (texts_of self.now) fault.now result }
     {
@@ -58,7 +59,7 @@ impl<'a> Given<'a> {
         }
     }
 
-    // Returns the first operation that is given, in the order of the help.
+    // Returns the first given operation in the order of `operation_choices`, or `None` if no operation is given.
     fn first_operation(&self) -> Option<OptionName>
         ensures { result ≡ first_given (operation_choices (texts_of self.now)) }
     {
@@ -68,7 +69,7 @@ impl<'a> Given<'a> {
         }
     }
 
-    // Returns the last operation that is given, in the order of the help.
+    // Returns the last given operation in the order of `operation_choices`, or `None` if no operation is given.
     fn last_operation(&self) -> Option<OptionName>
         ensures { result ≡ first_given (reverse (operation_choices (texts_of self.now))) }
     {
@@ -83,7 +84,8 @@ impl<'a> Given<'a> {
         }
     }
 
-    // Returns the operations in the order of the help, and for each whether it is given.
+    // Returns each operation with whether it is given. The operations are in the order of the help, except that
+    // `--flash-name` follows `--flash-size`.
     fn operation_choices(&self) -> [(bool, OptionName); 13]
         ensures { result ≡ operation_choices (texts_of self.now) }
     {
@@ -143,7 +145,8 @@ impl<'a> Given<'a> {
         }
     }
 
-    // Returns the option of a change that is given first, in the order of the help. Requires that one is given.
+    // Returns the first of `-w`, `-E` and `--wp-range` that is given. If none is given, the result is `--wp-range`,
+    // too.
     fn change_option(&self) -> OptionName
         ensures { result ≡ change_option (texts_of self.now) }
     {
@@ -170,7 +173,7 @@ impl<'a> Given<'a> {
         }
     }
 
-    // Returns the first of `-l`, `--fmap-file` and `--ifd-file` that is given.
+    // Returns the first of `-l`, `--fmap-file` and `--ifd-file` that is given, or `None` if none is given.
     fn first_layout(&self) -> Option<OptionName>
         ensures { result ≡ first_layout (texts_of self.now) }
     {
@@ -185,7 +188,7 @@ impl<'a> Given<'a> {
         }
     }
 
-    // Returns the last of `-l`, `--fmap-file` and `--ifd-file` that is given.
+    // Returns the last of `-l`, `--fmap-file` and `--ifd-file` that is given, or `None` if none is given.
     fn last_layout(&self) -> Option<OptionName>
         ensures { result ≡ last_layout (texts_of self.now) }
     {

@@ -1,10 +1,10 @@
-//! The options that only programs for hardware have.
+//! The options that only programs for hardware have, such as flashnor-serprog.
 ghost use Rattle.std.specs.Prelude.{◌≡◌, map};
 ghost use Rattle.nor_words.specs.Options.{chosen, own_rules};
 
 use crate::options::Choice;
 
-// In the order of the help, in which they follow those that both programs have.
+// The rows are in the order of the help, which prints them after the options that these programs share with flashnor.
 static HARDWARE_CHOICES: [Choice; 9] = [
     Choice {
         letter: None,
@@ -62,7 +62,7 @@ static HARDWARE_CHOICES: [Choice; 9] = [
     },
 ];
 
-// Returns the table `HARDWARE_CHOICES`, whose options are `own_rules`.
+// Returns the table `HARDWARE_CHOICES`. Its rows describe the options that the specification lists as `own_rules`.
 pub(super) fn hardware_choices() -> &'static [Choice; 9]
     ensures { map chosen result.now ≡ own_rules }
 {

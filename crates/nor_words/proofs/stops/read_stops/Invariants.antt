@@ -3,7 +3,8 @@ use Rattle.nor_words.specs.Text.{pieces_of}
 use Rattle.nor_words.proofs.Listed.{with_stops}
 use Rattle.nor_words.proofs.stops.read_stops.Given as goal
 
--- the stops so far and those in the remaining pieces are the stops of the text
+-- The stops that were read and the numbers in the remaining pieces are, in this order, the stops of the whole text. At
+-- most 64 stops were read.
 abbrev pub invariant-loop-number : goal.invariant-loop-number
 invariant-loop-number l =
     (goal.iterator-loop-number).can_next l.number-iterator
