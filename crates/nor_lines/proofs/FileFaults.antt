@@ -1,4 +1,4 @@
--- The fault of a file that can't be read is one of the faults of each call that reads it.
+-- If a file can't be read, the resulting fault is one that the contracts of `read_file` and `read_journal` allow.
 use Rattle.std.proofs.Common.{ℕ, arith}
 use Rattle.nor_words.specs.Text.{Text}
 use Rattle.nor_files.specs.Files.{View}
@@ -14,7 +14,7 @@ module _ (view : View) (name : Text) (size : ℕ) (unread : Happens view (Unread
   pub unread_opening : (fault : Fault) → IsUnreadFault name fault → IsOpeningFault view name size fault
   unread_opening fault is = grind arith
 
--- a fault of reading a journal is also a fault of locking and reading it
+-- Each fault of reading a journal is also one of the faults of locking and reading it.
 pub reading_shares : (view : View) (name : Text) (most : ℕ) (fault : Fault) → IsReadingFault view name most fault
     → IsSharingFault view name most fault
 reading_shares view name most fault is = grind arith

@@ -1,4 +1,4 @@
--- The reasons why names include nothing of a layout's text.
+-- Why no addresses are included: a fault of the layout's text, or an unknown name.
 use Rattle.std.proofs.Common.{◌≡◌, ℕ, ◌+◌, Bool, true, List, [], ◌∷◌, None, Some, Result, Ok, Err, arith, find, not, refl}
 use Rattle.std.specs.List.{list_all}
 use Rattle.std.specs.Prelude.{⊤}
@@ -54,12 +54,12 @@ all_pass : (test : List ℕ → Bool) (xs : List (List ℕ)) → find (λ x. not
 all_pass test [] none = refl
 all_pass test (x ∷ xs) none = grind (arith, all_pass test xs)
 
--- if no name is unknown, all are known
+-- If none of the names is unknown, each name is that of a region.
 pub all_known : (regions : List Region) (names : List ℕ) → first_unknown regions names ≡ None
     → are_known regions names ≡ true
 all_known regions names none = all_pass (is_region_named regions) (names_of names) none
 
--- Holds for layout faults and map faults.
+-- Holds if the fault is a layout fault or a map fault.
 abbrev IsOfLayout : Fault → Type 0
 IsOfLayout (end.Layout fault) = ⊤
 IsOfLayout (end.Map fault) = ⊤
@@ -71,7 +71,8 @@ lacks-only form.Fmap text (end.Map fault) is = tt
 lacks-only form.Descriptor text (end.Map fault) is = tt
 lacks-only _ text _ is = absurd is
 
--- a reason why nothing is included is a fault of including the regions
+-- A fault of the layout's text or of the names (`IsLayoutFault`) is one of the faults with which including regions may
+-- fail.
 pub fails_included : (view : View) (regions : Regions) (fault : Fault) → IsLayoutFault view regions fault
     → FailsToInclude view (Some regions) fault
 fails_included view regions (end.Layout fault) is = is

@@ -1,4 +1,5 @@
--- The file of a vault that was borrowed and taken back, and the files that stay as they were.
+-- The effect of borrowing a vault in a file and taking it back: on that file, and on the other files, which stay as
+-- they were.
 use Rattle.std.proofs.Common.{◌≡◌, ◌∙◌, Some, ap, refl, subst, sym, true}
 use Rattle.nor_files.specs.Calls.{Borrows, TakesBack}
 use Rattle.nor_files.specs.Files.{AreApart, FilesState, Name, Nature, KeepsFile, is_lawful}
@@ -22,7 +23,7 @@ apart_after {one = one} {other = other} same apart = subst (λ (n : Nature). Are
 pub lawful_after : {old new : Nature} → new ≡ old → old.lawful ≡ true → new.lawful ≡ true
 lawful_after same is = ap (λ (n : Nature). n.lawful) same ∙ is
 
--- a vault that was borrowed and taken back
+-- A vault in the file `name` is borrowed between the states `old` and `mid`, and taken back between `mid` and `new`.
 module _ (name : Name) (old mid new : FilesState) (vault : VaultState)
     (made : mid.view.nature ≡ old.view.nature) (borrows : is_lawful old.view ≡ true → Borrows name old mid)
     (back : new.view.nature ≡ mid.view.nature)

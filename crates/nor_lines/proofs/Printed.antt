@@ -1,4 +1,4 @@
--- The text that several writes print.
+-- The text that several writes print one after the other.
 use Rattle.std.proofs.Common.{ℕ, ◌+◌, ◌<◌, List, [], ◌∷◌, ◌++◌, Option, add-one, append-nil, flat_map, get_or}
 use Rattle.std.proofs.Common.{length, take}
 use Rattle.std.proofs.Math.Seq.{take-suc}
@@ -14,7 +14,8 @@ appends_then = Appends-trans
 
 -- ---- the table of chips
 
--- after the line of one more chip, the lines of the first `i + 1` chips are printed
+-- If the lines of the first `i` items of the table were printed, and then the line of the item at index `i`, the lines
+-- of the first `i + 1` items were printed.
 pub chips_then : (a b c : Option (List ℕ)) (items : List Part) (i : ℕ) (none : Part) → i < length items
     → Appends a b (flat_map chip_line (take i items)) → Appends b c (chip_line (get_or items i none))
     → Appends a c (flat_map chip_line (take (i + 1) items))

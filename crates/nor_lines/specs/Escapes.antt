@@ -4,12 +4,12 @@ use Rattle.std.specs.Char.{is_control}
 use Rattle.nor_request.specs.Texts.{hex_digits}
 use Rattle.nor_words.specs.Text.{Text}
 
--- a byte as `\xNN`, with two lower-case hexadecimal digits
+-- a byte written as `\xNN`, with two lower-case hexadecimal digits
 abbrev pub escaped_byte : ℕ → List ℕ
 escaped_byte byte = codes "\\x" ++ hex_digits 2 byte
 
--- A character in UTF-8. Each of its bytes is escaped if the character is a control character: U+0000 to U+001F or
--- U+007F to U+009F.
+-- the UTF-8 of a character. If it is a control character (U+0000 to U+001F or U+007F to U+009F), each byte of its UTF-8
+-- is escaped.
 abbrev pub escaped_character : ℕ → List ℕ
 escaped_character character =
     if is_control character then flat_map escaped_byte (encode_utf8 character) else encode_utf8 character

@@ -15,18 +15,18 @@ use Rattle.nor_lines.specs.declared.messages.Fault.{Fault}
 use Rattle.nor_lines.specs.declared.messages.Fault.TheVariants as end
 use Rattle.nor_lines.specs.declared.messages.FileFault.{FileFault}
 
--- the part of a message that names the line of a layout; empty if the fault isn't in one line
+-- the part of a message that names the line of a layout, or no bytes if the fault isn't in a single line
 abbrev pub place : Option ℕ → List ℕ
 place (Some number) = codes " at line " ++ decimal number
 place None = []
 
--- the text of a failure of the file of this name, with the name's control characters escaped
+-- the text of a file fault of the file `name`, with the name's control characters escaped
 abbrev pub file_text : FileFault → Text → List ℕ
 file_text fault name =
     concat (codes "File fault " ∷ decimal (file_number fault) ∷ codes ": " ∷ escaped name ∷ codes "." ∷ [])
 
--- The text of a fault: the line that says what is wrong, if there is one, and the numbered text. It is `None` if the
--- argument parser returned the fault or the help: nothing is stated about the parser's texts.
+-- the text of a fault: the line that says what is wrong, if there is such a line, and then the numbered text. It is
+-- `None` if the fault or the help is one of the argument parser, because nothing is stated about the parser's texts.
 abbrev pub text_of : Fault → Option (List ℕ)
 text_of (end.Usage fault reason) = option_append (Some (reason_line reason)) (usage_text fault)
 text_of end.NoText = Some (codes "error: invalid UTF-8 was detected in one or more arguments\n\nUsage fault 1.")
@@ -42,6 +42,6 @@ text_of (end.Refused refusal) =
     Some (concat (journal_line refusal ∷ codes "Error " ∷ decimal (refusal_number refusal) ∷ codes ": "
     ∷ refusal_text refusal ∷ codes "." ∷ []))
 
--- the lines of a fault: its text and a line feed; `None` if `text_of` is `None`
+-- the lines that are printed for a fault: its text and a line feed, or `None` if `text_of` is `None`
 abbrev pub line_of : Fault → Option (List ℕ)
 line_of fault = with_newline (text_of fault)

@@ -1,5 +1,4 @@
--- The faults of files. Contracts use the definitions with a `View` to state that a fault occurs only if the files allow
--- the failure that causes it.
+-- The faults of files. A definition with a `View` also states that the files allow the failure that causes the fault.
 use Rattle.std.specs.Prelude.{◌≡◌, ◌≢◌, ◌<◌, ◌+◌, ◌⊎◌, ℕ, List, None, length}
 use Rattle.nor_request.specs.declared.refusal.Refusal.TheVariants.{Memory}
 use Rattle.nor_words.specs.Text.{Text}
@@ -13,29 +12,30 @@ use Rattle.nor_lines.specs.declared.messages.Fault.{Fault}
 use Rattle.nor_lines.specs.declared.messages.Fault.TheVariants as end
 use Rattle.nor_lines.specs.declared.messages.FileFault.TheVariants as file
 
--- Holds for error 18 (out of memory), and for file fault 1 of this name.
+-- Holds if the fault is error 18 (out of memory), or file fault 1 with this name.
 abbrev pub IsUnreadFault : Text → Fault → Type 0
 IsUnreadFault name (end.Refused refusal) = refusal ≡ Memory
 IsUnreadFault name (end.File file.Read of) = of.now ≡ name
 IsUnreadFault name _ = ⊥
 
--- Holds if the fault reports this `LockFault` of a file of this name: `Unread` as error 18 or file fault 1, `Unheld` as
--- file fault 2, `Busy` as file fault 5.
+-- Holds if the program reports this `LockFault` of a file of this name as `fault`: `Unread` as error 18 or file fault
+-- 1, `Unheld` as file fault 2, `Busy` as file fault 5.
 abbrev pub IsNotLocked : LockFault → Text → Fault → Type 0
 IsNotLocked (why.Unread error) name fault = IsUnreadFault name fault
 IsNotLocked why.Unheld name (end.File file.Write of) = of.now ≡ name
 IsNotLocked why.Busy name (end.File file.Taken of) = of.now ≡ name
 IsNotLocked _ name _ = ⊥
 
--- Holds for the faults of reading at most `most` bytes: error 18 (out of memory), or file fault 1 of this name. For
--- file fault 1 the file is missing, isn't known (`IsKnownFile`), or may fail to be read.
+-- Holds if reading at most `most` bytes of the named file may fail with this fault: error 18 (out of memory), or file
+-- fault 1 with this name. For file fault 1, the file must be missing, may fail to be read, or isn't known
+-- (`IsKnownFile`).
 abbrev pub IsReadingFault : View → Text → ℕ → Fault → Type 0
 IsReadingFault view name most (end.Refused refusal) = refusal ≡ Memory
 IsReadingFault view name most (end.File file.Read of) =
     (of.now ≡ name) × (ReadsFile name most None view ⊎ Happens view (Unread name))
 IsReadingFault view name most _ = ⊥
 
--- Holds for file fault 1 of this name, if the file has more than `most` bytes or isn't known (`IsKnownFile`).
+-- Holds for file fault 1 with this name, if the file has more than `most` bytes or isn't known (`IsKnownFile`).
 abbrev pub IsTooLong : View → Text → ℕ → Fault → Type 0
 IsTooLong view name most (end.File file.Read of) =
     (of.now ≡ name) × ((bytes : List ℕ) × IsRead view name (most + 1) bytes × (most < length bytes))

@@ -1,4 +1,4 @@
--- Lines, and the digits of IDs in them.
+-- A printed line, and an ID as hexadecimal digits.
 use Rattle.std.specs.Prelude.{ℕ, List, [], ◌∷◌, ◌++◌, codes, slice_index}
 use Rattle.nor_request.specs.Texts.{hex_digits}
 

@@ -1,4 +1,4 @@
--- The lines that precede the numbered line of a fault, and say what is wrong, byte by byte.
+-- The lines that say what is wrong, byte by byte. Each is printed before the numbered line of a fault.
 use Rattle.std.specs.Prelude.{ℕ, List, [], ◌∷◌, codes, decimal}
 use Rattle.std.specs.List.{concat}
 use Rattle.nor_journal.specs.declared.fault.JournalFault.TheVariants as journal
@@ -19,13 +19,13 @@ use Rattle.nor_words.specs.declared.reasons.Reason.{Reason}
 use Rattle.nor_words.specs.declared.reasons.Reason.TheVariants as because
 use Rattle.nor_lines.specs.Escapes.{escaped}
 
--- what is wrong with a setting
+-- the words for a flaw of a setting
 abbrev pub flaw_text : Flaw → List ℕ
 flaw_text flaw.Key = codes "unknown key"
 flaw_text flaw.Value = codes "invalid value"
 flaw_text flaw.Twice = codes "repeated key"
 
--- the line with the reason of a usage fault; no bytes if there is no reason
+-- the line with the reason of a usage fault, or no bytes if there is no reason
 abbrev pub reason_line : Reason → List ℕ
 reason_line because.Unsaid = []
 reason_line because.NoProgrammer = codes "error: the option -p is missing\n"
@@ -55,7 +55,7 @@ reason_line (because.Stop part) =
 reason_line because.ManyStops = codes "error: more than 64 numbers in --rehearse\n"
 reason_line because.StopAndRehearse = codes "error: --rehearse and stop= cannot be used together\n"
 
--- what is wrong with a line of a layout
+-- the words for what is wrong with a line of a layout
 abbrev pub line_fault_text : LineFault → List ℕ
 line_fault_text in_line.Line = codes "there is no colon, or no space between END and NAME"
 line_fault_text in_line.Address = codes "an address is not 1 to 8 hexadecimal digits"
@@ -63,21 +63,21 @@ line_fault_text in_line.Backwards = codes "the end is below the start"
 line_fault_text in_line.Name = codes "the name is not 1 to 32 visible ASCII characters other than , and :"
 line_fault_text in_line.Twice = codes "an earlier line has this name"
 
--- the line that says what is wrong with a layout; no bytes if memory ran out
+-- the line that says what is wrong with a layout, or no bytes if memory ran out
 abbrev pub layout_line : LayoutFault → List ℕ
 layout_line (layout.InLine line fault) = concat (codes "error: " ∷ line_fault_text fault ∷ codes "\n" ∷ [])
 layout_line layout.TooMany = codes "error: the layout has more than 64 regions\n"
 layout_line layout.Memory = []
 layout_line layout.NoRegion = codes "error: a name of -i is no region\n"
 
--- the line for a region of an image that a layout can't have; no bytes if memory ran out
+-- the line that says why a layout can't have a region of an image, or no bytes if memory ran out
 abbrev pub region_fault_text : RegionFault → List ℕ
 region_fault_text region.Name = codes "error: the image has a region without a valid name\n"
 region_fault_text region.Twice = codes "error: the image has two regions with one name\n"
 region_fault_text region.TooMany = codes "error: the image has more than 64 regions\n"
 region_fault_text region.Memory = []
 
--- the line that says what is wrong with an FMAP or a flash descriptor; no bytes if memory ran out
+-- the line that says what is wrong with an FMAP or a flash descriptor, or no bytes if memory ran out
 abbrev pub map_line : MapFault → List ℕ
 map_line map.Missing = codes "error: the image has no FMAP, or does not begin with a flash descriptor\n"
 map_line map.Short = codes "error: the image or its table of regions is cut off\n"
@@ -85,7 +85,7 @@ map_line (map.Outside number) =
     concat (codes "error: region " ∷ decimal number ∷ codes " of the image does not lie in the image\n" ∷ [])
 map_line (map.Region number fault) = region_fault_text fault
 
--- the line that says whether an invalid journal was never sealed or is damaged; no bytes for any other error
+-- the line that says whether an invalid journal was never sealed or is damaged, or no bytes for any other error
 abbrev pub journal_line : Refusal → List ℕ
 journal_line (BadJournal journal.Short) = codes "error: the journal was never sealed, or was cut off later\n"
 journal_line (BadJournal journal.Magic) = codes "error: the file is no journal, or is damaged\n"

@@ -1,4 +1,4 @@
--- The request of a job, and the faults of reading its layout.
+-- The request that a change makes to a session, and the faults of reading the layout of its regions.
 use Rattle.std.specs.Prelude.{◌≡◌, ◌≤◌, ◌⊎◌, ℕ, true, List, Option, Some, None, Ok, Err, find, length, not}
 use Rattle.nor_layout.specs.declared.fault.LayoutFault.{LayoutFault}
 use Rattle.nor_layout.specs.declared.fault.LayoutFault.TheVariants as layout
@@ -27,13 +27,13 @@ use Rattle.nor_lines.specs.Files.{IsReadingFault, IsTooLong}
 use Rattle.nor_lines.specs.declared.messages.Fault.{Fault}
 use Rattle.nor_lines.specs.declared.messages.Fault.TheVariants as end
 
--- the kind of change that a session is asked for
+-- the kind of change that a session is asked for, without the image
 abbrev pub what_of : Wanted → What
 what_of (wanted.Write image) = what.Write
 what_of wanted.Erase = what.Erase
 what_of (wanted.Range start len) = what.WpRange start len
 
--- the request of a change, for the given name of the chip and the given ranges of addresses
+-- the request that `change` makes to a session, for the given name of the chip and the given ranges of addresses
 abbrev pub request_for : Change → Option ChipName → Option (List Span) → Request
 request_for change named ranges = record {
   what = what_of change.wanted;
@@ -43,58 +43,59 @@ request_for change named ranges = record {
   verify = change.verify;
 }
 
--- Holds if the text is a layout of this form with these regions: lines, or an image with an FMAP or a flash descriptor of
--- a chip with the image's length.
+-- Holds if the text is a layout of the given form with these regions. `Lines`: a text of lines. `Fmap` and
+-- `Descriptor`: an image with an FMAP or a flash descriptor, for a chip that is as large as the image is long.
 abbrev pub HasLayout : LayoutForm → (text : List ℕ) → List Region → Type 0
 HasLayout form.Lines text regions = IsLayout text regions
 HasLayout form.Fmap text regions = fmap_says (length text) text ≡ Ok regions
 HasLayout form.Descriptor text regions = descriptor_says (length text) text ≡ Ok regions
 
--- Holds if the text is a layout of this form, each name is that of one of its regions, and the ranges contain exactly the
--- addresses of the named regions.
+-- Holds if the text is a layout of the given form, each of the comma-separated `names` is the name of one of its
+-- regions, and `ranges` contain exactly the addresses of the named regions.
 pub record AreIncluded (form : LayoutForm) (text names : List ℕ) (ranges : List Span) : Type 0 where
   pub regions : List Region
   pub layout : HasLayout form text regions
   pub known : are_known regions names ≡ true
   pub union : (a : ℕ) → contains ranges a ≡ is_included regions names a
 
--- Holds if the ranges are those of the named regions in the layout's file, which has at most 16 MiB. That `text` is the
--- content of the file has the premise of `IsRead`.
+-- Holds if `ranges` are those of the named regions in the layout's file, which has at most 16 MiB. `text` is the
+-- content of the file if the file is known (`IsKnownFile`).
 pub record AreOfLayout (view : View) (regions : Regions) (ranges : List Span) : Type 0 where
   pub text : List ℕ
   pub read : IsRead view regions.layout.now 16777217 text
   pub whole : length text ≤ 16777216
   pub included : AreIncluded regions.form text regions.names.now ranges
 
--- Holds if the ranges are those of the named regions, or, if no regions are given, `None` (the whole chip).
+-- Holds if `ranges` are those of the named regions. If no regions are given, `ranges` must be `None` (the whole chip).
 abbrev pub AreRangesOf : View → Option Regions → Option (List Span) → Type 0
 AreRangesOf view None ranges = ranges ≡ None
 AreRangesOf view (Some regions) None = ⊥
 AreRangesOf view (Some regions) (Some ranges) = AreOfLayout view regions ranges
 
--- Holds if the text is no layout, and `fault` is its first fault.
+-- Holds if the text isn't a layout, and `fault` is the first fault in it.
 pub record IsNoLayout (text : List ℕ) (fault : LayoutFault) : Type 0 where
   pub none : (regions : List Region) → ¬ IsLayout text regions
   pub first : layout_says text ≡ Err fault
 
--- the first of the comma-separated names that is not the name of one of the regions
+-- the first of the comma-separated `names` that none of the regions has, or `None` if there is none
 abbrev pub first_unknown : List Region → (names : List ℕ) → Option (List ℕ)
 first_unknown regions names = find (λ name. not (is_region_named regions name)) (names_of names)
 
--- Holds if the text is a layout of this form, and `name` is the first of the names that is not that of one of its
--- regions.
+-- Holds if the text is a layout of the given form, and `name` is the first of the comma-separated `names` that none of
+-- its regions has.
 pub record IsUnknown (form : LayoutForm) (text names name : List ℕ) : Type 0 where
   pub regions : List Region
   pub layout : HasLayout form text regions
   pub first : first_unknown regions names ≡ Some name
 
--- Holds if the fault is a reason why the text can't be parsed: memory may run out, or the text is no layout.
+-- Holds if the text may fail to be parsed with this fault: memory may run out, or the text isn't a layout and this is
+-- its fault.
 abbrev pub IsUnparsed : (text : List ℕ) → LayoutFault → Type 0
 IsUnparsed text layout.Memory = AsksMemory text
 IsUnparsed text layout.NoRegion = ⊥
 IsUnparsed text fault = IsNoLayout text fault
 
--- Holds if the fault is a reason why the text isn't read as a layout of this form.
+-- Holds if the text may fail to be parsed as a layout of the given form with this fault.
 abbrev pub LacksLayout : LayoutForm → (text : List ℕ) → Fault → Type 0
 LacksLayout form.Lines text (end.Layout fault) = IsUnparsed text fault
 LacksLayout form.Fmap text (end.Map fault) =
@@ -103,21 +104,22 @@ LacksLayout form.Descriptor text (end.Map fault) =
     ReadsTable (descriptor_says (length text) text) (AsksInDescriptor (length text) text) (Err fault)
 LacksLayout form text fault = ⊥
 
--- Holds if the fault is a reason why nothing is included: the text isn't read as a layout, or a name is that of no region.
+-- Holds if no regions are included because of this fault: parsing the text as a layout failed, or a name is that of no
+-- region.
 abbrev pub IncludesNone : LayoutForm → (text names : List ℕ) → Fault → Type 0
 IncludesNone form text names (end.NoRegion name) = IsUnknown form text names name.now
 IncludesNone form text names fault = LacksLayout form text fault
 
--- Holds if the layout's file has at most 16 MiB, and the fault is a reason why its text and the names include nothing.
--- That `text` is the content of the file has the premise of `IsRead`.
+-- Holds if the layout's file has at most 16 MiB, and no regions are included because of this fault of its text or of
+-- the names. `text` is the content of the file if the file is known (`IsKnownFile`).
 pub record IsLayoutFault (view : View) (regions : Regions) (fault : Fault) : Type 0 where
   pub text : List ℕ
   pub read : IsRead view regions.layout.now 16777217 text
   pub whole : length text ≤ 16777216
   pub why : IncludesNone regions.form text regions.names.now fault
 
--- Holds for the faults of including regions: those of the layout's text and names, of reading its file, and of a file
--- of more than 16 MiB. Without regions there is no fault.
+-- Holds if including the regions may fail with this fault: a fault of the layout's text or of the names, a fault of
+-- reading its file, or file fault 1 for a file of more than 16 MiB. Without regions there is no fault.
 abbrev pub FailsToInclude : View → Option Regions → Fault → Type 0
 FailsToInclude view None fault = ⊥
 FailsToInclude view (Some regions) (end.Layout fault) = IsLayoutFault view regions (end.Layout fault)

@@ -1,5 +1,5 @@
--- The results of the jobs that run a session or a backup, with its journal in a file: all that the engine promises for
--- the call.
+-- The results of the jobs that run a session or a backup and write its journal into a file. They include all promises
+-- of the engine for the call.
 use Rattle.std.specs.Prelude.{◌≡◌, ℕ, true, List, Option, None, Result}
 use Rattle.nor_model.specs.Bus.{BusState}
 use Rattle.nor_files.specs.Files.{FilesState, IsKnownFile, View, is_lawful}
@@ -25,8 +25,8 @@ abbrev pub ReportsDone : Report → Answer → Type 0
 ReportsDone report (answer.Done returned) = returned ≡ report
 ReportsDone report _ = ⊥
 
--- The job called `session` with a vault for the journal. The call kept all its promises, and the job returned its
--- report or its error.
+-- Holds if the job called `session` with a vault for the journal, the call kept all its promises, and the job's outcome
+-- is the call's report or error. `vault` is the vault's state before the call, and `vault'` the state after it.
 pub record HasRunSession (request : Request) (image : List ℕ) (old new : BusState) (vault vault' : VaultState)
     (outcome : Result Answer Refusal) : Type 0 where
   pub result : Result Report Refusal
@@ -36,17 +36,17 @@ pub record HasRunSession (request : Request) (image : List ℕ) (old new : BusSt
   pub modelled : IsModelled old → SessionModelled request image old new vault vault' result
   pub returned : AnswersCall ReportsDone result outcome
 
--- Holds if a job returned the report or the error of a call of `session_announced` or `restore_announced`, and
--- `Announces` holds for that call: an announcement was made, or no modifying command was sent.
+-- Holds if the job's outcome is the report or the error of a call of `session_announced` or `restore_announced`, and if
+-- `Announces` holds for that call: it made an announcement for which `Was` holds, or it sent no modifying command.
 pub record HasAnnounced (Was : Announcement → Type 0) (old new : BusState)
     (outcome : Result Answer Refusal) : Type 0 where
   pub result : Result Report Refusal
   pub announced : Announces Was old new result
   pub returned : AnswersCall ReportsDone result outcome
 
--- A session was run with its journal in a new file. If the files obey their contract, the file has exactly the bytes of
--- the session's vault; if the vault is sealed, a host crash does not lose them. If also no vault or log in the file was
--- borrowed before, the file was missing then.
+-- Holds if a session was run with its journal in a new file. If the files obey their contract, the file then has
+-- exactly the bytes of the session's vault, and a host crash does not lose them if the vault is sealed. The file was
+-- missing before, provided that it was known (`IsKnownFile`).
 pub record HasRunInFile (request : Request) (image : List ℕ) (file : Text) (before : View) (after : FilesState)
     (old new : BusState) (outcome : Result Answer Refusal) : Type 0 where
   pub missing : IsKnownFile file before → before.seen file ≡ None
@@ -58,8 +58,8 @@ pub record HasRunInFile (request : Request) (image : List ℕ) (file : Text) (be
 
 -- ---- backups
 
--- The job called `backup` with a vault for the journal. The call kept all its promises, and the job returned its report
--- or its error.
+-- Holds if the job called `backup` with a vault for the journal, the call kept all its promises, and the job's outcome
+-- is the call's report or error. `vault` is the vault's state before the call, and `vault'` the state after it.
 pub record HasBackedUp (named : Option ChipName) (old new : BusState) (vault vault' : VaultState)
     (outcome : Result Answer Refusal) : Type 0 where
   pub result : Result Report Refusal
@@ -68,9 +68,9 @@ pub record HasBackedUp (named : Option ChipName) (old new : BusState) (vault vau
   pub modelled : IsModelled old → BackupModelled named old new vault' result
   pub returned : AnswersCall ReportsReadOut result outcome
 
--- A backup was made, with its journal in a new file. If the files obey their contract, the file has exactly the bytes
--- of the backup's vault; if the vault is sealed, a host crash does not lose them. If also no vault or log in the file
--- was borrowed before, the file was missing then.
+-- Holds if a backup was made with its journal in a new file. If the files obey their contract, the file then has
+-- exactly the bytes of the backup's vault, and a host crash does not lose them if the vault is sealed. The file was
+-- missing before, provided that it was known (`IsKnownFile`).
 pub record HasBackedUpInFile (named : Option ChipName) (file : Text) (before : View) (after : FilesState)
     (old new : BusState) (outcome : Result Answer Refusal) : Type 0 where
   pub missing : IsKnownFile file before → before.seen file ≡ None

@@ -1,4 +1,4 @@
--- The contents of the files of a run, as they were read and as they are afterwards.
+-- The contents of the files of a run: as they were read, and as the run leaves them.
 use Rattle.std.specs.Prelude.{◌≡◌, ◌+◌, ℕ, List, Option, None, Some, IfSome, ⊤, length, true, unwrap_or}
 use Rattle.std.specs.Borrow.{Bor}
 use Rattle.nor_files.specs.Calls.{LeavesNoMore, LeavesOrEmpty, ReadsFile}
@@ -7,82 +7,86 @@ use Rattle.nor_files.specs.Files.Failure.{Unwritten}
 use Rattle.nor_journal.specs.Vault.{VaultState}
 use Rattle.nor_words.specs.Text.{Text}
 
--- Holds if a call on these files may find this failure, now or later: the nature of the files never changes.
+-- Holds if some call on these files may encounter this failure. This is the same before and after any call, because the
+-- nature of the files never changes.
 abbrev pub Happens : View → Failure → Type 0
 Happens view failure = view.nature.fails failure ≡ true
 
--- Holds if these are the first `most` bytes of the file, or all if it has fewer. This is claimed only if the files obey
--- their contract and no vault or log in this file is borrowed.
+-- Holds if `bytes` are the first `most` bytes of the named file, or all its bytes if it has fewer. Nothing is claimed
+-- if the file isn't known (`IsKnownFile`): the files don't obey their contract, or a vault or log in this file is
+-- borrowed.
 abbrev pub IsRead : View → Text → ℕ → List ℕ → Type 0
 IsRead view name most bytes = ReadsFile name most (Some bytes) view
 
--- Holds if `found` has the bytes that were read from a file, or is `None` if no file is named or the named file is
--- missing. If the file has more than `len` bytes, `len` and one more are read. The premise for a named file is that of
--- `IsRead`.
+-- Holds if `found` has the first `len + 1` bytes of the named file (all its bytes if it has fewer), or is `None` if no
+-- file is named or the named file is missing. Nothing is claimed of a named file that isn't known (`IsKnownFile`).
 abbrev pub IsFileFound : View → Option (Bor Text) → ℕ → Option (List ℕ) → Type 0
 IsFileFound view None len found = found ≡ None
 IsFileFound view (Some name) len found = ReadsFile name.now (len + 1) found view
 
--- Holds if the bytes are those of the named file, which has exactly `len` bytes; or the bytes `missing` if no file is
--- named or the named file is missing. The premise for a named file is that of `IsRead`.
+-- Holds if `bytes` are the whole content of the named file, which has exactly `len` bytes. If no file is named or the
+-- named file is missing, holds if `bytes` are `missing`. If the named file isn't known (`IsKnownFile`), the only claim
+-- is that `bytes` are `missing` or that there are `len` of them.
 pub record AreOfFile (view : View) (name : Option (Bor Text)) (len : ℕ) (missing bytes : List ℕ) : Type 0 where
   pub found : Option (List ℕ)
   pub is_found : IsFileFound view name len found
   pub whole : IfSome found (λ all. length all ≡ len)
   pub same : bytes ≡ unwrap_or found missing
 
--- Holds if no file is named, or if the named file durably has exactly these bytes, provided that the files obey their
--- contract.
+-- Holds if no file is named, or if the content of the named file is durably `bytes`. The second is claimed only if the
+-- files obey their contract.
 abbrev pub Has : Option (Bor Text) → List ℕ → FilesState → Type 0
 Has None bytes files = ⊤
 Has (Some name) bytes files = is_lawful files.view ≡ true → IsDurable name.now (Some bytes) files
 
--- Holds if no name is given as `failed`, and `Has` holds for these bytes; or if `failed` is the name of this file, and
--- writing it may fail.
+-- The result of writing `bytes` into the file `name`. If `failed` is `None`, writing succeeded, and `Has` holds.
+-- Otherwise `failed` is the name of this file, and writing it may fail.
 abbrev pub ArePut : Option (Bor Text) → List ℕ → Option (Bor Text) → FilesState → Type 0
 ArePut name bytes None files = Has name bytes files
 ArePut name bytes (Some failed) files = (name ≡ Some failed) × Happens files.view (Unwritten failed.now)
 
--- Holds if no name is given as `failed`; or if `failed` is the name of this file, and writing it may fail.
+-- Holds if `failed` is `None`, or if `failed` is the given `name` and writing this file may fail.
 abbrev pub IsReportedOf : (name failed : Option (Bor Text)) → View → Type 0
 IsReportedOf name None view = ⊤
 IsReportedOf name (Some failed) view = (name ≡ Some failed) × Happens view (Unwritten failed.now)
 
--- Holds if no other name is given, or if the two names are apart: if the files obey their contract, apart names refer
--- to different files.
+-- Holds if no other name is given, or if the other name and `name` are apart: they refer to different files if the
+-- files obey their contract.
 abbrev pub IsNot : Nature → Option (Bor Text) → Text → Type 0
 IsNot nature None name = ⊤
 IsNot nature (Some other) name = AreApart nature other.now name
 
--- Holds if the two names are apart, provided that both are given.
+-- Holds if one of the two names is missing, or if the two names are apart.
 abbrev pub AreTwo : Nature → (one other : Option (Bor Text)) → Type 0
 AreTwo nature None other = ⊤
 AreTwo nature (Some one) other = IsNot nature other one.now
 
--- Holds if no file is named, or if the named file is as it was.
+-- Holds if no file is named, or if the named file is the same in `old` and `new`.
 abbrev pub StaysOf : Option (Bor Text) → (old new : FilesState) → Type 0
 StaysOf None old new = ⊤
 StaysOf (Some name) old new = KeepsFile name.now old new
 
--- Holds if no file is named, or if a host crash may leave nothing of the named file that it could not leave before.
+-- Holds if no file is named, or if each content of the named file that a host crash may leave in `new` could also be
+-- left by a host crash in `old`.
 abbrev pub LeavesNoMoreOf : Option (Bor Text) → (old new : FilesState) → Type 0
 LeavesNoMoreOf None old new = ⊤
 LeavesNoMoreOf (Some name) old new = LeavesNoMore name.now old new
 
--- Holds if no file is named, or if the file of that name is missing. This is claimed only for a known file
+-- Holds if no file is named, or if the named file is missing. The second is claimed only for a known file
 -- (`IsKnownFile`).
 abbrev pub IsMissing : Option (Bor Text) → View → Type 0
 IsMissing None view = ⊤
 IsMissing (Some name) view = IsKnownFile name.now view → view.seen name.now ≡ None
 
--- Holds if no file is named, or if a host crash may leave nothing of the named file that it could not leave before,
--- except an empty file if it was missing. This is claimed only if the file was known (`IsKnownFile`) before.
+-- Holds if no file is named, or if each content of the named file that a host crash may leave in `new` could also be
+-- left by a host crash in `old`; an empty file is allowed, too, if the file was missing. The second is claimed only if
+-- the file was known (`IsKnownFile`) in `old`.
 abbrev pub MakesNothing : Option (Bor Text) → (old new : FilesState) → Type 0
 MakesNothing None old new = ⊤
 MakesNothing (Some name) old new = IsKnownFile name.now old.view → LeavesOrEmpty name.now old new
 
--- The vault is faithful (`telling`), and the file has exactly the vault's bytes. If the vault is sealed, these bytes
--- are durable.
+-- Holds if the vault is faithful (`telling`), the file has exactly the vault's bytes, and these bytes are durable if
+-- the vault is sealed.
 pub record IsKeptFile (name : Text) (vault : VaultState) (files : FilesState) : Type 0 where
   pub telling : vault.telling ≡ true
   pub seen : files.view.seen name ≡ Some vault.bytes

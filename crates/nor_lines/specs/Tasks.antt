@@ -1,4 +1,4 @@
--- The files that a task names, and the one that it creates or truncates.
+-- The files that a task names, and the file that it creates or truncates.
 use Rattle.std.specs.Prelude.{Option, None, Some}
 use Rattle.std.specs.Borrow.{Bor}
 use Rattle.nor_words.specs.Text.{Text}
@@ -11,23 +11,24 @@ use Rattle.nor_words.specs.declared.job.Wanted.{Wanted}
 use Rattle.nor_words.specs.declared.job.Wanted.TheVariants as wanted
 use Rattle.nor_lines.specs.declared.roles.Named.{Named}
 
--- the file of a change's journal; `None` for a rehearsal
+-- the file name of a change's journal, or `None` for a rehearsal
 abbrev pub journal_of : JournalUse → Option (Bor Text)
 journal_of (uses.Journal file) = Some file
 journal_of (uses.Rehearse stops) = None
 
--- the file that a task creates or truncates: the output of a read, or the journal of a change
+-- the name of the file that a task creates or truncates (the output of a read, or the journal of a change), or `None`
+-- if it does neither
 abbrev pub made_by : Task → Option (Bor Text)
 made_by (task.Read file regions) = Some file
 made_by (task.Change change) = journal_of change.journal_use
 made_by _ = None
 
--- the file of the layout, if regions are named
+-- the file name of the layout, or `None` if no regions are named
 abbrev pub layout_of : Option Regions → Option (Bor Text)
 layout_of None = None
 layout_of (Some regions) = Some regions.layout
 
--- the file of the image that a change writes, if it writes one
+-- the file name of the image that a change writes, or `None` if it writes no image
 abbrev pub image_of : Wanted → Option (Bor Text)
 image_of (wanted.Write image) = Some image
 image_of _ = None

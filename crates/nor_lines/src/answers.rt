@@ -5,7 +5,7 @@ use nor_probe::Found;
 use nor_read::Protection;
 use nor_session::{Refusal, Rehearsal, Report};
 
-/// The result of a call: an answer or an error.
+/// The result of a call to the engine: an answer or an error.
 pub type Outcome = Result<Answer, Refusal>;
 
 /// The answer of a job that succeeded.
@@ -17,17 +17,17 @@ pub enum Answer {
     Found(Found),
     /// The size of the chip in bytes.
     Size(u32),
-    /// The report of a chip that was read.
+    /// The report on a chip that was read into a file, or saved in a backup.
     Read(Report),
-    /// The report of a chip whose included bytes were found to be those of an image.
+    /// The report on a chip whose included bytes equal those of an image.
     Verified(Report),
-    /// The report of a change or a restore.
+    /// The report on a change or a restore.
     Done(Report),
-    /// The result of a rehearsal that ended.
+    /// The result of a rehearsal: whether its session was stopped, and the number of restores.
     Rehearsed(Rehearsal),
     /// The chip's protected range, if the datasheets define one for its protection bits, and whether its status is
     /// locked.
     Protection(Protection),
-    /// The ranges of the chip that can be protected.
+    /// The ranges of the chip that can be protected, as an iterator.
     Ranges(Offered),
 }

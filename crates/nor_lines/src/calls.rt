@@ -1,4 +1,5 @@
-//! The calls to the engine that both programs make, with their files and their answers.
+//! The calls to the engine that both programs make. Each function opens the files that its call needs, and turns the
+//! call's result into an answer.
 ghost use Rattle.std.specs.Prelude.{◌≡◌, IfErr, IfOk, OnErr, false, option_copied, replicate, true};
 ghost use Rattle.nor_files.specs.Calls.{BorrowsNone};
 ghost use Rattle.nor_files.specs.Files.{OthersStay, is_lawful};
@@ -20,7 +21,7 @@ use nor_session::{Announcement, Request, backup, session_announced};
 use std::alloc::{AllocError, Global};
 
 /// Returns the chip's protected range, if the datasheets define one for its protection bits, and whether its status is
-/// locked; or an error of `wp_status`. With `named` the chip must have this name.
+/// locked. Returns an error of `wp_status` if it fails. If `named` is given, the chip must have this name.
 pub fn report_protection<B: Bus>(bus: &mut B, named: Option<ChipName>) -> Outcome
     ensures { HasReported ReportsProtection named (B.state bus.old) (B.state bus.new) result }
 {
@@ -28,8 +29,8 @@ pub fn report_protection<B: Bus>(bus: &mut B, named: Option<ChipName>) -> Outcom
     Ok(Answer::Protection(protection))
 }
 
-/// Returns the ranges of the chip that can be protected, or an error of `wp_status`. With `named` the chip must have
-/// this name.
+/// Returns the ranges of the chip that can be protected, or an error of `wp_status`. If `named` is given, the chip must
+/// have this name.
 pub fn list_ranges<B: Bus>(bus: &mut B, named: Option<ChipName>) -> Outcome
     ensures { HasReported ListsRanges named (B.state bus.old) (B.state bus.new) result }
 {
@@ -37,11 +38,11 @@ pub fn list_ranges<B: Bus>(bus: &mut B, named: Option<ChipName>) -> Outcome
     Ok(Answer::Ranges(offered(protection.size)))
 }
 
-/// Reads the chip into the file of this name, which is created or truncated: the bytes at the included addresses as
-/// they are, and FFh for the others. If `included` is `None`, the whole chip is included.
+/// Reads the chip into the file `file`, which is created or truncated. The file gets the chip's bytes at the included
+/// addresses, and FFh at all other addresses. If `included` is `None`, the whole chip is included.
 ///
-/// The outer error is one of `empty`, which occurred before the first transaction. The inner error is one of
-/// `read_out`, after which the file may hold only a part of the copy.
+/// The outer error is a fault of `empty`, which occurs before the first transaction. The inner error is an error of
+/// `read_out`; the file may then hold only a prefix of the copy.
 pub fn read_to_file<'a, R: Store, B: Bus>(
     rt: &mut R,
     bus: &mut B,
@@ -63,8 +64,8 @@ pub fn read_to_file<'a, R: Store, B: Bus>(
     Ok(outcome)
 }
 
-// Appends a copy of the chip to `out`: the bytes at the included addresses, or all if `included` is `None`, and FFh for
-// the others.
+// Appends a copy of the chip to `out`: the chip's bytes at the included addresses, and FFh at all other addresses. If
+// `included` is `None`, the whole chip is included.
 fn read_into<B: Bus, V: Vault>(
     bus: &mut B,
     named: Option<ChipName>,
@@ -80,7 +81,7 @@ fn read_into<B: Bus, V: Vault>(
 }
 
 /// Compares the chip with an image at the included addresses, or at every address if `included` is `None`. Returns an
-/// error of `verify`, for example 14 if a byte differs. With `named` the chip must have this name.
+/// error of `verify`, for example error 14 if a byte differs. If `named` is given, the chip must have this name.
 pub fn verify_image<B: Bus>(
     bus: &mut B,
     named: Option<ChipName>,
@@ -100,10 +101,11 @@ pub fn erased(alloc: Global, size: u32) -> Result<Vec<u8>, AllocError>
     vec![in alloc; 0xFF; size as usize]
 }
 
-/// Runs the session of a request with its journal in the file of this name, which must not exist.
+/// Runs the session that `request` asks for, and writes its journal into the file `file`, which must not exist.
 ///
 /// `image` is described at `session`, and `announce` at `session_announced`. `announce` must accept every announcement.
-/// The outer error is one of `make`, which occurred before the first transaction. The inner error is one of `session`.
+/// The outer error is a fault of `make`, which occurs before the first transaction. The inner error is an error of
+/// `session`.
 pub fn session_in_file<'a, R: Store, B: Bus, F: FnOnce(Announcement) + Drop>(
     rt: &mut R,
     bus: &mut B,
@@ -131,7 +133,7 @@ pub fn session_in_file<'a, R: Store, B: Bus, F: FnOnce(Announcement) + Drop>(
     Ok(outcome)
 }
 
-// Runs the session of a request with its journal in `vault`.
+// Runs the session that `request` asks for, and writes its journal into `vault`.
 fn run_session<B: Bus, V: Vault, F: FnOnce(Announcement) + Drop>(
     bus: &mut B,
     vault: &mut V,
@@ -150,11 +152,11 @@ fn run_session<B: Bus, V: Vault, F: FnOnce(Announcement) + Drop>(
     Ok(Answer::Done(report))
 }
 
-/// Saves the whole chip in a journal in the file of this name, which must not exist. With `named` the chip must have
+/// Saves the whole chip in a journal in the file `file`, which must not exist. If `named` is given, the chip must have
 /// this name.
 ///
-/// The outer error is one of `make`, which occurred before the first transaction. The inner error is one of `backup`,
-/// after which the file may hold only a part of the journal.
+/// The outer error is a fault of `make`, which occurs before the first transaction. The inner error is an error of
+/// `backup`; the file may then hold only a prefix of the journal.
 pub fn backup_in_file<'a, R: Store, B: Bus>(
     rt: &mut R,
     bus: &mut B,
@@ -177,7 +179,8 @@ pub fn backup_in_file<'a, R: Store, B: Bus>(
     Ok(outcome)
 }
 
-// Saves the whole chip in a journal in `vault`. The answer is that of a chip that was read.
+// Saves the whole chip in a journal in `vault`. On success the answer is `Answer::Read`, as for a chip that was read
+// into a file.
 fn run_backup<B: Bus, V: Vault>(bus: &mut B, vault: &mut V, named: Option<ChipName>) -> Outcome
     requires { IsFresh (V.state vault.old) }
     ensures { HasBackedUp named (B.state bus.old) (B.state bus.new) (V.state vault.old) (V.state vault.new) result }

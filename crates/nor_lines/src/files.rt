@@ -1,4 +1,4 @@
-//! The files of a run that are read, locked, created or truncated, and the faults of files.
+//! Reads, locks, creates and truncates the files of a run, and returns the faults of files.
 ghost use Rattle.std.specs.Prelude.{◌≡◌, ◌↔◌, true, IfOk, IfErr, OnOk, OnErr, None, Some};
 ghost use Rattle.std.specs.IoError.{error_kind};
 ghost use Rattle.std.specs.declared.io.ErrorKind.TheVariants as Kinds;
@@ -19,12 +19,12 @@ use nor_session::Refusal;
 use std::io;
 use std::io::{BufWriter, ErrorKind};
 
-/// The greatest number of bytes read from an image: one more than the largest chip has, so that a longer image is
-/// detected.
+/// The greatest number of bytes that are read from an image: one more than the largest chip has, so that a longer image
+/// is detected.
 pub const MOST_IMAGE_BYTES: u64 = 16_777_217;
 
-/// The greatest number of bytes read from a journal: one more than the longest journal has, which saves all sectors of
-/// the largest chip.
+/// The greatest number of bytes that are read from a journal. This is one more than the length of the longest journal,
+/// which saves all sectors of the largest chip, so that a longer file is detected.
 pub const MOST_JOURNAL_BYTES: u64 = 16_793_662;
 
 /// The greatest length of a layout file, in bytes.
@@ -56,7 +56,7 @@ pub fn reading(error: io::Error, name: &str) -> Fault<'_>
     }
 }
 
-/// Returns the fault of a file that is missing, or can't be looked up, opened or read: file fault 1.
+/// Returns file fault 1: the file is missing, or can't be looked up, opened or read.
 pub fn unread(name: &str) -> Fault<'_>
     ensures { result ≡ Faults.File FileFaults.Read name.entry }
 {
@@ -64,8 +64,8 @@ pub fn unread(name: &str) -> Fault<'_>
     Fault::File { fault, name }
 }
 
-/// Creates the file of this name or truncates it, and returns a vault in it. If the file is a journal, `Disk` leaves it
-/// as it is: that is file fault 4. `making` lists the other faults.
+/// Creates the file `name` or truncates it, and returns a vault that writes to it. If the file is a journal, `Disk`
+/// doesn't truncate it, and returns file fault 4. `making` lists the other faults.
 pub fn empty<'a, R: Store>(rt: &mut R, name: &'a str) -> Result<R::Filed, Fault<'a>>
     ensures nature { (R.state rt.new).view.nature ≡ (R.state rt.old).view.nature }
     ensures fresh { IfOk result (λ vault. IsFresh (R.Filed.state vault)) }
@@ -81,8 +81,8 @@ pub fn empty<'a, R: Store>(rt: &mut R, name: &'a str) -> Result<R::Filed, Fault<
     }
 }
 
-/// Creates the file of this name, and returns a vault in it. If the file exists, `Disk` leaves it as it is: that is
-/// file fault 4. `making` lists the other faults.
+/// Creates the file `name`, and returns a vault that writes to it. If the file exists, `Disk` leaves it as it is, and
+/// returns file fault 4. `making` lists the other faults.
 pub fn make<'a, R: Store>(rt: &mut R, name: &'a str) -> Result<R::Filed, Fault<'a>>
     ensures nature { (R.state rt.new).view.nature ≡ (R.state rt.old).view.nature }
     ensures fresh { IfOk result (λ vault. IsFresh (R.Filed.state vault)) }
@@ -102,9 +102,9 @@ pub fn make<'a, R: Store>(rt: &mut R, name: &'a str) -> Result<R::Filed, Fault<'
     }
 }
 
-/// Creates the file of this name or truncates it, and returns a buffered writer to it. If the file is a journal, `Disk`
-/// leaves it as it is: that is file fault 4. `making` lists the other faults. Error 18 may also occur after the file
-/// was created or truncated.
+/// Creates the file `name` or truncates it, and returns a buffered writer to it. If the file is a journal, `Disk`
+/// doesn't truncate it, and returns file fault 4. `making` lists the other faults. Error 18 may also occur after the
+/// file was created or truncated.
 pub fn create_log<'a, R: Store>(rt: &mut R, name: &'a str) -> Result<BufWriter<R::Log>, Fault<'a>>
     ensures nature { (R.state rt.new).view.nature ≡ (R.state rt.old).view.nature }
     ensures others { is_lawful (R.state rt.old).view ≡ true
@@ -138,8 +138,8 @@ pub fn making(fault: CreateFault, name: &str) -> Fault<'_>
     }
 }
 
-/// Returns the fault of a file that is in use: another role of the run has it, another run has locked it, or the
-/// program prints to it (file fault 5).
+/// Returns file fault 5: the file is in use, because it has another role in the run, another run has locked it, or the
+/// program prints to it.
 pub fn taken(name: &str) -> Fault<'_>
     ensures { result ≡ Faults.File FileFaults.Taken name.entry }
 {
@@ -147,8 +147,8 @@ pub fn taken(name: &str) -> Fault<'_>
     Fault::File { fault, name }
 }
 
-/// Returns the fault of a file that can't be created, truncated (or read before that), locked, written or synced, or
-/// whose directory can't be synced (file fault 2).
+/// Returns file fault 2: the file can't be created, truncated, read before it is truncated, locked, written or synced,
+/// or its directory can't be synced.
 pub fn unmade(name: &str) -> Fault<'_>
     ensures { result ≡ Faults.File FileFaults.Write name.entry }
 {
@@ -156,16 +156,16 @@ pub fn unmade(name: &str) -> Fault<'_>
     Fault::File { fault, name }
 }
 
-/// Returns the fault of standard output that couldn't be written: file fault 2 with the name `standard output`.
+/// Returns the fault of a failed write to standard output: file fault 2 with the name `standard output`.
 pub fn lost_output() -> Fault<'static>
     ensures { IsLostOutput result }
 {
     unmade("standard output")
 }
 
-/// Locks the journal in the file of this name, so that other runs can read it, but not change it. On a file system
-/// without locks nothing is locked. Returns its first `MOST_JOURNAL_BYTES` bytes, or all if it has fewer, without
-/// checking that they are a journal.
+/// Locks the file `journal`, so that other runs can read it but not change it. On a file system without locks nothing
+/// is locked. Returns the file's first `MOST_JOURNAL_BYTES` bytes, or all its bytes if it has fewer, without checking
+/// that they are a journal.
 ///
 /// Returns one of these faults:
 ///

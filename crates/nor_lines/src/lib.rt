@@ -1,7 +1,7 @@
-//! What programs print about a chip and about a fault, the files that their jobs read and create, and the calls to the
-//! engine that they make.
+//! Prints the results and the faults of jobs, reads and creates the files of jobs, and makes their calls to the engine.
 //!
-//! Two programs use this crate, so a line and the number of a fault are the same in both.
+//! The programs flashnor and flashnor-serprog use this crate, so each printed line and each number of a fault is the
+//! same in both.
 //!
 //! - `answers.rt`: the result of a job
 //! - `calls.rt`: the calls to the engine that both programs make, with their files

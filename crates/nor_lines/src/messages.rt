@@ -12,15 +12,15 @@ use std::alloc::AllocError;
 use std::io::ErrorKind;
 use std::{fmt, io};
 
-/// A failure of a file. Its message has the number that is given here.
+/// A failure of a file. The variants are numbered from 1 to 5 in this order, and the message has the number.
 #[derive(Clone, Copy)]
 pub enum FileFault {
     /// The file is missing, can't be looked up or read, or is a layout of more than 16 MiB.
     Read = 1,
-    /// The file can't be created, truncated (or read before that), locked, written or synced, its directory can't be
-    /// synced, or it is the trace and lost a line.
+    /// The file can't be created, truncated, read before it is truncated, locked, written or synced, or its directory
+    /// can't be synced. For the trace also: a line could not be written.
     Write,
-    /// The file with the chip's bytes has another length than the chip, or the status file does not have two bytes.
+    /// The file with the chip's bytes has another length than the chip, or the status file doesn't have two bytes.
     Length,
     /// The journal of a change already exists, or a file that would be truncated is a journal.
     Exists,
@@ -39,32 +39,33 @@ impl FileFault {
     }
 }
 
-/// The fault that ends a run with exit status 1, displayed as its text on standard error. A request for help is a fault
-/// of the arguments, too, but the help is printed to standard output, and the exit status is 0 if that succeeds.
+/// The fault that ends a run with exit status 1. Its text is printed to standard error. A request for help is a fault
+/// of the arguments, too, but the help is printed to standard output, and the exit status is 0 if printing succeeds.
 #[derive(Drop)]
 pub enum Fault<'a> {
-    /// A fault of the arguments and its reason, or a request for help.
+    /// A usage fault and its reason, or a request for help.
     Usage {
         fault: UsageFault,
         reason: Reason<'a>,
     },
-    /// Arguments that are not UTF-8, so that nothing can be parsed. This is printed as usage fault 1, as if the parser
-    /// had refused the arguments.
+    /// The arguments are not UTF-8, so they can't be parsed. This is printed as usage fault 1, as if the parser had
+    /// rejected the arguments.
     NoText,
     /// A layout that can't be used.
     Layout(LayoutFault),
-    /// An FMAP or a flash descriptor that can't be used, or that the image lacks.
+    /// An FMAP or a flash descriptor that can't be used, or that is missing in the image.
     Map(MapFault),
     /// Layout fault 8: the first of the given names that is not the name of a region.
     NoRegion {
         name: &'a str,
     },
-    /// A failure of the file of this name.
+    /// A failure of the file `name`.
     File {
         fault: FileFault,
         name: &'a str,
     },
-    /// An error of a call; or, before the call, error 15 for an invalid journal or error 18 if memory ran out.
+    /// An error of a call to the engine. Before the call: error 15 for an invalid journal, or error 18 if memory ran
+    /// out.
     Refused(Refusal),
 }
 
@@ -75,7 +76,7 @@ impl Fault<'_> {
     ghost use Rattle.nor_words.specs.declared.words.UsageFault.TheVariants as Usage;
 
     /// Returns the fault of arguments that could not be collected: usage fault 10 if memory ran out, or `NoText` for
-    /// any other error.
+    /// any other error, because the arguments are then not UTF-8.
     pub fn of_words(error: &io::Error) -> Fault<'static>
         ensures { IsOfArguments error.now result }
     {
@@ -96,7 +97,7 @@ impl Fault<'_> {
     }
 }
 
-/// Returns the result of a call as a run reports it: an error of the call is a fault of the run.
+/// Returns the result of a call to the engine, with the call's error as a fault of the run.
 pub fn or_fault<'a, T>(outcome: Result<T, Refusal>) -> Result<T, Fault<'a>>
     ensures { IsReportedAs outcome result }
 {
@@ -156,7 +157,8 @@ impl fmt::Display for Fault<'_> {
     }
 }
 
-// The part of a message that names the layout's line with the fault. The part is empty if the fault isn't in one line.
+// The part of a message that names the line of a layout fault, ` at line N`. The part is empty if the fault isn't in a
+// single line.
 #[derive(Drop)]
 struct Place(Option<usize>);
 

@@ -1,4 +1,4 @@
-//! Prints the lines of the answer, the help or the fault of a run.
+//! Prints the lines of a run's answer, the help, or the fault that ended the run.
 ghost use Rattle.std.specs.Prelude.{◌≡◌, IsTrue, IsSome, IsNone, OnOk, IfSome, Err, flat_map};
 ghost use Rattle.std.specs.Io.KnownBytes.{Appends};
 ghost use Rattle.nor_probe.specs.Table.{chips};
@@ -18,8 +18,8 @@ use nor_words::UsageFault;
 use std::io::Write;
 use std::{fmt, io};
 
-/// Returns the parser's error, which contains the help, if the fault is a request for help. Returns `None` for any
-/// other fault.
+/// If the fault is a request for help, returns the parser's error, which contains the text of the help. Returns `None`
+/// for any other fault.
 pub fn help_of<'a>(fault: &'a Fault<'_>) -> Option<&'a WordsError>
     ensures some { IsSome result → IsAnswered (Err fault.now) }
     ensures none { IsNone result → IsAnswered (Err fault.now) → ⊥ }
@@ -33,8 +33,8 @@ pub fn help_of<'a>(fault: &'a Fault<'_>) -> Option<&'a WordsError>
     }
 }
 
-/// Returns the parser's error, which contains the version, if the fault is a request for the version. Returns `None` for
-/// any other fault.
+/// If the fault is a request for the version, returns the parser's error, which contains the text of the version.
+/// Returns `None` for any other fault.
 pub fn version_of<'a>(fault: &'a Fault<'_>) -> Option<&'a WordsError>
     ensures some { IsSome result → AsksForVersion fault.now }
     ensures none { IsNone result → AsksForVersion fault.now → ⊥ }
@@ -79,7 +79,7 @@ fn print_lines<W: Write>(output: &mut W, answer: Answer) -> io::Result<()>
     }
 }
 
-// Prints the table of chips, and `SFDP`, the name of all chips known only by their SFDP.
+// Prints the table of chips, and then a line with `SFDP`, the name of all chips that are known only by their SFDP.
 #[tactic(auto, using(crate::proofs::Printed::appends_then))]
 fn print_chips<W: Write>(output: &mut W) -> io::Result<()>
     ensures { OnOk result (Appends (W.contents output.old) (W.contents output.new) chip_lines) }
@@ -236,7 +236,7 @@ fn print_protected<W: Write>(output: &mut W, range: (u32, u32)) -> io::Result<()
     writeln!(output, "0x{start:06x},0x{len:06x}")
 }
 
-// An ID, as six hexadecimal digits.
+// An ID that is printed as six hexadecimal digits.
 #[derive(Drop)]
 struct Digits([u8; 3]);
 
@@ -253,7 +253,7 @@ impl fmt::Display for Digits {
     }
 }
 
-/// Prints the text of a fault and a line feed. Returns true if the writer reported no failure.
+/// Prints the text of a fault and a line feed. Returns true if no write to `errors` failed.
 pub fn print_fault<W: Write>(errors: &mut W, fault: &Fault<'_>) -> bool
     ensures { IsTrue result → IfSome (line_of fault.now) (Appends (W.contents errors.old) (W.contents errors.new)) }
 {

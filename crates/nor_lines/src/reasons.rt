@@ -73,7 +73,7 @@ impl fmt::Display for ReasonLine<'_> {
     }
 }
 
-/// Returns the words for a flaw of a setting.
+/// Returns the words that describe a flaw in the printed reason.
 pub fn text_of_flaw(flaw: Flaw) -> &'static str
     ensures { result.now ≡ flaw_text flaw }
 {
@@ -115,8 +115,8 @@ fn text_of_line(fault: LineFault) -> &'static str
     }
 }
 
-/// The line that says what is wrong with an FMAP or a flash descriptor. It is empty if memory ran out. Entries of a flash
-/// descriptor are counted from 0, areas of an FMAP from 1.
+/// The line that says what is wrong with an FMAP or a flash descriptor. It is empty if memory ran out. The line counts
+/// the entries of a flash descriptor from 0, and the areas of an FMAP from 1.
 #[derive(Drop)]
 pub struct MapLine(pub MapFault);
 
@@ -155,7 +155,7 @@ fn text_of_region(fault: RegionFault) -> &'static str
     }
 }
 
-/// The line that says whether an invalid journal was never sealed or is damaged. It is empty for any other error.
+/// The line that says whether an invalid journal was never sealed or is damaged. For any other error the line is empty.
 #[derive(Drop)]
 pub struct JournalLine<'a>(pub &'a Refusal);
 

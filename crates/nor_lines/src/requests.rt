@@ -1,4 +1,4 @@
-//! The request of a change, and the addresses of the regions that it includes.
+//! The request that a change makes to a session, and the addresses of the regions to which the change is limited.
 ghost use Rattle.std.specs.Prelude.{◌≡◌, ◌≤◌, IfOk, IfErr, length, option_map};
 ghost use Rattle.nor_layout.specs.Text.{is_region_named};
 ghost use Rattle.nor_lines.specs.Requests.{AreIncluded, AreRangesOf, FailsToInclude, HasLayout, IncludesNone};
@@ -51,7 +51,8 @@ pub fn read_included<'a, R: Store>(
     Ok(Some(included))
 }
 
-// Reads `text` as a layout of this form, and returns the addresses of its regions with the comma-separated `names`.
+// Parses `text` as a layout of the given form, and returns the addresses of the regions with the comma-separated
+// `names`.
 #[tactic(auto, using(crate::proofs::Included::all_known))]
 fn included_in<'a>(
     alloc: Global,
@@ -73,7 +74,7 @@ fn included_in<'a>(
     }
 }
 
-// Reads `text` as a layout of this form.
+// Parses `text` as a layout of the given form.
 #[tactic(auto, using(crate::proofs::Included::is_unparsed))]
 fn read_layout<'a>(alloc: Global, form: LayoutForm, text: &[u8]) -> Result<Layout, Fault<'a>>
     requires { length text.now ≤ 16777216 }
@@ -97,14 +98,15 @@ fn read_layout<'a>(alloc: Global, form: LayoutForm, text: &[u8]) -> Result<Layou
     }
 }
 
-// Returns the first of the comma-separated `names` that is not the name of one of the regions.
+// Returns the first of the comma-separated `names` that none of the regions has, or `None` if each name belongs to a
+// region.
 fn first_unknown<'a>(regions: &[Region], names: &'a str) -> Option<&'a str>
     ensures { option_map (λ name. name.now) result ≡ first_unknown regions.now names.now }
 {
     names.split(',').find(|name| !is_named(regions, name))
 }
 
-// True if one of the regions has the name.
+// True if one of the regions has this name.
 fn is_named(regions: &[Region], name: &str) -> bool
     ensures { result ≡ is_region_named regions.now name.now }
 {
@@ -113,8 +115,8 @@ fn is_named(regions: &[Region], name: &str) -> bool
         .any(|region| region.name.as_slice() == name.as_bytes())
 }
 
-/// Returns the request of a change. `named` is the name that the chip must have, or `None` for any chip. `included` has
-/// the addresses whose bytes may change, or is `None` for the whole chip.
+/// Returns the request that `change` makes to a session. `named` is the name that the chip must have, or `None` for any
+/// chip. `included` has the addresses whose bytes may change, or is `None` for the whole chip.
 pub fn request_for(
     change: &Change<'_>,
     named: Option<ChipName>,

@@ -1,5 +1,5 @@
-//! The files that a task names, and checks of their names: that two names refer to two files, and that the program does
-//! not print to a file.
+//! The files that a task names, and the checks of these names: two names must not refer to one file, and the program
+//! must not print to a named file.
 ghost use Rattle.std.specs.Prelude.{◌≡◌, IfErr, IfOk, OnOk, IsSomeAnd, true};
 ghost use Rattle.nor_files.specs.Files.Failure.{Printed};
 ghost use Rattle.nor_lines.specs.Roles.{FailsApart, FailsUnprinted, IsUnseenFile, IsUnseenStream};
@@ -20,7 +20,7 @@ pub struct Named<'a> {
     pub layout: Option<&'a str>,
     /// The image to write, or to compare with.
     pub wanted: Option<&'a str>,
-    /// The file that the chip is read into.
+    /// The file into which the chip is read.
     pub output: Option<&'a str>,
     /// The journal that a change writes, or that a restore reads.
     pub journal: Option<&'a str>,
@@ -70,7 +70,7 @@ fn layout_of<'a>(regions: Option<Regions<'a>>) -> Option<&'a str>
     }
 }
 
-// Returns the image that a change writes, if it writes one.
+// Returns the file name of the image that a change writes, or `None` for an erase or a change of protection.
 fn image_of<'a>(change: &Change<'a>) -> Option<&'a str>
     ensures { result ≡ image_of change.now.wanted }
 {
@@ -80,7 +80,7 @@ fn image_of<'a>(change: &Change<'a>) -> Option<&'a str>
     }
 }
 
-/// Returns the file of a change's journal, or `None` if the change is a rehearsal.
+/// Returns the file name of a change's journal, or `None` if the change is a rehearsal.
 pub fn journal_of<'a>(change: &Change<'a>) -> Option<&'a str>
     ensures { result ≡ journal_of change.now.journal_use }
 {
@@ -90,10 +90,10 @@ pub fn journal_of<'a>(change: &Change<'a>) -> Option<&'a str>
     }
 }
 
-/// Checks that two names refer to two files, if both are given.
+/// Checks that two names, if both are given, don't refer to the same file.
 ///
-/// Returns file fault 5 with the later name if they refer to one file, or file fault 1 with a name that can't be looked
-/// up.
+/// Returns file fault 5 with the name `later` if both names refer to one file, or file fault 1 with the name that can't
+/// be looked up.
 pub fn apart<'a, R: Store>(
     rt: &R,
     earlier: Option<&'a str>,
@@ -112,9 +112,9 @@ pub fn apart<'a, R: Store>(
     }
 }
 
-/// Checks that the named file, if one is named, is no regular file to which the program prints.
+/// Checks that the file `name`, if a name is given, isn't a regular file to which the program prints.
 ///
-/// Returns file fault 5 if it is, or file fault 1 if the name can't be looked up.
+/// Returns file fault 5 if it is such a file, or file fault 1 if the name can't be looked up.
 pub fn unprinted<'a, R: Store>(rt: &R, name: Option<&'a str>) -> Result<(), Fault<'a>>
     ensures { IfErr result (FailsUnprinted (R.state rt.now).view.nature name.entry) }
 {
@@ -127,7 +127,7 @@ pub fn unprinted<'a, R: Store>(rt: &R, name: Option<&'a str>) -> Result<(), Faul
     Ok(())
 }
 
-/// Returns whether the named file, if one is named, is a regular file to which this stream prints.
+/// Returns whether a name is given and is that of a regular file to which `stream` prints.
 ///
 /// Returns file fault 1 if the name can't be looked up.
 pub fn is_printed<'a, R: Store>(
@@ -148,7 +148,7 @@ pub fn is_printed<'a, R: Store>(
     }
 }
 
-/// Checks that standard output and standard error can be compared with files.
+/// Checks that standard output and standard error can be looked up, so that they can be compared with files.
 ///
 /// Returns file fault 1 with the name of a stream that can't be looked up.
 pub fn found_streams<R: Store>(rt: &R) -> Result<(), Fault<'static>>
@@ -160,8 +160,8 @@ pub fn found_streams<R: Store>(rt: &R) -> Result<(), Fault<'static>>
     }
 }
 
-/// Looks up the named file, if one is named, before the run opens other files. If that fails, reading it later is file
-/// fault 1, even if the name refers to a file by then.
+/// Looks up the file `name`, if a name is given, before the run opens other files. If the look-up fails, a later read
+/// of this name is file fault 1, even if the name refers to a file by then.
 ///
 /// Returns error 18 if memory runs out.
 pub fn look_ahead<'a, R: Store>(rt: &R, name: Option<&'a str>) -> Result<(), Fault<'a>>

@@ -1,4 +1,4 @@
-//! The standard streams: a program may be started with some of them closed.
+//! Protects the files of a run if the program was started with closed standard streams, and prints whole lines.
 
 use std::alloc::Global;
 use std::io::{LineWriter, Write};
@@ -19,10 +19,11 @@ pub struct Streams<F> {
     _errors: F,
 }
 
-/// Opens a directory three times. Call this function before any other file is opened.
+/// Opens a directory three times, so that the descriptors 0, 1 and 2 are in use. Call this function before any other
+/// file is opened.
 ///
-/// Each of the descriptors 0, 1 and 2 that was closed then refers to the directory, and printing to it fails. Without
-/// this call the next file opened would get that descriptor, and printed lines would overwrite its first bytes.
+/// Each of these descriptors that was closed then refers to the directory, and printing to it fails. Without this call,
+/// the next opened file would get that descriptor, and printed lines would overwrite its first bytes.
 ///
 /// Returns an error if the directory can't be opened.
 pub fn keep_streams<R: Files>(files: &R) -> io::Result<Streams<R::File>> {
@@ -33,8 +34,8 @@ pub fn keep_streams<R: Files>(files: &R) -> io::Result<Streams<R::File>> {
     })
 }
 
-/// Returns a writer that sends each line of up to `LINE_BYTES` bytes in one write, so that it is not mixed with the
-/// lines of other programs. If there is no memory for its buffer, a line is sent in pieces.
+/// Returns a writer that sends each line of up to `LINE_BYTES` bytes in one write, so that it isn't mixed with lines of
+/// other programs. If memory for the writer's buffer is lacking, a line is sent in pieces.
 pub fn by_line<W: Write + Copy + Drop>(alloc: Global, stream: W) -> LineWriter<W> {
     match LineWriter::with_capacity(alloc, LINE_BYTES, stream) {
         Ok(writer) => writer,
