@@ -1,4 +1,4 @@
--- The blank sectors of a journal, counted one after another.
+-- The blank sectors (all FFh) of a journal, counted one after another.
 use Rattle.std.proofs.Common.{◌≡◌, ◌+◌, ◌<◌, ◌∙◌, ℕ, List, Some, ap, arith, false, length, sym, take, true}
 use Rattle.std.specs.Prelude.{slice_get}
 use Rattle.std.specs.List.{count_by}

@@ -2,7 +2,7 @@
 use Rattle.std.proofs.Common.{◌≡◌, ◌*◌, ◌^◌, ◌-◌, None, Some, refl}
 use Rattle.flashnor_serprog.specs.Estimates.{change_time, minutes_in, percent_of, seconds_in, tenths_of, time_for}
 
--- 0 of 16, 15 of 16, all, and more than all; 0 of 0; a total of 4 KiB sectors of 16 MiB; the greatest numbers
+-- The percentages of 0, 15, 16 and 17 of 16, of 0 of 0, of all but one sector of 16 MiB, and of the greatest numbers.
 none_done : percent_of 0 16 ≡ Some 0
 none_done = refl
 
@@ -24,7 +24,8 @@ one_less = refl
 most_done : percent_of (2 ^ 64 - 1) (2 ^ 64 - 1) ≡ Some 100
 most_done = refl
 
--- 8 MiB in 8 s are 1024.0 KiB/s, and 100 KiB in 60 s are 1.6 KiB/s. Nothing in a second is 0; in no time, no rate.
+-- 8 MiB in 8 s are 1024.0 KiB/s, and 100 KiB in 60 s are 1.6 KiB/s. If no bytes are transferred in a second, the rate
+-- is 0. If no time has passed, there is no rate. A rate above the greatest `u64` is capped.
 whole_chip : tenths_of 8388608 8000000 ≡ Some 10240
 whole_chip = refl
 
@@ -40,7 +41,7 @@ no_time = refl
 too_fast : tenths_of (2 ^ 64 - 1) 1 ≡ Some (2 ^ 64 - 1)
 too_fast = refl
 
--- If 512 of 2048 sectors took 15 s, 1536 take 45 s. If none is done, nothing is known.
+-- If 512 of 2048 sectors took 15 s, the remaining 1536 take 45 s. If no sector is done, the remaining time is unknown.
 three_quarters : time_for 1536 512 15000000 ≡ Some 45000000
 three_quarters = refl
 
@@ -50,7 +51,7 @@ nothing_left = refl
 nothing_done : time_for 2048 0 60000000 ≡ None
 nothing_done = refl
 
--- 0 s, 59 s, 60 s and 3600 s
+-- Minutes and seconds of 0 s, of 1 microsecond less than 60 s, of 60 s and of 3600 s.
 start : (minutes_in 0 ≡ 0) × (seconds_in 0 ≡ 0)
 start = (refl, refl)
 
@@ -63,8 +64,9 @@ minute = (refl, refl)
 hour : (minutes_in 3600000000 ≡ 60) × (seconds_in 3600000000 ≡ 0)
 hour = (refl, refl)
 
--- One sector takes 45 ms and 16 programs of 0.7 ms. 34 scattered sectors take 34 times that. 16 sectors in one erase
--- take 150 ms, and 179.2 ms for their programs. The 2,048 sectors of a W25Q64FV take 20 s and 22.9376 s.
+-- One sector takes 45 ms for its erase and 0.7 ms for each of its 16 programs. 34 scattered sectors take 34 times as
+-- long. 16 sectors in one erase block take 150 ms, and 179.2 ms for their programs. The 2,048 sectors of a W25Q64FV
+-- take 20 s for the erase of the chip, and 22.9376 s for their programs.
 one_sector : change_time 1 1 ≡ 56200
 one_sector = refl
 

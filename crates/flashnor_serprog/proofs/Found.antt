@@ -1,4 +1,4 @@
--- The faults of a job before its call, and after the call of a change.
+-- The faults of a job before its call, and those of a change or restore after its call.
 use Rattle.std.proofs.Common.{◌≡◌, ℕ, Bool, List, Option, Result, Ok, Err, IfErr, IfOk, false, inl, inr, refl, true}
 use Rattle.std.specs.Borrow.{Bor}
 use Rattle.nor_model.specs.Bus.{BusState}
@@ -29,7 +29,8 @@ use Rattle.flashnor_serprog.specs.Restoring.{FailsRestore}
 use Rattle.flashnor_serprog.specs.declared.chip_faults.JobFault.{JobFault}
 use Rattle.flashnor_serprog.specs.declared.chip_faults.JobFault.TheVariants as ended
 
--- the result of a call, as the result or the fault of a run
+-- If `P` holds for the value that a call returned, it holds for the value of the run. If `Q` holds for the error of the
+-- call, the run's fault is `Refused` with an error for which `Q` holds.
 module _ {T : Type 0} (P : T → Type 0) (Q : Refusal → Type 0) where
   pub passes_ok : (outcome : Result T Refusal) (result : Result T Fault) → IsReportedAs outcome result
       → IfOk outcome P → IfOk result P
@@ -42,7 +43,8 @@ module _ {T : Type 0} (P : T → Type 0) (Q : Refusal → Type 0) where
   passes_err (Err refusal) result returned is = rw returned (refusal, is, refl)
 
 module _ (named : Option ChipName) (old new : BusState) where
-  -- Only an identification that found a chip which may be protected is reported as chip fault 1.
+  -- If making the target fails with chip fault 1, the identification found a chip that may be protected, with this
+  -- status 1.
   refused : (target : Wanted) (ranges : Option (List Span)) (bytes : List ℕ) (byte : ℕ)
       → FailsToTarget named target ranges bytes old new (ended.Protected byte) → IsProtected named old new byte
   refused target ranges bytes byte (inl is) = is
@@ -93,8 +95,8 @@ module _ (named : Option ChipName) (old new : BusState) where
 
 module _ (operation : Operation) (old new : BusState) (change : Change) (ranges : Option (List Span))
     (bytes : List ℕ) (file : Bor Text) (view : View) (after : FilesState) where
-  -- A fault of making the buffer of a session is a fault of a change with a journal in a file, if the files are as they
-  -- were.
+  -- If making the buffer of a session fails with this fault, and the files are as they were, a change with a journal in
+  -- a file fails with this fault.
   pub fill_fails : (kept : JournalUse) (fault : JobFault) → kept ≡ uses.Journal file → after.view ≡ view
       → FailsToFill operation.named change.wanted (ranges_of operation change ranges) bytes old new fault
       → FailsChange operation change ranges bytes kept view after old new fault
@@ -108,8 +110,8 @@ module _ (operation : Operation) (old new : BusState) (change : Change) (ranges 
 
 module _ (operation : Operation) (old new : BusState) (change : Change) (ranges : Option (List Span))
     (bytes : List ℕ) (file : Bor Text) (view : View) where
-  -- A fault of creating the journal, or of copying the buffer of a session, is a fault of a change with a journal in a
-  -- file.
+  -- If the buffer of a session was made, and creating the journal then fails with this fault (or memory runs out), a
+  -- change with a journal in a file fails with this fault.
   pub start_fails : (image : List ℕ) (fault : Fault)
       → IsBufferOf operation.named change.wanted (ranges_of operation change ranges) bytes old new image
       → IsMaking view file.now fault
@@ -134,7 +136,8 @@ module _ (named : Option ChipName) (target : List ℕ) (old new : BusState) wher
   follows_no_rest found true outcome refusal fails = fails
   follows_no_rest found false outcome refusal fails = fails
 
--- a change with its journal in a file: what was done, and the fault of the comparison after the session
+-- A change with its journal in a file, and what follows its session: the result of the change, or the fault of the
+-- comparison.
 module _ (operation : Operation) (change : Change) (ranges : Option (List Span)) (bytes : List ℕ)
     (kept : JournalUse) (file : Bor Text) (is : kept ≡ uses.Journal file) (view : View) (after : FilesState)
     (old changed new : BusState) where
@@ -161,7 +164,7 @@ module _ (operation : Operation) (change : Change) (ranges : Option (List Span))
       (follows_no_rest operation.named ran.image changed new found (is_compared operation change) outcome refusal fails)
   follow_fails (Err refusal) fault ran fails = absurd fails
 
--- a change, as the job that the arguments ask for
+-- The job `job` is a change: the result of the change is the result of the job.
 module _ (operation : Operation) (change : Change) (ranges : Option (List Span)) (bytes : List ℕ) (view : View)
     (after : FilesState) (old new : BusState) (job : Task) (is : job ≡ task.Change change)
     (result : Result (Result Answer Refusal) JobFault) where
@@ -175,7 +178,7 @@ module _ (operation : Operation) (change : Change) (ranges : Option (List Span))
       → IfErr result (FailsPerform operation job ranges bytes view after old new)
   change_failed fails = rw is fails
 
--- a restore, as the job that the arguments ask for
+-- The job `job` is a restore: a fault of the restore is a fault of the job.
 module _ (operation : Operation) (ranges : Option (List Span)) (bytes : List ℕ) (view : View) (after : FilesState)
     (old new : BusState) (job : Task) (journal : Bor Text) (is : job ≡ task.Restore journal)
     (result : Result (Result Answer Refusal) JobFault) where

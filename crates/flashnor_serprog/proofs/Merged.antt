@@ -1,4 +1,5 @@
--- The target of a change with regions, from the bytes that were read and those that were copied.
+-- The target of a change that is limited to regions: it combines the bytes that were read from the chip with those of
+-- the image.
 use Rattle.std.proofs.Common.{◌≡◌, ◌<◌, ◌∙◌, ◌++◌, ℕ, List, Ok, Option, ap, arith, drop, length, refl, slice_index, take, true}
 use Rattle.std.proofs.Math.Seq.{take-append_seam}
 use Rattle.nor_journal.specs.Vault.{VaultState, new_vault}
@@ -11,7 +12,7 @@ use Rattle.nor_read.specs.Reading.{Grows}
 use Rattle.nor_request.specs.declared.report.Report.{Report}
 use Rattle.flashnor_serprog.specs.Following.{HasReadWhole, IsMerged}
 
--- If bytes of the same length were written over all bytes of a vector, the vector has these bytes.
+-- If `written`, which has `len` bytes, is written over the start of `items`, the first `len` bytes are `written`.
 pub whole_again : (written items : List ℕ) (len : ℕ) → len ≡ length written
     → take len (written ++ drop (length written) items) ≡ written
 whole_again written items len is = rw is (take-append_seam written (drop (length written) items))
@@ -19,7 +20,7 @@ whole_again written items len is = rw is (take-append_seam written (drop (length
 grown_length : (size : ℕ) (filled : VaultState) → Grows size (new_vault true) filled → length filled.bytes ≡ size
 grown_length size filled grows = ap length grows.grown ∙ grows.long
 
--- If a whole chip was read, as many bytes were read as the report's chip has.
+-- If the whole chip was read successfully, the number of bytes that were read is the size of the chip in the report.
 read_length : {named : Option ChipName} {old new : BusState} {chip : List ℕ} {report : Report}
     → HasReadWhole named old new chip (Ok report) → length chip ≡ report.found.size
 read_length {report = report} read =

@@ -21,7 +21,7 @@ use Rattle.nor_journal.specs.Text.{Content as Journal}
 use Rattle.nor_plan.proofs.Parts.{HasPart, put_back}
 use Rattle.flashnor_serprog.specs.Rest.{AreUnsaved, HasReadRest, HasStoppedInRest, IsRestRead}
 
--- A transaction that names the address `at` names no other address.
+-- A transaction that names the address `at` doesn't name another address `other`.
 names_other : (opcode at other : ℕ) → at ≢ other → (out : List ℕ) → names opcode at out ≡ true
     → names opcode other out ≡ false
 names_other opcode at other differs [] is = refl
@@ -30,8 +30,9 @@ names_other opcode at other differs (first ∷ x ∷ []) is = refl
 names_other opcode at other differs (first ∷ x ∷ y ∷ []) is = refl
 names_other opcode at other differs (first ∷ x ∷ y ∷ z ∷ rest) is = grind (arith, nat_tests)
 
--- The sectors below `to` that the journal doesn't save were read since `old`, and nothing else was sent. At their
--- addresses `bytes` are what was read, and at the saved ones FFh.
+-- Holds if the sectors with a number below `to` that the journal doesn't save were read after `old`, and nothing else
+-- was sent. At the addresses of these sectors `bytes` has what was read, and at the addresses in saved sectors it has
+-- FFh.
 pub record HasReadUp (journal : Journal) (to : ℕ) (bytes : List ℕ) (old new : BusState) : Type 0 where
   pub reads : ℕ
   pub few : reads ≤ to
@@ -56,7 +57,7 @@ up_none journal bytes state blank = record {
   saved = λ a below is. rw blank (get_or-replicate journal.size a 255 0 below);
 }
 
--- A sector that the journal saves is not read.
+-- If the journal saves sector `n`, it isn't read, and what holds up to `n` (`HasReadUp`) holds up to `n + 1`.
 pub up_skip : {journal : Journal} {n : ℕ} {bytes : List ℕ} {old new : BusState}
     → is_saved journal n ≡ true → HasReadUp journal n bytes old new → HasReadUp journal (n + 1) bytes old new
 up_skip {journal} {n} {bytes} {old} {new} saved has = record {
@@ -75,7 +76,8 @@ up_skip {journal} {n} {bytes} {old} {new} saved has = record {
   saved = has.saved;
 }
 
--- One more sector, which the journal doesn't save, is read into its part of the bytes.
+-- If the journal doesn't save sector `n`, this sector is read, and its bytes `part` are put into `bytes` at the
+-- sector's addresses.
 module _ {journal : Journal} {n width : ℕ} {bytes part : List ℕ} {old mid new : BusState}
     (exact : width ≡ 4096) (below : n < journal.size / 4096)
     (size : length bytes ≡ journal.size) (long : length part ≡ 4096) (out : is_saved journal n ≡ false)

@@ -1,4 +1,4 @@
--- A restore with its comparison, from the steps that it consists of.
+-- A restore with or without its comparison, composed of its steps.
 use Rattle.std.proofs.Common.{◌≡◌, ℕ, List, Result, IfErr, IfOk, inl}
 use Rattle.std.proofs.lemmas.Result.{IfOk-weaker, MatchResult-weaker}
 use Rattle.nor_model.specs.Bus.{BusState}
@@ -13,7 +13,8 @@ use Rattle.flashnor_serprog.specs.Restoring.{HasRestoredAndCompared, HasRestored
 use Rattle.flashnor_serprog.specs.declared.chip_faults.JobFault.{JobFault}
 use Rattle.flashnor_serprog.specs.declared.chip_faults.JobFault.TheVariants as ended
 
--- the bytes are this journal
+-- `bytes` are the encoding of `journal`: the result of the restore from `journal` is the result of the restore from
+-- `bytes`.
 module _ (operation : Operation) (bytes : List ℕ) (journal : Journal) (sound : IsContent journal)
     (read : bytes ≡ text journal) (old new : BusState) (result : Result (Result Answer Refusal) JobFault) where
   pub restored_from : IfOk result (HasRestoredBy operation.verifies_all operation journal old new)
@@ -26,7 +27,8 @@ module _ (operation : Operation) (bytes : List ℕ) (journal : Journal) (sound :
   fails_from fails = MatchResult-weaker result fails (λ outcome is. is)
       (λ fault is. inl (record { journal = journal; sound = sound; read = read; fails = is }))
 
--- the sectors that the journal doesn't save were read, and the restore was run
+-- Let the sectors that the journal doesn't save be read (`first`), and then the restore be run (`ran`). The result of
+-- the job then follows from what is sent after the restore.
 module _ (operation : Operation) (journal : Journal) (rest : List ℕ) (old found restored new : BusState)
     (first : HasReadBefore operation.named journal rest old found) (outcome : Result Answer Refusal)
     (ran : HasRunRestore operation.is_quick journal found restored outcome)

@@ -1,4 +1,4 @@
--- What a job sends to the chip, from the promises of its call.
+-- What a job sends to the chip, derived from the promises of its call.
 use Rattle.std.proofs.Common.{◌≡◌, ◌⊎◌, ◌∙◌, ℕ, Bool, List, Option, None, Some, Result, Ok, Err, ap, false, inl, inr, refl, subst, true}
 use Rattle.nor_model.specs.Bus.{BusState}
 use Rattle.nor_files.specs.Files.{FilesState, View, is_lawful}
@@ -43,8 +43,8 @@ reads_on old mid new one other = other ∙ one
 same_keeps_sent : (old new : BusState) → new ≡ old → KeepsSent old new
 same_keeps_sent old new same = ap (λ (bus : BusState). bus.sent) same
 
--- The limits of `SendsSaved` also hold for a call from an earlier state on, if nothing that may modify a chip was sent
--- between that state and the call.
+-- If the limits of `SendsSaved` hold from `mid` to `new`, and no modifying command was sent from `old` to `mid`, the
+-- limits hold from `old` to `new`.
 sends_after : (IsCode : ℕ → Type 0) (journal : Journal) (old mid new : BusState) → KeepsSent old mid
     → SendsSaved IsCode 1 journal mid new → SendsSaved IsCode 1 journal old new
 sends_after IsCode journal old mid new same sends = record {
@@ -55,7 +55,8 @@ sends_after IsCode journal old mid new same sends = record {
   unknown = rw same at sends.unknown;
 }
 
--- The limits of `SendsSaved` also hold up to a later state, if nothing that may modify a chip was sent after the call.
+-- If the limits of `SendsSaved` hold from `old` to `mid`, and no modifying command was sent from `mid` to `new`, the
+-- limits hold from `old` to `new`.
 sends_before : (IsCode : ℕ → Type 0) (journal : Journal) (old mid new : BusState)
     → SendsSaved IsCode 1 journal old mid → KeepsSent mid new → SendsSaved IsCode 1 journal old new
 sends_before IsCode journal old mid new sends same = record {
@@ -66,7 +67,8 @@ sends_before IsCode journal old mid new sends same = record {
   unknown = rw same sends.unknown;
 }
 
--- A session sends no modifying command before its journal is sealed, nor does anything before the session (`same`).
+-- A session, before which no modifying command was sent (`same`), sends no modifying command before its journal is
+-- sealed.
 module _ (request : Request) (image : List ℕ) (file : Text) (before : View) (after : FilesState)
     (old found new : BusState) (outcome : Result Answer Refusal)
     (ran : HasRunInFile request image file before after found new outcome) (same : KeepsSent old found) where
@@ -105,7 +107,7 @@ buffer_reads named (wanted.Write file) ranges bytes old new image is =
 buffer_reads named wanted.Erase ranges bytes old new image is =
     made_reads named wanted.Erase ranges bytes old new image is
 
--- nothing that may modify a chip was sent after the session
+-- No modifying command was sent after the session, between `changed` and `new`.
 module _ (what : What) (file : Text) (old changed new : BusState) (after : FilesState)
     (same : KeepsSent changed new) where
   journalled_before : SendsJournalled what file old changed after → SendsJournalled what file old new after
@@ -198,8 +200,8 @@ unread_rest journal chip old new OtherChip other = same_keeps_sent old new other
 unread_rest journal chip old new Stopped stopped = stopped.only_reads.sent
 unread_rest journal chip old new _ fails = absurd fails
 
--- A restore that fails before its call to the engine sends no modifying command. If the comparison after it fails, what
--- was sent fits the journal.
+-- If a restore fails before its call to the engine, it sends no modifying command. If the comparison after the call
+-- fails, what was sent fits the journal.
 restore_fails : (operation : Operation) (journal : Journal) (old new : BusState) (compared : Bool) (fault : JobFault)
     → FailsBy compared operation journal old new fault
     → KeepsSent old new ⊎ SendsSaved (IsSavedCode journal) 1 journal old new
@@ -278,7 +280,7 @@ fill_reads named wanted.Erase ranges bytes old new fault fails =
     target_fails named wanted.Erase ranges bytes old new fault fails
 fill_reads named (wanted.Range start len) ranges bytes old new fault fails = absurd fails
 
--- a change that fails before its session sends no modifying command
+-- A change that fails before its session sends no modifying command.
 fails_change : (operation : Operation) (change : Change) (ranges : Option (List Span)) (bytes : List ℕ)
     (kept : JournalUse) (view : View) (old new : BusState) (fault : Fault)
     → FailsToChange operation change ranges bytes kept view old new fault → KeepsSent old new
@@ -356,7 +358,7 @@ module _ (operation : Operation) (ranges : Option (List Span)) (bytes : List ℕ
   ends_sends (Err fault) fails =
       task_fails_sends operation operation.task ranges bytes before after old new fault fails
 
--- The end of a job from a state of the bus is its end from an equal state.
+-- If the states `other` and `old` of the bus are equal, a job that ended from `other` on also ended from `old` on.
 pub ends_from : (operation : Operation) (ranges : Option (List Span)) (bytes : List ℕ) (before : View)
     (after : FilesState) (old other new : BusState) (outcome : Result Answer JobFault) → other ≡ old
     → EndsJob operation ranges bytes before after other new outcome

@@ -1,4 +1,4 @@
--- A backup whose file exists already.
+-- The fault of a backup whose file already exists.
 use Rattle.std.specs.Prelude.{◌≡◌, Some, true}
 use Rattle.nor_files.specs.Files.{View}
 use Rattle.nor_files.specs.Files.Failure.{There}
@@ -9,7 +9,7 @@ use Rattle.nor_lines.specs.declared.messages.Fault.{Fault}
 use Rattle.nor_lines.specs.declared.messages.Fault.TheVariants as end
 use Rattle.nor_lines.specs.declared.messages.FileFault.TheVariants as file
 
--- the operation is a backup, and the fault is that its file already exists
+-- Holds if the operation is a backup, and the fault is file fault 4 with the name of its file, which may exist already.
 abbrev pub IsExistingBackup : View → Operation → Fault → Type 0
 IsExistingBackup view operation (end.File file.Exists of) = (operation.is_backup ≡ true)
     × ((made_by operation.task ≡ Some of) × Happens view (There of.now))

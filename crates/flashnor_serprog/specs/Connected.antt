@@ -1,4 +1,4 @@
--- The bus of a run, as contracts see it: the device that it belongs to, and the image that it expects.
+-- The bus of a run, as contracts see it: its device, and the image that it expects.
 use Rattle.std.specs.Prelude.{◌≡◌, ◌&&◌, ℕ, Bool, true, false, List, [], Option, None, Some, option_map, string_bytes, ⊤}
 use Rattle.nor_model.specs.Bus.{BusState}
 use Rattle.nor_buses.specs.Ahead.{ahead_of}
@@ -12,16 +12,16 @@ use Rattle.nor_words.specs.declared.job.Wanted.TheVariants as wanted
 use Rattle.flashnor_serprog.specs.Jobs.{is_compared}
 use Rattle.flashnor_serprog.specs.declared.connect.Connected.{Connected}
 
--- the name of the device
+-- the name of the device to which the bus belongs
 abbrev pub device_of : Connected → Text
 device_of connected = string_bytes connected.device
 
--- The image whose bytes are read once: data that equals it at its address is not read again. With `None` all data is
--- read twice (`EndsTwice`).
+-- the image that the bus expects, if any. Data that equals this image at its address is read only once; all other data
+-- is read twice (`EndsTwice`).
 abbrev pub expected_by : Connected → Option (List ℕ)
 expected_by connected = option_map (λ image. image.items) (expected_of (ahead_of connected.bus.bus))
 
--- Holds for a bus that was not yet asked to carry out any transaction.
+-- Holds if the bus has carried out no transaction yet.
 pub record IsUnused (state : BusState) : Type 0 where
   pub history : state.history ≡ []
   pub sent : state.sent ≡ []
@@ -31,14 +31,14 @@ abbrev pub writes_image : Wanted → Bool
 writes_image (wanted.Write image) = true
 writes_image _ = false
 
--- true for a job that compares the whole chip with its image at its end: `-v`, and `-w` without `-n` and `-N`
+-- true for a job that ends with a comparison of the chip with an image: `-v`, and `-w` without `-n` and `-N`
 abbrev pub ends_with_image : Operation → Task → Bool
 ends_with_image operation (task.Verify file regions) = true
 ends_with_image operation (task.Change change) = is_compared operation change && writes_image change.wanted
 ends_with_image operation _ = false
 
--- Holds if no image is expected, or if `ends_with_image` is true for the job and the expected bytes are those of its
--- image. So `-r`, `--backup` and `--restore` read all data twice.
+-- Holds if the bus expects no image, or if `ends_with_image` is true for the job and the bus expects the job's image.
+-- It follows that `-r`, `--backup` and `--restore` read all data twice.
 abbrev pub MayExpectImage : Operation → (bytes : List ℕ) → Option (List ℕ) → Type 0
 MayExpectImage operation bytes None = ⊤
 MayExpectImage operation bytes (Some image) = (ends_with_image operation operation.task ≡ true) × (image ≡ bytes)

@@ -1,4 +1,4 @@
--- The target of a change, which the whole chip is compared with after a write or an erase, and that comparison.
+-- The target of a write or an erase, and the comparison of the whole chip with this target after the change.
 use Rattle.std.specs.Prelude.{◌≡◌, ◌≢◌, ◌<◌, ◌⊎◌, ℕ, Bool, true, false, List, Option, None, Some, Result, Ok, Err}
 use Rattle.std.specs.Prelude.{length, slice_index}
 use Rattle.nor_model.specs.Bus.{BusState}
@@ -19,8 +19,8 @@ use Rattle.flashnor_serprog.specs.declared.chip_faults.JobFault.TheVariants as e
 
 -- ---- the target
 
--- The whole chip was read by `read_out`, without ranges, into a new faithful vault, or the call returned an error. The
--- call kept its promises, and `bytes` are all that the vault accepted.
+-- Holds if `read_out` was called for the whole chip and a new faithful vault, and kept its promises. `result` is what
+-- the call returned, and `bytes` are all bytes that the vault accepted.
 pub record HasReadWhole (named : Option ChipName) (old new : BusState) (bytes : List ℕ)
     (result : Result Report Refusal) : Type 0 where
   pub filled : VaultState
@@ -29,8 +29,8 @@ pub record HasReadWhole (named : Option ChipName) (old new : BusState) (bytes : 
   pub modelled : IsModelled old → ReadOutModelled named None old new (new_vault true) filled result
   pub holds : bytes ≡ filled.bytes
 
--- The whole chip was read, and has as many bytes as the image. The target has the image's byte at each address in these
--- spans, and at every other address the byte that was read.
+-- Holds if the whole chip was read, and has as many bytes as `image`. `target` has the byte of `image` at each address
+-- in `spans`, and the byte that was read at every other address.
 pub record IsMerged (named : Option ChipName) (spans : List Span) (image : List ℕ) (old new : BusState)
     (target : List ℕ) : Type 0 where
   pub chip : List ℕ
@@ -41,32 +41,34 @@ pub record IsMerged (named : Option ChipName) (spans : List Span) (image : List 
   pub bytes : (a : ℕ) → a < length chip
       → slice_index target a ≡ merged_byte (contains spans) (slice_index image) (slice_index chip) a
 
--- The target of a change: the bytes that the chip must have after it. `ranges` are the ranges of a change that is
--- compared and has regions: then the chip was read, and the target has the bytes that were read at all addresses
--- outside the ranges. Without ranges nothing was sent, and the target is the image.
+-- Holds if `target` has the bytes that the chip must have after a change. If the change is compared and limited to
+-- regions, `ranges` are those of the regions: then the chip was read, and `target` has the bytes that were read at all
+-- addresses outside the ranges. If `ranges` is `None`, nothing was sent, and `target` is `image`.
 abbrev pub IsWholeTarget : Option ChipName → (ranges : Option (List Span)) → (image : List ℕ) → (old new : BusState)
     → (target : List ℕ) → Type 0
 IsWholeTarget named None image old new target = (new ≡ old) × (target ≡ image)
 IsWholeTarget named (Some spans) image old new target = IsMerged named spans image old new target
 
--- the ranges of a change if it is compared; otherwise none, since the chip is then not read before the session
+-- the ranges of a change if it is compared; otherwise `None`, because the chip is then not read before the session
 abbrev pub ranges_if : (compared : Bool) → Option (List Span) → Option (List Span)
 ranges_if true ranges = ranges
 ranges_if false ranges = None
 
--- Holds for error 4 if the image is not as long as a chip of this size, and for error 5 if an address in these spans is
--- past the end of that chip.
+-- Holds for error 4 if the image isn't as long as a chip of this size, and for error 5 if an address in `spans` is past
+-- the end of that chip.
 abbrev pub IsUnfit : (size : ℕ) → List Span → (image : List ℕ) → Refusal → Type 0
 IsUnfit size spans image (ImageSize chip len) = (chip ≡ size) × (len ≡ length image) × (length image ≢ size)
 IsUnfit size spans image RegionOutside = ReachesPast (Some spans) size
 IsUnfit size spans image _ = ⊥
 
--- an error of reading a chip into memory: if the vault refused a piece (error 19), memory ran out (error 18)
+-- the error of reading a chip into memory: error 19 becomes error 18, because the vault in memory refuses a piece only
+-- if memory runs out
 abbrev pub into_memory : Refusal → Refusal
 into_memory (Output written) = Memory
 into_memory refusal = refusal
 
--- The chip was read, and has another size than the image, which fits the chip that was identified before.
+-- Holds if the chip was read, and the length of the image isn't the size of this chip. The image fits the chip that was
+-- identified before, so another chip was read.
 pub record IsOtherRead (named : Option ChipName) (image : List ℕ) (old new : BusState)
     (refusal : Refusal) : Type 0 where
   pub bytes : List ℕ
@@ -75,8 +77,9 @@ pub record IsOtherRead (named : Option ChipName) (image : List ℕ) (old new : B
   pub is : refusal ≡ ImageSize report.found.size (length image)
   pub differ : length image ≢ report.found.size
 
--- The errors of making the target of a change that is compared and has regions: the image doesn't fit the chip of this
--- size, and nothing was sent (`IsUnfit`); or the reading returned the error; or a chip of another size was read.
+-- Holds if making the target of a change that is compared and limited to regions failed with this error: the image or
+-- the regions don't fit the chip of this size (`IsUnfit`), and nothing was sent; reading the chip failed; or a chip of
+-- another size was read.
 abbrev pub FailsToMerge : Option ChipName → (size : ℕ) → (ranges : Option (List Span)) → (image : List ℕ)
     → (old new : BusState) → Refusal → Type 0
 FailsToMerge named size None image old new refusal = ⊥
@@ -86,8 +89,8 @@ FailsToMerge named size (Some spans) image old new refusal = ((new ≡ old) × I
 
 -- ---- the comparison
 
--- What follows the session of a change. If the session succeeded and the change is compared, the whole chip was
--- compared with the target, and was equal (`HasVerified`). Otherwise nothing was sent.
+-- What was sent after the session of a change. If the session succeeded and the change is compared, the whole chip was
+-- compared with the target, and was equal to it (`HasVerified`). Otherwise nothing was sent.
 abbrev pub IsFollowed : (session : Result Answer Refusal) → (compared : Bool) → Option ChipName → (target : List ℕ)
     → (old new : BusState) → Type 0
 IsFollowed (Ok found) true named target old new =
@@ -95,8 +98,8 @@ IsFollowed (Ok found) true named target old new =
 IsFollowed (Ok found) false named target old new = new ≡ old
 IsFollowed (Err refusal) compared named target old new = new ≡ old
 
--- The session of a change succeeded, the change is compared, and the comparison of the whole chip with the target
--- returned the error of this fault.
+-- Holds if the session of a change succeeded, the change is compared, and the comparison of the whole chip with the
+-- target failed with the error in this fault.
 abbrev pub FailsToFollow : (session : Result Answer Refusal) → (compared : Bool) → Option ChipName → (target : List ℕ)
     → (old new : BusState) → JobFault → Type 0
 FailsToFollow (Ok found) true named target old new (ended.NotCompared refusal) =

@@ -14,18 +14,19 @@ use Rattle.flashnor_serprog.specs.declared.journals.Description.{Description}
 abbrev pub are_blank : List ℕ → Bool
 are_blank bytes = list_all (λ byte. nat_eq byte 255) bytes
 
--- true for a saved sector that holds only FFh
+-- true if all bytes of the saved sector are FFh
 abbrev pub is_blank : SavedSector → Bool
 is_blank sector = are_blank sector.bytes
 
--- Holds for the first byte of the first saved sector and the last byte of the last one; for `None` if none is saved.
+-- Holds for the address of the first byte of the first saved sector and the address of the last byte of the last one.
+-- Holds for `None` if no sector is saved.
 abbrev pub AreEnds : List SavedSector → Option (ℕ × ℕ) → Type 0
 AreEnds saved None = saved ≡ []
 AreEnds saved (Some ends) =
     IsSomeAnd (slice_get saved 0) (λ sector. ends.0 ≡ 4096 * sector.number)
     × IsSomeAnd (slice_get saved (length saved - 1)) (λ sector. ends.1 ≡ 4096 * sector.number + 4095)
 
--- Holds if the description is that of this journal.
+-- Holds if each field of `described` is that of this journal.
 pub record Describes (journal : Content) (described : Description) : Type 0 where
   pub id : described.id ≡ journal.id
   pub size : described.size ≡ journal.size
@@ -35,21 +36,21 @@ pub record Describes (journal : Content) (described : Description) : Type 0 wher
   pub ends : AreEnds journal.saved described.ends
   pub blank : described.blank ≡ count_by is_blank journal.saved
 
--- The file of this name is a journal that is sealed and undamaged: it is all of its encoding. That these bytes are the
--- content of the file has the premise of `IsRead`.
+-- Holds if the file of this name consists of the encoding of `journal`, so that it is sealed and undamaged. Nothing is
+-- claimed of a file that isn't known (`IsKnownFile`).
 pub record IsSealed (view : View) (name : Text) (journal : Content) : Type 0 where
   pub sound : IsContent journal
   pub read : IsRead view name 16793662 (text journal)
 
--- the file of this name is a journal that is sealed and undamaged
+-- Holds if the file of this name is a sealed and undamaged journal (`IsSealed`).
 abbrev pub IsSealedIn : View → (name : Text) → Type 0
 IsSealedIn view name = (journal : Content) × IsSealed view name journal
 
--- Holds if the file of this name is such a journal, and the description is that of it.
+-- Holds if the file of this name is a sealed and undamaged journal, and `described` describes this journal.
 abbrev pub IsDescribedIn : View → (name : Text) → Description → Type 0
 IsDescribedIn view name described = (journal : Content) × IsSealed view name journal × Describes journal described
 
--- the faults of describing the journal in a file: those of reading and locking it, and error 15 with the first fault of
--- its bytes
+-- Holds if describing the journal in a file may fail with this fault: a fault of locking and reading the file, or error
+-- 15 with the first fault of its bytes.
 abbrev pub FailsToDescribe : View → (name : Text) → Fault → Type 0
 FailsToDescribe view name fault = IsSharingFault view name 16793662 fault ⊎ IsInvalid view name fault

@@ -1,4 +1,4 @@
--- A restore: its call to the engine, what is read before and after it, and its faults.
+-- A restore: its call to the engine, the reads before and after the call, and the faults.
 use Rattle.std.specs.Prelude.{◌≡◌, ◌⊎◌, ℕ, Bool, true, false, List, Option, Result, Ok}
 use Rattle.nor_model.specs.Bus.{BusState}
 use Rattle.nor_journal.specs.Fault.{HasFault}
@@ -19,15 +19,16 @@ use Rattle.flashnor_serprog.specs.Rest.{FailsRest, FollowsRestore, HasReadRest, 
 use Rattle.flashnor_serprog.specs.declared.chip_faults.JobFault.{JobFault}
 use Rattle.flashnor_serprog.specs.declared.chip_faults.JobFault.TheVariants as ended
 
--- With `-N`: a restore from this journal was run, after the chip's name was checked if a name is given.
+-- With `-N`: holds if a restore from this journal was run. If `-c` gives a name, the chip was identified before, and
+-- has this name.
 pub record HasOnlyRestored (operation : Operation) (journal : Journal) (old new : BusState)
     (outcome : Result Answer Refusal) : Type 0 where
   pub found : BusState
   pub first : IsNamedFirst operation.named old found
   pub ran : HasRunRestore operation.is_quick journal found new outcome
 
--- The chip was identified, and has the journal's ID and size. Then the sectors that the journal doesn't save were read:
--- `rest` has their bytes (`HasReadRest`).
+-- Holds if the chip was identified and has the journal's ID and size, and if the sectors that the journal doesn't save
+-- were then read. `rest` has their bytes (`HasReadRest`).
 pub record HasReadBefore (named : Option ChipName) (journal : Journal) (rest : List ℕ)
     (old new : BusState) : Type 0 where
   pub chip : Found
@@ -36,8 +37,9 @@ pub record HasReadBefore (named : Option ChipName) (journal : Journal) (rest : L
   pub kind : IsOfTypeFound journal chip
   pub read : HasReadRest journal rest found new
 
--- Without `-N`: the sectors that the journal doesn't save were read, and a restore from the journal was run. If it
--- succeeded or returned error 14, the sectors were read again, and had the same bytes (`FollowsRestore`).
+-- Without `-N`: holds if the sectors that the journal doesn't save were read, and then a restore from the journal was
+-- run. If the restore succeeded or returned error 14, these sectors were read again, and had the same bytes
+-- (`FollowsRestore`).
 pub record HasRestoredAndCompared (operation : Operation) (journal : Journal) (old new : BusState)
     (outcome : Result Answer Refusal) : Type 0 where
   pub rest : List ℕ
@@ -47,13 +49,14 @@ pub record HasRestoredAndCompared (operation : Operation) (journal : Journal) (o
   pub ran : HasRunRestore operation.is_quick journal found restored outcome
   pub followed : FollowsRestore (is_followed outcome) journal rest restored new
 
--- a restore from this journal, with or without the comparison
+-- Holds if a restore from this journal was run: with the comparison of the other sectors if `compared` is true,
+-- otherwise without it.
 abbrev pub HasRestoredBy : (compared : Bool) → Operation → Journal → (old new : BusState) → Result Answer Refusal
     → Type 0
 HasRestoredBy true operation journal old new outcome = HasRestoredAndCompared operation journal old new outcome
 HasRestoredBy false operation journal old new outcome = HasOnlyRestored operation journal old new outcome
 
--- The bytes are a journal, and a restore from that journal was run.
+-- Holds if `bytes` are a journal, and a restore from that journal was run.
 pub record HasRestored (operation : Operation) (bytes : List ℕ) (old new : BusState)
     (outcome : Result Answer Refusal) : Type 0 where
   pub journal : Journal
@@ -61,14 +64,14 @@ pub record HasRestored (operation : Operation) (bytes : List ℕ) (old new : Bus
   pub read : bytes ≡ text journal
   pub restored : HasRestoredBy operation.verifies_all operation journal old new outcome
 
--- The errors of reading the sectors that the journal doesn't save, after the chip was identified: 16 if it hasn't the
--- journal's ID and size, and 12 if the bus stopped.
+-- Holds if reading the sectors that the journal doesn't save failed with this error, after the chip was identified:
+-- with error 16 if the chip lacks the journal's ID or size, or with error 12 if the bus stopped.
 abbrev pub FailsRestOf : Journal → Found → (old new : BusState) → Refusal → Type 0
 FailsRestOf journal chip old new OtherChip = (new ≡ old) × (¬ IsOfTypeFound journal chip)
 FailsRestOf journal chip old new Stopped = HasStoppedInRest journal old new
 FailsRestOf journal chip old new _ = ⊥
 
--- The chip was identified, and then the reading of the sectors that the journal doesn't save returned this error.
+-- Holds if the chip was identified, and reading the sectors that the journal doesn't save then failed with this error.
 pub record HasNotReadRest (named : Option ChipName) (journal : Journal) (old new : BusState)
     (refusal : Refusal) : Type 0 where
   pub chip : Found
@@ -76,12 +79,14 @@ pub record HasNotReadRest (named : Option ChipName) (journal : Journal) (old new
   pub identified : HasIdentified named old found (Ok chip)
   pub fails : FailsRestOf journal chip found new refusal
 
--- the faults before a restore that is compared
+-- Holds if a restore that is compared failed with this fault before its call: in the identification, or while the
+-- sectors that the journal doesn't save were read.
 abbrev pub FailsToReadRest : Option ChipName → Journal → (old new : BusState) → Fault → Type 0
 FailsToReadRest named journal old new fault = FailsToFind named old new fault
     ⊎ ((refusal : Refusal) × HasNotReadRest named journal old new refusal × (fault ≡ end.Refused refusal))
 
--- A restore that is compared was run, and the comparison after it failed (`FailsRest`).
+-- Holds if a restore that is compared was run with this outcome, and the comparison after it failed with this error
+-- (`FailsRest`).
 pub record HasNotComparedRest (operation : Operation) (journal : Journal) (old new : BusState)
     (outcome : Result Answer Refusal) (refusal : Refusal) : Type 0 where
   pub rest : List ℕ
@@ -92,8 +97,8 @@ pub record HasNotComparedRest (operation : Operation) (journal : Journal) (old n
   pub followed : is_followed outcome ≡ true
   pub fails : FailsRest journal rest restored new refusal
 
--- the faults of a restore that is compared: memory ran out before anything was sent, or a fault before the restore, or
--- one of the comparison after it
+-- Holds if a restore that is compared failed with this fault: memory ran out before anything was sent, the job failed
+-- before the call (`FailsToReadRest`), or the comparison after the call failed (`HasNotComparedRest`).
 abbrev pub FailsCompared : Operation → Journal → (old new : BusState) → JobFault → Type 0
 FailsCompared operation journal old new (ended.Fault fault) = ((new ≡ old) × (fault ≡ end.Refused Memory))
     ⊎ FailsToReadRest operation.named journal old new fault
@@ -101,22 +106,22 @@ FailsCompared operation journal old new (ended.RestNotCompared outcome refusal) 
     HasNotComparedRest operation journal old new outcome refusal
 FailsCompared operation journal old new _ = ⊥
 
--- the faults of a restore that is not compared
+-- Holds if a restore that isn't compared failed with this fault: the identification returned an error.
 abbrev pub FailsUncompared : Operation → (old new : BusState) → JobFault → Type 0
 FailsUncompared operation old new (ended.Fault fault) = FailsToFind operation.named old new fault
 FailsUncompared operation old new _ = ⊥
 
--- the faults of a restore from this journal, with or without the comparison
+-- Holds if a restore from this journal failed with this fault; `compared` says whether the other sectors are compared.
 abbrev pub FailsBy : (compared : Bool) → Operation → Journal → (old new : BusState) → JobFault → Type 0
 FailsBy true operation journal old new fault = FailsCompared operation journal old new fault
 FailsBy false operation journal old new fault = FailsUncompared operation old new fault
 
--- the bytes are no journal, which is error 15, and nothing was sent
+-- Holds if `bytes` aren't a journal, the fault is error 15 with the reason, and nothing was sent.
 abbrev pub IsNoJournal : (bytes : List ℕ) → (old new : BusState) → Fault → Type 0
 IsNoJournal bytes old new fault = (new ≡ old)
     × ((why : JournalFault) × HasFault bytes why × (fault ≡ end.Refused (BadJournal why)))
 
--- The bytes are a journal, and the restore from that journal has this fault.
+-- Holds if `bytes` are a journal, and the restore from that journal failed with this fault.
 pub record HasNotRestored (operation : Operation) (bytes : List ℕ) (old new : BusState)
     (fault : JobFault) : Type 0 where
   pub journal : Journal
@@ -124,7 +129,7 @@ pub record HasNotRestored (operation : Operation) (bytes : List ℕ) (old new : 
   pub read : bytes ≡ text journal
   pub fails : FailsBy operation.verifies_all operation journal old new fault
 
--- the faults of a restore: the bytes are no journal, or the restore from the journal has the fault
+-- Holds if a restore failed with this fault: `bytes` aren't a journal, or the restore from that journal failed.
 abbrev pub FailsRestore : Operation → (bytes : List ℕ) → (old new : BusState) → JobFault → Type 0
 FailsRestore operation bytes old new fault = HasNotRestored operation bytes old new fault
     ⊎ ((error : Fault) × IsNoJournal bytes old new error × (fault ≡ ended.Fault error))

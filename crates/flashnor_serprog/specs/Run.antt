@@ -1,4 +1,4 @@
--- The end of a run: its job, and its exit status.
+-- A run of flashnor-serprog: what its arguments ask for, how its job ends, what it prints, and its exit status.
 use Rattle.std.specs.Prelude.{◌≡◌, ◌≤◌, ◌⊎◌, ◌&&◌, ◌++◌, ℕ, Bool, true, false, List, [], ◌∷◌, IsSomeAnd, Option, Result, Ok, Err}
 use Rattle.std.specs.Prelude.{codes, not}
 use Rattle.std.specs.Borrow.{Bor}
@@ -46,21 +46,21 @@ pub record IsAskedFor (words : List Text) (device : Bor Text) (operation : Opera
       (hardware.Chip (record { programmer = programmer; operation = Ok operation }))
   pub named : IsDeviceOf programmer.now device.now
 
--- Holds if this is what the arguments ask for: the description of the journal in a file, or an operation on the chip at
--- a device.
+-- Holds if the arguments ask for this: the description of the journal in a file, or an operation on the chip of a
+-- programmer.
 abbrev pub IsAskedByArguments : List Text → Asked → Type 0
 IsAskedByArguments words (asked.Description file) = IsHardwareJob program words (hardware.CheckJournal file)
 IsAskedByArguments words (asked.Chip setting operation) = IsAskedFor words setting.device operation
 
--- Before the programmer is used: neither the device nor a file that the job writes has a second role (`HaveOneRole`),
--- and the job's ranges and bytes were read.
+-- Holds if a job is prepared, before the programmer is used: neither the device nor a file that the job writes has a
+-- second role (`HaveOneRole`), and the job's ranges and bytes were read.
 pub record IsPrepared (view : View) (device : Bor Text) (operation : Operation) (ranges : Option (List Span))
     (bytes : List ℕ) : Type 0 where
   pub roles : HaveOneRole view.nature device operation.task
   pub sources : AreSources view operation.task ranges bytes
 
--- A job ends with the result of its call, or with a fault that occurred before the call or in the comparison after a
--- change.
+-- Holds if a job ended with this result: the answer or the error of its call, or a fault that occurred before the call
+-- or in the comparison after it.
 abbrev pub EndsJob : Operation → (ranges : Option (List Span)) → (bytes : List ℕ) → (before : View)
     → (after : FilesState) → (old new : BusState) → Result Answer JobFault → Type 0
 EndsJob operation ranges bytes before after old new (Ok found) =
@@ -71,43 +71,44 @@ EndsJob operation ranges bytes before after old new (Err (ended.Fault (end.Refus
 EndsJob operation ranges bytes before after old new (Err fault) =
     FailsPerform operation operation.task ranges bytes before after old new fault
 
--- the job has the answer or the error of its call
+-- Holds if the result of the job is the answer or the error of its call.
 abbrev pub IsEndedAs : Result Answer Refusal → Result Answer JobFault → Type 0
 IsEndedAs (Ok found) result = result ≡ Ok found
 IsEndedAs (Err refusal) result = result ≡ Err (ended.Fault (end.Refused refusal))
 
--- true for a write or an erase with `-n`, after which nothing was verified
+-- true for a write or an erase with `-n`, after which nothing is verified
 abbrev pub is_unverified : Task → Bool
 is_unverified (task.Change change) = changes_bytes change.wanted && not change.verify
 is_unverified _ = false
 
--- the line that follows the lines of a change after which nothing was verified
+-- the line that is printed after the lines of a change if nothing was verified
 abbrev pub unverified_line : List ℕ
 unverified_line = line (codes "Nothing was verified (-n)." ∷ [])
 
--- Holds if `text` is the name of the chip that was identified, as a line; for any other answer its lines.
+-- Holds if `text` is the line with the name of the identified chip, or for any other answer the lines of this answer.
 abbrev pub AreNameLines : Answer → List ℕ → Type 0
 AreNameLines (answer.Found found) text = text ≡ name_line found.name
 AreNameLines found text = AreLines found text
 
--- Holds if `text` is the lines of this answer: for `--flash-name` only the name of the chip, and with one more line
--- (`unverified_line`) if nothing was verified.
+-- Holds if `text` consists of the lines that are printed for this answer. If `named` is true (`--flash-name`), only the
+-- chip's name is printed. Otherwise, if `unverified` is true, the answer's lines are followed by `unverified_line`.
 abbrev pub AreLinesBy : (named unverified : Bool) → Answer → List ℕ → Type 0
 AreLinesBy true unverified found text = AreNameLines found text
 AreLinesBy false false found text = AreLines found text
 AreLinesBy false true found text = (lines : List ℕ) × AreLines found lines × (text ≡ lines ++ unverified_line)
 
--- Holds if `text` is the lines of this answer of this operation (`AreLinesBy`).
+-- Holds if `text` consists of the lines that are printed for this answer of this operation (`AreLinesBy`).
 abbrev pub AreJobLines : Operation → Answer → List ℕ → Type 0
 AreJobLines operation found text = AreLinesBy operation.is_flash_name (is_unverified operation.task) found text
 
--- the run has an answer, whose lines were printed
+-- Holds if the job ended with an answer, and the answer's lines were printed.
 abbrev pub HasPrinted : Operation → Result Answer JobFault → (out out' : Option (List ℕ)) → Type 0
 HasPrinted operation (Ok found) out out' = Prints (AreJobLines operation found) out out'
 HasPrinted operation (Err fault) out out' = ⊥
 
--- A run of a job on a chip, with the states of the bus before and after it. The run sent only what its job may send
--- (`SendsOnly`). The status is 0 or 1, and 0 only if the job ended with an answer and the answer's lines were printed.
+-- Holds for a run of a job on a chip; `old` and `new` are the states of the bus before and after it. The run sent only
+-- what its job may send (`SendsOnly`). Its exit status is 0 or 1, and 0 only if the job ended with an answer and the
+-- answer's lines were printed.
 pub record HasRun (operation : Operation) (ranges : Option (List Span)) (bytes : List ℕ) (before : View)
     (after : FilesState) (old new : BusState) (out out' : Option (List ℕ)) (status : ℕ) : Type 0 where
   pub outcome : Result Answer JobFault
@@ -121,18 +122,18 @@ abbrev pub ArgumentsAskForHelp : List Text → Type 0
 ArgumentsAskForHelp words = IsAmong kind.DisplayHelp (hardware_refusals_of program words)
     ⊎ IsAmong kind.DisplayVersion (hardware_refusals_of program words)
 
--- Holds if the reason why a run ends early is a request for the help or the version.
+-- Holds if the run ended early because its arguments are a request for the help or the version.
 abbrev pub AsksForHelp : Trouble → Type 0
 AsksForHelp (trouble.Fault fault) = IsAnswered (Err fault) ⊎ AsksForVersion fault
 AsksForHelp _ = ⊥
 
--- Holds if the reason why a run ends early is such a request only if the arguments ask for it.
+-- Holds if the run ended early because of a request for the help or the version only if the arguments ask for it.
 abbrev pub IsHelpAskedBy : List Text → Trouble → Type 0
 IsHelpAskedBy words ended = AsksForHelp ended → ArgumentsAskForHelp words
 
--- An operation was prepared, and run on a bus, from its first transaction on. The bus belongs to the device of this
--- name (`name`); `start` is that bus before the operation, and `last` its state now. At the start it expected no image,
--- or the one that `MayExpectImage` allows.
+-- Holds if an operation was prepared, and then run on a bus that had carried out no transaction before. The bus belongs
+-- to the device `name`; `start` is the bus before the operation, and `last` is its state now. At the start the bus
+-- expected no image, or the image that `MayExpectImage` allows.
 pub record HasRunOperation (state : Connected → BusState) (files after : FilesState) (name : Bor Text)
     (operation : Operation) (device : Text) (last : BusState) (out out' : Option (List ℕ)) (status : ℕ)
     : Type 0 where
@@ -146,7 +147,7 @@ pub record HasRunOperation (state : Connected → BusState) (files after : Files
   pub prepared : IsPrepared files.view name operation ranges bytes
   pub ran : HasRun operation ranges bytes files.view after (state start) last out out' status
 
--- The operation that the arguments ask for was run on the device that `dev=` names (`HasRunOperation`).
+-- Holds if the operation that the arguments ask for was run on the device that `dev=` names (`HasRunOperation`).
 pub record HasRunJob (state : Connected → BusState) (files after : FilesState) (words : List Text) (device : Text)
     (last : BusState) (out out' : Option (List ℕ)) (status : ℕ) : Type 0 where
   pub name : Bor Text
@@ -154,14 +155,15 @@ pub record HasRunJob (state : Connected → BusState) (files after : FilesState)
   pub asked : IsAskedFor words name operation
   pub run : HasRunOperation state files after name operation device last out out' status
 
--- The arguments ask for the description of a journal, which is sealed and undamaged.
+-- Holds if the arguments ask for the description of a journal, and this journal is sealed and undamaged.
 pub record HasChecked (view : View) (words : List Text) : Type 0 where
   pub file : Bor Text
   pub asked : IsHardwareJob program words (hardware.CheckJournal file)
   pub sealed : IsSealedIn view file.now
 
--- A run with status 0: the arguments ask for the help or the version; or for the description of a journal, which is
--- sealed and undamaged; or their job was run on the bus that the run left in `used`.
+-- Holds if a run may end with exit status 0: its arguments ask for the help or the version; they ask for the
+-- description of a journal that is sealed and undamaged; or their job was run, with status 0, on the bus that the run
+-- left in `used`.
 abbrev pub HasSucceeded : (state : Connected → BusState) → (files after : FilesState) → List Text
     → (used : Option Connected) → (out out' : Option (List ℕ)) → Type 0
 HasSucceeded state files after words used out out' = ArgumentsAskForHelp words

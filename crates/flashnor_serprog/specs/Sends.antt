@@ -1,4 +1,4 @@
--- The commands that a job may send to the chip, on every bus.
+-- The modifying commands that a job may send to the chip, over any bus.
 use Rattle.std.specs.Prelude.{◌≡◌, ◌⊎◌, ℕ, true, List, Some}
 use Rattle.nor_model.specs.Bus.{BusState}
 use Rattle.nor_files.specs.Files.{FilesState, IsDurable, is_lawful}
@@ -12,35 +12,38 @@ use Rattle.nor_words.specs.declared.job.Task.{Task}
 use Rattle.nor_words.specs.declared.job.Task.TheVariants as task
 use Rattle.nor_lines.specs.Requests.{what_of}
 
--- No modifying command was sent: the record of modifying commands is as it was.
+-- Holds if no modifying command was sent: the record of modifying commands is the same before and after.
 abbrev pub KeepsSent : (old new : BusState) → Type 0
 KeepsSent old new = new.sent ≡ old.sent
 
--- The file durably has one journal, which a host crash does not lose. What was sent fits this journal and request
--- (`SendsSaved`). Each sector that was targeted, but not before, is saved, or lies past the end of a chip that the
--- journal saves whole. Each status write of bytes that were not written before is one that `WritesOnly` allows.
+-- Holds if the file's content is a journal that a host crash does not lose, and what was sent fits this journal and the
+-- request (`SendsSaved`). Each sector that was targeted now, but not before, is saved, or lies past the end of a chip
+-- that the journal saves whole. Each status write of bytes that had not been written before is one that `WritesOnly`
+-- allows.
 pub record SendsJournalled (what : What) (file : Text) (old new : BusState) (after : FilesState) : Type 0 where
   pub bytes : List ℕ
   pub journal : IsJournal bytes
   pub durable : IsDurable file (Some bytes) after
   pub sends : SendsSaved (IsWrittenCode what journal.content) 1 journal.content old new
 
--- A change sent no modifying command; or, if the files obey the contract of `Store`, its journal is durable, and all
--- that it sent fits that journal. A rehearsal, which this program doesn't perform, sends no modifying command.
+-- Holds if a change sent no modifying command; or if its journal is durable and all that it sent fits that journal,
+-- which is claimed only if the files obey the contract of `Store`. A rehearsal, which this program doesn't perform,
+-- sends no modifying command.
 abbrev pub SendsChange : What → JournalUse → (old new : BusState) → FilesState → Type 0
 SendsChange what (uses.Journal file) old new after =
     KeepsSent old new ⊎ (is_lawful after.view ≡ true → SendsJournalled what file.now old new after)
 SendsChange what (uses.Rehearse stops) old new after = KeepsSent old new
 
--- The bytes are a journal, and what was sent fits it (`SendsSaved`). Each sector that was targeted, but not before, is
--- saved, or lies past the end of a chip that the journal saves whole. Each status write of bytes that were not written
--- before has the status bits that the journal saves, or the same bits with all protection bits clear.
+-- Holds if `bytes` are a journal, and what was sent fits this journal (`SendsSaved`). Each sector that was targeted
+-- now, but not before, is saved, or lies past the end of a chip that the journal saves whole. Each status write of
+-- bytes that had not been written before has the status bits that the journal saves, or the same bits with all
+-- protection bits clear.
 pub record SendsRestore (bytes : List ℕ) (old new : BusState) : Type 0 where
   pub journal : IsJournal bytes
   pub sends : SendsSaved (IsSavedCode journal.content) 1 journal.content old new
 
--- Holds if a job sent only what it may. A change or a restore sent no modifying command, or only what its journal
--- allows. Any other job sent no modifying command, whether it reads the chip into a file or saves it in a journal.
+-- Holds if a job sent only what it may send. A change or a restore sent no modifying command, or only what its journal
+-- allows. Any other job sent no modifying command, even a read into a file or a backup.
 abbrev pub SendsOnly : Task → (bytes : List ℕ) → (old new : BusState) → FilesState → Type 0
 SendsOnly (task.Change change) bytes old new after =
     SendsChange (what_of change.wanted) change.journal_use old new after

@@ -1,4 +1,4 @@
--- The value of `-p`.
+-- The value of `-p` of flashnor-serprog.
 use Rattle.std.specs.Prelude.{◌≡◌, ◌&&◌, ◌||◌, ◌++◌, ℕ, Bool, true, false, not, List, [], ◌∷◌, Option, None, Some, codes, drop, find, nat_eq, nat_le, nat_lt, option_and_then, if◌then◌else◌}
 use Rattle.std.specs.List.{list_any, starts_with}
 use Rattle.std.specs.Str.{bytes_eq}
@@ -10,12 +10,12 @@ use Rattle.flashnor_serprog.specs.declared.setting.Setting.{Setting}
 use Rattle.flashnor_serprog.specs.declared.setting.WrongSetting.{WrongSetting}
 use Rattle.flashnor_serprog.specs.declared.setting.WrongSetting.TheVariants.{Network, BaudRate, Flawed, NoDevice, NoPrefix}
 
--- a clock in hertz: 1 to 20 decimal digits with a value from 1 to 4,294,967,295
+-- a clock in hertz: the value of 1 to 20 decimal digits if it is from 1 to 4,294,967,295; `None` for any other text
 abbrev pub clock_of : Text → Option ℕ
 clock_of text = option_and_then
     (λ hertz. if nat_lt 0 hertz && nat_le hertz 4294967295 then Some hertz else None) (decimal_number text)
 
--- the number of a chip select: 1 to 20 decimal digits with a value of at most 255
+-- the number of a chip select: the value of 1 to 20 decimal digits if it is at most 255; `None` for any other text
 abbrev pub chip_select_of : Text → Option ℕ
 chip_select_of text = option_and_then
     (λ number. if nat_le number 255 then Some number else None) (decimal_number text)
@@ -34,7 +34,7 @@ is_serprog_setting setting =
 abbrev pub has_serprog_key : Text → Bool
 has_serprog_key setting = list_any (λ known. has_key known.0 setting) serprog_keys
 
--- the settings after `serprog:`
+-- the settings that follow `serprog:` in the value of `-p`
 abbrev pub serprog_settings : Text → List Text
 serprog_settings text = pieces_of (drop 8 text)
 
@@ -42,24 +42,24 @@ serprog_settings text = pieces_of (drop 8 text)
 abbrev pub names_serprog : Text → Bool
 names_serprog text = starts_with nat_eq text (codes "serprog:")
 
--- true if the setting has an unknown key, a wrong value, or a key that another setting has too
+-- true if `setting`, one of `settings`, has an unknown key, a wrong value, or a key that another of `settings` has, too
 unfoldable pub is_wrong : List Text → Text → Bool
 is_wrong settings setting = not (is_serprog_setting setting) || not (is_alone_in settings setting)
 
--- the first setting that `is_wrong` is true for
+-- the first of `settings` for which `is_wrong` is true
 abbrev pub first_wrong : List Text → Option Text
 first_wrong settings = find (is_wrong settings) settings
 
--- true for a setting `ip=..`, which would name a programmer in the network, and for `ip` alone
+-- true if the key of the setting is `ip`, which would name a programmer in the network
 abbrev pub names_network : Text → Bool
 names_network = has_key (codes "ip")
 
--- Holds if the text ends with a colon and a number: `device` is the text before this colon, and `rate` the number.
+-- Holds if `text` is `device`, a colon and `rate`, and `rate` is a decimal number.
 pub record HasRate (text device rate : Text) : Type 0 where
   pub parts : text ≡ device ++ 58 ∷ rate
   pub number : reads decimal_number rate ≡ true
 
--- Holds if the text doesn't end with a colon and a number.
+-- Holds if `text` doesn't end with a colon and a decimal number.
 abbrev pub HasNoRate : Text → Type 0
 HasNoRate text = (device rate : Text) → ¬ HasRate text device rate
 
@@ -67,13 +67,14 @@ HasNoRate text = (device rate : Text) → ¬ HasRate text device rate
 abbrev pub device_in : List Text → Option Text
 device_in settings = value_in settings (codes "dev")
 
--- Holds if the text begins with `serprog:`, and this is the value of `dev=` in it.
+-- Holds if `text` begins with `serprog:`, and `device` is the value of `dev=` in it.
 pub record IsDeviceOf (text device : Text) : Type 0 where
   pub begins : names_serprog text ≡ true
   pub named : device_in (serprog_settings text) ≡ Some device
 
--- The value of `-p` describes this programmer: it begins with `serprog:`, no setting is wrong, and each field has the
--- value of its key, or is `None` if the text lacks the key. The device doesn't end with a colon and a number.
+-- Holds if `text`, the value of `-p`, describes this programmer: it begins with `serprog:`, no setting in it is wrong,
+-- and each field of `setting` has the value of its key, or is `None` if the text lacks the key. The device doesn't end
+-- with a colon and a number.
 pub record IsSetting (text : Text) (setting : Setting) : Type 0 where
   pub device : IsDeviceOf text setting.device.now
   pub sound : first_wrong (serprog_settings text) ≡ None
@@ -82,24 +83,24 @@ pub record IsSetting (text : Text) (setting : Setting) : Type 0 where
       ≡ setting.chip_select
   pub rateless : HasNoRate setting.device.now
 
--- The first wrong setting of the text, if it begins with `serprog:` and has one.
+-- Holds if `text` begins with `serprog:`, and `setting` is the first wrong setting in it.
 pub record HasFirstWrong (text setting : Text) : Type 0 where
   pub begins : names_serprog text ≡ true
   pub first : first_wrong (serprog_settings text) ≡ Some setting
 
--- Holds if this is the error for a setting that is wrong: `Network` if its key is `ip`, otherwise `Flawed` with this
--- setting and its flaw.
+-- Holds if this is the error for a wrong setting: `Network` if its key is `ip`, otherwise `Flawed` with this setting
+-- and its flaw.
 abbrev pub IsWrongBy : Text → WrongSetting → Type 0
 IsWrongBy setting Network = names_network setting ≡ true
 IsWrongBy setting (Flawed given flaw) = (names_network setting ≡ false) × (given.now ≡ setting)
     × (flaw ≡ flaw_by (has_serprog_key setting) (is_serprog_setting setting))
 IsWrongBy setting _ = ⊥
 
--- Why the value of `-p` describes no programmer.
---
+-- Holds if this is the reason why the value of `-p` describes no programmer:
+-- |
 -- - `NoPrefix`: the text doesn't begin with `serprog:`.
--- - `Network`: the first wrong setting is `ip=..`.
--- - `Flawed`: the first wrong setting is this one, which isn't `ip=..`, and has this flaw.
+-- - `Network`: the first wrong setting has the key `ip`.
+-- - `Flawed`: the first wrong setting is this one. Its key isn't `ip`, and it has this flaw.
 -- - `NoDevice`: no setting is wrong, but `dev=` is missing.
 -- - `BaudRate`: no setting is wrong, and the value of `dev=` is the given device, a colon and the given number.
 abbrev pub IsWrongSetting : Text → WrongSetting → Type 0
@@ -112,7 +113,7 @@ IsWrongSetting text NoDevice =
 IsWrongSetting text (BaudRate device rate) = (value : Text) × IsDeviceOf text value
     × (first_wrong (serprog_settings text) ≡ None) × HasRate value device.now rate.now
 
--- Holds if the error is `BaudRate`, and the text is its device, a colon and its number.
+-- Holds if the error is `BaudRate`, and `text` is its device, a colon and its number.
 abbrev pub EndsWithRate : Text → WrongSetting → Type 0
 EndsWithRate text (BaudRate device rate) = HasRate text device.now rate.now
 EndsWithRate text _ = ⊥

@@ -1,4 +1,5 @@
--- The files of a job: their roles, and the contents that are read before the programmer is used.
+-- The files of a job: the check that no file has two roles, and the contents that are read before the programmer is
+-- used.
 use Rattle.std.specs.Prelude.{◌≡◌, ◌⊎◌, ℕ, List, Option, Some}
 use Rattle.std.specs.Borrow.{Bor}
 use Rattle.nor_files.specs.Files.{Nature, View}
@@ -20,8 +21,8 @@ use Rattle.nor_lines.specs.declared.messages.FileFault.TheVariants as file
 
 -- ---- roles
 
--- The name of the device is apart from that of each file of the job. The name of the output or the journal is apart
--- from those of all other files of the job. No task has an output together with a journal or an image.
+-- Holds if the name of the device is apart from that of each file of the job, and the name of the output or the journal
+-- is apart from those of all other files of the job. (No task has an output together with a journal or an image.)
 pub record HaveOneRole (nature : Nature) (device : Bor Text) (job : Task) : Type 0 where
   pub device_layout : AreTwo nature (Some device) (named_by job).layout
   pub device_wanted : AreTwo nature (Some device) (named_by job).wanted
@@ -31,20 +32,21 @@ pub record HaveOneRole (nature : Nature) (device : Bor Text) (job : Task) : Type
   pub layout_journal : AreTwo nature (named_by job).layout (named_by job).journal
   pub wanted_journal : AreTwo nature (named_by job).wanted (named_by job).journal
 
--- the faults of comparing the device with the files of a job
+-- Holds if comparing the device with the files of a job may fail with this fault.
 abbrev pub FailsDevice : Nature → Bor Text → Task → Fault → Type 0
 FailsDevice nature device job fault = FailsApart nature (Some device) (named_by job).layout fault
     ⊎ (FailsApart nature (Some device) (named_by job).wanted fault
     ⊎ (FailsApart nature (Some device) (named_by job).output fault
     ⊎ FailsApart nature (Some device) (named_by job).journal fault))
 
--- the faults of comparing the files of a job with each other
+-- Holds if comparing the files of a job with each other may fail with this fault.
 abbrev pub FailsFiles : Nature → Task → Fault → Type 0
 FailsFiles nature job fault = FailsApart nature (named_by job).layout (named_by job).output fault
     ⊎ (FailsApart nature (named_by job).layout (named_by job).journal fault
     ⊎ FailsApart nature (named_by job).wanted (named_by job).journal fault)
 
--- the faults of comparing the device, the files of a job and those that the program prints to
+-- Holds if the check of the roles may fail with this fault. It compares the device with the files of the job, these
+-- files with each other, and the output and the journal with the files to which the program prints.
 abbrev pub FailsRoles : Nature → Bor Text → Task → Fault → Type 0
 FailsRoles nature device job fault = FailsDevice nature device job fault
     ⊎ (FailsFiles nature job fault
@@ -52,23 +54,24 @@ FailsRoles nature device job fault = FailsDevice nature device job fault
 
 -- ---- sources
 
--- the fault is that the journal of a change already exists
+-- Holds if the fault is file fault 4 with the name of a change's journal, which may exist already.
 abbrev pub IsThere : View → JournalUse → Fault → Type 0
 IsThere view (uses.Journal name) (end.File file.Exists of) = (of.now ≡ name.now) × Happens view (There name.now)
 IsThere view _ fault = ⊥
 
--- the fault is that the file of this name, from which a restore reads, is no journal (error 15)
+-- Holds if the fault is error 15: the bytes of the file of this name, from which a restore reads, are no journal.
 abbrev pub IsInvalid : View → Text → Fault → Type 0
 IsInvalid view name (end.Refused (BadJournal why)) =
     (bytes : List ℕ) × IsRead view name 16793662 bytes × HasFault bytes why
 IsInvalid view name _ = ⊥
 
--- the faults of checking what was read: the journal of a change exists already, or that of a restore is invalid
+-- Holds if the check that follows the reading of a job's files may fail with this fault: the journal of a change exists
+-- already, or the journal of a restore is invalid.
 abbrev pub FailsCheck : View → Task → Fault → Type 0
 FailsCheck view (task.Change change) fault = IsThere view change.journal_use fault
 FailsCheck view (task.Restore journal) fault = IsInvalid view journal.now fault
 FailsCheck view _ fault = ⊥
 
--- the faults of reading and checking the files of a task
+-- Holds if reading and checking the files of a task may fail with this fault.
 abbrev pub FailsToPrepare : View → Task → Fault → Type 0
 FailsToPrepare view job fault = FailsSources view job fault ⊎ FailsCheck view job fault
