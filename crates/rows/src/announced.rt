@@ -1,5 +1,5 @@
-//! Tests of announcements: a session or restore announces the right numbers, after the last read of its scan and before
-//! its first modifying command.
+//! Tests of announcements. A session or restore must announce the right numbers, after the last read of its scan and
+//! before its first modifying command.
 use crate::held::assert_held;
 use crate::row::{Row, Start};
 use crate::runs::AMPLE;
@@ -26,7 +26,7 @@ const ROWS: [(Row, (u32, u32), (u32, u32), u64); 8] = [
     (Row::AGuardedByteIsProgrammed, (1, 0), (1, 1), 5),
 ];
 
-// A row's session that was run with a given number of allowed transactions: its bus, its vault, and its announcement if
+// What is left of a row's session after it was run with a given allowance: its bus, its vault, and its announcement if
 // it made one.
 #[derive(Drop)]
 struct Announced {
@@ -52,8 +52,8 @@ impl Announced {
         Announced { bus, vault, seen }
     }
 
-    // Restores from the session's journal with a number of allowed transactions, and returns what the restore
-    // announced.
+    // Restores from the session's journal with the allowance `allowed`. Returns what the restore announced, if
+    // anything.
     fn restore(&mut self, rt: &impl Abort, allowed: u64) -> Option<Announcement> {
         let journal = Journal::read(self.vault.bytes()).expect(rt, "a journal");
         self.bus.allow(allowed);
@@ -65,7 +65,7 @@ impl Announced {
     }
 }
 
-// Returns the announcement of these numbers of touched sectors and of erases.
+// Returns the announcement with these numbers of touched sectors and of erases.
 fn announcement((touched, erases): (u32, u32)) -> Option<Announcement> {
     Some(Announcement { touched, erases })
 }

@@ -1,5 +1,5 @@
-//! Backups of whole chips, each stopped after each number of its transactions, and restores from one after changes in
-//! sectors that no session touched.
+//! Backups of whole chips that are stopped after each number of their transactions, and restores from a backup after
+//! sectors changed that no session touched.
 use crate::held::assert_held;
 use crate::row::{Row, Start};
 use crate::runs::{AMPLE, assert_untouched, keep};
@@ -17,10 +17,10 @@ const ROW: Row = Row::NineSectorsAreErased;
 // The transactions of a backup of a TINY64: seven identify the chip, and sixteen read its sectors.
 const LENGTH: u64 = 23;
 
-// The records of a TINY64's backup: its sectors.
+// The number of records in a backup of a TINY64, one for each sector.
 const SECTORS: u32 = 16;
 
-// Saves the chip in a vault, which is returned. Asserts that the report counts only reads, and that each sector is
+// Saves the chip in a vault, and returns the vault. Asserts that the report counts only reads, and that each sector is
 // saved.
 fn saved(rt: &impl Abort, alloc: Global, bus: &mut SimBus) -> MemVault {
     bus.allow(AMPLE);
@@ -34,7 +34,7 @@ fn saved(rt: &impl Abort, alloc: Global, bus: &mut SimBus) -> MemVault {
     vault
 }
 
-// Erases sector 3 and programs a byte of sector 12, as commands with wrong addresses would.
+// Erases sector 3 and programs a byte of sector 12, as commands that a chip receives with wrong addresses would.
 fn disturb(rt: &impl Abort, bus: &mut SimBus) {
     let sector = Erase {
         unit: EraseBlock::Sector,
@@ -85,7 +85,8 @@ fn each_stop_of_a_backup(rt: HostRuntime) {
     }
 }
 
-// The calls are one for the header, one for each sector, two for the end mark and the digest, and the seal.
+// Refuses each call of the vault in turn: one for the header, one for each of 16 sectors, two for the end mark and the
+// digest, and the seal.
 #[test]
 fn each_call_of_a_backup_is_refused(rt: HostRuntime) {
     for nth in 1..=20 {

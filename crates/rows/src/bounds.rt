@@ -30,8 +30,8 @@ const READINGS: [Reading; 4] = [
 ];
 
 impl Reading {
-    // Returns the bound of the call on a chip of `sectors` sectors: 65,540 transactions to find the chip, and the reads
-    // after that.
+    // Returns the bound of the call on a chip of `sectors` sectors: 65,540 transactions to identify the chip, and the
+    // reads after that.
     fn most(self, sectors: u32) -> u64 {
         match self {
             Reading::Probe => 65_540,
@@ -40,7 +40,7 @@ impl Reading {
         }
     }
 
-    // Makes the call, and returns true if it succeeded. The tests accept success and failure.
+    // Makes the call, and returns whether it succeeded. The tests accept success and failure.
     fn ends(self, bus: &mut SpoiltBus<SimBus>, out: &mut MemVault, image: &[u8]) -> bool
         requires { (⟦<MemVault as Vault>⟧.state out.old).sealed ≡ false }
     {
@@ -52,8 +52,8 @@ impl Reading {
         }
     }
 
-    // Returns the number of transactions that the call sends on a bus with the fault `spoil`, to the row's chip.
-    // Asserts that the chip's bytes and status are as before, with the write enable latch clear.
+    // Returns the number of transactions that the call sends to the row's chip, on a bus with the fault `spoil`.
+    // Asserts that the chip's bytes and status are as before, and that the write enable latch is clear.
     fn sent(self, rt: &impl Abort, alloc: Global, row: Row, spoil: Spoil) -> u64 {
         let mut bus = spoilt(row.bus(rt, alloc, Start::IDLE), spoil);
         let mut out = MemVault::new(alloc);
@@ -68,7 +68,7 @@ impl Reading {
     }
 }
 
-// Asserts that each reading call sends at least one transaction on a bus with this fault, and at most its bound for a
+// Asserts that each reading call, on a bus with this fault, sends at least one transaction and at most its bound for a
 // chip of 16 sectors. Returns the number of calls.
 fn read_each(rt: &impl Abort, alloc: Global, row: Row, spoil: Spoil) -> u64 {
     let mut runs: u64 = 0;
@@ -127,7 +127,7 @@ fn restore_each(rt: &impl Abort, stopped: &Runs, n: u8) -> u64 {
     runs
 }
 
-// The session is stopped after its erase, so the restore sends 58 transactions without a fault.
+// The session is stopped after its erase, so the restore sends 58 transactions on a bus without a fault.
 #[test]
 fn restores_on_faulty_buses(rt: HostRuntime) {
     let row = Row::TheRestOfASectorStays;
@@ -145,11 +145,12 @@ fn assert_written(rt: &impl Abort, alloc: Global, row: Row, bus: &SimBus) {
     assert!(rt; bus.bytes() == wanted.as_slice());
 }
 
-// The bound of the session, and of its restore, is `most(16)`, which allows 274 operations. The session sends 271
+// The bound of the session and of its restore is `most(16)`, which allows 274 operations. The session sends 271
 // operations and the restore 241, each with 65,536 polls.
 //
-// The restore identifies the chip with seven transactions, reads sixteen sectors, fifteen of them again before it
-// programs them, and all sixteen to verify them. It erases the last sector and programs the 240 pages of the others.
+// The restore sends seven transactions to identify the chip, and reads sixteen sectors. It reads fifteen of them again
+// before it programs them, and all sixteen to verify them. It erases the last sector and programs the 240 pages of the
+// others.
 #[test]
 fn the_slowest_session_and_its_restore(rt: HostRuntime) {
     let row = Row::EachPageIsProgrammed;

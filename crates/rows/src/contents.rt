@@ -1,4 +1,4 @@
-//! Contents of chips: FFh, except a run of equal bytes and a run of given bytes.
+//! Contents of chips: FFh, except for a run of equal bytes and a run of given bytes.
 use nor_chip::SECTOR_LEN;
 use std::alloc::Global;
 use std::process::Abort;
@@ -36,7 +36,7 @@ pub const ERASED: Bytes = Bytes {
     run: &[],
 };
 
-/// Returns contents whose first `count` bytes have the value `byte`, and all others FFh.
+/// Returns contents whose first `count` bytes have the value `byte`. All other bytes are FFh.
 pub const fn first(count: usize, byte: u8) -> Bytes {
     Bytes {
         count,
@@ -57,7 +57,7 @@ pub fn put_run(bytes: &mut [u8], at: usize, run: &[u8]) {
     }
 }
 
-/// Sets the byte at position `place` to `byte`. Does nothing if `bytes` has no such position.
+/// Sets the byte at position `place` to `byte`. Does nothing if `bytes` doesn't have this position.
 pub fn put(bytes: &mut [u8], place: usize, byte: u8) {
     if let Some(found) = bytes.get_mut(place) {
         *found = byte;

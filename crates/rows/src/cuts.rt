@@ -1,12 +1,12 @@
-//! Sessions that are stopped after each number of transactions from a first number on, and one restore after each stop
-//! that follows the seal and after the session's end. The rows of `undone.rt` are left out here: that file also stops
-//! their restores.
+//! Sessions that are stopped after each number of transactions from a given number on. If the stop follows the seal, or
+//! the session ends, one restore follows, which isn't stopped. `undone.rt` has the other rows, and stops their
+//! restores, too.
 use crate::row::{Row, Start};
 use crate::runs::Runs;
 
-// Each row has the first number of allowed transactions, and the number of runs: one for each number from the first up
-// to the session's length. On the W25Q64FV the first number is three less than the session needs for its seal. The
-// transactions before that only read the chip; on the small chips the stops at such transactions are tested, too.
+// Each row has the first allowance, and the number of runs: one for each allowance from the first up to the session's
+// length. On the W25Q64FV the first allowance is three less than the session needs for its seal, because the
+// transactions before that only read the chip. On the small chips the stops at such transactions are tested, too.
 const ROWS: [(Row, u64, u64); 4] = [
     (Row::ABitFalls, 0, 29),
     (Row::NineSectorsAreErased, 0, 39),

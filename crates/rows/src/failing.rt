@@ -1,4 +1,4 @@
-//! A bus on which one transaction fails, or the polls of one wait do, and all others succeed.
+//! A bus on which one transaction fails, or the polls of one wait, while all other transactions succeed.
 ghost use Rattle.std.specs.Prelude.{false};
 ghost use Rattle.std.proofs.lemmas.Bool.{false≢true};
 ghost use Rattle.nor_model.specs.PolledReady.{polled_ready_in};
@@ -6,39 +6,39 @@ ghost use Rattle.nor_model.specs.Sent.{sent_in};
 
 use nor_chip::{Bus, History, Meter, SimBus, Stopped};
 
-/// The way in which the transaction fails.
+/// How the transaction fails.
 #[derive(Clone, Copy)]
 pub enum Fault {
     /// The bus stops at this transaction.
     Stop,
     /// The bus inverts each bit of the reply.
     Spoil,
-    /// If the transaction is a poll, it shows BUSY, and so does each poll among the 65,535 transactions after it. If
-    /// the poll begins a wait of the engine, all of these transactions are polls of that wait.
+    /// If the transaction is a poll, it shows BUSY, and so does each poll among the next 65,535 transactions. If the
+    /// poll begins a wait of the engine, all of these transactions are polls of this wait, so the wait times out.
     Busy,
 }
 
-/// A bus on which at most one transaction fails, or the polls of one wait. All others are carried out, up to an
-/// allowance that begins anew after each failed transaction.
+/// A bus on which at most one transaction fails, or the polls of one wait. All other transactions are carried out, up
+/// to an allowance that begins anew after each failed transaction.
 #[derive(Drop)]
 pub struct OnceBus {
     pub bus: SimBus,
     fault: Fault,
-    // the number of transactions before the one that fails; `None` if none fails
+    // The number of transactions before the one that fails, or `None` if none fails.
     after: Option<u64>,
     allowed: u64,
-    /// The number of transactions requested, including those that failed.
+    /// The number of requested transactions, including those that failed.
     pub asked: u64,
-    /// The first four bytes that were sent by transaction `after`, counted from 0. If it sent fewer than four, these
-    /// are its first byte and three zeros. Before that transaction all four are zeros. With `Busy` the bytes are
-    /// recorded even if the transaction isn't a poll; then nothing fails.
+    /// The first four bytes that transaction `after`, counted from 0, sent. If it sent fewer than four, these are its
+    /// first byte and three zeros. Before that transaction all four are zeros. With `Busy` the bytes are recorded even
+    /// if the transaction isn't a poll; then nothing fails.
     pub met: [u8; 4],
     history: History,
 }
 
 impl OnceBus {
-    /// Returns a bus with the allowance `allowed`. After `after` transactions, the next one fails as `fault` says; if
-    /// `after` is `None`, no transaction fails.
+    /// Returns a bus with the allowance `allowed`. The transaction that follows the first `after` transactions fails as
+    /// `fault` says. If `after` is `None`, no transaction fails.
     pub fn new(mut bus: SimBus, allowed: u64, fault: Fault, after: Option<u64>) -> OnceBus {
         bus.allow(allowed);
         OnceBus {
@@ -123,7 +123,7 @@ impl Meter for OnceBus {
     }
 }
 
-// Spoils a reply in the way of the fault.
+// Changes a reply as the fault does.
 fn spoil(fault: Fault, reply: &mut [u8]) {
     for byte in reply.iter_mut() {
         match fault {

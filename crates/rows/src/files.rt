@@ -1,5 +1,5 @@
-//! Vaults over a file on which one call fails and all others succeed. The vault must report the failure, and must not
-//! repeat the call.
+//! Vaults over a file on which one call fails and all other calls succeed. The vault must report the failure, and must
+//! not repeat the call.
 ghost use Rattle.std.specs.Prelude.{None};
 
 use crate::held::assert_held;
@@ -15,20 +15,20 @@ use std::process::Abort;
 // The call that fails.
 #[derive(Clone, Copy, PartialEq, Eq)]
 enum Failure {
-    // The write that follows this number of writes returns an error.
+    // After this number of writes, the next write returns an error.
     Write(usize),
-    // The write that follows this number of writes accepts no bytes.
+    // After this number of writes, the next write accepts no bytes.
     Nothing(usize),
     // The first sync returns an error.
     Sync,
 }
 
-// A file in memory. It records its length before each write, even if the write fails, and at its last sync, even if the
-// sync fails.
+// A file in memory. Before each write it records its length in `writes`, even if the write fails. At each sync it
+// records its length in `syncs`, even if the sync fails.
 #[derive(Drop)]
 struct OnceFile {
     failure: Option<Failure>,
-    // the most bytes that a write accepts
+    // The most bytes that a write accepts.
     most: usize,
     bytes: Vec<u8>,
     writes: Vec<usize>,
@@ -64,13 +64,12 @@ impl OnceFile {
         }
     }
 
-    // True if the file's recorded writes, its recorded syncs and its bytes are the given ones.
+    // True if the file has recorded these writes and these syncs, and has these bytes.
     fn has(&self, writes: &[usize], syncs: Syncs, bytes: &[u8]) -> bool {
         self.writes.as_slice() == writes && self.syncs == syncs && self.bytes.as_slice() == bytes
     }
 
-    // True if the file received `writes` writes and one sync, the sync after all bytes were written, and holds a
-    // journal of `length` bytes.
+    // True if the file received `writes` writes and then one sync, and contains a journal of `length` bytes.
     fn is_whole(&self, writes: usize, length: usize) -> bool {
         let lengths = (self.writes.len(), self.bytes.len());
         lengths == (writes, length)
@@ -78,8 +77,8 @@ impl OnceFile {
             && Journal::read(&self.bytes).is_ok()
     }
 
-    // True if the last call on the file was write `n`, counted from 0, and its earlier writes and its bytes are those
-    // of `right` before that write.
+    // True if the last call on the file was write number `n`, counted from 0, and the file's earlier writes and its
+    // bytes are those that the file `right` had before this write.
     fn ends_before(&self, right: &OnceFile, n: usize) -> bool {
         let (Some(writes), Some(before)) = (
             right.writes.get(0..n.saturating_add(1)),
@@ -124,7 +123,7 @@ impl VaultFile for OnceFile {
     }
 }
 
-// Runs a row's session whose vault is in a file that accepts at most `most` bytes per write, and on which the call
+// Runs a row's session whose vault is in a file. The file accepts at most `most` bytes per write, and its call
 // `failure` fails. Asserts that the chip is unchanged if the session returns an error. Returns the error, and the file.
 fn keep(
     rt: &impl Abort,
@@ -143,17 +142,17 @@ fn keep(
     (refusal, vault.into_inner())
 }
 
-// Runs a row's session as `keep` does, with a write or the sync that fails. Asserts that the session returns error 11,
-// and returns the file.
+// Runs a row's session as `keep` does, with a write or a sync that fails. Asserts that the session returns error 11.
+// Returns the file.
 fn fail(rt: &impl Abort, alloc: Global, row: Row, most: usize, failure: Failure) -> OnceFile {
     let (refusal, file) = keep(rt, alloc, row, most, Some(failure));
     assert!(rt; refusal == Some(Refusal::Vault));
     file
 }
 
-// Runs the session twice. Write `n`, counted from 0, returns an error in the first run, and accepts no bytes in the
-// second. Asserts in both runs that this write was the last call on the file, and that the file holds the bytes that
-// `right` had before this write.
+// Runs the session twice. In the first run write number `n`, counted from 0, returns an error; in the second run it
+// accepts no bytes. Asserts in both runs that this write was the last call on the file, and that the file contains the
+// bytes that `right` had before this write.
 fn fail_write(rt: &impl Abort, alloc: Global, row: Row, right: &OnceFile, n: usize) {
     for failure in [Failure::Write(n), Failure::Nothing(n)] {
         let file = fail(rt, alloc, row, right.most, failure);
@@ -162,8 +161,8 @@ fn fail_write(rt: &impl Abort, alloc: Global, row: Row, right: &OnceFile, n: usi
 }
 
 // Runs the session on a file that doesn't fail, and asserts the number of writes and the length of the journal. Then
-// makes each write fail in turn, and then the sync. Asserts that all bytes were written before the sync, and that the
-// failed sync isn't repeated.
+// makes each write fail in turn, and at last the sync. Asserts that all bytes were written before the sync, and that
+// the failed sync isn't repeated.
 fn fail_at_each(rt: &impl Abort, alloc: Global, row: Row, most: usize, counted: (usize, usize)) {
     let (writes, length) = counted;
     let (refusal, right) = keep(rt, alloc, row, most, None);
@@ -175,8 +174,8 @@ fn fail_at_each(rt: &impl Abort, alloc: Global, row: Row, most: usize, counted: 
     assert!(rt; file.has(&right.writes, right.syncs, &right.bytes));
 }
 
-// Each row has the most bytes per write, and the numbers of writes and of bytes. The header is one piece of 25 bytes,
-// each record is one of 4,100, and the end mark and the digest are two pieces, of 4 and 32 bytes.
+// Each row has the most bytes that a write accepts, and the expected numbers of writes and of bytes. The header is one
+// piece of 25 bytes, each record is one piece of 4,100, and the end mark and the digest are pieces of 4 and 32 bytes.
 const ROWS: [(Row, usize, (usize, usize)); 3] = [
     (Row::ABitRises, 5000, (1 + 1 + 2, 61 + 4100)),
     (Row::ABitRises, 1000, (1 + 5 + 2, 61 + 4100)),
@@ -195,7 +194,7 @@ fn a_file_that_fails_once_ends_the_session(rt: HostRuntime) {
 }
 
 // Puts five bytes into a vault over a file that accepts two bytes per write, and whose second write fails. Asserts that
-// the error contains the number of bytes accepted before, and that the vault makes no further write or sync.
+// the error contains the number of bytes that were accepted before, and that the vault makes no further write or sync.
 fn put_half(rt: &impl Abort, alloc: Global, failure: Failure) {
     let mut vault = FileVault::new(OnceFile::new(alloc, 2, Some(failure)));
     let told = vault.put(b"piece");
@@ -204,7 +203,7 @@ fn put_half(rt: &impl Abort, alloc: Global, failure: Failure) {
     assert!(rt; file.has(&[0, 2], Syncs::NONE, b"pi"));
 }
 
-// Puts five bytes into a vault over a file whose sync fails, and seals it. Asserts that the seal is refused with 0
+// Puts five bytes into a vault over a file whose sync fails, and seals the vault. Asserts that the seal fails with 0
 // bytes kept, and that the vault makes no further write or sync.
 fn put_all(rt: &impl Abort, alloc: Global) {
     let mut vault = FileVault::new(OnceFile::new(alloc, 5, Some(Failure::Sync)));

@@ -1,6 +1,6 @@
-//! Two sessions on one chip, one after the other, and then their restores in reverse order. The first session is
-//! stopped after each number of transactions that is enough for its seal, and the second after each number of
-//! transactions. Both also run to their end. The second session is restored only if its vault is sealed.
+//! Two successive sessions on one chip, and then their restores in reverse order. The first session is stopped after
+//! each number of transactions that is enough for its seal, or runs to its end. The second is stopped after each number
+//! of transactions, or runs to its end. The second session is restored only if its vault is sealed.
 use crate::held::assert_held;
 use crate::row::{Row, Start};
 use crate::runs::{AMPLE, Cut, Runs};
@@ -10,9 +10,9 @@ use nor_session::{Refusal, session};
 use std::alloc::Global;
 use std::process::Abort;
 
-// Runs a second session, which writes the image of the row `row`, on the chip that the first session left, with
-// `allowed` transactions. Asserts that it ends or is stopped. Returns the chip and the vault of the second session, and
-// whether it ended.
+// Runs a second session with the allowance `allowed`, on the chip that the first session left. It writes the image of
+// `row`. Asserts that the session ends or is stopped. Returns the chip and the vault of the second session, and whether
+// it ended.
 fn write_again(rt: &impl Abort, alloc: Global, bus: SimBus, row: Row, allowed: u64) -> (Cut, bool) {
     let mut bus = bus;
     bus.allow(allowed);
@@ -24,9 +24,9 @@ fn write_again(rt: &impl Abort, alloc: Global, bus: SimBus, row: Row, allowed: u
     (Cut { bus, vault }, refusal.is_none())
 }
 
-// Restores from the journal of the second session, if its vault is sealed, and then from that of the first. The restore
-// from the second journal is allowed `allowed` transactions, and another one follows if it was stopped. Returns the
-// chip.
+// Restores from the journal of the second session, if its vault is sealed, and then from the journal of the first. The
+// restore from the second journal has the allowance `allowed`; if it was stopped, another one follows. Returns the bus
+// to the chip.
 fn undo_both(rt: &impl Abort, second: Cut, first: MemVault, allowed: u64) -> SimBus {
     let mut second = second;
     if second.vault.is_sealed() && second.restore(rt, allowed).is_none() {
@@ -44,7 +44,7 @@ fn undo_both(rt: &impl Abort, second: Cut, first: MemVault, allowed: u64) -> Sim
     first.bus
 }
 
-// Stops the second session after each number of transactions until it ends, on the chip that the first session left
+// Runs the second session with the allowances 0, 1, .. until it ends, each time on the chip that the first session left
 // after `n` transactions. Each time, asserts that the restores leave the chip as before the first session. Returns the
 // number of transactions of the second session.
 fn stop_second(rt: &impl Abort, alloc: Global, runs: &Runs, other: Row, n: u64) -> u64 {
@@ -60,12 +60,12 @@ fn stop_second(rt: &impl Abort, alloc: Global, runs: &Runs, other: Row, n: u64) 
     panic!(rt; "no session after {n} ended")
 }
 
-// The first session raises a bit of byte 0, and the second writes FFh to byte 0 and four bytes from FEh on; all are in
-// the first sector. The first session is stopped after 23 to 29 transactions, or it ends after 30. After 23 its journal
-// is sealed.
+// The lengths of the second session, after the first was stopped after 23 to 29 transactions, and after it ended with
+// 30. The journal of the first session is sealed after 23. The first session raises a bit of byte 0. The second writes
+// FFh to byte 0 and four bytes from FEh on; all of these are in the first sector.
 //
 // The second session sends 23 transactions before its seal. It raises byte 0 with an erase, except if the first session
-// was stopped between its erase and its program: then the byte is FFh.
+// was stopped between its erase and its program, because byte 0 is then FFh.
 //
 // - After its seal the second session sends three transactions for each erase and each of its two programs, and one to
 //   verify. If it doesn't erase the sector, it reads the sector again before the first program.
@@ -73,8 +73,8 @@ fn stop_second(rt: &impl Abort, alloc: Global, runs: &Runs, other: Row, n: u64) 
 //   23 + 1 + 2 * 3 + 1. After 28 and 29, and at the end, it is 01h, and has to be raised again.
 const LENGTHS: [u64; 8] = [33, 33, 31, 31, 31, 33, 33, 33];
 
-// The lengths of the second session if each stop loses a reply. At a stop of the first session the chip is then as
-// after one transaction more.
+// The lengths of the second session if each stop loses only a reply. After a stop of the first session, the chip is
+// then as if the session had sent one transaction more.
 const LENGTHS_AFTER_A_LOST_REPLY: [u64; 8] = [33, 31, 31, 31, 33, 33, 33, 33];
 
 #[test]

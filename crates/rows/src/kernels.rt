@@ -1,5 +1,5 @@
-//! nor_plan's comparisons of two slices that are equal or differ in one byte. The lengths are a page, a sector, and
-//! lengths near 0 and near 32: nor_plan compares 32 bytes at a time.
+//! nor_plan's comparisons of two slices that are equal or differ in one byte. The slices have the length of a page or a
+//! sector, or a length near 0 or near 32, because nor_plan compares 32 bytes at a time.
 use crate::held::assert_held;
 use nor_plan::{PageSpan, bounds, differs, raises, spans};
 
@@ -24,9 +24,9 @@ fn is_same_to_itself(length: usize) -> bool {
 }
 
 // True if the comparisons find the only difference of two slices of this length: bit 1 of the byte at `place`, which is
-// clear in `lower` and set in `higher`. `differs` must return true, and `bounds` the position, with either slice as the
-// old one. `raises` must return true if and only if the slice of `lower` is the old one. `spans` must return the span
-// of that byte and no other.
+// clear in `lower` and set in `higher`. `differs` must return true, and `bounds` must return the position, whichever
+// slice is the old one. `raises` must return true if and only if the slice of `lower` is the old one. `spans` must
+// return only the span of that byte.
 fn differs_at(length: usize, place: usize) -> bool {
     let lower = [0xA5u8; LONGEST];
     let mut higher = [0xA5u8; LONGEST];

@@ -1,14 +1,14 @@
-//! Tests of the public calls across crates, most of them with a bus, a vault, a file or a serial port that fails, or
-//! with malformed input. The crate has no other code.
+//! Tests of public calls across crates. In most of them a bus, a vault, a file or a serial port fails, or the input is
+//! malformed. The crate contains only tests.
 //!
-//! Shared by the tests:
+//! Code that several tests use:
 //!
 //! - `contents.rt`: contents of chips
 //! - `row.rt`: the sessions that are tested (the rows), each with its chip, its image and its request
-//! - `runs.rt`: runs a row's session and its restores, each stopped after a given number of transactions
+//! - `runs.rt`: runs a row's session and its restores, each of which may be stopped after a number of transactions
 //! - `spoilt.rt`: runs a row's session, or a restore, on a faulty bus
-//! - `failing.rt`: a bus on which one transaction, or the polls of one wait, fail and all others succeed
-//! - `stages.rt`: calls on the bus of `failing.rt`, with each of their transactions or waits failing in turn
+//! - `failing.rt`: a bus on which one transaction fails, or the polls of one wait, while all others succeed
+//! - `stages.rt`: calls on the bus of `failing.rt`; each of their transactions or waits fails in turn
 //! - `held.rt`: an assertion whose message has a number
 //!
 //! Stops and power failures:
@@ -16,20 +16,22 @@
 //! - `cuts.rt`: sessions that are stopped between two transactions, and one restore after each stop that follows the
 //!   seal
 //! - `undone.rt`: sessions that are stopped, restores that are also stopped, and a second restore
-//! - `torn.rt`: sessions and restores that are stopped at or inside a transaction, and lose its reply or the power
-//! - `rewritten.rt`: restores that rewrite every saved sector, stopped anywhere, and another rewrite or a restore
-//! - `backups.rt`: backups of a chip, stopped anywhere, and restores from one after changes that no session made
+//! - `torn.rt`: sessions and restores that are stopped before, inside or after a transaction; the chip keeps or loses
+//!   its power
+//! - `rewritten.rt`: restores that rewrite every saved sector and are stopped anywhere, and then another rewrite or a
+//!   restore
+//! - `backups.rt`: backups of a chip, stopped anywhere, and restores from a backup after changes that no session made
 //! - `in_turn.rt`: two successive sessions, stopped or run to their end, and their restores in reverse order
 //! - `rehearsed.rt`: rehearsals with each stop of the session and of its first restore, and rehearsals on faulty buses
-//! - `once.rt`: after a stop or a timeout no call except a rehearsal sends anything more; a spoilt sector isn't read
-//!   again
+//! - `once.rt`: after a stop or a timeout no call except a rehearsal sends anything more; a sector whose reply was spoilt
+//!   isn't read again
 //! - `readings.rt`: reading calls that lose a reply, or whose vault refuses a piece; the status that they report
 //!
 //! Faulty buses, vaults and files:
 //!
 //! - `lies.rt`: the errors of sessions and restores on faulty buses, and restores after them on a well-behaved bus
-//! - `bounds.rt`: probes, readings, sessions and restores keep their bounds of transactions on faulty buses, and a
-//!   session and its restore on the slowest chip
+//! - `bounds.rt`: the bounds on the transactions of probes, readings, sessions and restores: on faulty buses, and on the
+//!   slowest chip
 //! - `vaults.rt`: sessions whose vault refuses a call
 //! - `files.rt`: sessions whose journal is in a file that fails once
 //! - `sinks.rt`: vaults and files that accept everything, refuse a call, write short or can't be synced
@@ -41,10 +43,12 @@
 //! - `serprog_model.rt`: a port to a simulated programmer and chip
 //! - `serprog_frames.rt`: the frames of five commands, and a transaction that is too long for a frame
 //! - `serprog_handshakes.rt`: how a link is synchronized, and how a programmer is identified
-//! - `serprog_buses.rt`: transactions over the buses, commands that wait, and faults of the programmer and the port
-//! - `serprog_stops.rt`: sessions and restores over an honest port (nor_wire), which fails at each of its calls in turn
-//! - `serprog_wrappers.rt`: paced polls, and readings that are made twice
-//! - `serprog_again.rt`: which sectors of a reading are read again
+//! - `serprog_buses.rt`: transactions over the buses, batches of commands, and faults of the programmer and the port
+//! - `serprog_stops.rt`: sessions and restores over a well-behaved port (of nor_wire), which fails at each of its calls in
+//!   turn
+//! - `serprog_wrappers.rt`: paced polls, and reads that are made twice
+//! - `serprog_again.rt`: which sectors of a read are read again
+//! - `serprog_narrow.rt`: reads and programs that are split, because the programmer's limits are too small for them
 //!
 //! Single calls:
 //!
@@ -52,8 +56,8 @@
 //! - `announced.rt`: what sessions and restores announce before they change the chip
 //! - `sessions.rt`: sessions on chips with different erase types, and on a busy chip
 //! - `kernels.rt`: nor_plan's comparisons of two slices
-//! - `sets.rt`: sets of addresses made from spans
-//! - `maps.rt`: flash descriptors and FMAPs
+//! - `sets.rt`: sets of addresses that are made from spans
+//! - `maps.rt`: the regions in flash descriptors and FMAPs
 //! - `texts.rt`: malformed and very long layouts and journals
 //! - `words.rt`: command lines of 1 to 14 arguments, with enough memory
 #![tactic(auto)]

@@ -1,4 +1,4 @@
-//! Sessions and restores on faulty buses, and the restores after them on a well-behaved bus.
+//! Sessions and restores on faulty buses, and restores after them on a well-behaved bus.
 use crate::held::assert_held;
 use crate::row::{Row, Start};
 use crate::runs::Runs;
@@ -14,29 +14,29 @@ const TIMEOUT: Refusal = Refusal::Timeout { address: 0 };
 
 const MISMATCH: Refusal = Refusal::Mismatch { address: 0 };
 
-// Asserts that the call returned this error after this number of transactions. Restores on a well-behaved bus if the
-// vault is sealed, and asserts that afterwards the chip is as before the session.
+// Asserts that the call returned the error and sent the number of transactions in `told`. If the vault is sealed,
+// restores on a well-behaved bus, and asserts that afterwards the chip is as before the session.
 fn assert_lied(rt: &impl Abort, alloc: Global, row: Row, lied: Lied, told: (Refusal, u64)) {
     let (refusal, sent) = told;
     assert!(rt; lied.refusal == Some(refusal) && lied.sent == sent);
     lied.assert_undone(rt, alloc, row);
 }
 
-// Each row has the session, the fault, the error, and the number of transactions sent. Transactions are counted from 1:
-// 1 to 7 identify a TINY64, and 8 to 23 scan it; 1 to 4 identify a W25Q64FV, and 5 to 2,052 scan it. Then the sessions
-// send:
+// Each row has the session, the fault, and the expected error and number of transactions. Transactions are counted from
+// 1. Transactions 1 to 7 identify a TINY64, and 8 to 23 scan it; 1 to 4 identify a W25Q64FV, and 5 to 2,052 scan it.
+// Then the sessions send:
 //
 // - `ABitRises`: 24 enables the erase, 25 is the erase, 26 its poll; 27 enables the program, 28 is the program, 29 its
 //   poll; 30 reads the sector to verify it.
 // - `AByteIsProgrammed`: 24 reads the sector, 25 enables the program, 26 is the program, 27 its poll; 28 reads the
 //   sector to verify it.
-// - `NineSectorsAreErased`: 25 erases sectors 0 to 7, 28 sector 8; 30 to 38 read them to verify them, up to the first
-//   difference.
+// - `NineSectorsAreErased`: 25 erases sectors 0 to 7, 28 erases sector 8; 30 to 38 read the sectors to verify them, up to
+//   the first difference.
 // - `AGuardedByteIsProgrammed`: 2,053 enables the status write that lifts the protection, 2,054 is this write, 2,055
 //   its poll. A timeout of a status write has the address 0.
 //
 // A wait gives up after 65,536 polls. An ID of zeros means that there is no chip. If bit 0 of each reply byte is
-// cleared, a TINY64's ID stays as it is, but the first letter of the SFDP signature changes.
+// cleared, the ID of a TINY64 stays as it is, but the first letter of the SFDP signature changes.
 const SESSIONS: [(Row, Spoil, (Refusal, u64)); 10] = [
     (Row::ABitRises, Spoil::Fill(0xFF), (TIMEOUT, 65_536)),
     (Row::ABitRises, Spoil::Fill(0x00), (Refusal::NoChip, 2)),
@@ -78,14 +78,14 @@ fn a_session_that_changes(rt: HostRuntime) {
     }
 }
 
-// Each row has the fault, the error, and the number of transactions of the restore. The session was stopped after its
-// erase. The restore's transactions are counted from 1:
+// Each row has the fault, and the expected error and number of transactions of the restore. The session was stopped
+// after its erase. The restore's transactions are counted from 1:
 //
-// - 1 is a poll, 2 reads the ID, 3 to 5 the SFDP in three parts, 6 status 2, and 7 the unique ID.
+// - 1 is a poll, 2 reads the ID, 3 to 5 read the SFDP in three parts, 6 reads status 2, and 7 the unique ID.
 // - 8 and 9 read the sector, 10 enables the program, 11 is the program, 12 its poll, and 13 reads the sector to verify
 //   it.
 //
-// A dropped reading returns FFh.
+// A read that is dropped returns FFh in each byte.
 const RESTORES: [(Spoil, (Refusal, u64)); 12] = [
     (Spoil::Fill(0xFF), (TIMEOUT, 65_536)),
     (Spoil::Fill(0x00), (Refusal::NoChip, 2)),
@@ -123,9 +123,9 @@ fn a_restore_that_programs(rt: HostRuntime) {
     }
 }
 
-// Transactions 8 to 23 of `ABitRises` scan the chip. If one is dropped, all bytes of its sector are read as FFh. Only
-// sector 0 differs from the image, so only this sector is saved. Its first byte in the journal is 00h, or FFh if
-// transaction 8 was dropped.
+// Transactions 8 to 23 of `ABitRises` scan the chip. If one of them is dropped, all bytes of its sector are read as
+// FFh. Only sector 0 differs from the image, so only this sector is saved. Its first byte in the journal is 00h, except
+// if transaction 8 was dropped: then it is FFh.
 #[test]
 fn a_lie_before_the_seal_leaves_a_journal(rt: HostRuntime) {
     for n in 8..=23 {
@@ -138,8 +138,8 @@ fn a_lie_before_the_seal_leaves_a_journal(rt: HostRuntime) {
     }
 }
 
-// True if the call succeeded, or its error fits the fault: a mismatch after a dropped transaction, a timeout if polls
-// show BUSY.
+// True if the call succeeded, or if its error fits the fault: a mismatch after a dropped transaction, or a timeout if
+// polls show BUSY.
 fn is_fitting(spoil: Spoil, refusal: Option<Refusal>) -> bool {
     match refusal {
         None => true,
@@ -149,7 +149,7 @@ fn is_fitting(spoil: Spoil, refusal: Option<Refusal>) -> bool {
     }
 }
 
-// Drops each transaction after the seal of a row's session in turn, and in further runs shows BUSY from that
+// Drops each transaction after the seal of a row's session in turn, and in further runs shows BUSY from this
 // transaction on. Asserts that the session's error fits the fault, that the vault is sealed, and that a restore on a
 // well-behaved bus restores the chip. Returns the number of runs.
 fn lie_past_the_seal(rt: &impl Abort, alloc: Global, row: Row) -> u64 {
@@ -167,7 +167,7 @@ fn lie_past_the_seal(rt: &impl Abort, alloc: Global, row: Row) -> u64 {
 }
 
 // Each row has its number of runs. Each fault begins after the seal, so the saved sectors are correct. The session's
-// erases and programs address only these sectors, and its status writes change only protection bits. So one restore on
+// erases and programs address only these sectors, and its status writes change only protection bits, so one restore on
 // a well-behaved bus restores the chip.
 const PAST_THE_SEAL: [(Row, u64); 6] = [
     (Row::AByteIsProgrammed, 2 * 5),
@@ -185,9 +185,9 @@ fn any_lie_past_the_seal_is_undone(rt: HostRuntime) {
     }
 }
 
-// Stops a row's session after `stop` transactions, then drops each of the `length` transactions of the restore in turn,
-// and in further runs shows BUSY from that transaction on. Asserts that a restore on a well-behaved bus then restores
-// the chip.
+// Stops a row's session after `stop` transactions. Then drops each of the `length` transactions of the restore in turn,
+// and in further runs shows BUSY from this transaction on. Asserts that another restore, on a well-behaved bus,
+// restores the chip.
 fn lie_to_restores(rt: &impl Abort, alloc: Global, row: Row, stop: u64, length: u64) {
     let runs = Runs::new(rt, alloc, row, Start::IDLE);
     let sent = runs.cut(rt, stop).restore(rt, length);

@@ -1,4 +1,4 @@
-//! Changes of files in the model of files, interrupted after each call.
+//! Changes of files in `Memory`, the files in memory for tests, interrupted after each call.
 use crate::held::assert_held;
 use nor_files::{Loss, Memory, Store};
 use nor_journal::Vault;
@@ -20,8 +20,8 @@ fn change<S: Store>(files: &mut S) -> io::Result<()> {
 }
 
 // Makes the change with files on which at most `left` calls succeed, as `Memory` counts them. Returns the files that
-// are left after `loss`. If `is_torn` is true and the last of these calls is `write_over`, it writes only the first
-// half of its bytes, and fails.
+// remain after `loss`. If `is_torn` is true and the last of these calls is `write_over`, this call writes only the
+// first half of its bytes, and fails.
 fn left_of(rt: &impl Abort, alloc: Global, left: u64, is_torn: bool, loss: Loss) -> Memory {
     let mut files = Memory::new(alloc, left);
     files.put("image", b"abcd").expect(rt, "memory");
@@ -58,7 +58,7 @@ fn changes_are_lost_until_they_are_synced(rt: HostRuntime) {
     }
 }
 
-// With a tear, the only write fails. Without a tear, the same write succeeds.
+// If the file is set to tear a write, the only write fails. Otherwise the same write succeeds.
 #[test]
 fn a_torn_write_fails(rt: HostRuntime) {
     for is_torn in [false, true] {
@@ -72,8 +72,8 @@ fn a_torn_write_fails(rt: HostRuntime) {
     }
 }
 
-// The host crash of this test loses all that wasn't synced. The bytes of a sealed vault in a file that existed remain.
-// The bytes of an unsealed vault are lost, and the file has its old bytes.
+// The host crash of this test loses everything that wasn't synced. If the vault in an existing file was sealed, its
+// bytes remain. If it wasn't sealed, its bytes are lost, and the file has its old bytes.
 #[test]
 fn a_sealed_vault_is_durable(rt: HostRuntime) {
     for is_sealed in [false, true] {

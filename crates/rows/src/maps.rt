@@ -1,14 +1,15 @@
-//! Flash descriptors and FMAPs, whose bytes are written by hand from the formats.
+//! Flash descriptors and FMAPs. The tests' bytes were written by hand, from the descriptions of the formats.
 use crate::held::assert_held;
 use nor_layout::{Layout, RegionFault};
 use nor_maps::{MapFault, read_descriptor, read_fmap};
 
 const LEN: usize = 4096;
 
-// Bytes, and the address of the first of them.
+// A piece of an image: the address of its first byte, and its bytes.
 type Piece = (usize, &'static [u8]);
 
-// Pieces of an image, the size of the chip in bytes, the name, start and end of each region, and the fault, if any.
+// A case: the pieces of an image, the size of the chip in bytes, and the expected regions (name, start and end of each)
+// or fault.
 type Case = (
     &'static [Piece],
     u32,
@@ -16,7 +17,7 @@ type Case = (
     Option<MapFault>,
 );
 
-// Returns an erased image of 4 KiB with the pieces of `first` and then those of `second`.
+// Returns an erased image of 4 KiB into which the pieces of `first`, and then those of `second`, are written.
 fn image_of(first: &[Piece], second: &[Piece]) -> [u8; LEN] {
     let mut image = [0xFF; LEN];
     for (at, bytes) in first.iter().chain(second) {
@@ -44,20 +45,20 @@ fn is_of_case(read: Result<Layout, MapFault>, case: &Case) -> bool {
     }
 }
 
-// The signature 0FF0A55Ah, FLMAP0 with the region table at 40h, and FLMAP1 with the masters' section at 60h (to the 9
-// series) or 80h (from the 100 series on).
+// The first bytes of a descriptor: the signature 0FF0A55Ah, FLMAP0 with the region table at 40h, and FLMAP1 with the
+// masters' section at 60h (up to the 9 series) or 80h (from the 100 series on).
 const NR_2: &[u8] = &[0x5A, 0xA5, 0xF0, 0x0F, 3, 0, 4, 2, 6, 2, 0x10, 0x12];
 
 const NR_6: &[u8] = &[0x5A, 0xA5, 0xF0, 0x0F, 3, 0, 4, 6, 6, 2, 0x10, 0x15];
 
 const SERIES_100: &[u8] = &[0x5A, 0xA5, 0xF0, 0x0F, 3, 0, 4, 0, 8, 2, 0x10, 0x45];
 
-// Five entries: base and limit of two bytes each, little-endian, in units of 4 KiB.
+// A region table with five entries: base and limit of two bytes each, little-endian, in units of 4 KiB.
 const FIVE: &[u8] = &[
     0, 0, 0, 0, 0, 5, 0xFF, 7, 3, 0, 0xFF, 4, 1, 0, 2, 0, 0xFF, 0x1F, 0, 0,
 ];
 
-// Sixteen entries of 4 KiB each: entry n has base and limit n.
+// A region table with sixteen entries, for regions of 4 KiB each: entry n has base n and limit n.
 const SIXTEEN: &[u8] = &[
     0, 0, 0, 0, 1, 0, 1, 0, 2, 0, 2, 0, 3, 0, 3, 0, 4, 0, 4, 0, 5, 0, 5, 0, 6, 0, 6, 0, 7, 0, 7, 0,
     8, 0, 8, 0, 9, 0, 9, 0, 10, 0, 10, 0, 11, 0, 11, 0, 12, 0, 12, 0, 13, 0, 13, 0, 14, 0, 14, 0,
@@ -65,7 +66,7 @@ const SIXTEEN: &[u8] = &[
 ];
 
 const DESCRIPTORS: &[Case] = &[
-    // The region of entry 3 is used, although the descriptor states three regions only.
+    // The region of entry 3 is used, although the descriptor states only three regions.
     (
         &[(0x10, NR_2), (0x40, FIVE)],
         0x80_0000,
@@ -77,21 +78,22 @@ const DESCRIPTORS: &[Case] = &[
         ],
         None,
     ),
-    // The limit of entry 1 is the last 4 KiB of a chip of 8 MiB.
+    // The region of entry 1 ends with the last 4 KiB of a chip of 8 MiB, so it doesn't fit a chip that is one byte
+    // smaller.
     (
         &[(0x10, NR_2), (0x40, FIVE)],
         0x7F_FFFF,
         &[],
         Some(MapFault::Outside { record: 1 }),
     ),
-    // The signature is at 0. An entry of 0 is unused, except the first.
+    // The signature is at 0. An entry of 0 is unused, except entry 0.
     (
         &[(0, NR_2), (0x40, &[0, 0, 0, 0, 1, 0, 1, 0, 0, 0, 0, 0])],
         0x2000,
         &[(b"fd", 0, 0xFFF), (b"bios", 0x1000, 0x1FFF)],
         None,
     ),
-    // With seven regions stated, entry 7 is no region.
+    // The descriptor states seven regions, so entry 7 is no region.
     (
         &[(0x10, NR_6), (0x40, SIXTEEN)],
         0x1_0000,
@@ -165,10 +167,10 @@ fn flash_descriptors(rt: HostRuntime) {
     assert!(rt; read.err() == Some(MapFault::Short));
 }
 
-// A header: the signature, version 1.1, the base FFFFF000h of eight bytes, and the size 1000h.
+// The header of an FMAP: the signature, version 1.1, the base FFFFF000h in eight bytes, and the size 1000h.
 const HEADER: &[u8] = b"__FMAP__\x01\x01\x00\xF0\xFF\xFF\0\0\0\0\x00\x10\0\0";
 
-// Fields for names, of 32 bytes. The last name has no NUL.
+// Fields of 32 bytes for names. The last one, `WHOLE`, contains no NUL.
 const FLASH: &[u8] = b"FLASH\0\0\0\0\0\0\0\0\0\0\0\0\0\0\0\0\0\0\0\0\0\0\0\0\0\0\0";
 
 const RO: &[u8] = b"RO\0left over\0\0\0\0\0\0\0\0\0\0\0\0\0\0\0\0\0\0\0\0";
@@ -179,8 +181,8 @@ const BLANK: &[u8] = b"GBB Area\0\0\0\0\0\0\0\0\0\0\0\0\0\0\0\0\0\0\0\0\0\0\0\0"
 
 const WHOLE: &[u8] = b"ABCDEFGHIJKLMNOPQRSTUVWXYZabcdef";
 
-// The header at 200h with three areas: RO at 0 with 800h bytes, GBB at 100h with 300h bytes, and one of 32 letters at
-// 800h with 800h bytes, each with the flags 2.
+// An FMAP with its header at 200h and three areas, each with the flags 2: `RO` at 0 with 800h bytes, `GBB` at 100h with
+// 300h bytes, and one with a name of 32 letters at 800h with 800h bytes.
 const AT_200: &[Piece] = &[
     (0x200, HEADER),
     (0x216, FLASH),
@@ -212,11 +214,11 @@ const NAMED_TWICE: Option<MapFault> = Some(MapFault::Region {
     fault: RegionFault::Twice,
 });
 
-// Pieces over those of `AT_200`, and what is read then.
+// Each case has pieces that are written over those of `AT_200`, and the result of reading that image.
 const FMAPS: &[Case] = &[
     (&[], 0x1000, ALL, None),
     (&[], 0xFFF, &[], Some(MapFault::Outside { record: 3 })),
-    // The signature in a string, and a second FMAP, without areas, at 800h.
+    // A string at 100h contains the signature, and a second FMAP, without areas, is at 800h.
     (
         &[
             (0x100, b"__FMAP__\0"),
@@ -228,13 +230,13 @@ const FMAPS: &[Case] = &[
         ALL,
         None,
     ),
-    // The FMAP has B6h bytes, so the image can't have B5h.
+    // The FMAP itself has B6h bytes, so its size field can be B6h but not B5h.
     (&[(0x212, &[0xB6, 0])], 0x1000, ALL, None),
     (&[(0x212, &[0xB5, 0])], 0x1000, &[], Some(MapFault::Missing)),
     (&[(0x207, b".")], 0x1000, &[], Some(MapFault::Missing)),
     (&[(0x208, &[2])], 0x1000, &[], Some(MapFault::Missing)),
     (&[(0x209, &[2])], 0x1000, ALL, None),
-    // The name in the header has no NUL, or a blank.
+    // The name in the header has no NUL, or contains a blank.
     (&[(0x216, WHOLE)], 0x1000, &[], Some(MapFault::Missing)),
     (&[(0x216, BLANK)], 0x1000, &[], Some(MapFault::Missing)),
     // Area 2 has a wrong name, the name of area 1, or an end above 4 GiB.
@@ -254,7 +256,7 @@ const FMAPS: &[Case] = &[
         &[(b"RO", 0, 0x7FF), (WHOLE, 0x800, 0xFFF)],
         None,
     ),
-    // There are 65,535 areas in an image of 4 GiB.
+    // The header states 65,535 areas in an image of 4 GiB.
     (
         &[(0x236, &[0xFF, 0xFF]), (0x212, &[0xFF; 4])],
         0x1000,
@@ -272,7 +274,7 @@ fn fmaps(rt: HostRuntime) {
     }
 }
 
-// The bytes may begin with the header, and end after the last area.
+// The bytes that are read may begin with the header of the FMAP, and end after its last area.
 #[test]
 fn an_fmap_without_an_image(rt: HostRuntime) {
     let image = image_of(AT_200, &[]);

@@ -1,6 +1,7 @@
-//! After a stop or a timeout, a call other than a rehearsal ends and sends nothing more. The bus would carry out
-//! further transactions, and further polls would show that the chip is ready. After a stop, a rehearsal goes on only if
-//! a stop was given for the call that stopped. A sector with a spoilt reply isn't read again.
+//! After a stop or a timeout, a call other than a rehearsal must end and send nothing more. To detect a call that goes
+//! on, the bus of these tests would carry out further transactions, and further polls would show that the chip is
+//! ready. After a stop, a rehearsal goes on only if a stop was given for the call that stopped. No call may read a
+//! sector again because a reply was spoilt.
 use crate::failing::{Fault, OnceBus};
 use crate::held::assert_held;
 use crate::row::{Row, Start, erased};
@@ -32,7 +33,7 @@ enum Command {
 }
 
 impl Command {
-    // Calls the function. Returns true if its result is that the bus stopped.
+    // Calls the function, and returns whether it returned that the bus stopped.
     fn is_stopped(self, bus: &mut OnceBus) -> bool {
         match self {
             Command::Poll => poll(bus) == Err(Stopped),
@@ -53,7 +54,7 @@ impl Command {
     }
 
     // Calls the function on a chip with these delays, with a stop at each of its `length` transactions in turn, and at
-    // last without a stop. Asserts that after a stop it returns the stop and sends nothing more.
+    // last without a stop. Asserts that the function returns the stop, and sends nothing after it.
     fn stop_at_each(self, rt: &impl Abort, alloc: Global, delays: Delays, length: u64) {
         for n in 0..=length {
             let bus = erased(rt, alloc, Config::tiny64(), [0x00, 0x00], delays);
@@ -65,9 +66,9 @@ impl Command {
     }
 }
 
-// Each function with the number of its transactions. The chip shows BUSY in two polls: after an erase, a program or a
-// status write, otherwise at first. So a wait has three polls, and an erase, a program or a status write has five
-// transactions.
+// Each row has a function and the number of its transactions. The chip shows BUSY in two polls: after an erase, a
+// program or a status write, and for the other functions at first. A wait therefore has three polls, and an erase, a
+// program or a status write has five transactions.
 const COMMANDS: [(Command, u64); 13] = [
     (Command::Poll, 1),
     (Command::Wait, 3),
@@ -92,10 +93,10 @@ fn a_stop_ends_each_command(rt: HostRuntime) {
     }
 }
 
-// The chip shows BUSY in one poll at first, and in one after each operation, so an operation has four transactions. A
-// session or restore identifies the chip with eight transactions if the chip is known by its SFDP, and with five if it
-// is in the table. Two of these (status 2 and the unique ID) aren't part of a probe. `wp_status` sends a probe and a
-// read of status 2.
+// Each row has a call and the number of its transactions. The chip shows BUSY in one poll at first, and in one after
+// each operation, so an operation has four transactions. A session or restore identifies the chip with eight
+// transactions if the chip is known by its SFDP, and with five if the chip is in the table. Two of these (the reads of
+// status 2 and of the unique ID) aren't part of a probe. `wp_status` sends a probe and a read of status 2.
 //
 // On the two blocks:
 //
@@ -104,7 +105,7 @@ fn a_stop_ends_each_command(rt: HostRuntime) {
 // - The restore scans 19 sectors, sends two erases and 17 programs, reads 17 sectors before it programs them, and reads
 //   19 to verify them.
 //
-// On the W25Q64FV session and restore each scan two sectors, and read them again at the end to verify them:
+// On the W25Q64FV, session and restore each scan two sectors, and read them again at the end to verify them:
 //
 // - The session sends two status writes, an erase and two programs, and reads one sector before it programs it.
 // - The restore sends two status writes, two erases and a program.
@@ -126,7 +127,8 @@ const ON_W25Q64FV: [(Call, u64); 6] = [
     (Call::Restore, 5 + 2 + 4 * 5 + 2),
 ];
 
-// Asserts the number of transactions of each call of the job, and that a stop at any of them ends the call.
+// Asserts the number of transactions of each call of the job, and that a stop at any of these transactions ends the
+// call.
 fn stop_each_call(rt: &impl Abort, alloc: Global, job: Job, lengths: [(Call, u64); 6]) {
     let stage = Stage::new(rt, alloc, job, Delays { now: 1, each: 1 });
     for (call, length) in lengths {
@@ -140,8 +142,8 @@ fn a_stop_ends_each_call(rt: HostRuntime) {
     stop_each_call(&rt, rt.alloc(), Job::OnW25q64fv, ON_W25Q64FV);
 }
 
-// Each call with the number of its waits: one of the identification, and one after each erase, program and status
-// write.
+// Each row has a call and the number of its waits: one for the identification, and one after each erase, program and
+// status write.
 const WAITS_ON_TWO_BLOCKS: [(Call, u64); 6] = [
     (Call::Probe, 1),
     (Call::Protection, 1),
@@ -160,7 +162,7 @@ const WAITS_ON_W25Q64FV: [(Call, u64); 6] = [
     (Call::Restore, 1 + 2 + 2 + 1),
 ];
 
-// Asserts that a timeout of each wait of each call of the job ends the call.
+// Asserts the number of waits of each call of the job, and that a timeout of any of these waits ends the call.
 fn time_out_each_call(rt: &impl Abort, alloc: Global, job: Job, waits: [(Call, u64); 6]) {
     let stage = Stage::new(rt, alloc, job, Start::IDLE.delays);
     for (call, count) in waits {
@@ -174,9 +176,10 @@ fn a_timeout_ends_each_call(rt: HostRuntime) {
     time_out_each_call(&rt, rt.alloc(), Job::OnW25q64fv, WAITS_ON_W25Q64FV);
 }
 
-// Each call with the number of replies that are checked. On an idle chip a spoilt poll shows BUSY, so another poll
-// follows, and nothing else changes. A spoilt sector isn't read again: a comparison returns a mismatch at the sector's
-// first address, and `read_out` returns no error. Each operation has a poll, and so has the identification.
+// Each row has a call and the number of replies that are checked. On an idle chip a spoilt reply to a poll shows BUSY,
+// so the chip is polled once more, and nothing else changes. A sector whose reply is spoilt isn't read again: a
+// comparison returns a mismatch at the sector's first address, and `read_out` returns no error. The identification and
+// each operation have one poll.
 const REPLIES: [(Call, u64); 4] = [
     (Call::ReadOut, 1 + 2),
     (Call::Verify, 1 + 2),
@@ -192,9 +195,9 @@ fn a_spoilt_reply_is_taken_as_it_is(rt: HostRuntime) {
     }
 }
 
-// Returns the number of transactions of a restore after a session, or after a session and a restore, that sent `sent`
-// transactions in all. Before the seal there is no restore. A restore needs 8 transactions if the sector is as saved,
-// and 13 if it programs one byte.
+// Returns the number of transactions of the next restore of a rehearsal in which the session, or the session and a
+// restore, sent `sent` transactions in all. Before the seal there is no restore. A restore needs 8 transactions if the
+// sector is as saved, and 13 if it programs one byte.
 fn restore_after(sent: u64) -> Option<u64> {
     match sent {
         0..=22 => None,
@@ -203,12 +206,12 @@ fn restore_after(sent: u64) -> Option<u64> {
     }
 }
 
-// The result of a rehearsal, and the number of transactions requested in all.
+// The result of a rehearsal, and the number of all requested transactions.
 type Rehearsed = (Result<Rehearsal, Refusal>, u64);
 
 // Returns the expected result of a rehearsal with the given number of stops, on a bus that stops once, after `after`
 // transactions. If no stop was given for the call in which the bus stops, the rehearsal returns `Stopped`. Otherwise a
-// restore follows if the vault is sealed.
+// restore follows, provided that the vault is sealed.
 fn rehearsed(after: u64, stops: usize) -> Rehearsed {
     let asked = after.saturating_add(1);
     let ended = after >= 30;
@@ -224,8 +227,8 @@ fn rehearsed(after: u64, stops: usize) -> Rehearsed {
     (Ok(told), asked.saturating_add(needed.unwrap_or(0)))
 }
 
-// Rehearses with the given number of stops, each of which allows more transactions than a call sends. The bus stops
-// once, after `after` transactions. Returns the result, and the number of transactions requested.
+// Rehearses with the given number of stops, each of which is greater than the number of transactions of any call. The
+// bus stops once, after `after` transactions. Returns the result, and the number of requested transactions.
 fn rehearse_after(rt: &impl Abort, alloc: Global, after: u64, stops: usize) -> Rehearsed {
     let row = Row::ABitRises;
     let mut bus = OnceBus::new(row.bus(rt, alloc, Start::IDLE), 0, Fault::Stop, Some(after));
@@ -238,8 +241,8 @@ fn rehearse_after(rt: &impl Abort, alloc: Global, after: u64, stops: usize) -> R
     (told, bus.asked)
 }
 
-// The session sends 30 transactions, and the restore after it 13. The eleventh transaction of the restore programs the
-// byte.
+// The session sends 30 transactions, and the restore after it 13. The restore programs the byte in its eleventh
+// transaction.
 #[test]
 fn a_stop_in_a_rehearsal(rt: HostRuntime) {
     for n in 0..30 + 13 {

@@ -1,4 +1,4 @@
-//! Tests of probes: the chips that are found, the transactions sent, and the longest wait.
+//! Tests of `probe_counted`: which chips it finds, which transactions it sends, and how long it waits.
 use crate::held::assert_held;
 use crate::row::{Start, erased};
 use nor_chip::{ALL_KINDS, Config, Delays, Meter, SimBus, Spoil, SpoiltBus, TINY64_SFDP, TraceBus};
@@ -57,7 +57,7 @@ fn chip(rt: &impl Abort, id: [u8; 3], sfdp: &[u8]) -> Config {
     Config::new(id, 65_536, true, true, false, sfdp).expect(rt, "a size")
 }
 
-// Returns a bus to an erased chip whose BP0 is set. The bus carries out `allowed` transactions.
+// Returns a bus to an erased chip with BP0 set. The bus carries out `allowed` transactions.
 fn bus_to(rt: &impl Abort, alloc: Global, config: Config, delays: Delays, allowed: u64) -> SimBus {
     let mut bus = erased(rt, alloc, config, [0x04, 0x00], delays);
     bus.allow(allowed);
@@ -67,7 +67,8 @@ fn bus_to(rt: &impl Abort, alloc: Global, config: Config, delays: Delays, allowe
 const TINY64_SENT: &str = "05 > 04\n9f > fe1010\n\
     5a00000000 > 8 bytes\n5a00000800 > 8 bytes\n5a00001000 > 36 bytes\n";
 
-// The transactions to a chip without SFDP bytes. It replies to 5Ah with FFh, so the probe reads the table at FFFFFFh.
+// The transactions with a chip that has no SFDP bytes. It replies to 5Ah with FFh, so the probe reads the parameter
+// table at FFFFFFh.
 const SILENT_SENT: &str = "05 > 04\n9f > aa1122\n\
     5a00000000 > 8 bytes\n5a00000800 > 8 bytes\n5affffff00 > 36 bytes\n";
 
@@ -75,7 +76,7 @@ const W25Q64FV_SENT: &str = "05 > 04\n9f > ef4017\n";
 
 const W25Q128FV_SENT: &str = "05 > 04\n9f > ef4018\n";
 
-// The chip that is probed. `Ones` and `Zeros` have IDs that mean that there is no chip.
+// The chip that is probed. The IDs of `Ones` and `Zeros` mean that there is no chip.
 #[derive(Clone, Copy)]
 enum Sample {
     Small,
@@ -109,8 +110,8 @@ const NONE: Answer = Err(ProbeFault::NoChip);
 
 const UNKNOWN: Answer = Err(ProbeFault::UnknownChip(SfdpFault::Signature));
 
-// Probes with or without a name. Returns the result, and whether the transactions sent are exactly those of the trace
-// `sent`.
+// Probes the chip with this configuration, with or without a name. Returns the result, and whether the transactions are
+// exactly those of the trace `sent`.
 fn probed(
     rt: &impl Abort,
     alloc: Global,
@@ -124,9 +125,9 @@ fn probed(
     (told, log.as_slice() == sent.as_bytes())
 }
 
-// Each row has the chip, the name, the result, and the transactions sent. The probe finds a chip by an ID of the table
-// even if its SFDP bytes differ. Names are compared byte by byte. An ID of three bytes 00h or three bytes FFh means
-// that no chip drives the bus.
+// Each row has the chip, the name, the result, and the trace of the transactions. The probe finds a chip by an ID of
+// the table even if the chip's SFDP bytes contradict it. Names are compared byte by byte. An ID of three bytes 00h or
+// three bytes FFh means that no chip drives the bus.
 const PROBES: &[(Sample, Option<&str>, Answer, &str)] = &[
     (Sample::Small, None, SMALL, W25Q64FV_SENT),
     (Sample::Small, Some("W25Q64FV"), SMALL, W25Q64FV_SENT),
@@ -179,9 +180,9 @@ const WAITED_LONG: Answer = Ok(Probed {
 
 const STOPPED: Answer = Err(ProbeFault::Stopped);
 
-// Each row has the number of polls that show BUSY at first, the fault of the bus, the number of allowed transactions,
-// and the result. `HONEST` is a fault that never occurs, and with `STUCK` each poll shows BUSY. On a faulty bus no
-// clause states how many polls precede a timeout, so this test checks that there are 65,536.
+// Each row has the number of polls that show BUSY at first, the fault of the bus, the allowance, and the result.
+// `HONEST` is a fault that never occurs, and with `STUCK` each poll shows BUSY. No clause of `probe_counted` states how
+// many polls precede a timeout on a faulty bus, so this test checks that there are 65,536.
 const WAITS: [(u16, Spoil, u64, Answer); 6] = [
     (3, HONEST, 8, WAITED),
     (3, HONEST, 7, STOPPED),

@@ -1,4 +1,4 @@
-//! Reading calls: with a vault that refuses a piece, with a lost reply, and the status that they report.
+//! Reading calls: their vault refuses a piece, or a reply is lost; and the status that they report.
 use crate::held::assert_held;
 use crate::row::{Row, Start};
 use crate::runs::AMPLE;
@@ -9,7 +9,7 @@ use nor_read::{read_out, verify};
 use nor_session::{Refusal, Report};
 use std::alloc::Global;
 
-// Each row has the number of the vault's call that is refused, and the most bytes that the vault keeps of that call's
+// Each row has the number of the vault's call that is refused, and the most bytes that the vault keeps of this call's
 // piece. Then it has the expected error, and the expected number of bytes in the vault at the end. All sixteen sectors
 // of the chip are one piece, so there is no second call.
 const CASES: [(u64, usize, Option<Refusal>, usize); 4] = [
@@ -41,8 +41,8 @@ fn sent(answer: Result<Report, Refusal>) -> Sent {
 }
 
 // Each row has the number of the transaction whose reply is lost, and the result of the verification. Transactions 1 to
-// 5 identify a TINY64, and 6 to 21 read its sixteen sectors. Each byte of a lost reply is FFh, and those of chip and
-// image are zeros, so the first byte of that sector was read otherwise.
+// 5 identify a TINY64, and 6 to 21 read its sixteen sectors. Each byte of a lost reply is FFh, while all bytes of the
+// chip and of the image are 00h, so the verification reports the first byte of the sector whose reply was lost.
 const LOST_REPLIES: [(u64, Sent); 4] = [
     (0, Ok(21)),
     (6, Err(Refusal::Mismatch { address: 0 })),
@@ -66,7 +66,8 @@ fn a_reply_that_differs_is_a_mismatch(rt: HostRuntime) {
     }
 }
 
-// The write enable latch (bit 1 of status 1) is set at the start, and no command of a reading call clears it.
+// The write enable latch (bit 1 of status 1) is set at the start, and no command of a reading call clears it. The
+// report must show it.
 #[test]
 fn a_reading_reports_the_status_that_it_found(rt: HostRuntime) {
     let row = Row::ABitRises;

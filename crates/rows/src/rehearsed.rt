@@ -1,4 +1,5 @@
-//! The results of rehearsals: with each stop of the session and each stop of the restore after it, and on faulty buses.
+//! The results of rehearsals. The session and the restore after it are stopped after each number of transactions, or
+//! the bus is faulty.
 ghost use Rattle.std.specs.Prelude.{◌≤◌, length};
 
 use crate::held::assert_held;
@@ -11,7 +12,7 @@ use nor_session::{Refusal, Rehearsal, rehearse};
 use std::alloc::Global;
 use std::process::Abort;
 
-// Rehearses the row's session with these stops, at most 64, on an idle chip. Asserts that afterwards the chip is as
+// Rehearses the row's session on an idle chip with these stops, at most 64. Asserts that afterwards the chip is as
 // before. Returns the result, and whether the vault is sealed.
 fn rehearsed(
     rt: &impl Abort,
@@ -30,8 +31,8 @@ fn rehearsed(
     (told, vault.is_sealed())
 }
 
-// Returns the number of transactions that the restore of `ABitRises` sends if the session was allowed `stop`
-// transactions. Before the seal there is no restore. A restore needs 8 transactions if the sector is as saved, and 13
+// Returns the number of transactions that the restore of `ABitRises` sends if the session was stopped after `stop`
+// transactions. Before the seal there is no restore. A restore sends 8 transactions if the sector is as saved, and 13
 // if it programs one byte.
 fn restore_after(stop: u64) -> Option<u64> {
     match stop {
@@ -63,14 +64,15 @@ fn each_pair_of_stops_is_reported(rt: HostRuntime) {
     }
 }
 
-// Returns the number of transactions of the second restore, if the first one needs `needed` and was stopped after
-// `sent`. In a restore of 13 transactions the eleventh is the program; after it the sector is as saved.
+// Returns the number of transactions that the second restore sends, if the first restore needs `needed` transactions
+// and was stopped after `sent`. In a restore of 13 transactions the eleventh is the program, after which the sector is
+// as saved.
 fn restore_again(needed: u64, sent: u64) -> u64 {
     if sent < 11 { needed } else { 8 }
 }
 
-// Returns the number of restores after a session if the first restore needs `needed` transactions, and the first two
-// are stopped after `first` and `second`. The third isn't stopped.
+// Returns the number of restores that follow a session. The first restore needs `needed` transactions, and is stopped
+// after `first` transactions; the second is stopped after `second`. The third isn't stopped.
 fn restores_under(needed: u64, first: u64, second: u64) -> u32 {
     if first >= needed {
         1
@@ -81,7 +83,8 @@ fn restores_under(needed: u64, first: u64, second: u64) -> u32 {
     }
 }
 
-// The session is stopped when its journal is sealed, after its erase, after its program, or not at all.
+// The session is stopped after its seal, after its erase, after its program, or not at all. The third stop must limit
+// the second restore.
 #[test]
 fn a_third_stop_is_the_second_restores(rt: HostRuntime) {
     let row = Row::ABitRises;
@@ -113,8 +116,8 @@ struct Told {
     sent: u64,
 }
 
-// Rehearses on a bus with this fault, with the given number of stops. Each stop allows more transactions than a call
-// sends.
+// Rehearses on a bus with this fault, with the given number of stops. Each stop is greater than the number of
+// transactions of any call, so that it never takes effect.
 fn rehearsed_lied(rt: &impl Abort, alloc: Global, row: Row, spoil: Spoil, stops: usize) -> Told {
     let bus = row.bus(rt, alloc, Start::IDLE);
     let mut bus = SpoiltBus::new(bus, spoil);
@@ -150,7 +153,7 @@ const TIMEOUT: Refusal = Refusal::Timeout { address: 0 };
 
 const MISMATCH: Refusal = Refusal::Mismatch { address: 0 };
 
-// Returns what is expected if this error occurs after `sent` transactions, with an unsealed vault and an unchanged
+// Returns the expected result if this error occurs after `sent` transactions, with an unsealed vault and an unchanged
 // chip.
 fn early(refusal: Refusal, sent: u64) -> Told {
     Told {
@@ -161,7 +164,7 @@ fn early(refusal: Refusal, sent: u64) -> Told {
     }
 }
 
-// Returns what is expected if this error occurs after `sent` transactions, with a sealed vault and a changed chip.
+// Returns the expected result if this error occurs after `sent` transactions, with a sealed vault and a changed chip.
 fn changed(refusal: Refusal, sent: u64) -> Told {
     Told {
         result: Err(refusal),
@@ -207,7 +210,7 @@ fn lies() -> [(Row, Spoil, Told); 8] {
     ]
 }
 
-// In each row except the first, the error is returned even if stops are given, and nothing is sent after it.
+// In each row except the first, the rehearsal returns the error even if stops are given, and sends nothing after it.
 #[test]
 fn an_error_in_a_rehearsal_is_returned(rt: HostRuntime) {
     for (row, spoil, told) in lies() {

@@ -1,5 +1,5 @@
-//! Rewrites, which erase and program every saved sector whatever its bytes are. Each is stopped after each number of
-//! its transactions, and then the chip is rewritten again, or restored.
+//! Rewrites, which erase and program every saved sector whatever its bytes are. Each rewrite is stopped after each
+//! number of its transactions, and then the chip is rewritten again, or restored.
 use crate::held::assert_held;
 use crate::row::{Row, Start};
 use crate::runs::{AMPLE, Cut, Runs};
@@ -8,18 +8,19 @@ use nor_journal::Journal;
 use nor_session::{Announcement, Refusal, Report, restore, rewrite, rewrite_announced};
 use std::process::Abort;
 
-// A row, and the numbers of the rewrites after its session.
+// A row, and what a rewrite after its session counts.
 #[derive(Clone, Copy)]
 struct Rewritten {
     row: Row,
-    // the saved sectors
+    // The number of saved sectors.
     touched: u32,
-    // the erases that cover exactly these sectors
+    // The number of erases, which cover exactly the saved sectors.
     erases: u32,
-    // the pages of these sectors that were not all FFh before the session, and the status writes
+    // The number of page programs, one for each page of these sectors that was not all FFh before the session. Then the
+    // number of status writes.
     programs: u32,
     writes: u32,
-    // the transactions of the identification: seven on a TINY64 and four on a W25Q64FV
+    // The number of transactions of the identification: seven on a TINY64 and four on a W25Q64FV.
     identified: u32,
 }
 
@@ -35,8 +36,8 @@ impl Rewritten {
         }
     }
 
-    // Returns the number of transactions. Each operation takes a write enable, its command and a poll. A rewrite reads
-    // no sector before it changes it, and each one afterwards.
+    // Returns the number of transactions of a rewrite. Each operation takes a write enable, a command and a poll. A
+    // rewrite doesn't read a sector before it changes it, but reads each sector afterwards.
     fn length(&self) -> u64 {
         let operations = u64::from(self.erases)
             .saturating_add(u64::from(self.programs))
@@ -62,14 +63,14 @@ fn rows() -> [Rewritten; 6] {
     ]
 }
 
-// Rewrites the chip with `allowed` transactions. Returns the result.
+// Rewrites the chip with the allowance `allowed`. Returns the result.
 fn run_rewrite(rt: &impl Abort, cut: &mut Cut, allowed: u64) -> Result<Report, Refusal> {
     let journal = Journal::read(cut.vault.bytes()).expect(rt, "a journal");
     cut.bus.allow(allowed);
     rewrite(&mut cut.bus, &journal)
 }
 
-// Restores the chip after a rewrite that was stopped: by a rewrite or by a restore.
+// Undoes a rewrite that was stopped, by another rewrite if `by_rewrite` is true, otherwise by a restore.
 fn undone(rt: &impl Abort, cut: &mut Cut, by_rewrite: bool) {
     let journal = Journal::read(cut.vault.bytes()).expect(rt, "a journal");
     cut.bus.allow(AMPLE);
@@ -81,8 +82,9 @@ fn undone(rt: &impl Abort, cut: &mut Cut, by_rewrite: bool) {
     assert!(rt; answer.is_ok());
 }
 
-// Rewrites the chip after the row's session with `allowed` transactions. If that is too few, rewrites or restores it
-// afterwards. Asserts that the chip is as before the session, and that the rewrite ends only with all its transactions.
+// Rewrites the chip after the row's session, with the allowance `allowed`. If the rewrite was stopped, rewrites or
+// restores the chip afterwards. Asserts that the chip is then as before the session, and that the rewrite was stopped
+// if and only if the allowance is less than its number of transactions.
 fn stop_a_rewrite(rt: &impl Abort, runs: &Runs, each: &Rewritten, allowed: u64, by_rewrite: bool) {
     let mut cut = runs.cut(rt, each.row.ends_at(Start::IDLE));
     let answer = run_rewrite(rt, &mut cut, allowed);
@@ -119,8 +121,8 @@ fn each_stop_of_a_rewrite(rt: HostRuntime) {
     }
 }
 
-// The chip has the saved bytes before the second rewrite. A restore then changes nothing, but a rewrite sends the same
-// operations as before.
+// Before the second rewrite the chip already has the saved bytes. A restore would then change nothing, but a rewrite
+// sends the same operations as before.
 #[test]
 fn a_rewrite_writes_what_reads_right(rt: HostRuntime) {
     for each in &rows() {

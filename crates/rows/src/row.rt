@@ -6,16 +6,17 @@ use nor_session::{Request, What};
 use std::alloc::Global;
 use std::process::Abort;
 
-/// The state of the chip at the start of a session, and the effects of a stop on the bus and the chip.
+/// The state of the chip at the start of a session, and what a stop does to the bus and to the chip.
 #[derive(Clone, Copy)]
 pub struct Start {
+    /// The numbers of polls that show BUSY at first and after each operation.
     pub delays: Delays,
     /// True if the write enable latch is set, as after a write enable.
     pub latch: bool,
-    /// If this is `Some`, the chip loses its power at a stop, and this byte determines what is left of a running
-    /// operation (`SimBus::lose`).
+    /// If this is `Some`, a stop cuts the chip's power, and this byte determines what is left of an interrupted
+    /// operation (`SimBus::lose`). If it is `None`, the chip keeps its power.
     pub fill: Option<u8>,
-    /// The number of bytes that the bus sends of the transaction at which it stops. `None` sends none.
+    /// The number of bytes of the next transaction that the bus still sends when it stops. `None` sends none.
     pub torn: Option<u32>,
 }
 
@@ -52,15 +53,15 @@ impl Start {
         }
     }
 
-    // Returns the status bytes of a chip with these non-volatile status bits, and with the write enable latch of this
-    // start.
+    // Returns the status bytes of a chip with the non-volatile status bits `kept`, and with the write enable latch of
+    // this start.
     fn status(self, kept: [u8; 2]) -> [u8; 2] {
         let [one, two] = kept;
         if self.latch { [one | 0x02, two] } else { kept }
     }
 
-    /// Returns the start of an idle chip that shows BUSY in two polls after each operation, and loses its power at a
-    /// stop, with the fill byte `fill`.
+    /// Returns the start of an idle chip that shows BUSY in two polls after each operation. A stop cuts its power, with
+    /// the fill byte `fill`.
     pub const fn losing(fill: u8) -> Start {
         Start {
             delays: Delays { now: 0, each: 2 },
@@ -70,7 +71,8 @@ impl Start {
         }
     }
 
-    /// Returns this start, except that a stop sends the first `count` bytes of its transaction.
+    /// Returns this start, except that the bus, when it stops, still sends the first `count` bytes of the next
+    /// transaction.
     pub const fn torn(self, count: u32) -> Start {
         Start {
             torn: Some(count),
@@ -79,7 +81,7 @@ impl Start {
     }
 }
 
-/// A session that is tested. Each run of it gets a new chip.
+/// A session that is tested. Each run of the session gets a new chip.
 #[derive(Clone, Copy)]
 pub enum Row {
     /// Programs one byte of an erased chip.
@@ -94,8 +96,8 @@ pub enum Row {
     NineSectorsAreErased,
     /// Erases the whole chip, with one command.
     TheChipIsErased,
-    /// Changes one page, the only included one, from 00h to FFh, in a sector whose bytes are all 00h. The session
-    /// erases the sector, and programs its other fifteen pages again.
+    /// Changes the only included page from 00h to FFh, in a sector whose bytes are all 00h. The session erases the
+    /// sector, and programs the sector's other fifteen pages again.
     TheRestOfASectorStays,
     /// Programs the last byte before the protected range.
     AByteBelowTheGuardIsProgrammed,
@@ -109,7 +111,7 @@ pub enum Row {
     ThirtyTwoSectorsAreErased,
 }
 
-// The chips of the rows.
+// A chip on which rows are run.
 #[derive(Clone, Copy)]
 enum Chip {
     Tiny64,
@@ -146,8 +148,8 @@ fn sectors_alone(rt: &impl Abort) -> Config {
     Config::new([0xFE, 0x10, 0x10], 65_536, false, false, false, &sfdp).expect(rt, "a size")
 }
 
-/// Returns the configuration of a chip of 256 KiB that is known by its SFDP. It has the erase of 32 KiB if `k32` is
-/// true, and that of 64 KiB if `k64` is true.
+/// Returns the configuration of a chip of 256 KiB that is known by its SFDP. It has the erase type of 32 KiB if `k32`
+/// is true, and that of 64 KiB if `k64` is true.
 pub fn large(rt: &impl Abort, k32: bool, k64: bool) -> Config {
     let mut sfdp = TINY64_SFDP;
     sfdp[0x16] = 0x1F;
@@ -160,7 +162,8 @@ pub fn large(rt: &impl Abort, k32: bool, k64: bool) -> Config {
     Config::new([0xAA, 0x11, 0x22], 262_144, k32, k64, false, &sfdp).expect(rt, "a size")
 }
 
-// The chip, contents and request of a row's session, and the numbers of its transactions if no stop occurs.
+// The chip, the contents and the request of a row's session, and the numbers of its transactions if the bus doesn't
+// stop.
 #[derive(Clone, Copy)]
 struct Written {
     chip: Chip,
@@ -168,15 +171,14 @@ struct Written {
     status: [u8; 2],
     old: Bytes,
     image: Bytes,
-    // the line of a layout whose region `part` is included; `None` includes the whole chip
+    // The line of a layout whose region `part` is included, or `None` if the whole chip is included.
     part: Option<&'static [u8]>,
     unlock: bool,
-    // the number of transactions before the seal, on a chip without delays
+    // The number of transactions that the session sends before the seal, on a chip without delays.
     sealed: u32,
-    // the number of transactions of the session, on a chip without delays
+    // The number of transactions that the session sends in all, on a chip without delays.
     length: u32,
-    // the number of the session's transactions that are erases, page programs and status writes; the session waits
-    // after each of them
+    // The number of erases, page programs and status writes. The session waits after each of them.
     operations: u32,
 }
 
@@ -203,7 +205,7 @@ impl Row {
         }
     }
 
-    /// Returns a bus to the row's chip in the state `start`. The bus carries out no transaction before `allow` is
+    /// Returns a bus to the row's chip in the state `start`. The bus carries out no transaction until `allow` is
     /// called.
     pub fn bus(self, rt: &impl Abort, alloc: Global, start: Start) -> SimBus {
         let bytes = self.before(rt, alloc);
@@ -228,14 +230,12 @@ impl Row {
         self.written().chip.sectors()
     }
 
-    /// Returns the least number of allowed transactions with which the session seals its vault, on a chip in the state
-    /// `start`.
+    /// Returns the smallest allowance with which the session seals its vault, on a chip in the state `start`.
     pub fn sealed_at(self, start: Start) -> u64 {
         u64::from(self.written().sealed) + u64::from(start.delays.now)
     }
 
-    /// Returns the least number of allowed transactions with which the session succeeds, on a chip in the state
-    /// `start`.
+    /// Returns the smallest allowance with which the session succeeds, on a chip in the state `start`.
     pub fn ends_at(self, start: Start) -> u64 {
         let Written {
             length,
@@ -270,7 +270,7 @@ impl Row {
 }
 
 /// Returns a bus to an erased chip with this configuration, these status bytes and these delays. The bus carries out no
-/// transaction before `allow` is called.
+/// transaction until `allow` is called.
 pub fn erased(
     rt: &impl Abort,
     alloc: Global,
@@ -288,8 +288,8 @@ pub fn included(rt: &impl Abort, alloc: Global, layout: Option<&[u8]>) -> Option
     Some(layout.include("part").expect(rt, "a region"))
 }
 
-// Returns a write to a TINY64, with the whole chip included. The identification sends seven transactions, the scan
-// sixteen.
+// Returns a write to a TINY64 that includes the whole chip. The session sends 7 transactions to identify the chip and
+// 16 to scan it, so it seals the vault after 23.
 fn on_tiny64(old: Bytes, image: Bytes, length: u32, operations: u32) -> Written {
     Written {
         chip: Chip::Tiny64,
@@ -304,7 +304,7 @@ fn on_tiny64(old: Bytes, image: Bytes, length: u32, operations: u32) -> Written 
     }
 }
 
-// Returns the session of `TheRestOfASectorStays`. Its scan sends one transaction, since only one sector contains
+// Returns the session of `TheRestOfASectorStays`. Its scan sends only one transaction, because only one sector contains
 // included addresses.
 fn the_rest_of_a_sector_stays() -> Written {
     Written {
@@ -314,8 +314,8 @@ fn the_rest_of_a_sector_stays() -> Written {
     }
 }
 
-// Returns a write to an erased W25Q64FV whose last 128 KiB are protected. The identification sends four transactions,
-// the scan 2,048.
+// Returns a write to an erased W25Q64FV whose last 128 KiB are protected. The session sends 4 transactions to identify
+// the chip and 2,048 to scan it, so it seals the vault after 2,052.
 fn on_w25q64fv(image: Bytes, unlock: bool, length: u32, operations: u32) -> Written {
     Written {
         chip: Chip::W25q64fv,
@@ -331,8 +331,9 @@ fn on_w25q64fv(image: Bytes, unlock: bool, length: u32, operations: u32) -> Writ
 }
 
 fn each_page_is_programmed() -> Written {
-    // After the identification and the scan, the session sends three transactions for each operation. It also reads the
-    // one sector that it doesn't erase, before it programs that sector, and sixteen sectors to verify them.
+    // After the identification and the scan (23 transactions), the session sends three transactions for each operation.
+    // It also reads the only sector that it doesn't erase before it programs this sector, and all sixteen sectors to
+    // verify them.
     let operations = 15 + 16 * 16;
     let length = 23 + 3 * operations + 1 + 16;
     let old = first(61_440, 0x00);
@@ -343,7 +344,8 @@ fn each_page_is_programmed() -> Written {
     }
 }
 
-// Returns the session of `ThirtyTwoSectorsAreErased`. Its scan sends 64 transactions, and its verification 32.
+// Returns the session of `ThirtyTwoSectorsAreErased`. It sends 64 transactions to scan the chip, and 32 to verify the
+// erased sectors.
 fn thirty_two_sectors_are_erased() -> Written {
     let old = Bytes {
         from: 0x8000,

@@ -1,4 +1,4 @@
-//! Runs of a row: its session, stopped after a given number of transactions, and the restores after it.
+//! Runs of a row: its session, which may be stopped after a given number of transactions, and the restores after it.
 ghost use Rattle.nor_journal.specs.Vault.{IsFresh};
 
 use crate::held::assert_held;
@@ -12,7 +12,7 @@ use std::process::Abort;
 /// A number of transactions that is enough for a restore of any row, except with `Start::SLOWEST`.
 pub const AMPLE: u64 = 10_000;
 
-/// Runs a row's session on a bus to its chip, with an empty and unsealed vault. Returns the session's result.
+/// Runs a row's session on a bus to its chip, with a fresh vault (empty and unsealed). Returns the session's result.
 pub fn keep<B: Bus, V: Vault>(
     rt: &impl Abort,
     alloc: Global,
@@ -27,7 +27,7 @@ pub fn keep<B: Bus, V: Vault>(
     session(bus, vault, &mut image, &request)
 }
 
-/// The bus to the chip, and the vault, as a session left them.
+/// The bus to the chip and the vault, as a session or restore left them.
 #[derive(Drop)]
 pub struct Cut {
     pub bus: SimBus,
@@ -35,7 +35,7 @@ pub struct Cut {
 }
 
 impl Cut {
-    /// Restores from the vault's journal, with `allowed` transactions. Returns the number of transactions sent if the
+    /// Restores from the vault's journal with the allowance `allowed`. Returns the number of transactions sent if the
     /// restore ends, and `None` if it was stopped. If the restore ends, asserts that the chip is idle, and that its
     /// write enable latch is set only if it was set before the restore.
     pub fn restore(&mut self, rt: &impl Abort, allowed: u64) -> Option<u64> {
@@ -53,8 +53,8 @@ impl Cut {
     }
 }
 
-// Returns the number of transactions of a call that succeeded, and `None` if it was stopped. Asserts that no other
-// error occurred.
+// Returns the number of transactions of a call that succeeded, or `None` if it was stopped. Asserts that no other error
+// occurred.
 fn ended(rt: &impl Abort, answer: Result<Report, Refusal>) -> Option<u64> {
     match answer {
         Ok(report) => Some(report.transactions),
@@ -65,20 +65,20 @@ fn ended(rt: &impl Abort, answer: Result<Report, Refusal>) -> Option<u64> {
     }
 }
 
-/// A row with its start. The methods run its session and restores.
+/// A row with its start. The methods run its session and its restores.
 #[derive(Drop)]
 pub struct Runs {
     alloc: Global,
     row: Row,
     start: Start,
     before: Vec<u8>,
-    // the number of bytes of its transaction that a restore's stop sends; `None` sends none
+    // The number of bytes of the next transaction that the bus still sends at a stop of a restore. `None` sends none.
     torn: Option<u32>,
 }
 
 impl Runs {
-    /// Returns the runs of this row's session with this start. A restore's stop sends as many bytes of its transaction
-    /// as the session's stop.
+    /// Returns the runs of this row's session with this start. At a stop of a restore, the bus sends as many bytes of
+    /// the next transaction as at a stop of the session.
     pub fn new(rt: &impl Abort, alloc: Global, row: Row, start: Start) -> Runs {
         Runs {
             alloc,
@@ -89,7 +89,8 @@ impl Runs {
         }
     }
 
-    /// Returns these runs, except that the stop of a restore sends the first `count` bytes of its transaction.
+    /// Returns these runs, except that at a stop of a restore the bus sends the first `count` bytes of the next
+    /// transaction.
     pub fn with_restores_torn(self, count: u32) -> Runs {
         Runs {
             torn: Some(count),
@@ -97,12 +98,12 @@ impl Runs {
         }
     }
 
-    /// Runs the session on a new chip, with `allowed` transactions. Asserts that the session ends if and only if
-    /// `allowed` is at least `ends_at`, and that it then sent `ends_at` transactions. Asserts that the vault is sealed
-    /// if and only if `allowed` is at least `sealed_at`.
+    /// Runs the session on a new chip, with the allowance `allowed`. Asserts that the session ends if and only if the
+    /// allowance is at least `ends_at`, and that it then sent `ends_at` transactions. Asserts that the vault is sealed
+    /// if and only if the allowance is at least `sealed_at`.
     ///
     /// If the session ends, asserts that the chip is idle and its write enable latch is clear: each row's session ends
-    /// with an operation or a reading after one, and operations clear the latch.
+    /// with an operation or with a read after one, and operations clear the latch.
     pub fn cut(&self, rt: &impl Abort, allowed: u64) -> Cut {
         let mut bus = self.row.bus(rt, self.alloc, self.start);
         bus.allow(allowed);
@@ -114,8 +115,8 @@ impl Runs {
         Cut { bus, vault }
     }
 
-    // Returns what is expected of the session with `allowed` transactions: the number that it sends if it ends, and
-    // whether its vault is sealed.
+    // Returns what is expected of the session with the allowance `allowed`: the number of its transactions if it ends,
+    // and whether its vault is sealed.
     fn expected_at(&self, allowed: u64) -> (Option<u64>, bool) {
         let length = self.row.ends_at(self.start);
         let sealed = allowed >= self.row.sealed_at(self.start);
@@ -127,15 +128,15 @@ impl Runs {
         (sent, sealed)
     }
 
-    /// Asserts that the chip has the contents and the non-volatile status bits from before the session.
+    /// Asserts that the chip has the same contents and non-volatile status bits as before the session.
     pub fn assert_as_before(&self, rt: &impl Abort, bus: &SimBus) {
         let [one, two] = bus.status();
         assert!(rt; bus.bytes() == self.before.as_slice());
         assert!(rt; [one & 0xFC, two & 0x7F] == self.row.status());
     }
 
-    /// Runs the session with each number of allowed transactions from `first` up to its length, and restores if its
-    /// vault is sealed. Asserts that each run leaves the chip as before. Returns the number of runs.
+    /// Runs the session with each allowance from `first` up to its length, and then restores if its vault is sealed.
+    /// Asserts that each run leaves the chip as before. Returns the number of runs.
     pub fn stop_at_each(&self, rt: &impl Abort, first: u64) -> u64 {
         let mut runs: u64 = 0;
         for n in first..=self.row.ends_at(self.start) {
@@ -149,9 +150,9 @@ impl Runs {
         runs
     }
 
-    /// Runs the session with each number of allowed transactions from `first` up to its length. If its vault is sealed,
-    /// stops the restore after each number of its transactions, and restores again. Asserts that each run leaves the
-    /// chip as before. Returns the number of runs; a session that leaves its vault unsealed is one run.
+    /// Runs the session with each allowance from `first` up to its length. If its vault is sealed, stops the restore
+    /// after each number of its transactions, and then restores again. Asserts that each run leaves the chip as before.
+    /// Returns the number of runs; a session that leaves its vault unsealed is one run.
     pub fn stop_restores_at_each(&self, rt: &impl Abort, first: u64) -> u64 {
         let mut runs: u64 = 0;
         for n in first..=self.row.ends_at(self.start) {
@@ -160,9 +161,9 @@ impl Runs {
         runs
     }
 
-    /// Stops the session after each number of transactions from `first` up to one less than its length, and restores if
-    /// its vault is sealed. If the vault isn't sealed, asserts that the write enable latch is clear. Asserts that each
-    /// run leaves the chip as before. Returns the number of stopped sessions.
+    /// Stops the session after each number of transactions from `first` up to one less than its length. If its vault is
+    /// sealed, restores afterwards; otherwise asserts that the write enable latch is clear. Asserts that each run
+    /// leaves the chip as before. Returns the number of stopped sessions.
     pub fn stop_sessions(&self, rt: &impl Abort, first: u64) -> u64 {
         let mut stops: u64 = 0;
         for n in first..self.row.ends_at(self.start) {
@@ -179,14 +180,14 @@ impl Runs {
     }
 
     /// Stops the session after `n` transactions. If its vault is sealed, stops the restore after each number of
-    /// transactions that is too small for it, and restores again. Asserts that each run leaves the chip as before.
+    /// transactions that isn't enough for it, and then restores again. Asserts that each run leaves the chip as before.
     /// Returns the number of stopped restores.
     pub fn stop_restores(&self, rt: &impl Abort, n: u64) -> u64 {
         self.stop_restores_after(rt, n).saturating_sub(1)
     }
 
-    // Stops the session after `n` transactions. If its vault is sealed, stops the restore after 0, 1, .. transactions
-    // until it ends; after each stopped restore another one follows. Asserts that each run leaves the chip as before.
+    // Stops the session after `n` transactions. If its vault is sealed, restores with the allowances 0, 1, .. until a
+    // restore ends; after each stopped restore another one follows. Asserts that each run leaves the chip as before.
     // Returns the number of runs, which is 1 if the vault isn't sealed.
     fn stop_restores_after(&self, rt: &impl Abort, n: u64) -> u64 {
         for m in 0..AMPLE {
@@ -202,9 +203,9 @@ impl Runs {
     }
 }
 
-// Restores with `allowed` transactions, and again with `AMPLE` if the first restore was stopped. Returns whether the
-// first restore ended, and asserts that it then sent exactly `allowed` transactions. If the vault isn't sealed, returns
-// true and restores nothing.
+// Restores with the allowance `allowed`, and again with `AMPLE` if this restore was stopped. Returns whether the first
+// restore ended, and asserts that it then sent exactly `allowed` transactions. If the vault isn't sealed, returns true
+// and restores nothing.
 fn ends_within(rt: &impl Abort, cut: &mut Cut, allowed: u64) -> bool {
     if !cut.vault.is_sealed() {
         return true;

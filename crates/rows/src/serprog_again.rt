@@ -1,12 +1,13 @@
-//! Which sectors of a read `ReadTwice` reads again, if it expects an image.
+//! Which sectors `ReadTwice` reads again, if it expects an image.
 
 use nor_buses::ReadTwice;
 use nor_chip::{Bus, Config, Delays, Meter, SimBus, Spoil, SpoiltBus, TraceBus};
 use std::alloc::Global;
 use std::process::Abort;
 
-// The bytes and the length of a read, the addresses at which the image differs from the chip, and the traced lines of
-// the transactions. The bus inside ignores the transaction `spoilt`, whose reply is then FFh in each byte.
+// A read over `ReadTwice`: the bytes sent and the length of the reply, the addresses at which the image differs from
+// the chip, the expected trace of the bus below, and whether the read succeeds. The bus below drops the transaction
+// `spoilt`, so that each byte of its reply is FFh.
 #[derive(Clone, Copy)]
 struct Reading {
     out: [u8; 4],
@@ -17,7 +18,8 @@ struct Reading {
     succeeds: bool,
 }
 
-// A read of the first 20,480 bytes, the five sectors from address 0 on, whose image differs at these addresses.
+// Returns a successful read of 20,480 bytes, the five sectors from address 0 on. The image differs from the chip at the
+// addresses `differing`, and `lines` is the expected trace.
 const fn five_sectors(differing: &'static [usize], lines: &'static [u8]) -> Reading {
     Reading {
         out: [0x03, 0x00, 0x00, 0x00],
@@ -29,7 +31,7 @@ const fn five_sectors(differing: &'static [usize], lines: &'static [u8]) -> Read
     }
 }
 
-// Returns the bytes of a chip of 64 KiB. None is FFh, and no two sectors are equal.
+// Returns the bytes of a chip of 64 KiB. No byte is FFh, and no two sectors are equal.
 fn contents(rt: &impl Abort, alloc: Global) -> Vec<u8> {
     let mut bytes = vec![in alloc; 0; 65536].expect(rt, "memory");
     for (address, byte) in bytes.iter_mut().enumerate() {
@@ -38,7 +40,7 @@ fn contents(rt: &impl Abort, alloc: Global) -> Vec<u8> {
     bytes
 }
 
-// Returns a bus to a chip with these contents that carries out every transaction.
+// Returns a bus to a chip with the bytes of `contents`. The bus carries out `u64::MAX` transactions.
 fn chip(rt: &impl Abort, alloc: Global) -> SimBus {
     let idle = Delays { now: 0, each: 0 };
     let bytes = contents(rt, alloc);
@@ -48,8 +50,8 @@ fn chip(rt: &impl Abort, alloc: Global) -> SimBus {
     chip
 }
 
-// Carries out a transaction with an expected image, and traces those of the bus inside. Returns whether it succeeded,
-// and whether two reads differed.
+// Carries out a transaction over a `ReadTwice` that expects `image`, and traces the transactions of the bus below.
+// Returns whether the transaction succeeded, and whether two reads differed.
 fn transact(
     inside: SpoiltBus<SimBus>,
     lines: &mut Vec<u8>,
@@ -62,7 +64,7 @@ fn transact(
     (succeeds, bus.differed())
 }
 
-// Carries out a reading, and compares its result, its reply and the lines of its transactions.
+// Carries out a read, and asserts its result, its reply, and the trace of the bus below.
 fn check(rt: &impl Abort, alloc: Global, reading: Reading) {
     let mut image = contents(rt, alloc);
     for address in reading.differing {
@@ -83,7 +85,7 @@ fn check(rt: &impl Abort, alloc: Global, reading: Reading) {
     assert!(rt; lines.as_slice() == reading.lines);
 }
 
-// Only sectors in which a byte differs are read again. Neighbouring ones are read together.
+// Only sectors in which a byte differs from the image are read again. Neighbouring sectors are read together.
 #[test]
 fn only_differing_sectors_are_read_again(rt: HostRuntime) {
     for reading in [
@@ -110,8 +112,8 @@ fn only_differing_sectors_are_read_again(rt: HostRuntime) {
     }
 }
 
-// A read that begins and ends inside a sector: in the first and the last sector, too, only bytes of the read are read
-// again, and only if one of them differs.
+// A read that begins and ends inside a sector. Of its first and its last sector, only the bytes of this read are read
+// again, and only if one of these bytes differs from the image.
 #[test]
 fn parts_of_sectors_are_read_again(rt: HostRuntime) {
     let cases: [(&'static [usize], &'static [u8]); 3] = [
@@ -132,8 +134,9 @@ fn parts_of_sectors_are_read_again(rt: HostRuntime) {
     }
 }
 
-// A second read that differs stops the bus, and nothing is sent after it. That is tried with the first of two second
-// reads, with the other one, and with that of a last sector of which the read has only one byte.
+// If a second read differs from the first one, the bus stops, and nothing is sent after it. In the first case the first
+// of two second reads differs, and in the second case the other one. In the third case the second read is that of a
+// last sector of which the read covers only one byte.
 #[test]
 fn a_sector_that_differs_stops_the_bus(rt: HostRuntime) {
     let cases: [(u64, usize, &'static [usize], &'static [u8]); 3] = [
@@ -167,7 +170,7 @@ fn a_sector_that_differs_stops_the_bus(rt: HostRuntime) {
     }
 }
 
-// A read of the ID is repeated, and so is a sector that the image does not have to its end.
+// A read of the ID is repeated as a whole, and so is a read of a sector of which the image contains only the beginning.
 #[test]
 fn other_reads_are_repeated(rt: HostRuntime) {
     let mut lines = Vec::new(rt.alloc());

@@ -1,4 +1,4 @@
-//! Transactions over a serprog port in memory, commands that wait, and the state of the buses after each fault.
+//! Transactions over a serprog port in memory, batches of commands, and the state of the buses after each fault.
 
 use crate::serprog_model::{Fault, Model};
 use nor_chip::Bus;
@@ -44,7 +44,7 @@ fn a_chip_is_read_and_programmed(rt: HostRuntime) {
     assert!(rt; bus.cause().is_none());
 }
 
-// Returns the text of the cause that the bus keeps, empty if there is none.
+// Returns the text of the failure that the bus recorded, or an empty text if there is none.
 fn cause(rt: &impl Abort, alloc: Global, bus: &SerprogBus<Model>) -> String {
     match bus.cause() {
         Some(cause) => format!(in alloc; "{cause}").expect(rt, "memory"),
@@ -52,8 +52,8 @@ fn cause(rt: &impl Abort, alloc: Global, bus: &SerprogBus<Model>) -> String {
     }
 }
 
-// Each of these faults stops the bus, and the bus keeps the cause. Further transactions send nothing until
-// `synchronize` succeeds. The bus works again after that.
+// Each of these faults stops the bus, and the bus records the cause. Further transactions send nothing until
+// `synchronize` succeeds. After that the bus works again.
 #[test]
 fn each_fault_stops_the_bus(rt: HostRuntime) {
     let faults = [
@@ -82,7 +82,8 @@ fn each_fault_stops_the_bus(rt: HostRuntime) {
     }
 }
 
-// If the port fails inside a frame, the bus sends nothing more, not even to synchronize.
+// If the port fails inside a frame, the bus sends nothing more, not even to synchronize, because the programmer would
+// take the bytes for the rest of the frame.
 #[test]
 fn a_cut_frame_is_never_completed(rt: HostRuntime) {
     let mut model = Model::new(&rt, rt.alloc());
@@ -105,8 +106,8 @@ fn a_transaction_that_is_too_long_is_not_sent(rt: HostRuntime) {
     assert!(rt; bus.port().received == received);
 }
 
-// Returns how many O_SPIOP were sent after a transaction over a `BatchingBus`, and then after `flush`. The transaction
-// reads one byte, or no reply.
+// Returns the number of O_SPIOP commands that were sent after a transaction over a `BatchingBus`, and the number after
+// the following `flush`. The transaction reads one byte if `has_reply` is true, otherwise none.
 fn operations(rt: &impl Abort, alloc: Global, out: &[u8], has_reply: bool) -> (u32, u32) {
     let mut bus = open_batching(rt, alloc, None);
     let mut byte = [0];
@@ -134,7 +135,7 @@ fn only_a_modifying_command_without_a_reply_waits(rt: HostRuntime) {
     }
 }
 
-// Asserts that a `BatchingBus` refuses a command and a poll, and that these and `flush` send nothing.
+// Asserts that a `BatchingBus` refuses a command and a poll, and that these and `flush` send nothing to the programmer.
 fn assert_silent(rt: &impl Abort, bus: &mut BatchingBus<Model>) {
     let received = bus.port().received;
     let command = bus.transfer(&[0x06], &mut []);
@@ -144,7 +145,8 @@ fn assert_silent(rt: &impl Abort, bus: &mut BatchingBus<Model>) {
     assert!(rt; command.is_err() && flushed.is_ok() && poll.is_err());
 }
 
-// The write enable and the poll are one batch, and the fault is at its first frame. After the fault nothing waits.
+// The write enable and the poll are one batch, and the fault occurs at the first frame of this batch. After the fault
+// no command is left to be sent.
 #[test]
 fn a_batch_is_sent_only_in_step(rt: HostRuntime) {
     for fault in [Fault::Nak, Fault::Silent, Fault::Strange, Fault::Cut] {

@@ -1,4 +1,5 @@
-//! The handshake before the first transaction: synchronization of the link, and identification of a serprog programmer.
+//! The handshake before the first transaction: the synchronization of the link, and the identification of a serprog
+//! programmer.
 
 use crate::serprog_model::Model;
 use nor_serprog::{Link, Programmer};
@@ -16,7 +17,7 @@ fn a_programmer_is_identified(rt: HostRuntime) {
     assert!(rt; programmer.frequency() == Some(12_000_000));
 }
 
-// Identifies a programmer. Returns the text of the error, or `identified`.
+// Identifies a programmer. Returns the text of the error, or `identified` if there is none.
 fn refusal(rt: &impl Abort, alloc: Global, model: Model) -> String {
     let mut link = Link::new(model);
     let text = match Programmer::identify(&mut link, Some(1_000_000)) {
@@ -102,7 +103,8 @@ fn a_limit_that_is_too_small_is_an_error(rt: HostRuntime) {
     assert_refused(&rt, alloc, model, "identified");
 }
 
-// The handshake skips reply bytes that an earlier run left unread, even if their end equals the reply to SYNCNOP.
+// The handshake skips reply bytes that an earlier run left unread, even if the last of these bytes look like the reply
+// to SYNCNOP.
 #[test]
 fn stale_bytes_are_skipped(rt: HostRuntime) {
     let stale: [&[u8]; 4] = [

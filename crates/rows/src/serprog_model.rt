@@ -10,16 +10,17 @@ use std::alloc::Global;
 use std::process::Abort;
 use std::{fmt, mem};
 
-// Capacities: for the bytes of an incomplete frame, and for the replies that weren't received yet. The second has room
-// for the reply to a read of a sector, and for stale bytes before it.
+// The capacities of the model's buffers: for the bytes of an incomplete frame (`MOST_BEGUN`), and for the replies that
+// weren't received yet (`MOST_PENDING`). The second has room for the reply to a read of a sector, and for stale bytes
+// before it.
 const MOST_BEGUN: usize = 300;
 
 const MOST_PENDING: usize = 5000;
 
-/// A fault of the model at one O_SPIOP command. The model does this in place of the correct reply.
+/// A fault of the model at one O_SPIOP command: what the model does instead of sending the correct reply.
 #[derive(Clone, Copy, Debug, PartialEq, Eq)]
 pub enum Fault {
-    /// Replies NAK, and does not select the chip.
+    /// Replies NAK, and doesn't carry out the command.
     Nak,
     /// Carries out the command, and sends no reply.
     Silent,
@@ -33,8 +34,8 @@ pub enum Fault {
     Cut,
 }
 
-/// The reason why the port failed: fewer reply bytes had arrived than were asked for (`Silent`), or the model's fault
-/// is `Fault::Cut` (`Cut`).
+/// The reason why the port failed. `Silent`: fewer reply bytes had arrived than were asked for. `Cut`: the model has
+/// the fault `Fault::Cut`.
 #[derive(Clone, Copy, Debug, PartialEq, Eq)]
 pub enum Cause {
     Silent,
@@ -50,9 +51,9 @@ impl fmt::Display for Cause {
     }
 }
 
-/// A programmer that follows flashrom's Documentation/serprog-protocol.txt. The fields from `version` to `buffer` have
-/// the replies to queries. `operations` is the number of complete O_SPIOP commands so far, `begun` has the bytes of an
-/// incomplete frame, and `pending` the replies that weren't received yet.
+/// A programmer that follows flashrom's Documentation/serprog-protocol.txt. The fields from `version` to `buffer`
+/// contain the replies to queries. `operations` is the number of complete O_SPIOP commands so far. `begun` contains the
+/// bytes of an incomplete frame, and `pending` the replies that weren't received yet.
 #[derive(Drop)]
 pub struct Model {
     pub chip: SimBus,
@@ -67,7 +68,7 @@ pub struct Model {
     pub fault_at: u32,
     pub fault: Option<Fault>,
     pub operations: u32,
-    /// The number of bytes sent to the model.
+    /// The number of bytes that were sent to the model.
     pub received: u32,
     begun: ArrayVec<u8, MOST_BEGUN>,
     pub pending: ArrayVec<u8, MOST_PENDING>,
@@ -146,8 +147,8 @@ impl Model {
         self.reply(&answer);
     }
 
-    // Carries out one O_SPIOP command: a transaction with the chip, and its reply. At the command `fault_at` the reply
-    // has the fault; with `Nak`, or if the command exceeds a limit of the programmer, there is no transaction.
+    // Carries out one O_SPIOP command: a transaction with the chip, and its reply. At the command number `fault_at` the
+    // reply has the fault. There is no transaction with `Nak`, or if the command exceeds a limit of the programmer.
     fn operate(&mut self, out: &[u8], replies: u16) {
         let fault = if self.operations == self.fault_at {
             self.fault
@@ -184,7 +185,8 @@ impl Model {
     }
 }
 
-// Returns whether a number of bytes exceeds a limit that is 0 if there is none.
+// Returns whether the number of bytes `len` exceeds `limit`, three little-endian bytes. A limit of 0 means that there
+// is no limit.
 fn exceeds(len: usize, limit: [u8; 3]) -> bool {
     let [low, middle, high] = limit;
     let limit = u32::from_le_bytes([low, middle, high, 0]) as usize;

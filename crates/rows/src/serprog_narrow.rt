@@ -1,4 +1,4 @@
-//! A bus over a serprog programmer whose limits are too small for a page program or for the read of a sector.
+//! `SplittingBus` over a serprog programmer whose limits are too small for a page program or for the read of a sector.
 
 use crate::serprog_model::{Fault, Model};
 use nor_buses::SplittingBus;
@@ -7,8 +7,8 @@ use nor_serprog::{AnyProgrammer, BatchingBus, Link};
 use std::alloc::Global;
 use std::process::Abort;
 
-// Returns a programmer whose transactions send and read at most `limit` bytes. Its chip holds `bytes`, and shows BUSY
-// in two polls after each operation.
+// Returns a programmer whose transactions send at most `limit` bytes and read at most `limit` bytes. Its chip contains
+// `bytes`, and shows BUSY in two polls after each operation.
 fn narrow(rt: &impl Abort, alloc: Global, bytes: Vec<u8>, limit: u16) -> Model {
     let delays = Delays { now: 0, each: 2 };
     let mut model = Model::new(rt, alloc);
@@ -30,7 +30,7 @@ fn open(rt: &impl Abort, model: Model) -> SplittingBus<BatchingBus<Model>> {
     SplittingBus::new(BatchingBus::over(link, programmer), writes, reads)
 }
 
-// Returns the program of 256 different bytes at address 001100h.
+// Returns the transaction that programs 256 different bytes at address 001100h.
 fn page_program() -> [u8; 260] {
     let mut program = [0; 260];
     for (index, byte) in program.iter_mut().enumerate() {
@@ -43,14 +43,14 @@ fn page_program() -> [u8; 260] {
     program
 }
 
-// Returns whether all of these bytes are FFh, and there are bytes.
+// Returns whether `bytes` is given and all its bytes are FFh.
 fn are_erased(bytes: Option<&[u8]>) -> bool {
     bytes.is_some_and(|bytes| bytes.iter().all(|byte| *byte == 0xFF))
 }
 
-// A page of 256 bytes needs a part for each `limit - 4` bytes: 256, 5 or 2 parts. Each part but the first follows three
-// polls and a write enable. The caller sends the first write enable, and three polls after the last part. So there are
-// five operations for each part.
+// A part of a program has at most `limit - 4` data bytes, so a page of 256 bytes needs 256, 5 or 2 parts. Before each
+// part except the first, the bus sends three polls and a write enable. The caller sends the first write enable, and
+// three polls after the last part, so there are five operations for each part.
 #[test]
 fn a_page_is_programmed_in_parts(rt: HostRuntime) {
     for (limit, reads, operations) in [
@@ -81,7 +81,7 @@ fn a_page_is_programmed_in_parts(rt: HostRuntime) {
     }
 }
 
-// Returns the bytes of a chip that differ from their neighbours.
+// Returns the bytes of a chip in which each byte differs from its neighbours.
 fn pattern(rt: &impl Abort, alloc: Global) -> Vec<u8> {
     let mut bytes = vec![in alloc; 0; 65536].expect(rt, "memory");
     for (address, byte) in bytes.iter_mut().enumerate() {
@@ -90,12 +90,12 @@ fn pattern(rt: &impl Abort, alloc: Global) -> Vec<u8> {
     bytes
 }
 
-// Returns a bus to a chip of that pattern, over a programmer with this limit.
+// Returns a bus to a chip with the bytes of `pattern`, over a programmer with this limit.
 fn over_pattern(rt: &impl Abort, alloc: Global, limit: u16) -> SplittingBus<BatchingBus<Model>> {
     open(rt, narrow(rt, alloc, pattern(rt, alloc), limit))
 }
 
-// Reads of data, of SFDP bytes and of the status become reads of at most `limit` bytes.
+// Reads of data and of SFDP bytes are split into reads of at most `limit` bytes.
 #[test]
 fn reads_are_split(rt: HostRuntime) {
     for (limit, parts) in [(5, 820_u32), (64, 64), (256, 16), (259, 16), (4096, 1)] {
@@ -123,7 +123,7 @@ fn reads_are_split(rt: HostRuntime) {
     assert!(rt; bus.inner().port().operations == 3);
 }
 
-// Transactions that can't be split send nothing, and the bus works afterwards.
+// A transaction that can't be split fails and sends nothing, and the bus works afterwards.
 #[test]
 fn what_cannot_be_split_is_rejected(rt: HostRuntime) {
     let mut bus = over_pattern(&rt, rt.alloc(), 5);
@@ -143,7 +143,7 @@ fn what_cannot_be_split_is_rejected(rt: HostRuntime) {
     assert!(rt; id == [0xFE, 0x10, 0x10]);
 }
 
-// A programmer that reads one byte at a time gets a poll of two bytes as two polls.
+// If a programmer reads one byte at a time, a poll of two bytes becomes two polls.
 #[test]
 fn polls_are_split(rt: HostRuntime) {
     let mut model = Model::new(&rt, rt.alloc());
@@ -157,7 +157,7 @@ fn polls_are_split(rt: HostRuntime) {
 }
 
 // If the programmer refuses a poll between two parts, the bus stops, and later parts are not programmed. The first part
-// has 60 bytes; the operations before the poll are a write enable and that part.
+// has 60 data bytes. The operations before the refused poll are a write enable and this part.
 #[test]
 fn a_program_stops_between_its_parts(rt: HostRuntime) {
     let erased = vec![in rt.alloc(); 0xFF; 65536].expect(&rt, "memory");
@@ -173,7 +173,7 @@ fn a_program_stops_between_its_parts(rt: HostRuntime) {
     assert!(rt; are_erased(bytes.get(0x113C..)));
 }
 
-// Returns the text of the error with which a programmer is refused, or its limit for parts.
+// Identifies a programmer. Returns its limit for parts of a program as a text, or the text of the error.
 fn limit_or_fault(rt: &impl Abort, alloc: Global, model: Model) -> String {
     let mut link = Link::new(model);
     let text = match AnyProgrammer::identify(&mut link, None) {
@@ -188,8 +188,8 @@ fn assert_limit(rt: &impl Abort, alloc: Global, model: Model, wanted: &str) {
     assert!(rt; limit.as_str() == wanted);
 }
 
-// Five bytes are enough: an opcode, an address and one data byte. A programmer without Q_WRNMAXLEN is limited by its
-// serial buffer, which has to hold 7 bytes more.
+// A programmer must be able to send five bytes in a transaction: an opcode, an address and one data byte. A programmer
+// without Q_WRNMAXLEN is limited by its serial buffer, which also has to hold the 7 other bytes of the frame.
 #[test]
 fn a_programmer_with_small_limits_is_identified(rt: HostRuntime) {
     let alloc = rt.alloc();

@@ -1,6 +1,6 @@
-//! Sessions and restores over an honest serprog port that fails at each of its calls in turn. A transaction takes three
-//! calls: one sends its frame, one receives ACK, and one receives the rest of the reply. If one of the last two fails,
-//! the chip has carried out the transaction, and the reply is lost.
+//! Sessions and restores over a well-behaved serprog port that fails at each of its calls in turn. A transaction takes
+//! three calls: the first sends its frame, the second receives ACK, and the third receives the rest of the reply. If
+//! the second or third call fails, the chip has carried out the transaction, but the reply is lost.
 ghost use Rattle.nor_journal.specs.Vault.{IsFresh};
 
 use crate::held::assert_held;
@@ -20,10 +20,10 @@ const CALLS: u64 = 3;
 const AMPLE: u64 = 100_000;
 
 // How many bytes of a transaction the chip receives if the port fails while it sends the frame: none, the opcode and
-// the address, these and one byte of data, or all.
+// the address, one byte of data in addition, or all bytes.
 const CUTS: [u32; 4] = [0, 4, 5, u32::MAX];
 
-// Returns a bus over this port, after the handshake.
+// Carries out the handshake over this port, and returns a bus over it.
 fn open(rt: &impl Abort, port: SimPort) -> SerprogBus<SimPort> {
     let mut link = Link::new(port);
     let programmer = Programmer::identify(&mut link, None)
@@ -33,8 +33,8 @@ fn open(rt: &impl Abort, port: SimPort) -> SerprogBus<SimPort> {
     SerprogBus::new(link, programmer)
 }
 
-// Returns a bus to this chip. After the handshake, `calls` calls of the port succeed. If the next call sends a frame,
-// the chip receives only the first `cut` bytes of its transaction.
+// Returns a bus to this chip. After the handshake, `calls` calls of the port succeed, and the next one fails. If it
+// sends a frame, the chip receives only the first `cut` bytes of the frame's transaction.
 fn bus_to(
     rt: &impl Abort,
     alloc: Global,
@@ -62,21 +62,21 @@ fn change<V: Vault>(
     session_over(bus, vault, &mut image, &request)
 }
 
-// Returns the number of calls of the handshake.
+// Returns the number of calls of the port that the handshake takes.
 fn handshake(rt: &impl Abort, alloc: Global) -> u64 {
     let chip = Row::AByteIsProgrammed.bus(rt, alloc, Start::IDLE);
     let bus = open(rt, SimPort::new(chip, AMPLE));
     AMPLE.saturating_sub(bus.port().left())
 }
 
-// Returns how many bytes the simulated bus must send at the stop that corresponds to a port that fails after `calls`
-// calls. These are `cut` bytes if the port fails while it sends a transaction, and all if the reply is lost.
+// Returns how many bytes the simulated bus must send at the stop that has the same effect as a port that fails after
+// `calls` calls: `cut` bytes if the port fails while it sends a transaction, and all bytes if the reply is lost.
 fn torn(calls: u64, cut: u32) -> u32 {
     if calls % CALLS == 0 { cut } else { u32::MAX }
 }
 
-// Returns the numbers of bytes to try as `cut` of a port that fails after `calls` calls. If the reply is lost, all
-// bytes were sent, so one number is enough.
+// Returns the values of `cut` to try with a port that fails after `calls` calls. If the reply is lost, all bytes were
+// sent before, so one value is enough.
 fn cuts(calls: u64) -> &'static [u32] {
     if calls % CALLS == 0 { &CUTS } else { &[0] }
 }
@@ -87,9 +87,9 @@ fn assert_same(rt: &impl Abort, chip: &SimBus, other: &SimBus, calls: u64) {
     assert_held(rt, same, calls);
 }
 
-// Runs a row's session over a port that fails after `calls` calls. Asserts that the session returns the stop, and
-// leaves chip and vault as the corresponding stop of the simulated bus does. Returns the chip and vault that the stop
-// of the simulated bus left.
+// Runs a row's session over a port that fails after `calls` calls. Asserts that the session returns error 12 (stopped),
+// and leaves chip and vault as the corresponding stop of the simulated bus does. Returns the chip and the vault after
+// the stop of the simulated bus.
 fn stop_session(
     rt: &impl Abort,
     alloc: Global,
@@ -109,9 +109,9 @@ fn stop_session(
     left
 }
 
-// Restores over a port that fails after `calls` calls. Asserts that the restore returns the stop, and leaves the chip
-// as the corresponding stop of the simulated bus does. `left` and `same` are what the session left, twice. Returns what
-// the stop of the simulated bus left.
+// Restores over a port that fails after `calls` calls. Asserts that the restore returns error 12 (stopped), and leaves
+// the chip as the corresponding stop of the simulated bus does. `left` and `same` are two copies of what the session
+// left. Returns what the stop of the simulated bus left.
 fn stop_restore(
     rt: &impl Abort,
     alloc: Global,
@@ -131,7 +131,7 @@ fn stop_restore(
     same
 }
 
-// Restores over a port that does not fail, if the vault is sealed. Asserts that the chip is then as before the row's
+// If the vault is sealed, restores over a port that doesn't fail. Asserts that the chip is then as before the row's
 // session.
 fn assert_restored(rt: &impl Abort, alloc: Global, row: Row, left: Cut) {
     let Cut { bus, vault } = left;
@@ -143,7 +143,7 @@ fn assert_restored(rt: &impl Abort, alloc: Global, row: Row, left: Cut) {
     Runs::new(rt, alloc, row, Start::IDLE).assert_as_before(rt, bus.port().chip());
 }
 
-// Each row with its start and the number of transactions of its session.
+// Each row of the table has a row of the tests, its start, and the number of transactions of its session.
 const SESSIONS: [(Row, Start, u64); 3] = [
     (Row::AByteIsProgrammed, Start::IDLE, 28),
     (Row::AByteIsProgrammed, Start::SLOW, 28 + 3 + 2),
@@ -162,8 +162,9 @@ fn each_call_of_the_port_fails_in_a_session(rt: HostRuntime) {
     }
 }
 
-// The session is stopped after its erase, so its restore sends 13 transactions; on the slow chip the first wait has two
-// more polls, and so has the operation.
+// Each row has the start, the number of transactions after which the session is stopped, and the number of transactions
+// of its restore. The session is stopped after its erase, so on an idle chip the restore sends 13 transactions. On the
+// slow chip two more polls show BUSY in the restore's first wait, and two more after its operation.
 const RESTORES: [(Start, u64, u64); 2] = [(Start::IDLE, 25, 13), (Start::SLOW, 28, 17)];
 
 #[test]
@@ -181,7 +182,7 @@ fn each_call_of_the_port_fails_in_a_restore(rt: HostRuntime) {
     }
 }
 
-// With exactly the calls that its transactions take, a session ends.
+// A session whose port has exactly the calls that its transactions take ends.
 #[test]
 fn a_session_ends_with_its_last_call(rt: HostRuntime) {
     for (row, start, length) in SESSIONS {
@@ -195,7 +196,8 @@ fn a_session_ends_with_its_last_call(rt: HostRuntime) {
     }
 }
 
-// A session that is refused seals nothing. Neither it nor a restore from another chip's journal changes the chip.
+// A session that is refused seals nothing. Neither this session nor a restore from another chip's journal changes the
+// chip.
 #[test]
 fn refusals_change_nothing(rt: HostRuntime) {
     let (row, other) = (Row::AGuardedByteIsProgrammed, Row::ABitRises);
@@ -215,8 +217,8 @@ fn refusals_change_nothing(rt: HostRuntime) {
     assert_same(&rt, bus.port().chip(), &before, 1);
 }
 
-// The chip loses its power when the port fails while it sends a frame, after the opcode and address of the transaction
-// or after all of it. Each byte that a running page program or erase works on becomes 00h or FFh.
+// The chip loses its power if the port fails while it sends a frame: after the opcode and the address of the
+// transaction, or after all of it. Each byte that an interrupted page program or erase works on becomes 00h or FFh.
 #[test]
 fn each_cut_of_the_port_may_cost_the_power(rt: HostRuntime) {
     for (row, start, length) in SESSIONS {
@@ -233,8 +235,8 @@ fn each_cut_of_the_port_may_cost_the_power(rt: HostRuntime) {
     }
 }
 
-// Without a reply there is nothing to receive. After a failure no call succeeds, even if the port was allowed more
-// calls.
+// If nothing was sent, there is no reply to receive, and the port fails. After a failure no call succeeds, even if the
+// port was allowed more calls.
 #[test]
 fn more_is_requested_than_is_pending(rt: HostRuntime) {
     let chip = Row::AByteIsProgrammed.bus(&rt, rt.alloc(), Start::IDLE);

@@ -1,4 +1,5 @@
-//! Pauses between polls that show BUSY, and two reads of the same bytes that differ.
+//! `Paced`, which waits between polls that show BUSY, and `ReadTwice`, which stops if two reads of the same bytes
+//! differ.
 
 use crate::serprog_model::{Fault, Model};
 use nor_buses::{Paced, ReadTwice};
@@ -10,8 +11,8 @@ use std::io;
 use std::process::Abort;
 use std::time::{Clock, Duration};
 
-// A clock whose time advances only while it is asked to sleep, and when a test moves it. It has microseconds. It may
-// also fail to say the time.
+// A clock whose time, in microseconds, advances only if the clock is asked to sleep or a test sets it. If `fails` is
+// true, it can't be read.
 #[derive(Drop)]
 struct Timer<'a> {
     now: &'a Cell<u64>,
@@ -44,7 +45,7 @@ fn tiny64(rt: &impl Abort, alloc: Global, delays: Delays) -> SimBus {
     chip
 }
 
-// A paced bus whose transactions all succeed, and whose polls all show BUSY.
+// Returns a paced bus on which each transaction succeeds, and each poll shows BUSY.
 fn always_busy<'a>(
     rt: &impl Abort,
     alloc: Global,
@@ -58,8 +59,8 @@ fn always_busy<'a>(
     )
 }
 
-// Commands, the typical time in microseconds of the operation that each one begins, and the pause before the third poll
-// after it. The last one begins no operation.
+// Each row has a command, the typical time in microseconds of the operation that it begins, and the pause before the
+// third poll after it. The last command begins no operation.
 const COMMANDS: [(&[u8], u64, u64); 7] = [
     (&[0x02, 0, 0, 0, 0], 700, 100),
     (&[0x01, 0, 0], 10_000, 625),
@@ -70,9 +71,9 @@ const COMMANDS: [(&[u8], u64, u64); 7] = [
     (&[0x06], 0, 100),
 ];
 
-// The chip shows BUSY in 600 polls, and no command was sent. The bus sends 2 polls without a pause, and polls 3 to 16
-// after 0.1 ms each. Then 16 polls each have pauses of 0.2, 0.4, 0.8, 1.6 and 3.2 ms, and polls 97 to 601 have 6.25 ms.
-// Poll 601 shows that the chip is ready, so the poll after it is sent without a pause.
+// The chip shows BUSY in 600 polls, and no command was sent before. The bus sends 2 polls without a pause, and polls 3
+// to 16 after pauses of 0.1 ms. Then come 16 polls with each of the pauses 0.2, 0.4, 0.8, 1.6 and 3.2 ms, and polls 97
+// to 601 with pauses of 6.25 ms. Poll 601 shows that the chip is ready, so the poll after it is sent without a pause.
 #[test]
 fn polls_of_a_busy_chip_are_paced(rt: HostRuntime) {
     let now = Cell::new(0);
@@ -96,9 +97,9 @@ fn polls_of_a_busy_chip_are_paced(rt: HostRuntime) {
     assert!(rt; now.get() == 14 * 100 + 16 * 6200 + 505 * 6250);
 }
 
-// The chip shows BUSY in each poll. The first poll after a command has no pause. The second one has the typical time of
-// the operation, less the time since the command, which may be longer; if the clock fails, the whole typical time. The
-// reply to a poll has one or two bytes.
+// The chip shows BUSY in each poll. The first poll after a command is sent without a pause. The pause before the second
+// one is the typical time of the operation, less the time since the command; there is no pause if more time has passed.
+// If the clock fails, the pause is the whole typical time. A reply to a poll has one or two bytes.
 #[test]
 fn the_second_poll_comes_after_the_typical_time(rt: HostRuntime) {
     for (command, typical, third) in COMMANDS {
@@ -118,7 +119,7 @@ fn the_second_poll_comes_after_the_typical_time(rt: HostRuntime) {
     }
 }
 
-// If all 65,536 polls of a wait show BUSY, its pauses add up to 400 s at least and 410 s at most, after each command.
+// If all 65,536 polls of a wait show BUSY, the pauses add up to at least 400 s and at most 410 s, after each command.
 #[test]
 fn a_wait_without_end_takes_400_seconds(rt: HostRuntime) {
     for (command, _, _) in COMMANDS {

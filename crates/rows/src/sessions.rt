@@ -7,8 +7,8 @@ use nor_session::{Report, session};
 use std::alloc::Global;
 use std::process::Abort;
 
-// Runs a session that writes FFh everywhere. The chip's bytes are FFh, except that `cleared` bytes from address 8000h
-// on are 00h. Returns the report.
+// Runs a session that writes FFh to every address. Before the session the chip's bytes are FFh, except that `cleared`
+// bytes from address 8000h on are 00h. Returns the report.
 fn blank(
     rt: &impl Abort,
     alloc: Global,
@@ -54,8 +54,8 @@ fn sectors_are_erased_by_the_largest_units(rt: HostRuntime) {
     }
 }
 
-// A session on an idle TINY64 that has nothing to change sends 23 transactions. Here it also sends 65,535 polls that
-// show BUSY. The write enable latch is set until the chip's operation ends.
+// A session on an idle TINY64 that has nothing to change sends 23 transactions. In this test it also sends 65,535 polls
+// that show BUSY. The write enable latch is set at first, and is cleared when the chip's operation ends.
 #[test]
 fn a_busy_chip_is_waited_for(rt: HostRuntime) {
     let busy = Delays {

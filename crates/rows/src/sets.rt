@@ -1,10 +1,10 @@
-//! Sets of addresses made from spans: in any order, adjacent, overlapping, too many, and spans that end before they
-//! start.
+//! Sets of addresses that are made from spans. The spans are in any order, adjacent or overlapping, are too many, or
+//! end before they start.
 use crate::held::assert_held;
 use nor_layout::{Ranges, Span};
 
-// Each row has the first and the last address of each span, and those of each span of the resulting set, or `None` if
-// `Ranges::of` rejects the spans.
+// Each row has a list of spans (first and last address of each), and the spans of the resulting set, or `None` if
+// `Ranges::of` rejects the list.
 const SETS: &[(&[(u32, u32)], Option<&[(u32, u32)]>)] = &[
     (&[], Some(&[])),
     (&[(7, 7)], Some(&[(7, 7)])),
@@ -25,8 +25,8 @@ const SETS: &[(&[(u32, u32)], Option<&[(u32, u32)]>)] = &[
     (&[(1, u32::MAX), (0, 0)], Some(&[(0, u32::MAX)])),
 ];
 
-// Returns the set of the spans with these first and last addresses, or `None` if `Ranges::of` rejects them, or if there
-// are more than eight.
+// Returns the set of the spans with these first and last addresses. Returns `None` if `Ranges::of` rejects the spans,
+// or if there are more than eight.
 fn set_of(ends: &[(u32, u32)]) -> Option<Ranges> {
     let mut spans = [Span::default(); 8];
     for (slot, (first, last)) in spans.iter_mut().zip(ends) {
@@ -54,8 +54,8 @@ fn spans_make_their_set(rt: HostRuntime) {
     }
 }
 
-// Returns the number of spans of a set, or `None` if `Ranges::of` rejects it. The set has single addresses, at most 65,
-// and the span `more`. The addresses are the first `addresses` even numbers from 2 on, in falling order.
+// Makes a set of up to 65 single addresses, the first `addresses` even numbers from 2 on in falling order, and of the
+// span `more`. Returns the number of spans of this set, or `None` if `Ranges::of` rejects it.
 fn count_of(addresses: u32, more: Span) -> Option<usize> {
     let mut spans = [more; 66];
     for (slot, above) in spans.iter_mut().zip(0..addresses) {

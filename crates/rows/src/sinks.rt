@@ -1,4 +1,4 @@
-//! Vaults and files that accept a whole journal, refuse a call, accept only part of a write, or can't be synced.
+//! Vaults and files that accept a whole journal, refuse a call, accept only a part of a write, or fail to sync.
 ghost use Rattle.std.specs.Prelude.{take, Some};
 ghost use Rattle.nor_journal.specs.Vault.{IsFresh};
 
@@ -14,7 +14,8 @@ use std::io;
 use std::io::Write;
 use std::process::Abort;
 
-/// The journal of a TINY64 whose unique ID is zeros. It saves no sector. Its digest was computed with `sha256sum`.
+/// A journal of a TINY64 whose unique ID is zeros. The journal saves no sector. Its digest was computed with
+/// `sha256sum`.
 const EMPTY: [u8; 61] = [
     0x4E, 0x4F, 0x52, 0x55, 0x4E, 0x44, 0x4F, 0x32, 0xFE, 0x10, 0x10, 0x00, 0x00, 0x00, 0x00, 0x00,
     0x00, 0x00, 0x00, 0x00, 0x00, 0x00, 0x00, 0x01, 0x00, 0xFF, 0xFF, 0xFF, 0xFF, 0x5E, 0x7F, 0x67,
@@ -22,15 +23,15 @@ const EMPTY: [u8; 61] = [
     0x49, 0x14, 0x8D, 0x80, 0x5E, 0xBA, 0x45, 0xE9, 0x65, 0x9B, 0xB9, 0xB3, 0xB8,
 ];
 
-/// The digest of the journal that `save` writes for a TINY64, computed with `sha256sum`. Sector 0, all FFh, is saved,
-/// and the unique ID is zeros.
+/// The digest of the journal that `save` writes for a TINY64, computed with `sha256sum`. The journal saves sector 0,
+/// whose bytes are all FFh, and the unique ID is zeros.
 const DIGEST: [u8; 32] = [
     0xD3, 0xCE, 0x40, 0xC1, 0xB1, 0xE6, 0x74, 0x4A, 0x9B, 0xAC, 0x95, 0x55, 0x42, 0xB9, 0xCC, 0xC9,
     0x83, 0xD5, 0xFA, 0x75, 0xB9, 0xC2, 0x79, 0x2D, 0x91, 0x66, 0x46, 0xFB, 0x18, 0x8C, 0x93, 0x13,
 ];
 
-/// Writes a journal for the ID, status and size in `chip`, with the unique ID zero, into a fresh vault. The journal
-/// saves sector 0, all FFh. Returns the vault's error.
+/// Writes a journal with the ID, the status and the size of the journal `chip`, and the unique ID zero, into a fresh
+/// vault. The journal saves sector 0, whose bytes are all FFh. Returns the vault's error, if any.
 fn save<V: Vault>(vault: &mut V, chip: &Journal<'_>) -> Result<(), VaultFault>
     requires { IsFresh (V.state vault.old) }
 {
@@ -39,12 +40,12 @@ fn save<V: Vault>(vault: &mut V, chip: &Journal<'_>) -> Result<(), VaultFault>
     writer.end()
 }
 
-/// True if the bytes are a journal that has the length and the digest of the one that `save` writes for a TINY64.
+/// True if the bytes are a journal with the length and the digest of the journal that `save` writes for a TINY64.
 fn is_whole(bytes: &[u8]) -> bool {
     bytes.len() == 4161 && bytes.ends_with(&DIGEST) && Journal::read(bytes).is_ok()
 }
 
-/// With enough memory, a vault in memory refuses no call. A vault that always refuses would fail this test.
+/// With enough memory, a vault in memory refuses no call. An implementation that always refuses would fail this test.
 #[test]
 fn mem_vault_refuses(rt: HostRuntime) {
     let mut vault = MemVault::new(rt.alloc());
@@ -60,8 +61,8 @@ fn mem_vault_refuses(rt: HostRuntime) {
     assert!(rt; vault.bytes() == b"journal".as_slice());
 }
 
-// The five calls of the vault that write the journal: for the header, the record, the end mark and the digest, and the
-// seal. Each row has the call's number, the number of bytes before its piece, and the length of its piece.
+// The five calls of the vault that write the journal: the header, the record, the end mark, the digest, and the seal.
+// Each row has the call's number, the number of bytes that precede the call's piece, and the length of this piece.
 const CALLS: [(u64, usize, usize); 5] = [
     (1, 0, 25),
     (2, 25, 4100),
@@ -70,9 +71,9 @@ const CALLS: [(u64, usize, usize); 5] = [
     (5, 4161, 0),
 ];
 
-// Writes the journal of `save` into a vault that refuses one call: `broken` has the number of that call and the number
-// of bytes of its piece that the vault keeps. Asserts `told`: the result, the number of refusals, and whether the vault
-// is sealed. Asserts that the vault holds the bytes `beginning`.
+// Writes the journal of `save` into a vault that refuses one call. `broken` has the number of this call, and the number
+// of bytes of its piece that the vault keeps. `told` has what is asserted: the result, the number of refusals, and
+// whether the vault is sealed. Asserts, too, that the vault holds the bytes `beginning`.
 fn assert_broken(
     rt: &impl Abort,
     alloc: Global,
@@ -90,9 +91,9 @@ fn assert_broken(
     assert_held(rt, holds, nth);
 }
 
-// Writes the journal into vaults that refuse each call in turn, after `kept` bytes of its piece, or after all if there
-// are fewer. Asserts that the error contains the number of bytes kept, and that the vault holds the prefix of the
-// journal `right` that ends with these bytes.
+// Writes the journal into vaults that refuse each call in turn, and keep the first `kept` bytes of the refused piece,
+// or all if it has fewer. Asserts that the error contains the number of bytes that were kept, and that the vault holds
+// the prefix of the journal `right` that ends with these bytes.
 fn refuse_each(rt: &impl Abort, alloc: Global, right: &[u8], kept: usize) {
     for (nth, before, piece) in CALLS {
         let put = piece.min(kept);
@@ -102,8 +103,8 @@ fn refuse_each(rt: &impl Abort, alloc: Global, right: &[u8], kept: usize) {
     }
 }
 
-// The vault keeps a prefix of a refused piece, and the error contains the length of that prefix, so the vault holds a
-// prefix of the journal. No call has number 0 or 6, so a vault that would refuse only call 0 or call 6 accepts the
+// A vault keeps a prefix of a refused piece, and the error contains the length of this prefix, so the vault holds a
+// prefix of the journal. The calls are numbered from 1 to 5, so a vault that would refuse call 0 or call 6 accepts the
 // whole journal.
 #[test]
 fn each_call_of_a_writer_is_refused(rt: HostRuntime) {
@@ -120,7 +121,7 @@ fn each_call_of_a_writer_is_refused(rt: HostRuntime) {
     assert_broken(&rt, rt.alloc(), (6, 0), told, Some(right));
 }
 
-/// A file in memory that accepts at most `most` bytes per write, and whose writes after the next `writes` fail. If
+/// A file in memory that accepts at most `most` bytes per write, and whose writes fail after `writes` more of them. If
 /// `syncs` is true, `sync_all` succeeds and `sync_data` fails, otherwise the reverse. `resized` is true if `set_len`
 /// was called.
 #[derive(Drop)]
@@ -187,26 +188,26 @@ impl OpenFile for SmallFile {
     }
 }
 
-// Each row has the most bytes per write, the most writes that succeed, whether `sync_all` succeeds, the result, and the
-// number of bytes in the file.
+// Each row has the most bytes that a write accepts, the number of writes that succeed, whether `sync_all` succeeds, the
+// expected result, and the expected number of bytes in the file.
 const FILES: [(usize, u32, bool, Result<(), VaultFault>, usize); 9] = [
     (1, u32::MAX, true, Ok(()), 4161),
     (4096, u32::MAX, true, Ok(()), 4161),
     (usize::MAX, 4, true, Ok(()), 4161),
-    // in the first of these rows no write succeeds, in the second each write accepts no bytes
+    // In the first of these rows no write succeeds, and in the second each write accepts no bytes.
     (2, 0, true, Err(VaultFault { kept: 0 }), 0),
     (0, u32::MAX, true, Err(VaultFault { kept: 0 }), 0),
-    // the second write of the first piece fails
+    // The second write of the first piece fails.
     (2, 1, true, Err(VaultFault { kept: 2 }), 2),
-    // the first write is the header, the second is half of the record, and the third fails
+    // The first write is the header, the second is half of the record, and the third fails.
     (2050, 2, true, Err(VaultFault { kept: 2050 }), 2075),
-    // in the first of these rows the write of the digest fails, in the second the sync
+    // In the first of these rows the write of the digest fails, and in the second the sync.
     (usize::MAX, 3, true, Err(VaultFault { kept: 0 }), 4129),
     (usize::MAX, 4, false, Err(VaultFault { kept: 0 }), 4161),
 ];
 
 // Writes the journal of `save` into the file. Returns the result, the length of the file, whether its bytes are the
-// journal of a TINY64, and whether the file was resized.
+// whole journal, and whether the file was resized.
 fn saved(chip: &Journal<'_>, file: SmallFile) -> (Result<(), VaultFault>, usize, bool, bool) {
     let mut vault = FileVault::new(file);
     let told = save(&mut vault, chip);
@@ -219,8 +220,8 @@ fn saved(chip: &Journal<'_>, file: SmallFile) -> (Result<(), VaultFault>, usize,
     )
 }
 
-// The vault also returns an error if a write accepts no bytes. After a failed sync the error says that 0 bytes were
-// kept.
+// A vault in a file returns an error if a write fails, and also if a write accepts no bytes. After a failed sync the
+// error states that 0 bytes were kept.
 #[test]
 fn files_that_refuse(rt: HostRuntime) {
     let chip = Journal::read(&EMPTY).expect(&rt, "a journal");

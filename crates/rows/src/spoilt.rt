@@ -1,4 +1,4 @@
-//! Sessions and restores on a faulty bus, and assertions that must hold on any bus.
+//! Runs sessions and restores on a faulty bus, and asserts what must hold on any bus.
 use crate::held::assert_held;
 use crate::row::{Row, Start};
 use crate::runs::{AMPLE, Cut, Runs, keep};
@@ -8,13 +8,13 @@ use nor_session::{Refusal, restore};
 use std::alloc::Global;
 use std::process::Abort;
 
-/// Returns a bound on the transactions of a session on a chip of `sectors` sectors, or of a restore of that number of
-/// saved sectors. It is the sum of:
+/// Returns a bound on the number of transactions of a session on a chip of `sectors` sectors, or of a restore of this
+/// number of saved sectors. It is the sum of:
 ///
-/// - 65,542 to identify the chip
-/// - three readings of each sector
-/// - for each sector an erase and sixteen programs, and two status writes; each of these is a write enable, the command
-///   and at most 65,536 polls
+/// - 65,542 transactions to identify the chip
+/// - three reads of each sector
+/// - for each sector an erase and sixteen programs, and in addition two status writes; each of these operations is a write
+///   enable, the command and at most 65,536 polls
 pub fn most(sectors: u32) -> u64 {
     let sectors = u64::from(sectors);
     65_542 + 3 * sectors + 65_538 * (17 * sectors + 2)
@@ -61,8 +61,8 @@ impl Lied {
         Lied { refusal, sent, cut }
     }
 
-    /// Runs a restore on a bus with this fault, after a session on the well-behaved bus that left `cut`, with a journal
-    /// in its vault. Asserts that the restore sends at least one transaction and at most its bound.
+    /// Runs a restore on a bus with this fault, after a session on the well-behaved bus that left `cut`. The vault of
+    /// `cut` must contain a journal. Asserts that the restore sends at least one transaction and at most its bound.
     pub fn restore(rt: &impl Abort, cut: Cut, spoil: Spoil) -> Lied {
         let Cut { bus, vault } = cut;
         let mut bus = spoilt(bus, spoil);
@@ -76,7 +76,7 @@ impl Lied {
         Lied { refusal, sent, cut }
     }
 
-    /// Restores on the bus without the fault, if the vault is sealed. Asserts that afterwards the chip is as before the
+    /// If the vault is sealed, restores on the bus without the fault. Asserts that afterwards the chip is as before the
     /// session.
     pub fn assert_undone(self, rt: &impl Abort, alloc: Global, row: Row) {
         let Lied { mut cut, .. } = self;

@@ -1,5 +1,5 @@
-//! Calls on a bus on which one transaction, or the polls of one wait, fail: each transaction or wait of the call in
-//! turn.
+//! Calls on a bus on which one transaction fails, or the polls of one wait. Each transaction or wait of the call fails
+//! in turn.
 ghost use Rattle.nor_journal.specs.Vault.{IsFresh};
 
 use crate::contents::{put, put_run};
@@ -15,15 +15,15 @@ use nor_session::{Refusal, Report, Request, What, restore, session};
 use std::alloc::Global;
 use std::process::Abort;
 
-/// A session with its chip and image. The chip is erased, except that some sectors have one byte 00h each. The image is
-/// FFh, except for four bytes.
+/// A session with its chip and its image. The chip is erased, except that one byte in each of some sectors is 00h. The
+/// image is FFh, except for four bytes.
 #[derive(Clone, Copy)]
 pub enum Job {
-    /// A chip of two blocks of 64 KiB. The session erases a sector and a block, and writes the four bytes in the two
-    /// sectors before these.
+    /// A chip that consists of two blocks of 64 KiB. The session erases a sector and a block. It writes the four bytes
+    /// into the two sectors before these.
     OnTwoBlocks,
-    /// A W25Q64FV, whose protection of the last 128 KiB is lifted and set again. Two of the four bytes lie in the first
-    /// sector of that range, and two in the second, which is erased.
+    /// A W25Q64FV whose last 128 KiB are protected. The session lifts the protection and sets it again. Two of the four
+    /// bytes lie in the first sector of the protected range, and two in the second, which the session erases.
     OnW25q64fv,
 }
 
@@ -57,8 +57,8 @@ impl Job {
         }
     }
 
-    // Returns the address of the first byte 00h, and the number of successive sectors that have a byte 00h at the same
-    // offset.
+    // Returns the address of the first byte that is 00h, and the number of successive sectors in which the byte at the
+    // same offset is 00h.
     fn cleared(self) -> (usize, usize) {
         match self {
             Job::OnTwoBlocks => (0xF010, 17),
@@ -74,7 +74,7 @@ impl Job {
         }
     }
 
-    // Returns the line of a layout whose region `part` is included; `None` includes the whole chip.
+    // Returns the line of a layout whose region `part` is included, or `None` if the whole chip is included.
     fn part(self) -> Option<&'static [u8]> {
         match self {
             Job::OnTwoBlocks => None,
@@ -137,7 +137,7 @@ pub struct Stage {
 }
 
 impl Stage {
-    /// Returns a stage for the job, on a chip with these delays, with the journal of its session.
+    /// Returns a stage for the job on a chip with these delays. Runs the session once to obtain its journal.
     pub fn new(rt: &impl Abort, alloc: Global, job: Job, delays: Delays) -> Stage {
         let mut stage = Stage {
             alloc,
@@ -152,8 +152,8 @@ impl Stage {
         stage
     }
 
-    // Runs the session without a failure, and asserts that afterwards the chip has the image. Returns the session's
-    // journal.
+    // Runs the session on a bus that doesn't fail, and asserts that afterwards the chip has the image's bytes. Returns
+    // the session's journal.
     fn kept(&self, rt: &impl Abort) -> Vec<u8> {
         let mut bus = self.bus(rt, Call::Session, Fault::Stop, None);
         let mut vault = MemVault::new(self.alloc);
@@ -162,8 +162,8 @@ impl Stage {
         vault.bytes().to_vec(self.alloc).expect(rt, "memory")
     }
 
-    // Returns a bus to the original chip, or for a restore to the chip that the session left. The bus fails as `fault`
-    // says after `after` transactions, and allows the bound of a session.
+    // Returns a bus to the original chip, or for a restore to the chip that the session left. Its allowance is the
+    // bound of a session. The transaction that follows the first `after` transactions fails as `fault` says.
     fn bus(&self, rt: &impl Abort, call: Call, fault: Fault, after: Option<u64>) -> OnceBus {
         let bytes = if call == Call::Restore {
             &self.image
@@ -191,7 +191,7 @@ impl Stage {
         session(bus, vault, &mut image, &self.request)
     }
 
-    // Makes a call, and returns its error. `verify` compares the chip with its original contents.
+    // Makes a call, and returns its error, if any. `verify` compares the chip with its original contents.
     fn refusal(&self, rt: &impl Abort, call: Call, bus: &mut OnceBus) -> Option<Refusal> {
         let included = self.request.included.as_ref();
         let mut vault = MemVault::new(self.alloc);
@@ -208,15 +208,15 @@ impl Stage {
         }
     }
 
-    // Returns the error of a call on a bus that doesn't fail, and the number of its transactions.
+    // Returns the error of a call on a bus that doesn't fail, if any, and the number of the call's transactions.
     fn right(&self, rt: &impl Abort, call: Call) -> (Option<Refusal>, u64) {
         let mut bus = self.bus(rt, call, Fault::Stop, None);
         let refusal = self.refusal(rt, call, &mut bus);
         (refusal, bus.asked)
     }
 
-    /// Runs a call with a stop at each of its transactions in turn, and without a stop. Asserts that after a stop the
-    /// call returns `Stopped` and sends nothing more. Returns the call's number of transactions.
+    /// Runs a call with a stop at each of its transactions in turn, and then without a stop. Asserts that after a stop
+    /// the call returns `Stopped` and sends nothing more. Returns the call's number of transactions.
     pub fn stop_at_each(&self, rt: &impl Abort, call: Call) -> u64 {
         let (right, length) = self.right(rt, call);
         for n in 0..=length {
@@ -233,9 +233,9 @@ impl Stage {
         length
     }
 
-    /// Shows BUSY in all 65,536 polls of each wait of a call in turn, and never afterwards. The stage must have no
-    /// delays, so that without a fault each wait has one poll. Asserts that the call then returns a timeout and sends
-    /// nothing more. Returns the number of waits.
+    /// In each wait of a call in turn, shows BUSY in all 65,536 polls of this wait, and never afterwards. The stage
+    /// must have no delays, so that without a fault each wait has one poll. Asserts that the call then returns a
+    /// timeout and sends nothing more. Returns the number of waits.
     pub fn time_out_each(&self, rt: &impl Abort, call: Call) -> u64 {
         let (_, length) = self.right(rt, call);
         let mut waits: u64 = 0;
@@ -252,9 +252,9 @@ impl Stage {
         waits
     }
 
-    /// Spoils each reply of a call in turn. Checks the result if the reply is that of a poll, or of a sector that is
-    /// verified or written to the output. `touched` is the number of sectors that a session or restore verifies. The
-    /// stage must have no delays. Returns the number of replies that were checked.
+    /// Spoils each reply of a call in turn. Checks the result only if the reply is that of a poll, or of a read of a
+    /// sector that is verified or written to the output. `touched` is the number of sectors that a session or restore
+    /// verifies. The stage must have no delays. Returns the number of replies for which the result was checked.
     pub fn spoil_each(&self, rt: &impl Abort, call: Call, touched: u64) -> u64 {
         let right = self.right(rt, call);
         let mut spoilt: u64 = 0;
@@ -271,10 +271,11 @@ impl Stage {
 }
 
 // Returns the expected error and number of transactions of a call on an idle chip if the reply of transaction `n`,
-// counted from 0, is spoilt. `right` has both without a fault, `touched` is the number of sectors that a session or
-// restore verifies at its end, and `met` has the first bytes that transaction `n` sent.
+// counted from 0, is spoilt. `right` has both for a bus without a fault, `touched` is the number of sectors that a
+// session or restore verifies at its end, and `met` has the first bytes that transaction `n` sent.
 //
-// Returns `None` unless the reply is that of a poll, or of a sector that is verified or written to the output.
+// Returns `None` unless the reply is that of a poll, or of a read of a sector that is verified or written to the
+// output.
 fn expected_of_spoilt(
     call: Call,
     touched: u64,
@@ -288,10 +289,10 @@ fn expected_of_spoilt(
         address: u32::from_be_bytes([0, high, middle, low]),
     });
     match (opcode, call) {
-        // the chip seems busy, and is polled again
+        // The chip seems to be busy, so it is polled again.
         (0x05, _) => Some((refusal, length.saturating_add(1))),
         (0x03, Call::ReadOut) => Some((refusal, length)),
-        // all sectors are read before the first difference is reported
+        // All sectors are read before the first difference is reported.
         (0x03, Call::Verify) => Some((mismatch, length)),
         (0x03, _) if n >= length.saturating_sub(touched) => Some((mismatch, n.saturating_add(1))),
         _ => None,

@@ -9,7 +9,7 @@ use std::process::Abort;
 
 const LONG: usize = 1_000_000;
 
-// Returns the bytes `before`, a million bytes of the value `byte`, and the bytes `after`.
+// Returns the bytes `before`, then a million bytes with the value `byte`, then the bytes `after`.
 fn long(rt: &impl Abort, alloc: Global, before: &[u8], byte: u8, after: &[u8]) -> Vec<u8> {
     let run = [byte; 1000];
     let mut text = before.to_vec(alloc).expect(rt, "memory");
@@ -24,15 +24,15 @@ const fn in_line(line: usize, fault: LineFault) -> Option<LayoutFault> {
     Some(LayoutFault::InLine { line, fault })
 }
 
-// Returns the layout fault that has the given line number and line fault, or `None` for `None`.
+// Returns the layout fault with the given line number and line fault, or `None` if none is given.
 fn fault_of(told: Option<(usize, LineFault)>) -> Option<LayoutFault> {
     let (line, fault) = told?;
     in_line(line, fault)
 }
 
 // Each row has the bytes before a million equal bytes, the repeated byte, the bytes after them, and the fault with its
-// line, if the layout has one. The layout is one line, or a million empty lines with or without another line after
-// them.
+// line, or `None` if the layout is correct. The layout is a single line, or a million empty lines with or without
+// another line after them.
 const LAYOUTS: &[(&[u8], u8, &[u8], Option<(usize, LineFault)>)] = &[
     (b"", b':', b"", Some((1, LineFault::Line))),
     (b"", b' ', b"", Some((1, LineFault::Line))),
@@ -56,9 +56,9 @@ fn layouts_of_a_million_bytes(rt: HostRuntime) {
     }
 }
 
-// A name of one byte may be any byte from 21h to 7Eh, except comma and colon. If the byte is a line feed, the line ends
-// there and the name is empty. An address of one byte must be a hexadecimal digit. If the byte is a line feed, line 1
-// is empty, and line 2 has no start address.
+// Tries each byte as a name, and as the start address of a line. A name of one byte may be any byte from 21h to 7Eh,
+// except comma and colon. A line feed ends the line, so that the name is empty. An address of one byte must be a
+// hexadecimal digit. If it is a line feed, line 1 is empty, and line 2 has no start address.
 #[test]
 fn a_name_and_an_address_of_each_byte(rt: HostRuntime) {
     for byte in 0..=255 {
@@ -85,9 +85,9 @@ const fn is_of_name(byte: u8) -> bool {
     matches!(byte, 0x21..=0x7E) && byte != b',' && byte != b':'
 }
 
-// By its contract, `Layout::read` may return out of memory for any text with a line that adds a region, after lines
-// without a fault. So the contract allows a body that does this for some names. This test rejects a body that does it
-// for a name of two bytes.
+// By its contract, `Layout::read` may return out of memory for any text in which a line adds a region, if the lines
+// before it have no fault. The contract therefore allows an implementation that always does so for some names. This
+// test detects such an implementation if one of these names has two bytes.
 #[test]
 fn each_name_of_two_bytes(rt: HostRuntime) {
     for first in 0x21..=0x7E {
@@ -107,11 +107,11 @@ fn each_name_of_two_bytes(rt: HostRuntime) {
 // The header of a format 2 journal of a TINY64.
 const HEAD: &[u8; 25] = b"NORUNDO2\xFE\x10\x10\0\0\0\0\0\0\0\0\0\0\0\0\x01\0";
 
-// Each row has a prefix, the byte that follows it a million times, and the fault. After a header:
+// Each row has a prefix, the byte that follows the prefix a million times, and the fault. After a header:
 //
 // - Bytes 00h are a record of sector 0, and then a second record of sector 0.
-// - Four bytes FFh are the end mark. More bytes follow it than a digest has.
-// - Four bytes 10h are not the number of a sector.
+// - Four bytes FFh are the end mark. After it there are more bytes than a digest has.
+// - Four bytes 10h are not the number of a sector of this chip.
 const JOURNALS: &[(&[u8], u8, JournalFault)] = &[
     (b"", 0x00, JournalFault::Magic),
     (b"", b'N', JournalFault::Magic),
@@ -132,11 +132,11 @@ fn journals_of_a_million_bytes(rt: HostRuntime) {
     }
 }
 
-// Returns the 4,161 bytes of the journal of a session that saves one sector:
+// Returns the 4,161 bytes of the journal of a session that saves one sector. Its parts begin at these positions:
 //
-// - from 0 on the magic, from 8 the ID, from 11 the unique ID, from 19 the status, from 21 the size
-// - from 25 on the number of the sector, from 29 its bytes
-// - from 4125 on the end mark, from 4129 the digest
+// - 0: the magic, 8: the ID, 11: the unique ID, 19: the status, 21: the size
+// - 25: the number of the sector, 29: its bytes
+// - 4125: the end mark, 4129: the digest
 fn journal_of_a_sector(rt: &impl Abort, alloc: Global) -> Vec<u8> {
     let row = Row::ABitRises;
     let cut = Runs::new(rt, alloc, row, Start::IDLE).cut(rt, 23);
@@ -144,9 +144,9 @@ fn journal_of_a_sector(rt: &impl Abort, alloc: Global) -> Vec<u8> {
     cut.vault.bytes().to_vec(alloc).expect(rt, "memory")
 }
 
-// Returns the fault of the journal of `journal_of_a_sector` after the lowest bit of the byte at `place` was inverted.
-// At position 25 the sector's number changes from 0 to 1, which only the digest detects. At another byte of the number,
-// or in the end mark, the change results in a number that no sector has.
+// Returns the fault of the journal of `journal_of_a_sector` if the lowest bit of the byte at `place` is inverted. At
+// position 25 the sector's number changes from 0 to 1, which only the digest detects. At another byte of this number,
+// or in the end mark, the result is a number that no sector of the chip has.
 const fn fault_of_change(place: usize) -> JournalFault {
     match place {
         0..=7 => JournalFault::Magic,

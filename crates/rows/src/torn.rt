@@ -1,5 +1,5 @@
-//! Sessions and restores that are stopped inside a transaction: each stop sends the first bytes of the next
-//! transaction, and after that the chip keeps its power or loses it.
+//! Sessions and restores that are stopped inside a transaction. At each stop the bus still sends the first bytes of the
+//! next transaction, and then the chip keeps its power or loses it.
 //!
 //! Each test asserts how many sessions or restores it stopped.
 use crate::row::{Row, Start};
@@ -7,16 +7,18 @@ use crate::runs::Runs;
 use std::alloc::Global;
 use std::process::Abort;
 
-// The numbers of bytes that a stop sends for the rows that program at most two bytes of a page. A program of two bytes
-// sends six. Each other transaction of these rows sends at most five, as a read of the SFDP or of the unique ID does.
+// The numbers of bytes that the bus still sends at a stop, for the rows that program at most two bytes of a page. A
+// program of two bytes consists of six. Any other transaction of these rows sends at most five bytes, as a read of the
+// SFDP or of the unique ID does.
 const SHORT: [u32; 7] = [0, 1, 2, 3, 4, 5, 6];
 
-// The numbers of bytes that a stop sends for the row that programs whole pages. A program of a page sends 260 bytes, of
-// which four precede the data. A test with each number would take minutes.
+// The numbers of bytes that the bus still sends at a stop, for the row that programs whole pages. A program of a page
+// consists of 260 bytes, of which four precede the data. A test with each number would take minutes.
 const LONG: [u32; 10] = [0, 1, 2, 3, 4, 5, 6, 132, 259, 260];
 
-// Returns two chips that keep their power, one of them busy at first and after each operation, and three chips that
-// lose it at a stop. An interrupted erase or program leaves 00h, 5Ah or FFh in the bytes that it works on.
+// Returns two starts with a chip that keeps its power (in the second the chip is busy at first and after each
+// operation), and three with a chip that loses its power at a stop. An interrupted erase or program leaves 00h, 5Ah or
+// FFh in the bytes that it works on.
 fn starts() -> [Start; 5] {
     [
         Start::IDLE,
@@ -27,13 +29,13 @@ fn starts() -> [Start; 5] {
     ]
 }
 
-// Returns the chips for the rows with protection, which take longest. With an even fill a loss of power leaves the old
-// bits of a running status write, with an odd fill the new bits.
+// Returns the starts for the rows with protection, which take longest. If the power fails during a status write, an
+// even fill leaves the old bits, and an odd fill the new bits.
 fn few_starts() -> [Start; 3] {
     [Start::IDLE, Start::losing(0x5A), Start::losing(0xFF)]
 }
 
-// The numbers of stops at which the chip kept its power and lost it.
+// The number of stops at which the chip kept its power (`kept`), and the number at which it lost its power (`lost`).
 #[derive(Clone, Copy, PartialEq, Eq)]
 struct Stops {
     kept: u64,
@@ -43,7 +45,7 @@ struct Stops {
 impl Stops {
     const NONE: Stops = Stops { kept: 0, lost: 0 };
 
-    // Returns these numbers after `more` stops in runs with this start were added.
+    // Returns these numbers after `more` stops in runs with this start are added.
     fn with(self, start: Start, more: u64) -> Stops {
         let Stops { kept, lost } = self;
         if start.fill.is_some() {
@@ -55,7 +57,7 @@ impl Stops {
         }
     }
 
-    // Returns the sums of these numbers and those of `others`.
+    // Returns the sums of these numbers and of the numbers in `others`.
     fn and(self, others: Stops) -> Stops {
         Stops {
             kept: self.kept.saturating_add(others.kept),
@@ -64,8 +66,8 @@ impl Stops {
     }
 }
 
-// Stops a row's session after each number of transactions from `first` on, for each start and each number of bytes.
-// Restores each time as `Runs::stop_sessions` does. Returns the numbers of stopped sessions.
+// Stops a row's session after each number of transactions from `first` on, for each start and each number of sent
+// bytes. After each stop, restores as `Runs::stop_sessions` does. Returns the numbers of stopped sessions.
 fn stop_sessions(
     rt: &impl Abort,
     alloc: Global,
@@ -84,7 +86,7 @@ fn stop_sessions(
 }
 
 // Stops the session at each transaction that follows the seal, and after each of these stops the restore at each of its
-// transactions. Returns the number of stopped restores.
+// transactions. Returns the numbers of stopped restores.
 fn stop_restores(rt: &impl Abort, torn: &Runs, row: Row, start: Start) -> Stops {
     let mut stops = Stops::NONE;
     for n in row.sealed_at(start)..row.ends_at(start) {
@@ -93,8 +95,8 @@ fn stop_restores(rt: &impl Abort, torn: &Runs, row: Row, start: Start) -> Stops 
     stops
 }
 
-// Stops sessions and restores as `stop_restores` does, for each start of `starts` and each number of bytes. A restore's
-// stop sends the same number of bytes as its session's stop. Returns the numbers of stopped restores.
+// Stops sessions and restores as `stop_restores` does, for each start of `starts` and each number of sent bytes. A stop
+// of a restore sends as many bytes as the stop of its session. Returns the numbers of stopped restores.
 fn stop_all(rt: &impl Abort, alloc: Global, row: Row, counts: &[u32]) -> Stops {
     let mut stops = Stops::NONE;
     for start in starts() {
@@ -106,9 +108,9 @@ fn stop_all(rt: &impl Abort, alloc: Global, row: Row, counts: &[u32]) -> Stops {
     stops
 }
 
-// Each row has the numbers of stops at which the chip keeps its power, and loses it. The sessions send 28, 30, 28, 31,
-// 38 and 42 transactions on an idle chip. On the other chips each operation takes two more polls, and on the slow chip
-// the first wait takes three more.
+// Each row has the number of stops at which the chip keeps its power, and the number at which it loses its power. On an
+// idle chip the sessions send 28, 30, 28, 31, 38 and 42 transactions. On the other chips each operation takes two more
+// polls, and on the slow chip the first wait takes three more.
 const SESSIONS: [(Row, u64, u64); 6] = [
     (Row::AByteIsProgrammed, 7 * 61, 7 * 3 * 30),
     (Row::ABitRises, 7 * 67, 7 * 3 * 34),
@@ -126,8 +128,8 @@ fn each_cut_of_a_session(rt: HostRuntime) {
     }
 }
 
-// The stops of the row that programs whole pages. Its session sends 57 transactions on an idle chip, with 16
-// operations.
+// The numbers of stops for the row that programs whole pages. Its session sends 57 transactions on an idle chip, with
+// 16 operations.
 const SESSIONS_OF_PAGES: Stops = Stops {
     kept: 10 * 149,
     lost: 10 * 3 * 89,
@@ -140,8 +142,8 @@ fn each_cut_of_a_session_that_programs_pages(rt: HostRuntime) {
     assert!(rt; stops == SESSIONS_OF_PAGES);
 }
 
-// The stops of the row with large erases. Its session sends 112 transactions on an idle chip, with three operations,
-// and seals the vault after 71. The first stop is three transactions before the seal.
+// The numbers of stops for the row with large erases. Its session sends 112 transactions on an idle chip, with three
+// operations, and seals the vault after 71. The first stop is three transactions before the seal.
 const SESSIONS_OF_LARGE_ERASES: Stops = Stops {
     kept: 7 * 44,
     lost: 7 * 50,
@@ -155,17 +157,17 @@ fn each_cut_of_a_session_with_large_erases(rt: HostRuntime) {
     assert!(rt; stops == SESSIONS_OF_LARGE_ERASES);
 }
 
-// The stops of the row that programs a byte below the protected range. The first stop is three transactions before the
-// seal. On an idle chip there are 8 stops. The session has one operation, which takes two more polls on the other
-// chips.
+// The numbers of stops for the row that programs a byte below the protected range. The first stop is three transactions
+// before the seal. On an idle chip there are 8 stops. The session has one operation, which takes two more polls on the
+// other chips.
 const SESSIONS_BELOW_THE_RANGE: Stops = Stops {
     kept: 7 * 8,
     lost: 7 * 2 * 10,
 };
 
-// The stops of the row that programs a byte in the protected range. The first stop is three transactions before the
-// seal. On an idle chip there are 14 stops. The session has three operations, of which two are status writes. Each
-// takes two more polls on the other chips.
+// The numbers of stops for the row that programs a byte in the protected range. The first stop is three transactions
+// before the seal. On an idle chip there are 14 stops. The session has three operations, two of which are status
+// writes. Each operation takes two more polls on the other chips.
 const SESSIONS_IN_THE_RANGE: Stops = Stops {
     kept: 7 * 14,
     lost: 7 * 2 * 20,
@@ -211,8 +213,8 @@ fn each_cut_of_a_restore(rt: HostRuntime) {
     }
 }
 
-// The numbers of stopped restores. The session's stop sends 4, 5 or 6 bytes of a transaction: none, one or both data
-// bytes of a page program. The restore's stop sends each number of bytes in `SHORT`.
+// The numbers of stopped restores. The stop of the session sends 4, 5 or 6 bytes of a transaction, and thus none, one
+// or both data bytes of a page program. The stop of the restore sends each number of bytes in `SHORT`.
 const RESTORES_OF_TWO_PAGES: Stops = Stops {
     kept: 5_152,
     lost: 9_492,
@@ -234,8 +236,9 @@ fn each_cut_of_a_restore_after_a_part_of_a_page(rt: HostRuntime) {
     assert!(rt; stops == RESTORES_OF_TWO_PAGES);
 }
 
-// The numbers of stopped restores. A restore has 8 transactions if the sector is as it was. Otherwise it has 10, and
-// those of one page program for each page that differs. In addition it sends the polls that still show BUSY at first.
+// The numbers of stopped restores. A restore sends 8 transactions if the sector is as it was. Otherwise it sends 10,
+// and also those of one page program for each page that differs. In addition it sends the polls that still show BUSY at
+// first.
 const RESTORES_OF_PAGES: Stops = Stops {
     kept: 60_106,
     lost: 127_387,
@@ -248,10 +251,10 @@ fn each_cut_of_a_restore_that_programs_pages(rt: HostRuntime) {
     assert!(rt; stops == RESTORES_OF_PAGES);
 }
 
-// The numbers of stopped restores. The session is stopped at only three transactions, since each run on this chip takes
-// long: the status write that lifts the protection, the page program, and the status write that sets the protection
-// again. An operation takes three transactions and the polls that show BUSY. The session reads the sector before its
-// program. No transaction sends more than five bytes.
+// The numbers of stopped restores. Each run on this chip takes long, so the session is stopped at only three
+// transactions: the status write that lifts the protection, the page program, and the status write that sets the
+// protection again. An operation takes three transactions and the polls that show BUSY. The session reads the sector
+// before it programs it. No transaction sends more than five bytes.
 const RESTORES_IN_THE_RANGE: Stops = Stops {
     kept: 172,
     lost: 408,

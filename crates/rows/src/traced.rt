@@ -1,4 +1,4 @@
-//! When `TraceBus` reports a line as lost: tests with a log that refuses writes or flushes. By the contract of
+//! Tests with a log that refuses writes or flushes: when does `TraceBus` report a line as lost? By the contract of
 //! `TraceBus`, only this report depends on what the log refuses.
 use crate::held::assert_held;
 use crate::row::{Start, erased};
@@ -7,8 +7,8 @@ use std::alloc::Global;
 use std::io::{self, BufWriter, ErrorKind, Write};
 use std::process::Abort;
 
-// A log that accepts `good` writes, and then alternately refuses one and accepts one. It accepts flushes if `flushes`
-// is true.
+// A log that accepts `good` writes, and then alternately refuses a write and accepts one. It accepts flushes if
+// `flushes` is true.
 #[derive(Drop)]
 struct Failing<'a> {
     lines: &'a mut Vec<u8>,
@@ -69,8 +69,8 @@ const FORMS: [Form; 3] = [
     },
 ];
 
-// Sends a transaction, with a log that accepts `good` writes before it refuses one. Returns whether the bus reports its
-// line as lost.
+// Sends a transaction over a traced bus whose log accepts `good` writes before it refuses one. Returns whether the bus
+// reports the transaction's line as lost.
 fn loses(
     rt: &impl Abort,
     alloc: Global,
@@ -91,7 +91,7 @@ fn loses(
 }
 
 // Sends a transaction of this form, and asserts its reply. Returns whether its line is reported as lost, and whether
-// the log has exactly that line.
+// the log contains exactly this line.
 fn sent(rt: &impl Abort, alloc: Global, form: Form, good: u8) -> (bool, bool) {
     let mut lines = Vec::new(alloc);
     let mut reply = vec![in alloc; 0xAA; form.reply.len()].expect(rt, "memory");
@@ -100,8 +100,8 @@ fn sent(rt: &impl Abort, alloc: Global, form: Form, good: u8) -> (bool, bool) {
     (is_lost, lines.as_slice() == form.line)
 }
 
-// A line is reported as lost if and only if the log doesn't have all of it. A line is lost if the log accepts at most
-// one write before it refuses one, and isn't lost if the log accepts seven. The reply is the same in either case.
+// A line is reported as lost if and only if the log doesn't contain all of it. A line is lost if the log refuses its
+// first or second write, and isn't lost if the log accepts seven writes. The reply is the same in either case.
 #[test]
 fn a_line_is_lost_exactly_where_it_is_not_whole(rt: HostRuntime) {
     for form in FORMS {
@@ -113,8 +113,9 @@ fn a_line_is_lost_exactly_where_it_is_not_whole(rt: HostRuntime) {
     }
 }
 
-// Sends a transaction, with a buffered log over a sink that accepts `good` writes before it refuses one, and accepts
-// flushes if `flushes` is true. Returns whether a line is reported as lost before a flush of the bus, and after it.
+// Sends a transaction over a traced bus with a buffered log. The sink below the buffer accepts `good` writes before it
+// refuses one, and accepts flushes if `flushes` is true. Returns whether a line is reported as lost before the bus is
+// flushed, and afterwards.
 fn flushed(
     rt: &impl Abort,
     alloc: Global,
@@ -135,8 +136,9 @@ fn flushed(
     (before, bus.lost())
 }
 
-// A line in the log's buffer is reported as lost if a flush of the bus fails. The flush fails if the sink refuses to
-// write the line, or if the sink received the line and refuses to flush it. The line isn't lost if the flush succeeds.
+// A line that is still in the log's buffer is reported as lost if a flush of the bus fails. The flush fails if the sink
+// refuses to write the line, and also if the sink accepts the line and refuses to flush it. If the flush succeeds, the
+// line isn't lost.
 #[test]
 fn what_the_sink_refuses_is_lost_at_the_latest_by_a_flush(rt: HostRuntime) {
     for (good, flushes) in [(0, true), (0, false), (1, false)] {

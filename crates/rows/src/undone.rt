@@ -1,43 +1,48 @@
-//! Sessions that are stopped after each number of transactions, on the W25Q64FV from 2,049 on. A restore after a stop
-//! is itself stopped after each number of its own transactions, and a second restore follows.
+//! Sessions that are stopped after each number of transactions, on the W25Q64FV from 2,049 on. The restore after each
+//! stop is itself stopped after each number of its own transactions, and then a second restore follows.
 //!
 //! Each test counts its runs. A stop before the seal is one run. The end of the session counts as its last stop. After
-//! a stop that follows the seal, the restore is run with 0, 1, .. allowed transactions until it succeeds. So the number
-//! of runs for that stop is one more than the restore's number of transactions.
+//! a stop that follows the seal, the restore is run with the allowances 0, 1, .. until it succeeds, so the number of
+//! runs for this stop is one more than the restore's number of transactions.
 //!
-//! A restore identifies the chip, with seven transactions on a TINY64 and four on a W25Q64FV, and reads the one saved
+//! A restore identifies the chip, with seven transactions on a TINY64 and four on a W25Q64FV, and reads the only saved
 //! sector. If the sector and the protection are as saved, the restore ends. Otherwise it sends its operations: each is
 //! a write enable, a command and a poll, and on a slow chip two more polls. If the restore programs the sector without
 //! an erase, it reads the sector again first. If it changes the sector, it reads the sector at the end to verify it.
 use crate::row::{Row, Start};
 use crate::runs::Runs;
 
-// A byte is programmed: 23 stops are before the seal. Three leave the byte as it was, and the restore has 8
-// transactions. Three leave it programmed, so its sector is erased, with 12 transactions.
+// The number of runs if a byte is programmed. 23 stops precede the seal. After three stops the byte is as it was, and
+// the restore sends 8 transactions. After three stops the byte is programmed, so the restore erases its sector, with 12
+// transactions in all.
 const BYTE: u64 = 23 + 3 * 9 + 3 * 13;
 
-// A byte is programmed on a slow chip, where each operation takes two more polls: 26 stops are before the seal, and
-// three leave the byte as it was. After the program, one stop leaves two polls that show BUSY to the next
-// identification, one leaves one, and three leave none. These restores have 16, 15 and 14 transactions.
+// The number of runs if a byte is programmed on a slow chip, where each operation takes two more polls. 26 stops
+// precede the seal, and after three stops the byte is as it was. After the program, one stop leaves two polls that show
+// BUSY to the next identification, one stop leaves one such poll, and three stops leave none. These restores send 16,
+// 15 and 14 transactions.
 const SLOW_BYTE: u64 = 26 + 3 * 9 + 17 + 16 + 3 * 15;
 
-// A bit rises: 23 stops are before the seal. Two leave the byte as it was, and the restore has 8 transactions. Three
-// leave the byte FFh, and three 01h. To restore 00h from either value bits only fall, so one program is enough, and the
-// restore has 13 transactions.
+// The number of runs if a bit rises. 23 stops precede the seal. After two stops the byte is as it was, and the restore
+// sends 8 transactions. After three stops the byte is FFh, and after three it is 01h. To restore 00h from either value
+// bits only have to fall, so one program is enough, and the restore sends 13 transactions.
 const BIT: u64 = 23 + 2 * 9 + 6 * 14;
 
-// A bit rises on a slow chip: 26 stops are before the seal, and two leave the byte as it was. After the erase, and
-// likewise after the program, one stop leaves two polls that show BUSY to the next identification, one leaves one, and
-// three leave none. These restores have 17, 16 and 15 transactions.
+// The number of runs if a bit rises on a slow chip. 26 stops precede the seal, and after two stops the byte is as it
+// was. After the erase, and likewise after the program, one stop leaves two polls that show BUSY to the next
+// identification, one stop leaves one such poll, and three stops leave none. These restores send 17, 16 and 15
+// transactions.
 const SLOW_BIT: u64 = 26 + 2 * 9 + 2 * (18 + 17 + 3 * 16);
 
-// Two pages are programmed: 23 stops are before the seal. Three leave the bytes as they were, and the restore has 8
-// transactions. Six leave some or all of the four bytes programmed, so their sector is erased, with 12 transactions.
+// The number of runs if two pages are programmed. 23 stops precede the seal. After three stops the bytes are as they
+// were, and the restore sends 8 transactions. After six stops some or all of the four bytes are programmed, so the
+// restore erases their sector, with 12 transactions in all.
 const TWO_PAGES: u64 = 23 + 3 * 9 + 6 * 13;
 
-// A sector is erased, and all of its pages except one are programmed again: 8 stops are before the seal. Two leave the
-// sector as it was, and the restore has 8 transactions. Then three stops each leave 16, 15, .. 1 pages to be
-// programmed. These restores have 10 transactions, and three for each page.
+// The number of runs if a sector is erased, and all of its pages except one are programmed again. 8 stops precede the
+// seal. After two stops the sector is as it was, and the restore sends 8 transactions. After the next stops 16, 15, ..
+// 1 pages remain to be programmed, three stops for each number. These restores send 10 transactions, and three for each
+// page.
 const MOST_OF_A_SECTOR: u64 = 8 + 2 * 9 + 3 * (16 * 11 + 3 * 16 * 17 / 2);
 
 const SMALL: [(Row, Start, u64); 6] = [
@@ -72,9 +77,9 @@ fn each_stop_on_a_chip_with_its_latch_set(rt: HostRuntime) {
     }
 }
 
-// The first stop is after 2,049 transactions. Three stops are before the seal. Then two leave the chip as it was, four
-// without its protection, three without its protection and with the byte programmed, and three with the byte programmed
-// and the protection set again. The restores have 5, 8, 12 and 15 transactions.
+// The first stop is after 2,049 transactions. Three stops precede the seal. After the next two the chip is as it was;
+// after four its protection is lifted; after three the byte is programmed, too; and after three the byte is programmed
+// and the protection is set again. The restores send 5, 8, 12 and 15 transactions.
 #[test]
 fn each_stop_after_a_protected_byte(rt: HostRuntime) {
     let row = Row::AGuardedByteIsProgrammed;

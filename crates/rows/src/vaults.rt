@@ -8,9 +8,9 @@ use nor_session::Refusal;
 use std::alloc::Global;
 use std::process::Abort;
 
-// Runs a row's session whose vault refuses call `nth`, after `kept` bytes of the piece. Asserts that the chip is
-// unchanged if the session returns an error, and has the image otherwise. Returns the error, the number of refusals,
-// whether the vault is sealed, and whether it holds a journal.
+// Runs a row's session with a vault that refuses call `nth`, and keeps the first `kept` bytes of its piece. Asserts
+// that the chip is unchanged if the session returns an error, and has the image otherwise. Returns the error, the
+// number of refusals, whether the vault is sealed, and whether it holds a journal.
 fn refuse(
     rt: &impl Abort,
     alloc: Global,
@@ -32,9 +32,10 @@ fn refuse(
     (refusal, vault.failures(), held.is_sealed(), holds_journal)
 }
 
-// Refuses each of the session's `calls` calls of the vault in turn. Asserts error 11, one refusal, an unsealed vault,
-// and that the vault holds a whole journal if and only if the refused call is `whole_from` or a later one. Then refuses
-// the call after the last, which isn't made, and asserts success.
+// Refuses each of the session's `calls` calls of the vault in turn. Asserts that the session returns error 11 after one
+// refusal, that the vault isn't sealed, and that it holds a whole journal if and only if the number of the refused call
+// is at least `whole_from`. Then refuses the call after the last one, which the session doesn't make, and asserts that
+// the session succeeds.
 fn refuse_each(rt: &impl Abort, alloc: Global, row: Row, calls: u64, kept: usize, whole_from: u64) {
     for nth in 1..=calls {
         let left = refuse(rt, alloc, row, nth, kept);
@@ -46,8 +47,8 @@ fn refuse_each(rt: &impl Abort, alloc: Global, row: Row, calls: u64, kept: usize
 }
 
 // Each row has the number of calls: one for the header, one for each record, two for the end mark and the digest, and
-// the seal. A vault that may keep 4,095 bytes of a refused piece keeps all 32 bytes of a digest. So if this vault
-// refuses the call for the digest, the journal is whole.
+// the seal. A digest has 32 bytes, so a vault that may keep 4,095 bytes of a refused piece keeps the whole digest. If
+// such a vault refuses the call for the digest, it holds a whole journal.
 const ROWS: [(Row, u64); 2] = [
     (Row::ABitRises, 1 + 1 + 2 + 1),
     (Row::NineSectorsAreErased, 1 + 9 + 2 + 1),

@@ -13,8 +13,8 @@ const WRITE: [&str; 6] = [
     "j",
 ];
 
-// Groups of arguments that may be added to those of a write. Together the added groups have 0 to 8 arguments, and each
-// of these numbers occurs.
+// Groups of arguments that may be added to those of a write. The added groups have 0 to 8 arguments in all, and each of
+// these numbers occurs.
 const MORE: [&[&str]; 4] = [
     &["-n"],
     &["--unlock"],
@@ -39,14 +39,14 @@ fn push_all(rt: &impl Abort, alloc: Global, words: &mut Vec<String>, more: &[&st
     }
 }
 
-// True if the arguments are those of a job.
+// True if the arguments ask for a job.
 fn is_job(rt: &impl Abort, alloc: Global, words: &[&str]) -> bool {
     let mut all = Vec::new(alloc);
     push_all(rt, alloc, &mut all, words);
     request_of(alloc, all.as_slice()).is_ok()
 }
 
-// Returns the arguments of a write with some of the groups: group i if bit i of `choice` is set.
+// Returns the arguments of a write and those of some groups: group i is added if bit i of `choice` is set.
 fn write_with(rt: &impl Abort, alloc: Global, choice: u32) -> Vec<String> {
     let mut words = Vec::new(alloc);
     push_all(rt, alloc, &mut words, &WRITE);
@@ -60,8 +60,9 @@ fn write_with(rt: &impl Abort, alloc: Global, choice: u32) -> Vec<String> {
     words
 }
 
-// By its contract, `request_of` may return out of memory for any arguments. So the contract allows a body that always
-// does, or that does for some number of arguments. These tests reject both, for 1 to 14 arguments.
+// By its contract, `request_of` may return out of memory for any arguments. The contract therefore allows an
+// implementation that always does so, or that does so for some number of arguments. These tests detect both, for 1 to
+// 14 arguments.
 #[test]
 fn words_memory(rt: HostRuntime) {
     for words in OTHERS {
