@@ -23,15 +23,15 @@
 //! - `backups.rt`: backups of a chip, stopped anywhere, and restores from a backup after changes that no session made
 //! - `in_turn.rt`: two successive sessions, stopped or run to their end, and their restores in reverse order
 //! - `rehearsed.rt`: rehearsals with each stop of the session and of its first restore, and rehearsals on faulty buses
-//! - `once.rt`: after a stop or a timeout no call except a rehearsal sends anything more; a sector whose reply was spoilt
-//!   isn't read again
+//! - `once.rt`: after a stop or a timeout no call except a rehearsal sends anything more; a sector whose reply was
+//!   spoilt isn't read again
 //! - `readings.rt`: reading calls that lose a reply, or whose vault refuses a piece; the status that they report
 //!
 //! Faulty buses, vaults and files:
 //!
 //! - `lies.rt`: the errors of sessions and restores on faulty buses, and restores after them on a well-behaved bus
-//! - `bounds.rt`: the bounds on the transactions of probes, readings, sessions and restores: on faulty buses, and on the
-//!   slowest chip
+//! - `bounds.rt`: the bounds on the transactions of probes, readings, sessions and restores: on faulty buses, and on
+//!   the slowest chip
 //! - `vaults.rt`: sessions whose vault refuses a call
 //! - `files.rt`: sessions whose journal is in a file that fails once
 //! - `sinks.rt`: vaults and files that accept everything, refuse a call, write short or can't be synced
@@ -44,8 +44,8 @@
 //! - `serprog_frames.rt`: the frames of five commands, and a transaction that is too long for a frame
 //! - `serprog_handshakes.rt`: how a link is synchronized, and how a programmer is identified
 //! - `serprog_buses.rt`: transactions over the buses, batches of commands, and faults of the programmer and the port
-//! - `serprog_stops.rt`: sessions and restores over a well-behaved port (of nor_wire), which fails at each of its calls in
-//!   turn
+//! - `serprog_stops.rt`: sessions and restores over a well-behaved port (of nor_wire), which fails at each of its calls
+//!   in turn
 //! - `serprog_wrappers.rt`: paced polls, and reads that are made twice
 //! - `serprog_again.rt`: which sectors of a read are read again
 //! - `serprog_narrow.rt`: reads and programs that are split, because the programmer's limits are too small for them

@@ -30,8 +30,8 @@ fn assert_lied(rt: &impl Abort, alloc: Global, row: Row, lied: Lied, told: (Refu
 //   poll; 30 reads the sector to verify it.
 // - `AByteIsProgrammed`: 24 reads the sector, 25 enables the program, 26 is the program, 27 its poll; 28 reads the
 //   sector to verify it.
-// - `NineSectorsAreErased`: 25 erases sectors 0 to 7, 28 erases sector 8; 30 to 38 read the sectors to verify them, up to
-//   the first difference.
+// - `NineSectorsAreErased`: 25 erases sectors 0 to 7, 28 erases sector 8; 30 to 38 read the sectors to verify them, up
+//   to the first difference.
 // - `AGuardedByteIsProgrammed`: 2,053 enables the status write that lifts the protection, 2,054 is this write, 2,055
 //   its poll. A timeout of a status write has the address 0.
 //

@@ -13,8 +13,8 @@ use std::process::Abort;
 ///
 /// - 65,542 transactions to identify the chip
 /// - three reads of each sector
-/// - for each sector an erase and sixteen programs, and in addition two status writes; each of these operations is a write
-///   enable, the command and at most 65,536 polls
+/// - for each sector an erase and sixteen programs, and in addition two status writes; each of these operations is a
+///   write enable, the command and at most 65,536 polls
 pub fn most(sectors: u32) -> u64 {
     let sectors = u64::from(sectors);
     65_542 + 3 * sectors + 65_538 * (17 * sectors + 2)
