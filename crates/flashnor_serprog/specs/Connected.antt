@@ -26,7 +26,7 @@ pub record IsUnused (state : BusState) : Type 0 where
   pub history : state.history ≡ []
   pub sent : state.sent ≡ []
 
--- true for a write
+-- true for a write (`-w`), false for an erase or a change of protection
 abbrev pub writes_image : Wanted → Bool
 writes_image (wanted.Write image) = true
 writes_image _ = false

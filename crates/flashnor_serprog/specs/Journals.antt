@@ -1,4 +1,4 @@
--- The description of a journal, for `--check-journal`.
+-- The description of a journal, which `--check-journal` prints.
 use Rattle.std.specs.Prelude.{◌≡◌, ◌⊎◌, ◌+◌, ◌-◌, ◌*◌, ℕ, Bool, List, [], Option, Some, None, IsSomeAnd, length, nat_eq, slice_get}
 use Rattle.std.specs.List.{count_by, list_all}
 use Rattle.nor_files.specs.Files.{View}

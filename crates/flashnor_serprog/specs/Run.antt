@@ -117,7 +117,8 @@ pub record HasRun (operation : Operation) (ranges : Option (List Span)) (bytes :
   pub few : status ≤ 1
   pub printed : status ≡ 0 → HasPrinted operation outcome out out'
 
--- Holds if the arguments ask for the help or the version: `clap` may reject them with that text as its error.
+-- Holds if the arguments ask for the help or the version: `clap` may then reject them with an error that contains this
+-- text.
 abbrev pub ArgumentsAskForHelp : List Text → Type 0
 ArgumentsAskForHelp words = IsAmong kind.DisplayHelp (hardware_refusals_of program words)
     ⊎ IsAmong kind.DisplayVersion (hardware_refusals_of program words)

@@ -25,7 +25,7 @@ abbrev pub serprog_keys : List (Text × (Text → Bool))
 serprog_keys =
     (codes "dev", is_file) ∷ (codes "spispeed", reads clock_of) ∷ (codes "cs", reads chip_select_of) ∷ []
 
--- true if the setting has a known key with a value that passes this key's test
+-- true if the setting has a known key and a value that passes the test of this key
 abbrev pub is_serprog_setting : Text → Bool
 is_serprog_setting setting =
     list_any (λ known. bytes_eq (key_of setting) known.0 && known.1 (value_of setting)) serprog_keys

@@ -60,7 +60,7 @@ done_lines report = found_line report.found ++ counts_line report
 abbrev pub how_it_went : Bool → List ℕ
 how_it_went ended = if ended then codes "ended" else codes "stopped"
 
--- the first line of a rehearsal: whether its session ended or was stopped
+-- the first line for the result of a rehearsal: whether the session ended or was stopped
 abbrev pub stop_line : Bool → List ℕ
 stop_line ended = line (codes "Rehearsal: session " ∷ how_it_went ended ∷ codes "." ∷ [])
 
@@ -68,7 +68,7 @@ stop_line ended = line (codes "Rehearsal: session " ∷ how_it_went ended ∷ co
 abbrev pub restores_line : ℕ → List ℕ
 restores_line restores = line (codes "Restores: " ∷ decimal restores ∷ codes "." ∷ [])
 
--- the last line of a rehearsal
+-- the last line for the result of a rehearsal: the chip has its original contents and non-volatile status bits
 abbrev pub restored_line : List ℕ
 restored_line = line (codes "Chip as before." ∷ [])
 

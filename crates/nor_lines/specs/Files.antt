@@ -41,11 +41,11 @@ IsTooLong view name most (end.File file.Read of) =
     (of.now ≡ name) × ((bytes : List ℕ) × IsRead view name (most + 1) bytes × (most < length bytes))
 IsTooLong view name most _ = ⊥
 
--- Holds for the faults of reading a chip's file, which must have `len` bytes:
---
+-- Holds if reading a chip's file, which must have `len` bytes, may fail with this fault:
+-- |
 -- - error 18 (out of memory)
--- - file fault 1 of this name, if the file may fail to be read; a missing file is no fault
--- - file fault 3 of this name, if the file has another length or isn't known (`IsKnownFile`)
+-- - file fault 1 with this name, if the file may fail to be read; a missing file is no fault
+-- - file fault 3 with this name, if the file has another length or isn't known (`IsKnownFile`)
 abbrev pub IsOpeningFault : View → Text → ℕ → Fault → Type 0
 IsOpeningFault view name len (end.Refused refusal) = refusal ≡ Memory
 IsOpeningFault view name len (end.File file.Read of) = (of.now ≡ name) × Happens view (Unread name)
@@ -53,11 +53,12 @@ IsOpeningFault view name len (end.File file.Length of) =
     (of.now ≡ name) × ((bytes : List ℕ) × IsRead view name (len + 1) bytes × (length bytes ≢ len))
 IsOpeningFault view name len _ = ⊥
 
--- Holds for the faults of locking and reading a chip's file, which must have `len` bytes. These are the faults of
--- `IsOpeningFault` and, of this name:
---
+-- Holds if locking and reading a chip's file, which must have `len` bytes, may fail with this fault. It is a fault of
+-- `IsOpeningFault`, or one of these file faults with this name:
+-- |
 -- - file fault 1 if the file is missing (although it existed when it was locked) or isn't known (`IsKnownFile`)
--- - file fault 2 if the file may fail to be opened for overwriting, locked or synced, or its directory to be synced
+-- - file fault 2 if the file may fail to be opened for overwriting, to be locked or to be synced, or its directory may
+--   fail to be synced
 -- - file fault 5 if another process may have locked the file
 abbrev pub IsLockingFault : View → Text → ℕ → Fault → Type 0
 IsLockingFault view name len (end.File file.Read of) =
@@ -67,9 +68,9 @@ IsLockingFault view name len (end.File file.Write of) =
 IsLockingFault view name len (end.File file.Taken of) = (of.now ≡ name) × Happens view (Busy name)
 IsLockingFault view name len fault = IsOpeningFault view name len fault
 
--- Holds for the faults of locking a journal and reading at most `most` bytes of it. These are the faults of
--- `IsReadingFault` and, of this name:
---
+-- Holds if locking a journal and reading at most `most` bytes of it may fail with this fault. It is a fault of
+-- `IsReadingFault`, or one of these file faults with this name:
+-- |
 -- - file fault 2 if the file may fail to be opened for overwriting or to be locked
 -- - file fault 5 if another process may have locked the file
 abbrev pub IsSharingFault : View → Text → ℕ → Fault → Type 0
@@ -77,10 +78,10 @@ IsSharingFault view name most (end.File file.Write of) = (of.now ≡ name) × Ha
 IsSharingFault view name most (end.File file.Taken of) = (of.now ≡ name) × Happens view (Busy name)
 IsSharingFault view name most fault = IsReadingFault view name most fault
 
--- Holds for the faults of creating or truncating a file of this name:
---
+-- Holds if creating or truncating the file of this name may fail with this fault:
+-- |
 -- - error 18 (out of memory)
--- - file fault 2 if the file may fail to be created, read, truncated or locked, or its directory to be synced
+-- - file fault 2 if the file may fail to be created, read, truncated or locked, or its directory may fail to be synced
 -- - file fault 4 if the file may exist although it must be new, or may be a journal, which `Disk` never truncates
 -- - file fault 5 if another process may have locked the file
 abbrev pub IsMaking : View → Text → Fault → Type 0

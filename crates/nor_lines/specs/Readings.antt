@@ -1,4 +1,4 @@
--- The results of the jobs that leave a chip as it is.
+-- The results of the jobs that only read the chip.
 use Rattle.std.specs.Prelude.{◌≡◌, true, List, ℕ, Option, Some, Result, Ok, Err}
 use Rattle.nor_model.specs.Bus.{BusState}
 use Rattle.nor_model.specs.Offered.{IsStart}

@@ -118,12 +118,12 @@ pub fn create_log<'a, R: Store>(rt: &mut R, name: &'a str) -> Result<BufWriter<R
     BufWriter::new(rt.alloc(), file).map_err(|_| Fault::Refused(Refusal::Memory))
 }
 
-/// Returns the fault of a file that can't be created or truncated.
-///
+/// Returns the fault of a file that can't be created or truncated:
+/// |
 /// - file fault 4 if the file exists and must be new, or is a journal, which `Disk` never truncates
 /// - file fault 5 if another process has locked the file
-/// - error 18 if `fault` is `Memory`: memory ran out
-/// - otherwise file fault 2
+/// - error 18 if memory ran out (`CreateFault::Memory`)
+/// - file fault 2 for any other reason
 pub fn making(fault: CreateFault, name: &str) -> Fault<'_>
     ensures { (view : View) → IsCreateFault view.nature name.now fault → IsMaking view name.now result }
 {

@@ -1,4 +1,4 @@
-//! The lines that precede the numbered line of a fault, and say what is wrong.
+//! The lines that say what is wrong. Each is printed before the numbered line of a fault.
 ghost use Rattle.std.specs.Prelude.{◌≡◌, Some};
 ghost use Rattle.nor_lines.specs.ReasonLines.{flaw_text, line_fault_text, region_fault_text};
 

@@ -15,7 +15,8 @@ use nor_words::{Change, LayoutForm, Regions, Wanted};
 use std::alloc::Global;
 
 /// Reads the layout from its file, and returns the addresses of the named regions. If no regions are given, returns
-/// `None` and reads no file. A layout in an image is that of a chip with the image's length.
+/// `None` and reads no file. If the layout is an FMAP or a flash descriptor in an image, the chip is taken to be as
+/// large as the image is long.
 ///
 /// Returns one of these faults:
 ///
@@ -23,7 +24,7 @@ use std::alloc::Global;
 /// - a layout fault if the layout or the names of the regions are wrong, or if memory runs out while the layout is
 ///   parsed
 /// - a map fault if the file of `--fmap-file` or `--ifd-file` has no valid FMAP or flash descriptor, or if memory runs
-///   out while it is read
+///   out while the FMAP or descriptor is parsed
 /// - error 18 if memory runs out while the file is read
 pub fn read_included<'a, R: Store>(
     rt: &R,

@@ -16,13 +16,13 @@ use nor_words::{Change, JournalUse, Regions, Task, Wanted};
 /// The files that a task names, by their roles.
 #[derive(Clone, Copy)]
 pub struct Named<'a> {
-    /// The layout of the included regions.
+    /// The file of the layout that names the regions.
     pub layout: Option<&'a str>,
-    /// The image to write, or to compare with.
+    /// The file of the image to write, or to compare with the chip.
     pub wanted: Option<&'a str>,
     /// The file into which the chip is read.
     pub output: Option<&'a str>,
-    /// The journal that a change writes, or that a restore reads.
+    /// The file of the journal that a change writes, or from which a restore reads.
     pub journal: Option<&'a str>,
 }
 

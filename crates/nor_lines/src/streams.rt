@@ -8,7 +8,8 @@ use std::{fs, io};
 /// A directory that always exists, and to which nothing can be written.
 pub const DIRECTORY: &str = "/";
 
-// Room for the line of a file fault with a path of 4,096 bytes, even if each byte is escaped as four characters.
+// The capacity of a line buffer. It is enough for the line of a file fault with a path of 4,096 bytes, even if each
+// byte is escaped as four characters.
 const LINE_BYTES: usize = 32_768;
 
 /// Files that keep the descriptors 0, 1 and 2 in use as long as they are open.

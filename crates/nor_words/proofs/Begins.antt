@@ -1,4 +1,4 @@
--- The result of `option_and_then`.
+-- Applying a parser to an optional text has the result of `option_and_then`.
 use Rattle.std.proofs.Common.{◌≡◌, Option, None, arith, option_map}
 use Rattle.std.specs.Prelude.{option_and_then}
 use Rattle.std.specs.Borrow.{Bor}

@@ -1,4 +1,4 @@
--- The digits of numbers, and ranges, which are two numbers.
+-- The numbers that the code parses are those of specs/Numbers.antt, and a text without a comma isn't a range.
 use Rattle.std.proofs.Common.{◌≡◌, ℕ, ◌^◌, ◌<◌, ◌≤◌, ◌==◌, true, [], ◌∷◌, Option, Some, None, Result}
 use Rattle.std.proofs.Common.{Ok, Err, length, cond, arith, nat_le}
 use Rattle.std.specs.Prelude.{option_and_then}

@@ -1,5 +1,5 @@
--- The usage faults: which of faults 2 to 9 the options have if `clap` accepts the arguments, and the number and message
--- of each fault.
+-- The usage faults: which of the faults 2 to 9 the options have, provided that `clap` accepts the arguments, and the
+-- number and the message of each fault.
 use Rattle.std.specs.Prelude.{◌&&◌, ◌||◌, ◌++◌, ℕ, Bool, false, Option, Some, None, List, [], ◌∷◌, codes, decimal, drop, is_some, nat_eq, nat_lt, not, if◌then◌else◌}
 use Rattle.std.specs.Option.{option_map_or}
 use Rattle.nor_words.specs.Text.{Text, reads}
@@ -51,7 +51,7 @@ abbrev pub has_unneeded : Texts → Bool
 has_unneeded given =
     ((given.no_verify || given.unlock) && not (is_new_content given)) || has_unneeded_for_hardware given
 
--- the faults 2 to 9, in this order, each with whether the options have it
+-- the faults 2 to 9, in this order; for each fault, whether the options have it
 abbrev pub usage_faults : Texts → List Case
 usage_faults given =
     (not (is_some given.programmer) && not given.list, why.NoProgrammer)
@@ -68,8 +68,8 @@ usage_faults given =
     )
     ∷ []
 
--- the faults 4 to 9, in this order, each with whether the options have it. The value of `-p` is ignored, as if it were
--- correct and had no `stop=`. A program for hardware never has fault 9, because it lacks `--rehearse`.
+-- the faults 4 to 9, in this order; for each fault, whether the options have it. The value of `-p` is ignored, as if it
+-- were correct and had no `stop=`. A program for hardware never has fault 9, because it lacks `--rehearse`.
 abbrev pub operation_faults : Texts → List Case
 operation_faults given = drop 2 (usage_faults (record given { programmer = None }))
 

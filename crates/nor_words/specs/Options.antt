@@ -24,7 +24,7 @@ by_letter letter rule = record rule { short = slice_get letter 0 }
 abbrev pub by_name : Rule → Rule
 by_name rule = record rule { long = Some rule.id }
 
--- the options that name a programmer or a chip, and the one that lists the chips
+-- the options `-p` and `-c`, which name the programmer and the chip, and `-L`, which lists the chips
 abbrev pub chip_rules : List Rule
 chip_rules =
     by_letter (codes "p") (valued (codes "programmer"))
@@ -51,7 +51,7 @@ change_rules =
     ∷ by_name (valued (codes "restore"))
     ∷ []
 
--- the options that modify an operation
+-- the options that say how an operation is performed
 abbrev pub manner_rules : List Rule
 manner_rules =
     by_name (valued (codes "journal"))
@@ -153,7 +153,7 @@ named choice = record (new_rule choice.name.now) {
   long = if is_some choice.letter then None else Some choice.name.now;
 }
 
--- the option that a row describes
+-- the option that a row describes, with a value if the row has a placeholder for it
 abbrev pub chosen : Choice → Rule
 chosen choice = record (named choice) {
   action = Some (if is_some choice.value then Set else SetTrue);

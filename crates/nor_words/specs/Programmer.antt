@@ -1,4 +1,4 @@
--- The value of `-p`.
+-- The value of `-p` of flashnor: `dummy:` and settings.
 use Rattle.std.specs.Prelude.{◌≡◌, ◌&&◌, Bool, true, List, [], ◌∷◌, Option, Some, length, drop, find, codes, is_some, nat_eq, nat_lt, nat_le, option_map, option_and_then}
 use Rattle.std.specs.List.{count_by, list_all, list_any, starts_with}
 use Rattle.std.specs.Str.{bytes_eq}
@@ -46,7 +46,7 @@ is_setting setting = may_have (key_of setting) (value_of setting)
 abbrev pub is_alone_in : List Text → Text → Bool
 is_alone_in settings setting = nat_le (count_by (has_key (key_of setting)) settings) 1
 
--- true if each setting has a known key with a correct value, and no two settings have the same key
+-- true if each of `settings` has a known key and a value that this key may have, and no two of them have the same key
 abbrev pub are_settings : List Text → Bool
 are_settings settings = list_all (λ setting. is_setting setting && is_alone_in settings setting) settings
 

@@ -18,7 +18,7 @@ use Rattle.nor_words.specs.declared.reasons.WrongArguments.{WrongArguments}
 use Rattle.nor_words.specs.declared.words.UsageFault.{UsageFault}
 use Rattle.nor_words.specs.declared.words.UsageFault.TheVariants as why
 
--- an option, as you type it
+-- the option as you type it
 abbrev pub option_text : OptionName → List ℕ
 option_text option.List = codes "-L"
 option_text option.FlashSize = codes "--flash-size"
@@ -101,13 +101,13 @@ operations_reason first last = because.Unsaid
 
 -- ---- faults 5 to 9
 
--- Holds if this is the reason why the value of `--wp-range` is wrong: the value itself.
+-- Holds if the reason of fault 5 contains this value of `--wp-range`. Without a value there is no reason (`Unsaid`).
 abbrev pub IsWrongRange : Option Text → Reason → Type 0
 IsWrongRange (Some value) (because.Range text) = text.now ≡ value
 IsWrongRange None because.Unsaid = ⊤
 IsWrongRange value _ = ⊥
 
--- Holds if this is the reason of fault 5 for the value of `--progress`: the value itself.
+-- Holds if the reason of fault 5 contains this value of `--progress`. Without a value there is no reason (`Unsaid`).
 abbrev pub IsWrongMode : Option Text → Reason → Type 0
 IsWrongMode (Some value) (because.Progress text) = text.now ≡ value
 IsWrongMode None because.Unsaid = ⊤
@@ -123,21 +123,22 @@ IsWrongValue false given reason = IsWrongRange given.wp_range reason
 abbrev pub change_option : Texts → OptionName
 change_option given = if is_some given.write then option.Write else if given.erase then option.Erase else option.WpRange
 
--- the reason of fault 6
+-- the reason of fault 6: both `--journal` and `--rehearse` are given, or a change is given without either, or one of
+-- them without a change
 abbrev pub journal_reason : Texts → Reason
 journal_reason given =
     if is_some given.journal && is_some given.rehearse then because.JournalAndRehearse
     else if asks_change given then because.NoJournal (change_option given)
     else because.NoChange (if is_some given.journal then option.Journal else option.Rehearse)
 
--- the first of `-l`, `--fmap-file` and `--ifd-file` that is given
+-- the first of `-l`, `--fmap-file` and `--ifd-file` that is given, or `None` if none is given
 abbrev pub first_layout : Texts → Option OptionName
 first_layout given =
     if is_some given.layout then Some option.Layout
     else if is_some given.fmap_file then Some option.FmapFile
     else if is_some given.ifd_file then Some option.IfdFile else None
 
--- the last of `-l`, `--fmap-file` and `--ifd-file` that is given
+-- the last of `-l`, `--fmap-file` and `--ifd-file` that is given, or `None` if none is given
 abbrev pub last_layout : Texts → Option OptionName
 last_layout given =
     if is_some given.ifd_file then Some option.IfdFile
@@ -200,6 +201,6 @@ IsReason given why.Unneeded reason = reason ≡ unneeded_reason given
 IsReason given why.Stops reason = IsWrongStops given.rehearse reason
 IsReason given _ reason = reason ≡ because.Unsaid
 
--- Holds for the fault `Memory` (out of memory), which has no reason.
+-- Holds if `wrong` has the fault `Memory` (out of memory), which has no reason.
 abbrev pub IsOutOfMemory : WrongArguments → Type 0
 IsOutOfMemory wrong = (wrong.fault ≡ why.Memory) × (wrong.reason ≡ because.Unsaid)

@@ -1,4 +1,4 @@
--- Texts as lists of bytes, and their parts around commas and `=`.
+-- Texts as lists of bytes, and how commas and `=` divide them.
 use Rattle.std.specs.Prelude.{◌==◌, ℕ, Bool, List, Option, is_some}
 use Rattle.std.specs.List.{slice_split, before_first, after_first}
 
@@ -6,7 +6,7 @@ use Rattle.std.specs.List.{slice_split, before_first, after_first}
 abbrev pub Text : Type 0
 Text = List ℕ
 
--- the parts of the text between its commas
+-- the parts into which its commas divide the text
 abbrev pub pieces_of : Text → List Text
 pieces_of = slice_split (λ byte. byte == 44)
 

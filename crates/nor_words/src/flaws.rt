@@ -1,4 +1,4 @@
-//! The reason why the value of `-p` is wrong, and the settings in it that have a flaw.
+//! Why the value of `-p` is wrong: which setting in it has a flaw, and which flaw.
 ghost use Rattle.std.specs.Prelude.{◌≡◌, option_map};
 ghost use Rattle.nor_words.specs.Programmer.{are_settings, is_setting};
 ghost use Rattle.nor_words.specs.Reasons.{IsWrongProgrammer, first_flawed, flaw_of, has_known_key, is_flawed};

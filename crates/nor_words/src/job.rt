@@ -16,7 +16,7 @@ pub enum Job<'a> {
     Chip(ChipJob<'a>),
 }
 
-/// A job on the chip that `-p` names.
+/// A job of flashnor on the emulated chip that `-p` names.
 #[derive(Drop)]
 pub struct ChipJob<'a> {
     /// The parsed value of `-p`: the emulated chip and its files.
@@ -30,7 +30,7 @@ pub struct ChipJob<'a> {
 /// The job that the arguments of a program for hardware ask for.
 #[derive(Drop)]
 pub enum HardwareJob<'a> {
-    /// `--check-journal FILE`: describe the journal in the named file. No programmer is needed, and `-p` is ignored.
+    /// `--check-journal FILE`: describe the journal in the named file. This needs no programmer, so `-p` is ignored.
     CheckJournal { file: &'a str },
     /// Without `--check-journal`: a job on the chip of a programmer.
     Chip(ProgrammerJob<'a>),
@@ -158,7 +158,7 @@ pub enum LayoutForm {
 pub struct Change<'a> {
     /// The target: what the chip or its protection must become.
     pub wanted: Wanted<'a>,
-    /// The regions of the layout that are included, or `None` for the whole chip.
+    /// The regions to which the change is limited, or `None` for the whole chip.
     pub regions: Option<Regions<'a>>,
     /// True with `--unlock`: lift protection that is in the way, and set it again at the end.
     pub unlock: bool,

@@ -1,7 +1,7 @@
 //! Turns the arguments of flashnor's command line into a job or a usage fault.
 //!
-//! `clap` parses the arguments; the options that it finds make up a job, or have a fault. This crate opens no file, so
-//! a job contains the names of files as you typed them.
+//! `clap` parses the arguments. The options that it finds either ask for a job or have a usage fault. This crate opens
+//! no file, so a job contains the names of files as you typed them.
 //!
 //! ```rust
 //! use nor_words::{Job, UsageFault, request_of};

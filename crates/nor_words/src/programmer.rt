@@ -74,8 +74,9 @@ pub struct Programmer<'a> {
     pub unique: Option<[u8; 8]>,
     /// `busy=N`: the number of polls that show BUSY after each program, erase or status write.
     pub busy: Option<u16>,
-    /// `power=HH`: each stop is a power failure. Each byte of the page or erase block in progress then becomes this
-    /// byte. A status write in progress is undone if this byte is even, and completed if it is odd.
+    /// `power=HH`: each stop is a power failure. Each byte of the page that is being programmed, or of the block that
+    /// is being erased, then becomes this byte. A status write in progress is undone if this byte is even, and
+    /// completed if it is odd.
     pub power: Option<u8>,
 }
 

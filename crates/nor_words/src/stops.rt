@@ -6,11 +6,11 @@ ghost use Rattle.nor_words.specs.Stops.{stops_of};
 use crate::numbers::read_number;
 use arrayvec::ArrayVec;
 
-/// The greatest number of stops in the value of `--rehearse`.
+/// The greatest number of stops that the value of `--rehearse` may have.
 pub const MOST_STOPS: usize = 64;
 
-/// Returns the stops in `text`: 1 to 64 numbers, separated by commas, each as `read_number` reads it. Returns `None`
-/// for any other text.
+/// Parses 1 to 64 stops, separated by commas, each a number in the form that `read_number` accepts. Returns `None` for
+/// any other text.
 pub fn read_stops(text: &str) -> Option<ArrayVec<u64, MOST_STOPS>>
     ensures { option_map (λ stops. stops.items) result ≡ stops_of text.now }
 {

@@ -1,4 +1,5 @@
-//! `request_of` and `operation_of`, which turn arguments into jobs, and the faults that arguments may have.
+//! Turns arguments into jobs (`request_of`, and `operation_of` for programs for hardware), and defines the usage
+//! faults.
 ghost use Rattle.std.specs.Prelude.{◌≡◌, IfOk, MatchResult, map, string_bytes, true};
 ghost use Rattle.clap.specs.Words.{FailsBy, HasMatchesOf, app_of, fault_of, is_simple_and_free, kind_of};
 ghost use Rattle.nor_words.specs.Words.{AreWrong, AreWrongForHardware, IsFault, IsHardwareJob, IsJob};
@@ -24,7 +25,7 @@ pub enum UsageFault {
     NoProgrammer,
     /// 3: the value of `-p` doesn't describe a programmer.
     Programmer,
-    /// 4: more than one operation.
+    /// 4: more than one operation is given.
     TwoOperations,
     /// 5: the value of `--wp-range` isn't a start and a length. For a program for hardware also: the value of
     /// `--progress` isn't a mode.
@@ -42,7 +43,7 @@ pub enum UsageFault {
     /// 9: the value of `--rehearse` isn't 1 to 64 numbers, or both `--rehearse` and a `stop=` of the programmer are
     /// given.
     Stops,
-    /// 10: out of memory.
+    /// 10: memory ran out.
     Memory,
 }
 
@@ -68,7 +69,7 @@ impl UsageFault {
     }
 }
 
-// Implemented by hand, because a derived `Display` has no contract.
+// This `Display` is written by hand, because a derived one has no contract.
 impl fmt::Display for UsageFault {
     ghost use Rattle.nor_words.specs.Faults.{usage_fault_text};
 

@@ -6,8 +6,8 @@ use std::alloc::Global;
 use std::io;
 use std::process::Abort;
 
-// Saves the four bytes of `image` in a new journal, and closes the journal. If it is sealed, overwrites `image` in
-// place and syncs it.
+// Saves the four bytes of the file `image` in a new journal, and closes the journal. If the journal is sealed,
+// overwrites `image` in place and syncs it.
 fn change<S: Store>(files: &mut S) -> io::Result<()> {
     let mut journal = files.vault_in_new("journal")?;
     let _ = journal.put(b"abcd");

@@ -137,7 +137,7 @@ const DESCRIPTORS: &[Case] = &[
         &[],
         Some(MapFault::Outside { record: 15 }),
     ),
-    // Erased entries are unused. The signature must be at 10h or at 0.
+    // Entries whose bytes are FFh are unused. In the next case the signature is at 20h, but must be at 10h or at 0.
     (&[(0x10, SERIES_100)], 0x1_0000, &[], None),
     (
         &[(0x20, SERIES_100)],
@@ -203,7 +203,7 @@ const ALL: &[(&[u8], u32, u32)] = &[
     (WHOLE, 0x800, 0xFFF),
 ];
 
-// The faults of area 2.
+// The faults that area 2 may have.
 const WRONG_NAME: Option<MapFault> = Some(MapFault::Region {
     record: 2,
     fault: RegionFault::Name,
@@ -249,7 +249,7 @@ const FMAPS: &[Case] = &[
         &[],
         Some(MapFault::Outside { record: 2 }),
     ),
-    // Area 2 has no bytes, and a name that no region may have.
+    // Area 2 has no bytes, so it is skipped, and its name, which no region may have, is no fault.
     (
         &[(0x266, &[0, 0, 0, 0, b' '])],
         0x1000,

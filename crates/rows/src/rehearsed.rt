@@ -42,7 +42,7 @@ fn restore_after(stop: u64) -> Option<u64> {
     }
 }
 
-// The session sends 30 transactions. After a restore that was stopped, the rehearsal runs another one without a stop.
+// The session sends 30 transactions. If the first restore is stopped, the rehearsal runs a second one without a stop.
 #[test]
 fn each_pair_of_stops_is_reported(rt: HostRuntime) {
     let row = Row::ABitRises;

@@ -1,4 +1,4 @@
-//! The sessions that are tested (the rows), each with its chip, its image and its request.
+//! The rows, which are the tested sessions. Each has a chip, an image and a request.
 use crate::contents::{Bytes, ERASED, first, run};
 use nor_chip::{Config, Delays, SimBus, TINY64_SFDP};
 use nor_layout::{Layout, Ranges};
@@ -21,8 +21,8 @@ pub struct Start {
 }
 
 impl Start {
-    /// An idle chip that shows no BUSY after operations, with a clear write enable latch, on a bus whose stop sends no
-    /// byte and keeps the chip's power.
+    /// An idle chip with a clear write enable latch that never shows BUSY. A stop of the bus sends no byte, and the
+    /// chip keeps its power.
     pub const IDLE: Start = Start {
         delays: Delays { now: 0, each: 0 },
         latch: false,
@@ -30,7 +30,7 @@ impl Start {
         torn: None,
     };
 
-    /// A chip that shows BUSY in three polls at first, and in two after each operation.
+    /// A chip that shows BUSY in three polls at the start, and in two after each operation.
     pub const SLOW: Start = Start {
         delays: Delays { now: 3, each: 2 },
         ..Start::IDLE
@@ -104,7 +104,7 @@ pub enum Row {
     /// Programs the first byte of the protected range. The session clears the protection bits first, and sets them
     /// again at the end.
     AGuardedByteIsProgrammed,
-    /// Changes every byte of a TINY64 that lacks the erases of 32 and 64 KiB. The session erases fifteen sectors, and
+    /// Changes every byte of a TINY64 that has no erase types of 32 and 64 KiB. The session erases fifteen sectors, and
     /// programs each page of all sixteen sectors.
     EachPageIsProgrammed,
     /// Erases sectors 8 to 39 of a chip of 256 KiB, with three erases of 32, 64 and 32 KiB.
@@ -115,7 +115,7 @@ pub enum Row {
 #[derive(Clone, Copy)]
 enum Chip {
     Tiny64,
-    // A TINY64 that lacks the erases of 32 and 64 KiB.
+    // A TINY64 that has no erase types of 32 and 64 KiB.
     SectorsAlone,
     // A chip of 256 KiB that is known by its SFDP.
     Large,

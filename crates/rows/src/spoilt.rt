@@ -20,7 +20,8 @@ pub fn most(sectors: u32) -> u64 {
     65_542 + 3 * sectors + 65_538 * (17 * sectors + 2)
 }
 
-/// Returns one fault of each kind of `Spoil`, with `n` as its reply byte, its transaction or its bit.
+/// Returns one fault of each variant of `Spoil`. `n` is the byte, the number of the transaction, or the number of the
+/// bit in it.
 pub fn lies(n: u8) -> [Spoil; 4] {
     let first = u64::from(n);
     [

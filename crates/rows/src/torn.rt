@@ -184,17 +184,17 @@ fn each_cut_of_a_session_on_a_protected_chip(rt: HostRuntime) {
 }
 
 // Each row has two numbers of stopped restores: those at which the chip keeps its power, and those at which it loses
-// its power. Each restore is stopped at each of its transactions, so these are the sums of the lengths of all restores.
-// A restore's stop sends the same number of bytes (0 to 6) as its session's stop. For the row that programs a byte the
-// sums were also calculated by hand:
+// its power. Each restore is stopped at each of its transactions, so these numbers are the sums of the lengths of all
+// restores. A stop of a restore sends the same number of bytes (0 to 6) as the stop of its session. For the row that
+// programs a byte, the sums were also calculated by hand:
 //
 // - On an idle chip the session is stopped at five transactions after the seal: read, write enable, program, poll,
-//   verification. The first three of these stops leave the byte as it was, and the last two leave it programmed. A
-//   restore has 8 transactions after the former and 12 after the latter: 48 for each number of bytes up to four. With
-//   five or six bytes the third stop programs the byte too, which makes 52: 5 * 48 + 2 * 52 = 344.
+//   verification. The first three of these stops leave the byte as it was, and a restore then has 8 transactions. The
+//   last two leave it programmed, and a restore has 12. This makes 48 for each number of bytes up to four. With five or
+//   six bytes the third stop programs the byte, too, which makes 52: 5 * 48 + 2 * 52 = 344.
 // - On a slow chip the session also sends two polls that show BUSY, and the next restore waits for those that remain. A
-//   poll that was cut after its first byte is no longer one of them. The sums are 83 if no byte is sent, 81 for one to
-//   four bytes, and 89 for five or six: 83 + 4 * 81 + 2 * 89 = 585.
+//   stop that sends at least the first byte of a poll uses up one of them. The sums are 83 if no byte is sent, 81 for
+//   one to four bytes, and 89 for five or six: 83 + 4 * 81 + 2 * 89 = 585.
 // - On a chip that loses its power a restore that erases has 14 transactions, and any other has 8. For each fill, 10
 //   restores follow a power failure during the page program; they erase unless the fill is FFh: 10 * (14 + 14 + 8). The
 //   lengths of the other restores add up to 432 for each fill.

@@ -43,7 +43,7 @@ fn bus(rt: &impl Abort, alloc: Global) -> SimBus {
     bus
 }
 
-// A transaction, its reply, and its line in the trace.
+// A transaction (`out`), its reply, and its line in the trace.
 #[derive(Clone, Copy)]
 struct Form {
     out: &'static [u8],
