@@ -170,7 +170,8 @@ pub record HasRunChange (operation : Operation) (change : Change) (ranges : Opti
   pub ran : HasRunInFile (request_for change operation.named ranges) image file before after found new outcome
 
 -- Holds if the session of a change was run with its journal in a new file. If the session succeeded and the change is
--- compared, the chip was then compared with the session's buffer, and was equal to it.
+-- compared, the chip was then compared with the session's buffer, and was equal to it. Otherwise nothing was sent after
+-- the session.
 pub record HasChangedAndCompared (operation : Operation) (change : Change) (ranges : Option (List Span))
     (bytes : List ℕ) (file : Text) (before : View) (after : FilesState) (old new : BusState)
     (outcome : Result Answer Refusal) : Type 0 where

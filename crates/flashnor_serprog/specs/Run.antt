@@ -128,7 +128,8 @@ abbrev pub AsksForHelp : Trouble → Type 0
 AsksForHelp (trouble.Fault fault) = IsAnswered (Err fault) ⊎ AsksForVersion fault
 AsksForHelp _ = ⊥
 
--- Holds if the run ended early because of a request for the help or the version only if the arguments ask for it.
+-- Holds if the run did not end early because of a request for the help or the version, or if its arguments ask for the
+-- help or the version.
 abbrev pub IsHelpAskedBy : List Text → Trouble → Type 0
 IsHelpAskedBy words ended = AsksForHelp ended → ArgumentsAskForHelp words
 

@@ -43,7 +43,7 @@ pub record SendsRestore (bytes : List ℕ) (old new : BusState) : Type 0 where
   pub sends : SendsSaved (IsSavedCode journal.content) 1 journal.content old new
 
 -- Holds if a job sent only what it may send. A change or a restore sent no modifying command, or only what its journal
--- allows. Any other job sent no modifying command, even a read into a file or a backup.
+-- allows. Any other job sent no modifying command; this includes a read into a file and a backup.
 abbrev pub SendsOnly : Task → (bytes : List ℕ) → (old new : BusState) → FilesState → Type 0
 SendsOnly (task.Change change) bytes old new after =
     SendsChange (what_of change.wanted) change.journal_use old new after

@@ -97,7 +97,7 @@ IsWrongBy setting (Flawed given flaw) = (names_network setting ≡ false) × (gi
 IsWrongBy setting _ = ⊥
 
 -- Holds if this is the reason why the value of `-p` describes no programmer:
--- |
+--
 -- - `NoPrefix`: the text doesn't begin with `serprog:`.
 -- - `Network`: the first wrong setting has the key `ip`.
 -- - `Flawed`: the first wrong setting is this one. Its key isn't `ip`, and it has this flaw.

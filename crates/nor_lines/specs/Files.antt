@@ -42,7 +42,7 @@ IsTooLong view name most (end.File file.Read of) =
 IsTooLong view name most _ = ⊥
 
 -- Holds if reading a chip's file, which must have `len` bytes, may fail with this fault:
--- |
+--
 -- - error 18 (out of memory)
 -- - file fault 1 with this name, if the file may fail to be read; a missing file is no fault
 -- - file fault 3 with this name, if the file has another length or isn't known (`IsKnownFile`)
@@ -55,7 +55,7 @@ IsOpeningFault view name len _ = ⊥
 
 -- Holds if locking and reading a chip's file, which must have `len` bytes, may fail with this fault. It is a fault of
 -- `IsOpeningFault`, or one of these file faults with this name:
--- |
+--
 -- - file fault 1 if the file is missing (although it existed when it was locked) or isn't known (`IsKnownFile`)
 -- - file fault 2 if the file may fail to be opened for overwriting, to be locked or to be synced, or its directory may
 --   fail to be synced
@@ -70,7 +70,7 @@ IsLockingFault view name len fault = IsOpeningFault view name len fault
 
 -- Holds if locking a journal and reading at most `most` bytes of it may fail with this fault. It is a fault of
 -- `IsReadingFault`, or one of these file faults with this name:
--- |
+--
 -- - file fault 2 if the file may fail to be opened for overwriting or to be locked
 -- - file fault 5 if another process may have locked the file
 abbrev pub IsSharingFault : View → Text → ℕ → Fault → Type 0
@@ -79,7 +79,7 @@ IsSharingFault view name most (end.File file.Taken of) = (of.now ≡ name) × Ha
 IsSharingFault view name most fault = IsReadingFault view name most fault
 
 -- Holds if creating or truncating the file of this name may fail with this fault:
--- |
+--
 -- - error 18 (out of memory)
 -- - file fault 2 if the file may fail to be created, read, truncated or locked, or its directory may fail to be synced
 -- - file fault 4 if the file may exist although it must be new, or may be a journal, which `Disk` never truncates

@@ -119,7 +119,7 @@ pub fn create_log<'a, R: Store>(rt: &mut R, name: &'a str) -> Result<BufWriter<R
 }
 
 /// Returns the fault of a file that can't be created or truncated:
-/// |
+///
 /// - file fault 4 if the file exists and must be new, or is a journal, which `Disk` never truncates
 /// - file fault 5 if another process has locked the file
 /// - error 18 if memory ran out (`CreateFault::Memory`)

@@ -39,11 +39,12 @@ impl FileFault {
     }
 }
 
-/// The fault that ends a run with exit status 1. Its text is printed to standard error. A request for help is a fault
-/// of the arguments, too, but the help is printed to standard output, and the exit status is 0 if printing succeeds.
+/// The fault that ends a run with exit status 1. Its text is printed to standard error. A request for the help or the
+/// version is a fault of the arguments, too, but that text is printed to standard output, and the exit status is 0 if
+/// printing succeeds.
 #[derive(Drop)]
 pub enum Fault<'a> {
-    /// A usage fault and its reason, or a request for help.
+    /// A usage fault and its reason, or a request for the help or the version.
     Usage {
         fault: UsageFault,
         reason: Reason<'a>,

@@ -115,8 +115,8 @@ fn text_of_line(fault: LineFault) -> &'static str
     }
 }
 
-/// The line that says what is wrong with an FMAP or a flash descriptor. It is empty if memory ran out. The line counts
-/// the entries of a flash descriptor from 0, and the areas of an FMAP from 1.
+/// The line that says what is wrong with an FMAP or a flash descriptor. It is empty if memory ran out. In this line the
+/// entries of a flash descriptor are numbered from 0, and the areas of an FMAP from 1.
 #[derive(Drop)]
 pub struct MapLine(pub MapFault);
 

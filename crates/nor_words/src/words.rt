@@ -19,7 +19,8 @@ use thiserror::Error;
 /// arguments.
 #[derive(Debug, Drop, Error)]
 pub enum UsageFault {
-    /// 1: `clap` rejects the arguments, or they ask for the help. The error has the message or the help to print.
+    /// 1: `clap` rejects the arguments, or they ask for the help, or in a program for hardware for the version. The
+    /// error has the text to print.
     Words(WordsError),
     /// 2: `-p` and `-L` are missing, or for a program for hardware `-p` and `--check-journal`.
     NoProgrammer,

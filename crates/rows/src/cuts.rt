@@ -1,6 +1,6 @@
 //! Sessions that are stopped after each number of transactions from a given number on. If the stop follows the seal, or
-//! the session ends, one restore follows, which isn't stopped. `undone.rt` has the other rows, and stops their
-//! restores, too.
+//! the session ends, one restore follows, which isn't stopped. The rows of `undone.rt` are left out, because that file
+//! stops their restores, too.
 use crate::row::{Row, Start};
 use crate::runs::Runs;
 

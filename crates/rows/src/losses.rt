@@ -58,7 +58,7 @@ fn changes_are_lost_until_they_are_synced(rt: HostRuntime) {
     }
 }
 
-// If the file is set to tear a write, the only write fails. Otherwise the same write succeeds.
+// After `tear`, the only write fails. Without it, the same write succeeds.
 #[test]
 fn a_torn_write_fails(rt: HostRuntime) {
     for is_torn in [false, true] {

@@ -1,4 +1,4 @@
-//! Reading calls: their vault refuses a piece, or a reply is lost; and the status that they report.
+//! Reading calls whose vault refuses a piece, or for which a reply is lost, and the status that reading calls report.
 use crate::held::assert_held;
 use crate::row::{Row, Start};
 use crate::runs::AMPLE;
