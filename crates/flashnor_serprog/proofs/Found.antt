@@ -110,8 +110,8 @@ module _ (operation : Operation) (old new : BusState) (change : Change) (ranges 
 
 module _ (operation : Operation) (old new : BusState) (change : Change) (ranges : Option (List Span))
     (bytes : List ℕ) (file : Bor Text) (view : View) where
-  -- If the buffer of a session was made, and creating the journal then fails with this fault (or memory runs out), a
-  -- change with a journal in a file fails with this fault.
+  -- Let the buffer of a session be made, and creating the journal then fail with this fault (or memory run out). A
+  -- change with a journal in a file then fails with this fault.
   pub start_fails : (image : List ℕ) (fault : Fault)
       → IsBufferOf operation.named change.wanted (ranges_of operation change ranges) bytes old new image
       → IsMaking view file.now fault

@@ -75,8 +75,8 @@ FailsToRead named file view old new fault =
 
 -- ---- chips that may be protected
 
--- true if the block protection of the chip is unknown, because it has no row in the table, and at least one of its
--- status bits 2 to 6 is set. On nearly every chip these bits protect sectors, which then ignore erases and programs.
+-- true if the chip has no row in the table, so that its block protection is unknown, and at least one of its status
+-- bits 2 to 6 is set. On nearly every chip these bits protect sectors, which then ignore erases and programs.
 abbrev pub may_be_protected : Found → Bool
 may_be_protected chip = not chip.scheme && not (nat_eq (bit_and chip.status1 0x7C) 0)
 

@@ -26,8 +26,8 @@ pub record SendsJournalled (what : What) (file : Text) (old new : BusState) (aft
   pub durable : IsDurable file (Some bytes) after
   pub sends : SendsSaved (IsWrittenCode what journal.content) 1 journal.content old new
 
--- Holds if a change sent no modifying command; or if its journal is durable and all that it sent fits that journal,
--- which is claimed only if the files obey the contract of `Store`. A rehearsal, which this program doesn't perform,
+-- Holds if a change sent no modifying command, or if its journal is durable and all that it sent fits that journal. The
+-- second is claimed only if the files obey the contract of `Store`. A rehearsal, which this program doesn't perform,
 -- sends no modifying command.
 abbrev pub SendsChange : What → JournalUse → (old new : BusState) → FilesState → Type 0
 SendsChange what (uses.Journal file) old new after =

@@ -21,8 +21,8 @@ use Rattle.nor_lines.specs.declared.messages.FileFault.TheVariants as file
 
 -- ---- roles
 
--- Holds if the name of the device is apart from that of each file of the job, and the name of the output or the journal
--- is apart from those of all other files of the job. (No task has an output together with a journal or an image.)
+-- Holds if the name of the device is apart from that of each file of the job. The name of the output or the journal
+-- must be apart from those of all other files of the job. (No task has an output together with a journal or an image.)
 pub record HaveOneRole (nature : Nature) (device : Bor Text) (job : Task) : Type 0 where
   pub device_layout : AreTwo nature (Some device) (named_by job).layout
   pub device_wanted : AreTwo nature (Some device) (named_by job).wanted

@@ -50,8 +50,8 @@ HasLayout form.Lines text regions = IsLayout text regions
 HasLayout form.Fmap text regions = fmap_says (length text) text ≡ Ok regions
 HasLayout form.Descriptor text regions = descriptor_says (length text) text ≡ Ok regions
 
--- Holds if the text is a layout of the given form, each of the comma-separated `names` is the name of one of its
--- regions, and `ranges` contain exactly the addresses of the named regions.
+-- Holds if the text is a layout of the given form, and each of the comma-separated `names` is the name of one of its
+-- regions. `ranges` must contain exactly the addresses of the named regions.
 pub record AreIncluded (form : LayoutForm) (text names : List ℕ) (ranges : List Span) : Type 0 where
   pub regions : List Region
   pub layout : HasLayout form text regions

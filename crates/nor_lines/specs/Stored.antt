@@ -18,8 +18,9 @@ Happens view failure = view.nature.fails failure ≡ true
 abbrev pub IsRead : View → Text → ℕ → List ℕ → Type 0
 IsRead view name most bytes = ReadsFile name most (Some bytes) view
 
--- Holds if `found` has the first `len + 1` bytes of the named file (all its bytes if it has fewer), or is `None` if no
--- file is named or the named file is missing. Nothing is claimed of a named file that isn't known (`IsKnownFile`).
+-- Holds if `found` has the first `len + 1` bytes of the named file, or all its bytes if it has fewer. If no file is
+-- named or the named file is missing, `found` must be `None`. Nothing is claimed of a named file that isn't known
+-- (`IsKnownFile`).
 abbrev pub IsFileFound : View → Option (Bor Text) → ℕ → Option (List ℕ) → Type 0
 IsFileFound view None len found = found ≡ None
 IsFileFound view (Some name) len found = ReadsFile name.now (len + 1) found view
@@ -66,8 +67,8 @@ abbrev pub StaysOf : Option (Bor Text) → (old new : FilesState) → Type 0
 StaysOf None old new = ⊤
 StaysOf (Some name) old new = KeepsFile name.now old new
 
--- Holds if no file is named, or if each content of the named file that a host crash may leave in `new` could also be
--- left by a host crash in `old`.
+-- Holds if no file is named. For a named file, holds if a host crash in `new` can leave only contents that a host crash
+-- in `old` could leave, too.
 abbrev pub LeavesNoMoreOf : Option (Bor Text) → (old new : FilesState) → Type 0
 LeavesNoMoreOf None old new = ⊤
 LeavesNoMoreOf (Some name) old new = LeavesNoMore name.now old new
@@ -78,9 +79,9 @@ abbrev pub IsMissing : Option (Bor Text) → View → Type 0
 IsMissing None view = ⊤
 IsMissing (Some name) view = IsKnownFile name.now view → view.seen name.now ≡ None
 
--- Holds if no file is named, or if each content of the named file that a host crash may leave in `new` could also be
--- left by a host crash in `old`; an empty file is allowed, too, if the file was missing. The second is claimed only if
--- the file was known (`IsKnownFile`) in `old`.
+-- Holds if no file is named. For a named file, holds if a host crash in `new` can leave only contents that a host crash
+-- in `old` could leave, too, or an empty file if the file was missing in `old`. This is claimed only if the file was
+-- known (`IsKnownFile`) in `old`.
 abbrev pub MakesNothing : Option (Bor Text) → (old new : FilesState) → Type 0
 MakesNothing None old new = ⊤
 MakesNothing (Some name) old new = IsKnownFile name.now old.view → LeavesOrEmpty name.now old new

@@ -40,7 +40,7 @@ impl FileFault {
 }
 
 /// The fault that ends a run with exit status 1. Its text is printed to standard error. A request for the help or the
-/// version is a fault of the arguments, too, but that text is printed to standard output, and the exit status is 0 if
+/// version is a fault of the arguments, too. But its text is printed to standard output, and the exit status is 0 if
 /// printing succeeds.
 #[derive(Drop)]
 pub enum Fault<'a> {

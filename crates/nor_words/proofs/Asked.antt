@@ -51,8 +51,8 @@ wrong-by_words words given fault wrong taken same is named because =
 
 -- ---- programs for hardware
 
--- If `wrong` is wrong for the options of a program for hardware, the options ask for no job because of the fault in
--- `wrong`, and `wrong` has the reason of this fault.
+-- Let `wrong` be the fault and reason of the options of a program for hardware. The options then ask for no job because
+-- of this fault, and the reason belongs to it.
 no-job : (given : Texts) (wrong : WrongArguments) → IsWrongForHardware given wrong
     → HasNoJob given wrong.fault × IsReason given wrong.fault wrong.reason
 no-job given wrong (inl checked) = (inl (checked.0, checked.1.fault), checked.1.reason)
@@ -71,8 +71,8 @@ hardware_fault-returned program words (why.Words error) taken (inl checked) =
 hardware_fault-returned program words (why.Words error) taken (inr other) = absurd (words-apart other.1.0)
 hardware_fault-returned program words _ taken h = search
 
--- If `clap` accepts the arguments `words` of a program for hardware, and `r` is the job or the fault of their options
--- `given`, then `r` is the job or the fault of `words`.
+-- Let `clap` accept `words`, the arguments of a program for hardware. If `r` is the job or the fault of their options
+-- `given`, it is the job or the fault of `words`.
 pub hardware_asked-by_words : (program : Text) (words : List Text) (given : Texts)
     (r : Result HardwareJob WrongArguments)
     → hardware_refusals_of program words ≡ [] → given ≡ hardware_given_by program words

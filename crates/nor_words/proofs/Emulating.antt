@@ -26,8 +26,8 @@ pub given_text : (text : Option (Bor Text)) (is : Bool) → is ≡ is_some text 
 given_text None is same = same
 given_text (Some text) is same = same
 
--- If the options ask for the job `on_chip` on an emulated chip, they ask a program for hardware for the operation with
--- the same name and task, and with the other fields from their options.
+-- Let the options ask for the job `on_chip` on an emulated chip. A program for hardware is then asked for the operation
+-- with the same name and task; its other fields have the values of their options.
 pub operation-asked : (given : Texts) (on_chip : ChipJob) (backup : Bool)
     (progress : ProgressMode) → backup ≡ is_some given.backup → progress ≡ progress_mode given
     → (first_fault (usage_faults (emulated given)) ≡ None) × IsAsked (emulated given) (job.Chip on_chip)

@@ -33,7 +33,7 @@ pub hardware_options_are_simple : (program : Text) → is_simple (hardware_optio
 unfolding clap_on_literals
 hardware_options_are_simple program = refl
 
--- If a parse with the options `own` succeeds, the specification of `clap` lists no error for these arguments, and the
+-- Let a parse with the options `own` succeed. The specification of `clap` then lists no error for these arguments. The
 -- matches `m` have exactly the rows that `matches_of` defines for `own` and `words`.
 module _ (app own : App) (same : app ≡ own) (words : List Text) (m : ArgMatches) where
   pub none-refused : is_simple_and_free own ≡ true → (is_simple_and_free app ≡ true → FailsBy (fault_of app words) (Ok m))

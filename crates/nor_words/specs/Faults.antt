@@ -22,8 +22,8 @@ passes_test test text = option_map_or test text false
 abbrev pub is_no : (Text → Bool) → Option Text → Bool
 is_no test = passes_test (λ text. not (test text))
 
--- fault 6: true if a change (`-w`, `-E` or `--wp-range`) is given without exactly one of `--journal` and `--rehearse`,
--- or if `--journal` or `--rehearse` is given without a change
+-- fault 6: true if a change (`-w`, `-E` or `--wp-range`) is given, but not exactly one of `--journal` and `--rehearse`.
+-- True also if `--journal` or `--rehearse` is given, but no change.
 abbrev pub has_wrong_journal : Texts → Bool
 has_wrong_journal given =
     not (nat_eq (how_many (is_some given.journal ∷ is_some given.rehearse ∷ [])) (if asks_change given then 1 else 0))

@@ -111,7 +111,8 @@ pub record LacksProgrammer (given : Texts) (wrong : WrongArguments) : Type 0 whe
   pub lacks : given.programmer ≡ None
 
 -- Holds if the options of a program for hardware ask for no job, because of the fault in `wrong`. If `--check-journal`
--- is given, this is the first of the faults 4 to 9 that the options have. If it isn't given, `-p` is missing, too.
+-- is given, this is the first of the faults 4 to 9 that the options have. If neither `--check-journal` nor `-p` is
+-- given, it is fault 2.
 abbrev pub IsWrongForHardware : Texts → WrongArguments → Type 0
 IsWrongForHardware given wrong = ((is_some given.check_journal ≡ true) × IsWrongOperation given wrong)
     ⊎ ((given.check_journal ≡ None) × LacksProgrammer given wrong)
@@ -121,7 +122,7 @@ pub record IsJournalCheck (given : Texts) (file : Bor Text) : Type 0 where
   pub named : NamesFile given.check_journal file
   pub sound : first_fault (operation_faults given) ≡ None
 
--- Holds if `--check-journal` is missing, the programmer's text is the value of `-p`, and `on_chip.operation` is the
+-- Holds if `--check-journal` is missing and `on_chip.programmer` is the value of `-p`. `on_chip.operation` must be the
 -- operation that the options ask for, or the first of the faults 4 to 9 that they have, with its reason.
 pub record IsProgrammerJob (given : Texts) (on_chip : ProgrammerJob) : Type 0 where
   pub unchecked : given.check_journal ≡ None

@@ -78,7 +78,7 @@ pub record IsHardwareJob (program : Text) (words : List Text) (job : HardwareJob
   pub asked : IsHardwareAsked (hardware_given_by program words) job
 
 -- Holds if the options of a program for hardware ask for no job, because of this fault. If `--check-journal` is given,
--- this is the first of the faults 4 to 9 that the options have. If it isn't given, `-p` is missing, too, and this is
+-- this is the first of the faults 4 to 9 that the options have. If neither `--check-journal` nor `-p` is given, it is
 -- fault 2.
 abbrev pub HasNoJob : Texts → UsageFault → Type 0
 HasNoJob given fault =

@@ -31,8 +31,8 @@ pub enum UsageFault {
     /// 5: the value of `--wp-range` isn't a start and a length. For a program for hardware also: the value of
     /// `--progress` isn't a mode.
     Range,
-    /// 6: `-w`, `-E` or `--wp-range` is given without exactly one of `--journal` and `--rehearse`, or `--journal` or
-    /// `--rehearse` is given without any of `-w`, `-E` and `--wp-range`.
+    /// 6: a change (`-w`, `-E` or `--wp-range`) is given, but not exactly one of `--journal` and `--rehearse`. Also:
+    /// `--journal` or `--rehearse` is given, but no change.
     Journal,
     /// 7: `-l` or `-i` is given without the other, or both without any of `-r`, `-v`, `-w` and `-E`. A program for
     /// hardware also has `--fmap-file` and `--ifd-file` in place of `-l`; more than one of the three is this fault,
@@ -138,10 +138,13 @@ pub fn explained_request_of<'a>(
 /// program's name. The options are those of flashnor except `-L` and `--rehearse`, and those that only programs for
 /// hardware have. The value of `-p` isn't parsed.
 ///
-/// Returns a usage fault with its reason in these cases: fault 1 if `clap` rejects the arguments, fault 2 if `-p` and
-/// `--check-journal` are missing, and the first of the faults 4 to 8 if `--check-journal` is given and the options have
-/// one of them. Without `--check-journal`, a fault from 4 to 8 is part of the job (`ProgrammerJob::operation`). Fault
-/// 10, out of memory, may be returned for any arguments.
+/// Returns one of these usage faults with its reason:
+///
+/// - fault 1 if `clap` rejects the arguments
+/// - fault 2 if `-p` and `--check-journal` are missing
+/// - the first of the faults 4 to 8 that the options have, if `--check-journal` is given; without `--check-journal`
+///   such a fault is part of the job (`ProgrammerJob::operation`)
+/// - fault 10, out of memory, which may be returned for any arguments
 pub fn operation_of<'a>(
     alloc: Global,
     help: Help,

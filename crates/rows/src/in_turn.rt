@@ -65,7 +65,7 @@ fn stop_second(rt: &impl Abort, alloc: Global, runs: &Runs, other: Row, n: u64) 
 // FFh to byte 0 and four bytes from FEh on; all of these are in the first sector.
 //
 // The second session sends 23 transactions before its seal. It raises byte 0 with an erase, except if the first session
-// was stopped between its erase and its program, because byte 0 is then FFh.
+// was stopped between its erase and its program: byte 0 is then FFh.
 //
 // - After its seal the second session sends three transactions for each erase and each of its two programs, and one to
 //   verify. If it doesn't erase the sector, it reads the sector again before the first program.

@@ -201,8 +201,8 @@ fn lie_to_restores(rt: &impl Abort, alloc: Global, row: Row, stop: u64, length: 
 }
 
 // Each row has the number of transactions after which the session is stopped, and the number of transactions of the
-// restore. In the order of the rows, the session is stopped after a sector is erased, a byte is programmed, a sector is
-// erased, the protection bits are cleared, and the protection bits are set again.
+// restore. In the first three rows the session is stopped after a sector is erased, a byte is programmed, and a sector
+// is erased. In the last two rows the protection bits were just cleared, or set again.
 const BEHIND: [(Row, u64, u64); 5] = [
     (Row::ABitRises, 25, 13),
     (Row::AByteIsProgrammed, 26, 12),

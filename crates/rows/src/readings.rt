@@ -41,8 +41,8 @@ fn sent(answer: Result<Report, Refusal>) -> Sent {
 }
 
 // Each row has the number of the transaction whose reply is lost, and the result of the verification. Transactions 1 to
-// 5 identify a TINY64, and 6 to 21 read its sixteen sectors. Each byte of a lost reply is FFh, while all bytes of the
-// chip and of the image are 00h, so the verification reports the first byte of the sector whose reply was lost.
+// 5 identify a TINY64, and 6 to 21 read its sixteen sectors. All bytes of the chip and of the image are 00h, but those
+// of a lost reply are FFh. The verification therefore reports the first byte of the sector whose reply was lost.
 const LOST_REPLIES: [(u64, Sent); 4] = [
     (0, Ok(21)),
     (6, Err(Refusal::Mismatch { address: 0 })),

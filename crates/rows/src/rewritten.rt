@@ -83,8 +83,8 @@ fn undone(rt: &impl Abort, cut: &mut Cut, by_rewrite: bool) {
 }
 
 // Rewrites the chip after the row's session, with the allowance `allowed`. If the rewrite was stopped, rewrites or
-// restores the chip afterwards. Asserts that the chip is then as before the session, and that the rewrite was stopped
-// if and only if the allowance is less than its number of transactions.
+// restores the chip afterwards. Asserts that the chip is then as before the session. Asserts that the rewrite was
+// stopped if and only if the allowance is less than its number of transactions.
 fn stop_a_rewrite(rt: &impl Abort, runs: &Runs, each: &Rewritten, allowed: u64, by_rewrite: bool) {
     let mut cut = runs.cut(rt, each.row.ends_at(Start::IDLE));
     let answer = run_rewrite(rt, &mut cut, allowed);

@@ -219,8 +219,8 @@ fn ends_within(rt: &impl Abort, cut: &mut Cut, allowed: u64) -> bool {
     true
 }
 
-/// Asserts that the chip is as before the row's session, that it is idle, and that the write enable latch is clear, as
-/// after a session that sent no write enable.
+/// Asserts that the chip is as before the row's session. Asserts that it is idle and its write enable latch is clear,
+/// as after a session that sent no write enable.
 pub fn assert_untouched(rt: &impl Abort, alloc: Global, row: Row, bus: &SimBus) {
     Runs::new(rt, alloc, row, Start::IDLE).assert_as_before(rt, bus);
     assert!(rt; bus.status() == row.status());

@@ -188,8 +188,8 @@ impl OpenFile for SmallFile {
     }
 }
 
-// Each row has the most bytes that a write accepts, the number of writes that succeed, whether `sync_all` succeeds, the
-// expected result, and the expected number of bytes in the file.
+// Each row has the most bytes that a write accepts, the number of writes that succeed, and whether `sync_all` succeeds.
+// Then it has the expected result, and the expected number of bytes in the file.
 const FILES: [(usize, u32, bool, Result<(), VaultFault>, usize); 9] = [
     (1, u32::MAX, true, Ok(()), 4161),
     (4096, u32::MAX, true, Ok(()), 4161),

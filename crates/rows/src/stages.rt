@@ -271,8 +271,8 @@ impl Stage {
 }
 
 // Returns the expected error and number of transactions of a call on an idle chip if the reply of transaction `n`,
-// counted from 0, is spoilt. `right` has both for a bus without a fault, `touched` is the number of sectors that a
-// session or restore verifies at its end, and `met` has the first bytes that transaction `n` sent.
+// counted from 0, is spoilt. `right` has both for a bus without a fault. `touched` is the number of sectors that a
+// session or restore verifies at its end. `met` has the first bytes that transaction `n` sent.
 //
 // Returns `None` unless the reply is that of a poll, or of a read of a sector that is verified or written to the
 // output.

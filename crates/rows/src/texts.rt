@@ -85,7 +85,7 @@ const fn is_of_name(byte: u8) -> bool {
     matches!(byte, 0x21..=0x7E) && byte != b',' && byte != b':'
 }
 
-// By its contract, `Layout::read` may return out of memory for any text in which a line adds a region, if the lines
+// By its contract, `Layout::read` may return out of memory for any text in which a line adds a region and the lines
 // before it have no fault. The contract therefore allows an implementation that always does so for some names. This
 // test detects such an implementation if one of these names has two bytes.
 #[test]

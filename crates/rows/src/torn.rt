@@ -16,9 +16,9 @@ const SHORT: [u32; 7] = [0, 1, 2, 3, 4, 5, 6];
 // consists of 260 bytes, of which four precede the data. A test with each number would take minutes.
 const LONG: [u32; 10] = [0, 1, 2, 3, 4, 5, 6, 132, 259, 260];
 
-// Returns two starts with a chip that keeps its power (in the second the chip is busy at first and after each
-// operation), and three with a chip that loses its power at a stop. An interrupted erase or program leaves 00h, 5Ah or
-// FFh in the bytes that it works on.
+// Returns two starts with a chip that keeps its power at a stop, and three with a chip that loses it. In the second
+// start the chip is busy at first and after each operation. An interrupted erase or program leaves 00h, 5Ah or FFh in
+// the bytes that it works on.
 fn starts() -> [Start; 5] {
     [
         Start::IDLE,

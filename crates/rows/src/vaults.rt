@@ -33,9 +33,9 @@ fn refuse(
 }
 
 // Refuses each of the session's `calls` calls of the vault in turn. Asserts that the session returns error 11 after one
-// refusal, that the vault isn't sealed, and that it holds a whole journal if and only if the number of the refused call
-// is at least `whole_from`. Then refuses the call after the last one, which the session doesn't make, and asserts that
-// the session succeeds.
+// refusal, and that the vault isn't sealed. Asserts that the vault holds a whole journal if and only if the number of
+// the refused call is at least `whole_from`. Then refuses the call after the last one, which the session doesn't make,
+// and asserts that the session succeeds.
 fn refuse_each(rt: &impl Abort, alloc: Global, row: Row, calls: u64, kept: usize, whole_from: u64) {
     for nth in 1..=calls {
         let left = refuse(rt, alloc, row, nth, kept);

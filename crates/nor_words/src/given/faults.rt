@@ -133,8 +133,8 @@ impl Given<'_> {
         self.read.is_some() || self.verify.is_some() || self.is_new_content()
     }
 
-    // Fault 6: true if a change (`-w`, `-E` or `--wp-range`) is given without exactly one of `--journal` and
-    // `--rehearse`, or if `--journal` or `--rehearse` is given without a change.
+    // Fault 6: true if a change (`-w`, `-E` or `--wp-range`) is given, but not exactly one of `--journal` and
+    // `--rehearse`. True also if `--journal` or `--rehearse` is given, but no change.
     fn has_wrong_journal(&self) -> bool
         ensures { result ≡ has_wrong_journal (texts_of self.now) }
     {
