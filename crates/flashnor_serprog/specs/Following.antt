@@ -67,8 +67,8 @@ abbrev pub into_memory : Refusal → Refusal
 into_memory (Output written) = Memory
 into_memory refusal = refusal
 
--- Holds if the chip was read, and the length of the image isn't the size of this chip. The image fits the chip that was
--- identified before, so another chip was read.
+-- Holds if the chip was read, `image` isn't as long as this chip, and the error is 4 with both lengths. The caller has
+-- compared the length of `image` with the size of the identified chip before, so another chip was read.
 pub record IsOtherRead (named : Option ChipName) (image : List ℕ) (old new : BusState)
     (refusal : Refusal) : Type 0 where
   pub bytes : List ℕ

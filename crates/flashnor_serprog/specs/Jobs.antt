@@ -92,8 +92,8 @@ pub record IsProtected (named : Option ChipName) (old new : BusState) (byte : �
   pub protected : may_be_protected chip ≡ true
   pub shown : byte ≡ chip.status1
 
--- Holds if a write or an erase failed with this fault before it used the chip: the identification returned an error, or
--- the chip may be protected (chip fault 1). Nothing else was sent.
+-- Holds if a write or an erase failed with this fault before its target was made: the identification returned an error,
+-- or the chip may be protected (chip fault 1). Nothing else was sent.
 abbrev pub FailsToAdmit : Option ChipName → (old new : BusState) → JobFault → Type 0
 FailsToAdmit named old new (ended.Fault fault) = FailsToFind named old new fault
 FailsToAdmit named old new (ended.Protected status1) = IsProtected named old new status1
@@ -251,8 +251,9 @@ FailsChange operation change ranges bytes kept before after old new (ended.RestN
 
 -- ---- tasks
 
--- Holds if the call of this task, and what belongs to it, was performed with this outcome. `ranges` and `bytes` are
--- those of the regions and of the image or journal that were read before.
+-- Holds if the task was performed with this outcome: its call to the engine and, for a change or a restore, the
+-- comparison after the call. `ranges` and `bytes` are those of the regions and of the image or journal that were read
+-- before.
 abbrev pub DoesTask : Operation → Task → (ranges : Option (List Span)) → (bytes : List ℕ) → (before : View)
     → (after : FilesState) → (old new : BusState) → Result Answer Refusal → Type 0
 DoesTask operation task.Probe ranges bytes before after old new outcome =
