@@ -164,7 +164,7 @@ module _ (operation : Operation) (change : Change) (ranges : Option (List Span))
       (follows_no_rest operation.named ran.image changed new found (is_compared operation change) outcome refusal fails)
   follow_fails (Err refusal) fault ran fails = absurd fails
 
--- The job `job` is a change: the result of the change is the result of the job.
+-- Let `job` be the change `change`. The result of the change is then the result of the job.
 module _ (operation : Operation) (change : Change) (ranges : Option (List Span)) (bytes : List ℕ) (view : View)
     (after : FilesState) (old new : BusState) (job : Task) (is : job ≡ task.Change change)
     (result : Result (Result Answer Refusal) JobFault) where
@@ -178,7 +178,7 @@ module _ (operation : Operation) (change : Change) (ranges : Option (List Span))
       → IfErr result (FailsPerform operation job ranges bytes view after old new)
   change_failed fails = rw is fails
 
--- The job `job` is a restore: a fault of the restore is a fault of the job.
+-- Let `job` be a restore from `journal`. A fault of the restore is then a fault of the job.
 module _ (operation : Operation) (ranges : Option (List Span)) (bytes : List ℕ) (view : View) (after : FilesState)
     (old new : BusState) (job : Task) (journal : Bor Text) (is : job ≡ task.Restore journal)
     (result : Result (Result Answer Refusal) JobFault) where

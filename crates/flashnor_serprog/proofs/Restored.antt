@@ -13,8 +13,8 @@ use Rattle.flashnor_serprog.specs.Restoring.{HasRestoredAndCompared, HasRestored
 use Rattle.flashnor_serprog.specs.declared.chip_faults.JobFault.{JobFault}
 use Rattle.flashnor_serprog.specs.declared.chip_faults.JobFault.TheVariants as ended
 
--- `bytes` are the encoding of `journal`: the result of the restore from `journal` is the result of the restore from
--- `bytes`.
+-- Let `bytes` be the encoding of `journal`. The result of the restore from `journal` is then the result of the restore
+-- from `bytes`.
 module _ (operation : Operation) (bytes : List ℕ) (journal : Journal) (sound : IsContent journal)
     (read : bytes ≡ text journal) (old new : BusState) (result : Result (Result Answer Refusal) JobFault) where
   pub restored_from : IfOk result (HasRestoredBy operation.verifies_all operation journal old new)

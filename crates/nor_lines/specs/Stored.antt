@@ -40,8 +40,8 @@ abbrev pub Has : Option (Bor Text) → List ℕ → FilesState → Type 0
 Has None bytes files = ⊤
 Has (Some name) bytes files = is_lawful files.view ≡ true → IsDurable name.now (Some bytes) files
 
--- The result of writing `bytes` into the file `name`. If `failed` is `None`, writing succeeded, and `Has` holds.
--- Otherwise `failed` is the name of this file, and writing it may fail.
+-- Holds for the result of writing `bytes` into the file `name`. If `failed` is `None`, writing succeeded, and `Has`
+-- holds. Otherwise `failed` is the name of this file, and writing it may fail.
 abbrev pub ArePut : Option (Bor Text) → List ℕ → Option (Bor Text) → FilesState → Type 0
 ArePut name bytes None files = Has name bytes files
 ArePut name bytes (Some failed) files = (name ≡ Some failed) × Happens files.view (Unwritten failed.now)

@@ -143,7 +143,7 @@ fn assert_restored(rt: &impl Abort, alloc: Global, row: Row, left: Cut) {
     Runs::new(rt, alloc, row, Start::IDLE).assert_as_before(rt, bus.port().chip());
 }
 
-// Each row of the table has a row of the tests, its start, and the number of transactions of its session.
+// Each entry has a row, its start, and the number of transactions of the row's session.
 const SESSIONS: [(Row, Start, u64); 3] = [
     (Row::AByteIsProgrammed, Start::IDLE, 28),
     (Row::AByteIsProgrammed, Start::SLOW, 28 + 3 + 2),
