@@ -76,8 +76,8 @@ up_skip {journal} {n} {bytes} {old} {new} saved has = record {
   saved = has.saved;
 }
 
--- If the journal doesn't save sector `n`, this sector is read, and its bytes `part` are put into `bytes` at the
--- sector's addresses.
+-- Let the journal not save sector `n`, let this sector be read (`does`), and let its bytes `part` be put into `bytes`
+-- at the sector's addresses. What holds up to `n` (`HasReadUp`) then holds up to `n + 1`.
 module _ {journal : Journal} {n width : ℕ} {bytes part : List ℕ} {old mid new : BusState}
     (exact : width ≡ 4096) (below : n < journal.size / 4096)
     (size : length bytes ≡ journal.size) (long : length part ≡ 4096) (out : is_saved journal n ≡ false)

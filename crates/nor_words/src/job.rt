@@ -41,9 +41,9 @@ pub enum HardwareJob<'a> {
 pub struct ProgrammerJob<'a> {
     /// The value of `-p` as you typed it. This crate doesn't parse it.
     pub programmer: &'a str,
-    /// The operation that the options ask for. If the options have one of the usage faults 4 to 8, the first of these
-    /// faults with its reason. Fault 9 can't occur, because there is no `--rehearse`. If the program finds that the
-    /// value of `-p` is wrong, it must report usage fault 3 instead of these faults.
+    /// The operation that the options ask for, or the first of the usage faults 4 to 8 that they have, with its reason.
+    /// Fault 9 can't occur, because there is no `--rehearse`. If the program finds that the value of `-p` is wrong, it
+    /// must report usage fault 3 instead of a fault in this field.
     pub operation: Result<Operation<'a>, WrongArguments<'a>>,
 }
 

@@ -8,12 +8,12 @@ use std::alloc::Global;
 use std::process::Abort;
 
 // The numbers of bytes that the bus still sends at a stop, for the rows that program at most two bytes of a page. A
-// program of two bytes consists of six. Any other transaction of these rows sends at most five bytes, as a read of the
-// SFDP or of the unique ID does.
+// program of two data bytes sends six bytes. Any other transaction of these rows sends at most five bytes, as a read of
+// the SFDP or of the unique ID does.
 const SHORT: [u32; 7] = [0, 1, 2, 3, 4, 5, 6];
 
 // The numbers of bytes that the bus still sends at a stop, for the row that programs whole pages. A program of a page
-// consists of 260 bytes, of which four precede the data. A test with each number would take minutes.
+// sends 260 bytes, of which four precede the data. A test with each number would take minutes.
 const LONG: [u32; 10] = [0, 1, 2, 3, 4, 5, 6, 132, 259, 260];
 
 // Returns two starts with a chip that keeps its power at a stop, and three with a chip that loses it. In the second
