@@ -89,7 +89,7 @@ impl Work for Reading<'_> {
     }
 }
 
-// The reference, which computes the SHA-256 digest of all bytes of the journal.
+// The work with which the writing of a journal is compared: the SHA-256 digest of all bytes of the journal.
 #[derive(Drop)]
 struct Digests<'a> {
     bytes: &'a [u8],

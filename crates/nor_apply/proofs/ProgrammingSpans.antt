@@ -145,9 +145,9 @@ module _ {sector : ℕ} {old wanted : List ℕ} {span : PageSpan} (spanned : Spa
           ∙ and-or_distrib_right (spanned_by spans (a - 4096 * sector)) _ _ in
           made_then joined (λ s. refl) (λ a is. refl) filled made
 
-      -- If the spans `spans` were programmed, and one more program follows, even an interrupted one, `MayChange` holds
-      -- for all of them. The premise is that the bus is steady before the last program if and only if it was steady at
-      -- the start.
+      -- If the spans `spans` were programmed since `first`, and the program of `span` was then sent, even if it was
+      -- interrupted, `MayChange` holds from `first` to `new`. The premise is that the bus is steady at `now` if and only
+      -- if it was steady at `first`.
       span_may : now.steady ≡ first.steady → MayProgram (4096 * sector + span.first) (part wanted span) now new
           → MayChange (only sector) none (byte_of sector wanted) first new
       span_may steadily may =

@@ -63,8 +63,8 @@ push_region regions region kept forward once room = record {
 
 -- ---- what is read is in the grammar
 
--- Let neither a nonempty line nor the rest of the reading (`follows`) have a fault. Then the line adds a region with a
--- new name, and there were fewer than 64 regions before.
+-- If a nonempty line has no fault, and the rest of the reading (`follows`) has none either, the line adds a region with
+-- a new name, and there were fewer than 64 regions before.
 joined : (regions all : List Region) (n : ℕ) (said : Result Region LineFault)
     (follows : List Region → Result (List Region) LayoutFault) → joins_or_fault regions n said >>= follows ≡ Ok all
     → (region : Region) × (said ≡ Ok region) × (is_region_named regions region.name.items ≡ false)

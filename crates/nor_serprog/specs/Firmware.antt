@@ -68,8 +68,9 @@ abbrev pub clocked : Option ℕ → List ℕ
 clocked (Some set) = 0x06 ∷ four_of set
 clocked None = nak
 
--- The reply of a programmer with this firmware to a whole frame of a command. Each programmer has NOP, Q_IFACE,
--- Q_CMDMAP and SYNCNOP. For O_SPIOP the list is empty; `OperatesFrame` in Device.antt has its reply.
+-- The reply of a programmer with this firmware to a whole frame of a command, if `HasReply` holds. Each programmer has
+-- NOP, Q_IFACE, Q_CMDMAP and SYNCNOP. For a setting that the map of commands lacks, the list means nothing. For O_SPIOP
+-- it is empty; `OperatesFrame` in Device.antt has its reply.
 abbrev pub reply_of : Firmware → Command → List ℕ
 reply_of firmware Nop = 0x06 ∷ []
 reply_of firmware QueryInterface = 0x06 ∷ two_of firmware.version

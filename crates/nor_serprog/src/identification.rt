@@ -32,8 +32,11 @@ const SHORTEST_PART: u32 = 5;
 impl AnyProgrammer {
     /// Identifies the programmer on a new link, and prepares it for SPI transactions, with the steps of
     /// `Programmer::identify`. This function accepts lower limits: a transaction must be able to send 5 bytes and read
-    /// 1 byte. If the programmer has Q_SERBUF but lacks Q_WRNMAXLEN, 12 bytes must fit into its serial buffer. Under
-    /// the premises that `Programmer::identify` states, the errors are those of `narrow_fault`.
+    /// 1 byte. If the programmer has Q_SERBUF but lacks Q_WRNMAXLEN, 12 bytes must fit into its serial buffer.
+    ///
+    /// If the port is well-behaved, the programmer is idle, and no frame on the link may have been sent only in part,
+    /// then the only errors are those of `narrow_fault`, and a failure of the port because fewer than 59 calls of it
+    /// were left.
     pub fn identify<P: Port + Drop>(
         link: &mut Link<P>,
         hertz: Option<u32>,

@@ -34,7 +34,8 @@ saved_room journal is = search (arith, is_chip_size-in_blocks, saved_few)
 abbrev has_record : List SavedSector → ℕ → Bool
 has_record saved s = is_some (saved_in saved s)
 
--- If the sector numbers of the records are at least `least`, no record has a sector below `least`.
+-- If the sector numbers of the records ascend, and the first one is at least `least`, no record has a sector `s` below
+-- `least`.
 not_below : (sectors least : ℕ) (saved : List SavedSector) (s : ℕ) → AreRising sectors least saved → s < least → has_record saved s ≡ false
 unfolding saved_in
 not_below sectors least [] s rising below = refl
