@@ -23,7 +23,7 @@ pub struct Case {
 }
 
 impl Case {
-    /// Draws a case. One case in five has a chip with block protection, so that errors of protection occur often
+    /// Draws a case. One case in five has a chip with block protection, so that errors of block protection occur often
     /// enough.
     pub fn next(alloc: Global, dice: &mut Dice) -> Result<Case, Fault> {
         let chip = chip_for(alloc, dice)?;
@@ -42,13 +42,13 @@ impl Case {
         self.reaches(address, address)
     }
 
-    /// True if the request includes an address of the sector.
+    /// True if the request includes at least one address of the sector.
     pub fn includes_in(&self, sector: u32) -> bool {
         let first = sector.saturating_mul(SECTOR_LEN);
         self.reaches(first, first.saturating_add(4095))
     }
 
-    // True if the request includes an address from `first` to `last`.
+    // True if the request includes at least one address from `first` to `last`, both inclusive.
     fn reaches(&self, first: u32, last: u32) -> bool {
         let Some(spans) = &self.included else {
             return true;
@@ -104,8 +104,8 @@ fn request_for(
     Ok((request, spans))
 }
 
-// Draws an image for a chip: the chip's bytes with changes, sometimes of all bytes. For one image in 25 the length is
-// changed, too.
+// Draws an image: the chip's bytes, some of which are changed. Some images have other bytes everywhere, and one image
+// in 25 also has another length.
 fn image_for(alloc: Global, dice: &mut Dice, chip: &Chip) -> Result<Vec<u8>, Fault> {
     let mut image = chip.bytes.to_vec(alloc)?;
     contents::alter(dice, image.as_mut_slice());
@@ -141,8 +141,8 @@ fn change_guarded(dice: &mut Dice, chip: &Chip, image: &mut [u8]) {
     }
 }
 
-// Draws the operation of the request: a write, an erase or a protection range. The range is drawn for 8 of 20 chips
-// with block protection, and for 1 of 20 chips without it.
+// Draws what the request asks for: a write, an erase or a protection range. A range is drawn for 8 in 20 chips with
+// block protection, and for 1 in 20 chips without it.
 fn what_for(dice: &mut Dice, chip: &Chip) -> What {
     let ranges = if chip.config.scheme { 8 } else { 1 };
     if dice.hits(ranges, 20) {
@@ -154,7 +154,8 @@ fn what_for(dice: &mut Dice, chip: &Chip) -> What {
     dice.pick(What::Write, &[What::Write, What::Erase])
 }
 
-// Draws the name in the request: none for 19 of 24 requests, the chip's name for 4 of 24, otherwise any name.
+// Draws the chip's name in the request. Of 24 requests, on average 19 have no name, 4 have the right name, and 1 has a
+// name drawn from the right one and others.
 fn name_for(dice: &mut Dice, chip: &Chip) -> Option<ChipName> {
     let right = verdicts::name_of(&chip.config);
     let listed = chips::row(dice).map_or(right, |part| part.name);
@@ -175,8 +176,8 @@ fn spans_for(alloc: Global, dice: &mut Dice, chip: &Chip) -> Result<Vec<Span>, F
     Ok(spans)
 }
 
-// Draws a span. Its greatest length is drawn, too: 300 bytes, one sector, 40,000 bytes, or half of the chip. About one
-// span in 40 may be longer: it ends at the chip's last address or past it.
+// Draws a span. First draws its greatest length: 300 bytes, one sector, 40,000 bytes or half of the chip. One span in
+// 40 may be longer, and ends at the chip's last address or after it. All others end on the chip.
 fn span_for(dice: &mut Dice, size: u32) -> Span {
     let sector = contents::sector(dice, size / SECTOR_LEN);
     let offset = dice.pick(0, &[0, 0x800, 0xFFF, 0x100]);
@@ -196,7 +197,7 @@ fn span_for(dice: &mut Dice, size: u32) -> Span {
     }
 }
 
-// Returns the ranges of a layout that has each span as a region, with all its regions included.
+// Returns the included ranges of a layout in which each span is a region and all regions are included.
 fn ranges_of(alloc: Global, spans: &[Span]) -> Result<Ranges, Fault> {
     let mut names = String::from_str(alloc, "r0")?;
     let mut text = String::new(alloc);

@@ -14,7 +14,7 @@ use nor_probe::Found;
 use nor_session::{Refusal, Report, Request, session};
 use std::alloc::Global;
 
-/// The result of a session.
+/// The result of a session, with the bus and the vault after it.
 #[derive(Drop)]
 pub struct Ran {
     pub answer: Result<Report, Refusal>,
@@ -31,7 +31,7 @@ impl Ran {
     }
 }
 
-/// Runs the session of a case on a bus with this stop, and returns its result.
+/// Runs the session of a case on a bus with the given stop, and returns its result.
 pub fn run(alloc: Global, case: &Case, stop: Stop) -> Result<Ran, Fault> {
     let mut image = case.image.to_vec(alloc)?;
     let bus = case.chip.bus(alloc, stop)?;
@@ -65,9 +65,9 @@ fn is_quiet(bus: &SimBus, chip: &Chip) -> bool {
     now & 0x01 == 0 && (now & 0x02 == 0 || chip.status[0] & 0x02 != 0)
 }
 
-/// Checks that a refused session returned this error, and sent the expected transactions, with no modifying command.
-/// The chip must be idle, with its bytes and non-volatile status bits as before, and with its write enable latch set
-/// only if it was set before. The vault must be unsealed.
+/// Checks that a refused session returned this error and sent the expected transactions, none of them a modifying
+/// command. The chip must be idle, with its bytes and non-volatile status bits as before, and with its write enable
+/// latch set only if it was set before. The vault must be unsealed.
 pub fn check_refused(alloc: Global, case: &Case, refusal: Refusal, ran: &Ran) -> Result<(), Fault> {
     agree_all(&[
         (ran.answer == Err(refusal), "the refusal of a session"),
@@ -81,8 +81,8 @@ pub fn check_refused(alloc: Global, case: &Case, refusal: Refusal, ran: &Ran) ->
     traces::check_lines(sent, lines.text(), "a refused session")
 }
 
-/// Checks that an accepted session succeeded, reached its target, reported the expected work, sealed a journal of
-/// exactly the touched sectors, and sent these lines.
+/// Checks that an accepted session succeeded and sent the transactions `lines`. The chip must equal the target, the
+/// report must count the expected work, and the vault must hold a sealed journal with exactly the touched sectors.
 pub fn check_ended(case: &Case, wanted: &Wanted, lines: &str, ran: &Ran) -> Result<(), Fault> {
     let Ok(report) = ran.answer else {
         return Err(Fault::Differs("an accepted session ends"));
@@ -99,7 +99,7 @@ pub fn check_ended(case: &Case, wanted: &Wanted, lines: &str, ran: &Ran) -> Resu
     traces::check_lines(sent, lines, "a session")
 }
 
-/// Checks that the report describes this chip, and counts the touched sectors, erases and programs of this work.
+/// Checks that the report describes this chip, and counts the touched sectors, erases and programs of `work`.
 pub fn check_report(chip: &Chip, work: Work, report: &Report) -> Result<(), Fault> {
     check_found(chip, &report.found)?;
     let touched = u64::from(report.touched) == work.touched;
@@ -110,7 +110,7 @@ pub fn check_report(chip: &Chip, work: Work, report: &Report) -> Result<(), Faul
     ])
 }
 
-/// Checks that `found` describes `chip`, after the chip's first wait.
+/// Checks that `found` describes `chip`, with status 1 as the chip shows it after the first wait.
 pub fn check_found(chip: &Chip, found: &Found) -> Result<(), Fault> {
     let config = &chip.config;
     let named = found.name == verdicts::name_of(config);
@@ -138,7 +138,7 @@ pub fn check_wanted(wanted: &Wanted, bus: &SimBus) -> Result<(), Fault> {
     ])
 }
 
-// Checks that the vault has a journal of the original chip, with exactly the touched sectors.
+// Checks that the vault holds a journal of the original chip, with exactly the touched sectors.
 fn check_vault(chip: &Chip, wanted: &Wanted, vault: &MemVault) -> Result<(), Fault> {
     let journal = Journal::read(vault.bytes())?;
     check_head(chip, wanted, &journal)?;

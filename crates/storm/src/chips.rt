@@ -1,4 +1,4 @@
-//! Random chips, as values without a bus.
+//! Random chips, as plain values that no bus is connected to.
 
 use crate::contents;
 use crate::dice::Dice;
@@ -21,7 +21,7 @@ pub struct Chip {
 }
 
 impl Chip {
-    /// Returns a bus to a simulated copy of this chip, with this stop.
+    /// Returns a bus to a simulated copy of this chip. The bus stops as `stop` says.
     pub fn bus(&self, alloc: Global, stop: Stop) -> Result<SimBus, Fault> {
         let bytes = self.bytes.to_vec(alloc)?;
         let mut bus = SimBus::new(self.config, bytes, self.status, self.delays)?;
@@ -64,7 +64,7 @@ pub fn small(alloc: Global, dice: &mut Dice) -> Result<Chip, Fault> {
     if dice.hits(1, 20) {
         parameters::damage(dice, &mut shown);
     }
-    // If the SFDP bytes are accepted, the chip has the size and erase types that they describe.
+    // If a probe accepts the SFDP bytes, the chip has the size and erase types that they describe.
     let told = parameters::read(&shown, told.size).unwrap_or(told);
     let id = id_for(dice);
     let Some(config) = Config::new(id, told.size, told.k32, told.k64, false, &shown) else {
@@ -74,7 +74,7 @@ pub fn small(alloc: Global, dice: &mut Dice) -> Result<Chip, Fault> {
     chip_of(alloc, dice, config, status)
 }
 
-// Draws an ID that is not in the table. One ID in 40 means that there is no chip.
+// Draws an ID that is not in the table. One such ID in 40 means that there is no chip.
 fn id_for(dice: &mut Dice) -> [u8; 3] {
     let last = dice.byte();
     let ids = [

@@ -50,8 +50,8 @@ pub fn sector_at(bytes: &[u8], number: u32) -> &[u8] {
         .unwrap_or(&[])
 }
 
-/// Fills a chip with FFh or 00h. One in five chips of up to 256 KiB gets random bytes instead. Then changes up to eight
-/// runs of sectors.
+/// Fills a chip with FFh or 00h, or one in five chips of up to 256 KiB with random bytes. Then changes up to eight runs
+/// of adjacent sectors.
 pub fn paint(dice: &mut Dice, bytes: &mut [u8]) {
     let base = dice.pick(Style::Erased, &[Style::Erased, Style::Cleared]);
     let small = bytes.len() <= 262_144;
@@ -69,8 +69,8 @@ pub fn paint(dice: &mut Dice, bytes: &mut [u8]) {
     }
 }
 
-/// Makes an image from a chip's bytes: changes up to six runs of sectors. For about one in five chips of up to 256 KiB
-/// it first replaces all bytes.
+/// Makes an image from a chip's bytes by changing up to six runs of adjacent sectors. For about one in five chips of up
+/// to 256 KiB, all bytes are replaced before that.
 pub fn alter(dice: &mut Dice, image: &mut [u8]) {
     let small = image.len() <= 262_144;
     if small && dice.hits(1, 10) {
@@ -92,7 +92,7 @@ pub fn alter(dice: &mut Dice, image: &mut [u8]) {
     }
 }
 
-// Changes a run of sectors in this style.
+// Draws a run of sectors, and changes each of them in this style.
 fn change_run(dice: &mut Dice, bytes: &mut [u8], style: Style) {
     let sectors = u32::try_from(bytes.len() / SECTOR_LEN as usize).unwrap_or(0);
     let (from, count) = run_for(dice, sectors);

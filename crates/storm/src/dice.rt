@@ -7,7 +7,7 @@ use rand_pcg::Pcg32;
 #[derive(Drop)]
 pub struct Dice {
     words: Pcg32,
-    // a second stream for stops inside a transaction, so that drawing them does not change the rest of a case
+    // A second stream of numbers, for stops inside a transaction. Drawing from it does not change the rest of a case.
     cuts: Pcg32,
 }
 
@@ -27,8 +27,9 @@ impl Dice {
         below(&mut self.words, n)
     }
 
-    /// Draws the number of bytes that a stop sends of its transaction. Returns `None` for two stops in three, which
-    /// send none. For the others the number is up to 6, up to 260 (the length of a full page program), or all bytes.
+    /// Draws the number of bytes of its transaction that a stop still sends. Two stops in three send none, and the
+    /// result is `None`. For the others the number is from 0 to 6, from 0 to 260 (the length of a full page program),
+    /// or all bytes.
     pub fn cut(&mut self) -> Option<u32> {
         match below(&mut self.cuts, 12) {
             0 | 1 => Some(below(&mut self.cuts, 7)),
@@ -44,7 +45,7 @@ impl Dice {
         self.words.next_u64().checked_rem(n).unwrap_or(0)
     }
 
-    /// Returns true `times` times out of `of` on average.
+    /// Returns true with probability `times`/`of`.
     pub fn hits(&mut self, times: u32, of: u32) -> bool {
         self.below(of) < times
     }

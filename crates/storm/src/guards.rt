@@ -29,7 +29,7 @@ pub fn code_of(status: Status) -> u8 {
     }
 }
 
-/// Returns the non-volatile status bits with these protection bits.
+/// Returns the non-volatile bits of `status`, with the protection bits replaced by those of `code`.
 pub fn with_code(status: Status, code: u8) -> Status {
     let [fixed1, fixed2] = fixed(status);
     let high = if code / 32 % 2 == 0 { 0 } else { 0b0100_0000 };
@@ -41,7 +41,8 @@ pub fn is_undefined(code: u8) -> bool {
     code / 16 % 2 == 1 && code % 8 == 6
 }
 
-// Returns the length of the range at an end of the chip that SEC and BP select, for defined protection bits.
+// Returns the length of the range that SEC and BP select, which is at one end of the chip. The protection bits must be
+// defined.
 fn part_len(code: u8, size: u32) -> u32 {
     let by_sectors = code / 16 % 2 == 1;
     match (by_sectors, code % 8) {
@@ -78,13 +79,13 @@ pub fn guarded_places(code: u8, size: u32) -> (u32, u32) {
     }
 }
 
-/// True if this address is protected, on a chip of this size with block protection.
+/// True if `code` protects this address on a chip of this size. The chip must have block protection.
 pub fn guards(code: u8, size: u32, address: u32) -> bool {
     let (start, len) = guarded_places(code, size);
     start <= address && address < start.saturating_add(len)
 }
 
-/// True if an address of the sector is protected, on a chip of this size with block protection.
+/// True if `code` protects an address of the sector on a chip of this size. The chip must have block protection.
 pub fn guards_some(code: u8, size: u32, sector: u32) -> bool {
     let start = sector.saturating_mul(4096);
     (0..4096).any(|place| guards(code, size, start.saturating_add(place)))

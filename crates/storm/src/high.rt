@@ -51,7 +51,7 @@ impl<B: Bus> Bus for HighBus<B> {
     }
 }
 
-// Sets the bit with this number in each byte. A number above 7 has no effect.
+// Sets the bit with this number in each byte. If the number is above 7, changes nothing.
 fn set_bit(bytes: &mut [u8], bit: u8) {
     let mask = [0x01, 0x02, 0x04, 0x08, 0x10, 0x20, 0x40, 0x80];
     let mask = mask.get(usize::from(bit)).copied().unwrap_or(0);

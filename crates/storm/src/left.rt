@@ -31,11 +31,11 @@ pub struct Left {
     pub sent: Vec<u8>,
     /// True if the call succeeded.
     pub ended: bool,
-    // the model of the chip in the reference implementation
+    // The chip as the reference implementation expects it.
     model: Model,
 }
 
-// A call with a stop, and the lines that it sends without a stop.
+// A call with a stop. `whole` has the lines that the call sends without a stop.
 #[derive(Clone, Copy)]
 struct Call<'a> {
     whole: &'a str,

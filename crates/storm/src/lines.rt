@@ -8,20 +8,20 @@ use nor_chip::SECTOR_LEN;
 use std::alloc::Global;
 use std::fmt::Write;
 
-/// The lines of the transactions sent so far, and the chip's status bits, BUSY and latch, which determine its next
-/// replies. If memory ran out for a line, `whole` returns a fault.
+/// The trace lines of the transactions sent so far, and the chip's status bits, BUSY and write enable latch, which
+/// determine its next replies. If memory ran out for a line, `whole` returns a fault.
 #[derive(Drop)]
 pub struct Lines {
     text: String,
-    // memory ran out for a line
+    // True if memory ran out for a line.
     lost: bool,
-    // the non-volatile status bits
+    // The chip's non-volatile status bits after these transactions.
     status: Status,
     pace: Pace,
 }
 
 impl Lines {
-    /// Returns a list without lines, for a chip in this state.
+    /// Returns an empty list, for transactions that start with `chip` in its present state.
     pub fn new(alloc: Global, chip: &Chip) -> Lines {
         Lines {
             text: String::new(alloc),
@@ -31,7 +31,7 @@ impl Lines {
         }
     }
 
-    /// Returns the list itself, or `Memory` if memory ran out for a line.
+    /// Returns this list, or `Memory` if memory ran out for a line.
     pub fn whole(self) -> Result<Lines, Fault> {
         if self.lost {
             Err(Fault::Memory)
@@ -40,12 +40,12 @@ impl Lines {
         }
     }
 
-    /// Returns the lines.
+    /// Returns the lines as text.
     pub fn text(&self) -> &str {
         self.text.as_str()
     }
 
-    /// Appends a wait: polls until one shows BUSY clear.
+    /// Appends a wait: polls (05h) up to the first one that shows BUSY clear.
     pub fn wait(&mut self) {
         for _ in 0..=self.pace.busy {
             let status1 = self.status[0] | self.pace.bits();
@@ -121,13 +121,13 @@ impl Lines {
         self.lost |= self.text.push_str(text).is_err();
     }
 
-    // Appends the write enable with which every operation begins.
+    // Appends the write enable (06h) with which every operation begins.
     fn enable(&mut self) {
         self.put("06\n");
         self.pace = self.pace.after("06");
     }
 
-    // Appends the wait with which every operation ends.
+    // Appends the wait with which every operation ends, after the command with this opcode.
     fn finish(&mut self, opcode: &str) {
         self.pace = self.pace.after(opcode);
         self.wait();

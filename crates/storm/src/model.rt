@@ -13,15 +13,17 @@ use std::alloc::Global;
 pub struct Stop {
     /// The number of transactions that are carried out before the stop.
     pub after: u64,
-    /// The number of bytes that are sent of the next transaction, all if it has fewer. With `None` no byte is sent.
+    /// The number of bytes of the next transaction that are still sent, or all its bytes if it has fewer. With `None`
+    /// no byte is sent.
     pub cut: Option<u32>,
-    /// The fill byte of a loss of power at the stop, or `None` if the chip keeps its power. Each byte of the page or
-    /// block of a running program or erase becomes the fill byte. If it is even, a running status write is undone.
+    /// The fill byte of a power failure at the stop, or `None` if the chip keeps its power. If a program or an erase is
+    /// in progress, each byte of its page or block becomes the fill byte. If a status write is in progress, an even
+    /// fill byte undoes it.
     pub fill: Option<u8>,
 }
 
 impl Stop {
-    /// No stop.
+    /// A stop that never occurs.
     pub const NEVER: Stop = Stop {
         after: u64::MAX,
         cut: None,
@@ -48,11 +50,11 @@ pub struct Model {
 // The operation that a busy chip performs, so that a loss of power can interrupt it.
 #[derive(Clone, Copy)]
 enum Work {
-    // An operation that began before the model was made. The model doesn't know its kind.
+    // An operation that began before the model was made. The model doesn't know what it is.
     Unknown,
-    // A program or an erase: its first address, and the number of bytes.
+    // A program or an erase, with the first address and the number of bytes of its page or block.
     Bytes(u32, u32),
-    // A status write: the non-volatile status bits before it.
+    // A status write, with the non-volatile status bits before it.
     Status(Status),
 }
 
@@ -65,7 +67,8 @@ impl Model {
         })
     }
 
-    /// Carries out a call with a stop. `whole` has the lines of all transactions that the call sends without a stop.
+    /// Carries out the transactions of a call up to the stop, and then the stop. `whole` has the lines that the call
+    /// sends without a stop.
     pub fn call(&mut self, whole: &str, stop: Stop) {
         let first = lines::first(whole, stop.after);
         for line in first.lines() {
@@ -132,7 +135,8 @@ impl Model {
         Pace::of(&self.chip)
     }
 
-    // Sets BUSY and the write enable latch as after a transaction with this opcode that the chip carried out.
+    // Sets BUSY and the write enable latch to their values after the chip has carried out a transaction with this
+    // opcode.
     fn pass(&mut self, opcode: &str) {
         self.set_pace(self.pace().after(opcode));
     }
@@ -157,8 +161,9 @@ impl Model {
         self.pace().bits() == 0b0000_0010
     }
 
-    // Writes the non-volatile status bits as sent, if the chip is idle, its latch is set and its status isn't locked.
-    // There are two exceptions: an LB bit that is set stays set, and the reserved bit keeps its value.
+    // Writes the non-volatile status bits that are sent, if the chip is idle, its write enable latch is set and its
+    // status isn't locked. There are two exceptions: an LB bit that is set stays set, and the reserved bit keeps its
+    // value.
     fn write_status(&mut self, one: u8, two: u8) {
         let before = guards::kept(self.chip.status);
         if !self.is_ready() || guards::is_locked(before) {
@@ -195,8 +200,8 @@ impl Model {
         }
     }
 
-    // Programs the bytes after the address in `sent`, if the chip accepts the operation: bits change only from 1 to 0.
-    // After the last byte of the page, programming continues at the first byte of the page.
+    // Programs the bytes that follow the address in `sent`, if the chip accepts the operation. Bits change only from 1
+    // to 0. After the last byte of the page, programming continues at the first byte of the same page.
     fn program(&mut self, sent: &str) {
         let address = self.address_of(sent);
         if !self.takes(address, 1) {
@@ -217,7 +222,7 @@ impl Model {
         }
     }
 
-    // Returns the address after the opcode, modulo the chip's size.
+    // Returns the address that follows the opcode in `sent`, modulo the chip's size.
     fn address_of(&self, sent: &str) -> u32 {
         let digits = sent.get(2..8).unwrap_or("");
         let address = u32::from_str_radix(digits, 16).unwrap_or(0);

@@ -8,12 +8,12 @@ pub struct Pace {
     /// The number of polls that will still show BUSY.
     pub busy: u16,
     latch: bool,
-    // the number of polls that show BUSY after each operation
+    // The number of polls that show BUSY after each operation.
     each: u16,
 }
 
 impl Pace {
-    /// Returns the pace of a chip.
+    /// Returns the pace of a chip in its present state.
     pub fn of(chip: &Chip) -> Pace {
         Pace {
             busy: chip.delays.now,

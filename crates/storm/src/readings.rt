@@ -37,7 +37,7 @@ pub enum Told {
 struct Ran {
     answer: Result<Told, Refusal>,
     bus: SimBus,
-    // the trace, with one line for each transaction
+    // The trace, with one line for each transaction.
     sent: Vec<u8>,
 }
 
@@ -204,9 +204,9 @@ fn first_difference(case: &Case) -> Option<Refusal> {
     None
 }
 
-/// Checks the protection or the copy that a successful call on a faulty bus returned. It must be that of the chip that
-/// the replies described to the reference implementation. The reports of copies and verifications, and the results of
-/// probes, are not checked.
+/// Checks the result of a successful call on a faulty bus. `known` has the chip that the replies described to the
+/// reference implementation, and a protection or a copy must be that of this chip. The reports of copies and
+/// verifications, and the results of probes, are not checked.
 pub fn check_known(alloc: Global, known: &Case, told: &Told) -> Result<(), Fault> {
     match told {
         Told::Found | Told::Comparison(_) => Ok(()),
@@ -281,13 +281,13 @@ fn check_report(case: &Case, report: &Report) -> Result<(), Fault> {
 struct Copied {
     answer: Result<Report, Refusal>,
     out: BrokenVault<MemVault>,
-    // the trace, with one line for each transaction
+    // The trace, with one line for each transaction.
     sent: Vec<u8>,
 }
 
-// Checks a readout into a vault that refuses one of its calls. If the readout must return an error even without this
-// refusal, it must return that error here, too. Otherwise it must return error 19 with the number of bytes in the
-// vault, which include those that the vault kept of the refused piece.
+// Checks a readout into a vault that refuses one of its calls. If the readout must return an error even into a vault
+// that refuses nothing, it must return the same error here. Otherwise it must return error 19 with the number of bytes
+// in the vault, including those that the vault kept of the refused piece.
 fn check_refused_copy(alloc: Global, dice: &mut Dice, case: &Case) -> Result<(), Fault> {
     let nth = u64::from(dice.below(case.chip.sectors() / 16)).saturating_add(1);
     let kept = dice.pick(0, &[1, 4095, 65_535]);

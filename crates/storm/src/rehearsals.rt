@@ -14,11 +14,11 @@ use std::alloc::Global;
 // The stops of a rehearsal.
 #[derive(Clone, Copy)]
 struct Plan {
-    // the numbers of transactions after which the session and the two restores stop
+    // The numbers of transactions after which the session, the first restore and the second restore stop.
     stops: [u64; 3],
-    // the number of bytes that are sent of the transaction at each stop; `None` for no byte
+    // The number of bytes of its transaction that each stop still sends, or `None` if it sends none.
     cut: Option<u32>,
-    // the fill byte, if the chip loses its power at each stop
+    // The fill byte, if the chip loses its power at each stop, or `None` if it keeps its power.
     fill: Option<u8>,
 }
 
@@ -39,7 +39,7 @@ struct Ran {
     answer: Result<Rehearsal, Refusal>,
     bus: SimBus,
     vault: MemVault,
-    // the trace, with one line for each transaction
+    // The trace, with one line for each transaction.
     sent: Vec<u8>,
 }
 
@@ -70,7 +70,7 @@ fn whole_of(accepted: Accepted<'_>) -> u64 {
 
 fn run(alloc: Global, case: &Case, plan: Plan) -> Result<Ran, Fault> {
     let mut image = case.image.to_vec(alloc)?;
-    // `rehearse` sets the allowed number of transactions itself.
+    // The stop at 0 transactions has no effect, since `rehearse` sets the allowed number of transactions itself.
     let bus = case.chip.bus(alloc, plan.stop(0))?;
     run_on(alloc, bus, image.as_mut_slice(), &case.request, plan.stops)
 }

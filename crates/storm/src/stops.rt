@@ -17,8 +17,8 @@ use nor_session::Refusal;
 use std::alloc::Global;
 
 /// Runs an accepted session with a random stop, and checks the chip and the vault after it. If the session sealed its
-/// vault, runs restores, up to four of them with stops, until one succeeds. Returns the numbers of stops inside a
-/// transaction.
+/// vault, also runs restores, up to four of them with stops, until one succeeds. Returns how many of the stops were
+/// inside a transaction.
 pub fn check(alloc: Global, dice: &mut Dice, accepted: Accepted<'_>) -> Result<Cuts, Fault> {
     let stop = Stop {
         after: stop_for(dice, accepted.case, accepted.wanted),
@@ -199,7 +199,7 @@ fn give_back(
     Ok(cuts)
 }
 
-// Draws the stop of a restore. Its fill byte is that of the session's stop `first`.
+// Draws the stop of a restore. It has the same fill byte as `first`, the stop of the session.
 fn next_stop(dice: &mut Dice, accepted: Accepted<'_>, first: Stop) -> Stop {
     let (case, wanted) = (accepted.case, accepted.wanted);
     let most = lengths::session(case, wanted.work(&case.chip));

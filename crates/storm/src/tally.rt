@@ -13,27 +13,28 @@ pub fn least(cases: u64) -> u64 {
 /// The numbers of cases of each kind, and of stops inside a transaction.
 #[derive(Clone, Copy)]
 pub struct Tally {
-    /// Accepted sessions. Each was also run with a random stop, and then restored if the vault was sealed by then.
+    /// The number of accepted sessions. Each was also run with a random stop, and then restored if it had sealed its
+    /// vault.
     pub accepted: u64,
-    /// Refused sessions, by the number of their error.
+    /// The numbers of refused sessions. The index is the number of the error.
     pub refused: [u64; 21],
-    /// Accepted restores of the random chips of `restores.rt`.
+    /// The number of accepted restores of the random chips of `restores.rt`.
     pub restored: u64,
-    /// Refused restores of the random chips of `restores.rt`, by the number of their error.
+    /// The numbers of refused restores of the random chips of `restores.rt`. The index is the number of the error.
     pub kept_away: [u64; 21],
-    /// Accepted sessions that were also rehearsed.
+    /// The number of accepted sessions that were also rehearsed.
     pub rehearsed: u64,
-    /// Cases whose chip was also read by each of the reading calls.
+    /// The number of cases whose chip was also read by each of the reading calls.
     pub read: u64,
-    /// Sessions that were also run on a faulty bus.
+    /// The number of sessions that were also run on a faulty bus.
     pub lied: u64,
-    /// Stops inside a transaction.
+    /// The numbers of stops inside a transaction.
     pub cuts: Cuts,
 }
 
-/// Stops inside a transaction, in the accepted sessions that `stops.rt` stops and in the restores after them. Such a
-/// stop sends a drawn number of bytes of its transaction, which may be 0 or all. Stops in rehearsals, refused sessions
-/// and restores of random chips are not counted.
+/// The numbers of stops inside a transaction, in the accepted sessions that `stops.rt` stops and in the restores after
+/// them. Before such a stop, a drawn number of bytes of the transaction is sent, which may be 0 or all. Stops in
+/// rehearsals, refused sessions and restores of random chips are not counted.
 #[derive(Clone, Copy)]
 pub struct Cuts {
     /// The number of these stops in sessions.
@@ -45,7 +46,7 @@ pub struct Cuts {
 }
 
 impl Cuts {
-    /// No stop yet.
+    /// The counts before the first stop: all are 0.
     pub const NONE: Cuts = Cuts {
         sessions: 0,
         restores: 0,
@@ -87,7 +88,7 @@ impl Cuts {
 }
 
 impl Tally {
-    /// No case yet.
+    /// The counts before the first case: all are 0.
     pub const NONE: Tally = Tally {
         accepted: 0,
         refused: [0; 21],

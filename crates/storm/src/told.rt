@@ -22,11 +22,11 @@ use std::alloc::Global;
 /// A faulty bus to a simulated chip, with a trace of its transactions.
 pub type Liar<'a> = TraceBus<HighBus<SpoiltBus<SimBus>>, &'a mut Vec<u8>>;
 
-/// The greatest number of polls in a wait.
+/// The number of polls after which a wait returns `Timeout`.
 const MOST_POLLS: u32 = 65_536;
 
-/// The bytes that a session must have put into its vault, without the end mark and the digest, and whether it must have
-/// sealed the vault.
+/// The bytes that a session must have written to its vault, without the end mark and the digest, and whether the
+/// session must have sealed the vault.
 #[derive(Drop)]
 pub struct Put {
     pub begun: Vec<u8>,
@@ -42,7 +42,7 @@ pub struct Caller<'a> {
 }
 
 impl<'a> Caller<'a> {
-    /// Returns a caller that has put nothing into a vault.
+    /// Returns a caller that has written nothing to a vault.
     pub fn new(alloc: Global, bus: Liar<'a>) -> Caller<'a> {
         let put = Put {
             begun: Vec::new(alloc),
@@ -53,8 +53,8 @@ impl<'a> Caller<'a> {
 }
 
 impl Caller<'_> {
-    /// Runs the session of a case. It takes the chip's configuration and status from the replies. Bytes that it doesn't
-    /// read count as FFh.
+    /// Runs the session of a case. The chip's configuration, status and bytes are what the replies say. Bytes that the
+    /// session doesn't read are taken to be FFh.
     pub fn session(&mut self, case: &Case) -> Result<(), CallError> {
         let (config, status1) = self.find(case.request.named)?;
         let chip = self.identify(config, status1)?;
@@ -62,7 +62,7 @@ impl Caller<'_> {
         self.judge(case, &mut told)
     }
 
-    // Checks the request for errors 1 to 8, scans, checks for errors 9 and 10, and makes the changes.
+    // Checks the request for errors 1 to 8, scans the chip, checks for errors 9 and 10, and makes the changes.
     fn judge(&mut self, case: &Case, told: &mut Case) -> Result<(), CallError> {
         refuse(verdicts::of_opening(told))?;
         if !matches!(told.request.what, What::WpRange { .. }) {
@@ -84,7 +84,7 @@ impl Caller<'_> {
         Ok(())
     }
 
-    /// Runs a reading call. Returns the case with the chip that the replies describe.
+    /// Runs a reading call. If it succeeds, returns the case with the chip that the replies describe.
     pub fn reading(&mut self, reading: Reading, case: &Case) -> Result<Case, CallError> {
         let (config, status1) = self.find(case.request.named)?;
         let chip = unread(self.alloc, config, [status1, 0])?;
@@ -112,7 +112,7 @@ impl Caller<'_> {
         self.give_back(saved, &mut chip)
     }
 
-    // Checks that the journal is for this device and status, and reads the saved sectors in ascending order.
+    // Checks that the journal is for this device and its status bits, and reads the saved sectors in ascending order.
     fn take_saved(&mut self, saved: Saved<'_>, chip: &mut Chip) -> Result<(), CallError> {
         refuse(verdicts::of_unit(chip, saved))?;
         for number in 0..chip.sectors() {
@@ -152,8 +152,8 @@ impl Caller<'_> {
         Err(CallError::Refused(Refusal::Timeout { address }))
     }
 
-    // Finds the chip: waits, reads the ID, and reads SFDP unless the ID is in the table or means that there is no chip.
-    // Returns the chip's configuration and its status 1, or the error of the probe.
+    // Finds the chip: waits, reads the ID, and reads the SFDP. The SFDP is not read if the ID is in the table, or means
+    // that there is no chip. Returns the chip's configuration and its status 1, or the error of the probe.
     fn find(&mut self, named: Option<ChipName>) -> Result<(Config, u8), CallError> {
         let status1 = self.wait(0)?;
         let mut id = [0; 3];
@@ -171,8 +171,8 @@ impl Caller<'_> {
         Ok((config, status1))
     }
 
-    // Reads the SFDP bytes, and returns the configuration that they describe. In this configuration the table follows
-    // the headers, wherever the chip has it.
+    // Reads the SFDP header, the first parameter header and its table, and returns the configuration that they
+    // describe. In this configuration the table is right after the headers, although the chip may have it elsewhere.
     fn find_parameters(&mut self, id: [u8; 3]) -> Result<Config, CallError> {
         let mut signature = [0; 8];
         self.send(&[0x5A, 0x00, 0x00, 0x00, 0x00], &mut signature)?;
@@ -220,7 +220,7 @@ impl Caller<'_> {
         Ok(())
     }
 
-    // Reads a sector into the known bytes of `chip`.
+    // Reads a sector from the chip on the bus, and stores its bytes in `chip`.
     fn take_sector(&mut self, number: u32, chip: &mut Chip) -> Result<(), CallError> {
         let sector = chip
             .bytes
@@ -258,8 +258,8 @@ impl Caller<'_> {
         self.play(lines)
     }
 
-    // Programs a sector. If it wasn't erased, it is read again first, and its pages are compared with what that read
-    // returns.
+    // Programs a sector. A sector that wasn't erased is read again before that, and only the pages in which this read
+    // differs from the target are programmed.
     fn program(&mut self, chip: &mut Chip, wanted: &Wanted, number: u32) -> Result<(), CallError> {
         if !wanted.raises_all(number, 1) {
             self.take_sector(number, chip)?;
@@ -269,8 +269,8 @@ impl Caller<'_> {
         self.play(lines)
     }
 
-    // Sends the write enables and commands of the lines, and waits after each command except a write enable. Skips
-    // lines with a reply: this function makes the waits itself, and its caller has made the reads.
+    // Sends the commands of the lines, and waits after each command except a write enable. Lines with a reply are
+    // skipped: this function makes the waits itself, and its caller has made the reads.
     fn play(&mut self, lines: Lines) -> Result<(), CallError> {
         let lines = lines.whole()?;
         self.play_lines(lines.text())
@@ -298,7 +298,7 @@ impl Caller<'_> {
         Ok(())
     }
 
-    // Compares each touched sector with the target, in ascending order.
+    // Reads each touched sector, in ascending order, and compares it with the target.
     fn compare(&mut self, wanted: &Wanted) -> Result<(), CallError> {
         for number in 0..wanted.count() {
             if wanted.touches(number) {
@@ -325,7 +325,7 @@ fn difference(start: u32, shown: &[u8], wanted: &[u8]) -> Option<Refusal> {
     None
 }
 
-// Returns a chip of which no byte has been read yet: each is FFh.
+// Returns a chip of which no byte has been read yet. Each byte is FFh.
 fn unread(alloc: Global, config: Config, status: Status) -> Result<Chip, Fault> {
     Ok(Chip {
         config,
@@ -335,8 +335,8 @@ fn unread(alloc: Global, config: Config, status: Status) -> Result<Chip, Fault> 
     })
 }
 
-// Returns the case with the chip that the replies describe. The included addresses are only in `included`, which is
-// what the reference implementation reads, and not in the request.
+// Returns the case with the chip that the replies describe. Its included addresses are only in the field `included`,
+// since the reference implementation doesn't use those of the request.
 fn asked_of(alloc: Global, case: &Case, chip: Chip) -> Result<Case, Fault> {
     Ok(Case {
         chip,
@@ -355,7 +355,7 @@ fn asked_of(alloc: Global, case: &Case, chip: Chip) -> Result<Case, Fault> {
     })
 }
 
-// Returns the bytes sent by a line that has no reply.
+// Returns the bytes that a transaction sends, from its line. The line must have no reply.
 fn bytes_of(alloc: Global, line: &str) -> Result<Vec<u8>, Fault> {
     let mut bytes = Vec::new(alloc);
     for pair in line.as_bytes().chunks(2) {
@@ -367,7 +367,7 @@ fn bytes_of(alloc: Global, line: &str) -> Result<Vec<u8>, Fault> {
     Ok(bytes)
 }
 
-// Returns the address of a program or an erase, and 0 for commands on the whole chip or the status registers.
+// Returns the address that a program or a block erase sends, and 0 for any other command.
 fn address_of(command: &[u8]) -> u32 {
     match command {
         [0x02 | 0x20 | 0x52 | 0xD8, high, middle, low, ..] => {

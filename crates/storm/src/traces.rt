@@ -32,7 +32,7 @@ pub fn check_trace(sent: &[u8], wanted: &str, call: &'static str) -> Result<(), 
     check_lines(text(sent)?, wanted, call)
 }
 
-/// Returns a trace as text.
+/// Returns a trace as text, or a fault if it isn't UTF-8.
 pub fn text(sent: &[u8]) -> Result<&str, Fault> {
     match str::from_utf8(sent) {
         Ok(lines) => Ok(lines),

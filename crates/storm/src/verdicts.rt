@@ -1,4 +1,4 @@
-//! The error that a call must return, if any. Errors are checked in the order in which a call must check them.
+//! The error that a call must return, if any. Several errors are checked in the same order as the call must check them.
 
 use crate::cases::Case;
 use crate::chips::Chip;
@@ -18,7 +18,7 @@ pub fn name_of(config: &Config) -> ChipName {
     part_of(config.id).map_or(ChipName::Sfdp, |part| part.name)
 }
 
-/// True if the ID is what a bus without a chip replies.
+/// True if the ID is one that a bus without a chip returns: all FFh or all 00h.
 pub fn is_no_chip(config: &Config) -> bool {
     config.id == [0xFF; 3] || config.id == [0x00; 3]
 }
@@ -70,7 +70,7 @@ pub fn of_opening(case: &Case) -> Option<Refusal> {
     }
 }
 
-// Returns an error for protection bits that the datasheets don't define.
+// Returns an error if the chip has block protection, and its protection bits are not defined by the datasheets.
 fn of_protection(scheme: bool, code: u8) -> Option<Refusal> {
     if scheme && guards::is_undefined(code) {
         Some(Refusal::UndefinedProtection)
@@ -104,7 +104,7 @@ pub fn of_changes(case: &Case, wanted: &Wanted) -> Option<Refusal> {
     }
 }
 
-/// The contents of a journal: the original chip, and its sectors. The touched ones were saved.
+/// The contents of a journal: the original chip, and the change of each of its sectors. The touched sectors were saved.
 #[derive(Clone, Copy)]
 pub struct Saved<'a> {
     pub chip: &'a Chip,
@@ -130,9 +130,9 @@ pub fn of_journal(config: &Config, saved: Saved<'_>) -> Option<Refusal> {
     }
 }
 
-/// Returns error 20 if the journal is for another device. Otherwise returns error 17 if non-volatile status bits that
-/// no restore changes differ from the journal's. With block protection these are all except the protection bits,
-/// without it all.
+/// Returns error 20 if the journal is for another device. Otherwise returns error 17 if status bits that no restore
+/// changes differ from the journal's: the bits that flashnor never changes, or all non-volatile status bits if the chip
+/// has no block protection.
 pub fn of_unit(chip: &Chip, saved: Saved<'_>) -> Option<Refusal> {
     if chip.config.unique != saved.chip.config.unique {
         return Some(Refusal::OtherUnit);

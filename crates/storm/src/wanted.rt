@@ -9,7 +9,7 @@ use nor_layout::Span;
 use nor_session::What;
 use std::alloc::Global;
 
-/// The change of a sector.
+/// How a sector changes.
 #[derive(Clone, Copy)]
 pub struct Sector {
     /// True if some byte must change.

@@ -1,4 +1,4 @@
-//! Tests of the comparisons: they must detect a wrong byte or line.
+//! Tests of this test: its comparisons must detect a wrong byte and a wrong line.
 
 use crate::cases::Case;
 use crate::checks::{self, Ran};
@@ -10,7 +10,7 @@ use crate::{lines, traces, transactions, verdicts};
 use nor_session::Refusal;
 use std::alloc::Global;
 
-/// Plants errors, and returns `Untold` if a comparison doesn't detect one of them.
+/// Plants errors in targets, traces and models. Returns `Untold` if a comparison doesn't detect one of them.
 pub fn check(alloc: Global) -> Result<(), Fault> {
     check_places()?;
     check_session(alloc)?;
@@ -18,7 +18,7 @@ pub fn check(alloc: Global) -> Result<(), Fault> {
     check_refusal(alloc)
 }
 
-// Returns `Untold` unless the result `told` of a comparison is exactly the difference `what`.
+// Returns `Untold` unless `told`, the result of a comparison, is exactly the difference `what`.
 fn must_tell(told: Result<(), Fault>, what: &'static str) -> Result<(), Fault> {
     match told {
         Err(Fault::Differs(found)) if found == what => Ok(()),
