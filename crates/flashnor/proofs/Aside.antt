@@ -16,7 +16,8 @@ use Rattle.flashnor.proofs.Stays.{known_at_rest}
 
 -- ---- what a run reads of a file is what may be left of it
 
--- If a read of at most `len` + 1 bytes returns exactly `len` bytes, these are the whole file.
+-- If `found` is what a read of at most `len` + 1 bytes returns of a file with the contents `seen`, and `found` has
+-- exactly `len` bytes, then `found` is the whole file.
 whole_seen : (len : ℕ) (seen found : Found) → found ≡ option_map (take (len + 1)) seen
     → IfSome found (λ all. length all ≡ len) → found ≡ seen
 whole_seen len seen found is whole = grind (arith, take_all, length-take)
@@ -30,8 +31,8 @@ left_seen files rest may_stay (Some name) len found is whole was =
 
 -- ---- a file that is moved aside
 
--- the case of `pick` in which the file was missing at first and is missing again, for example because it was moved
--- aside
+-- This is the case of `pick` in which the file was missing at first and is missing again, for example because you moved
+-- it aside.
 aside_of : (other : Bor Text) (was found left : Found) (len : ℕ) (mid new : FilesState) → AreAtRest mid
     → ((name : Name) → new.may_leave name (new.view.seen name)) → IsFileFound mid.view (Some other) len found
     → IfSome found (λ all. length all ≡ len) → LeavesAsLong (Some other) mid new → (was ≡ None) × (left ≡ None)
@@ -43,9 +44,9 @@ aside_of other was (Some all) left len mid new rest may_stay is whole long aside
     let has = new.view.seen other.now in
     (has, inl (may_stay other.now), grind (arith, long all (sym seen) has (may_stay other.now)), inr aside)
 
--- Suppose that `left` may be found of the files `new` if the file was as `was` at first. Then some `kept` may be found
--- of them if the file was as `found` before the restore. The two are equal, or the file was missing at first and `left`
--- is `None`.
+-- Suppose that `left` may be found of a file in `new`, if the file was as `was` at first. Then some contents `kept` of
+-- the right length may be found of it, if the file was as `found` before the restore. Either `left` and `kept` are
+-- equal, or both `was` and `left` are `None`.
 pub pick : (one other : Option (Bor Text)) (was found left : Found) (len : ℕ) (mid new : FilesState) → NameOne one other
     → AreAtRest mid → ((name : Name) → new.may_leave name (new.view.seen name)) → IsFileFound mid.view other len found
     → IfSome found (λ all. length all ≡ len) → LeavesAsLong other mid new → MayFind one was left new
@@ -59,8 +60,8 @@ pick (Some one) (Some other) was found left len mid new same rest may_stay is wh
 ]
 pick _ _ was found left len mid new same rest may_stay is whole long can fits = absurd same
 
--- An idle chip with the original chip's configuration is restorable, if each byte and the non-volatile status bits are
--- those of a restorable chip or of the original chip.
+-- An idle chip `later` with the original chip's configuration is restorable if its non-volatile status bits, and each
+-- of its bytes, are those of the restorable chip `state` or of the original chip `first`.
 pub mixed_can_restore : (journal : Journal) (first : Chip) (state later : BusState) → CanRestore journal first state
     → later.chip.config ≡ first.config
     → ((a : ℕ) → (later.chip.bytes a ≡ state.chip.bytes a) ⊎ (later.chip.bytes a ≡ first.bytes a))

@@ -17,12 +17,14 @@ use Rattle.flashnor.proofs.Stays.{StayApart}
 
 -- ---- the file that a task creates is no file of the chip
 
--- a file that is apart from a task's journal is apart from the journal that the task creates
+-- If the name `one` is apart from the journal that a task names, it is also apart from the journal that the task
+-- creates.
 pub two_kept : (nature : Nature) (done : Task) (one : Option (Bor Text)) → AreTwo nature one (named_by done).journal
     → AreTwo nature one (journal_by done)
 two_kept nature done one two = grind arith
 
--- whether each file has one role depends only on the nature of the files, which calls keep
+-- If each file has one role, that stays so after calls, since it depends only on the nature of the files, which calls
+-- keep.
 pub roles_after : {old new : Nature} (job : ChipJob) → new ≡ old → FilesHaveOneRole old job → FilesHaveOneRole new job
 roles_after job same roles = grind arith
 
@@ -33,7 +35,8 @@ module _ (nature : Nature) (job : ChipJob) (roles : FilesHaveOneRole nature job)
   pub status_made : AreTwo nature job.programmer.status (made_by job.task)
   status_made = grind arith
 
--- if each file has one role, and all files stay except the trace and the created file, the chip's files stay too
+-- Suppose that each file has one role, and that all files stay as they were, except the trace and the file that the
+-- task creates. Then the chip's files stay as they were, too (`StayBut`).
 pub stays_but : (job : ChipJob) (old new : FilesState) → FilesHaveOneRole old.view.nature job
     → StayApart job.programmer.trace (made_by job.task) old new → StayBut job.programmer (made_by job.task) old new
 stays_but job old new roles stay = grind arith
@@ -50,7 +53,7 @@ module _ (programmer : Programmer) (old new : FilesState) (image : LeavesNoMoreO
       → KeepsFiles programmer done old new
   keeps_unmade done stay_but leave source empty = grind arith
 
--- A run that changed no file keeps the promise of its task about the files.
+-- A run that changed no file keeps the promise of its task about the files (`KeepsFiles`).
 pub keeps_still : (files : FilesState) (programmer : Programmer) (done : Task) → KeepsFiles programmer done files files
 keeps_still files programmer done = grind arith
 
@@ -62,14 +65,14 @@ keeps_existing job old new file is own stay = grind arith
 
 module _ (old mid new : FilesState) (rest : AreAtRest old) (nature : mid.view.nature ≡ old.view.nature)
     (known : KnownStay old mid) (first : LeaveNoMore old mid) where
-  -- `MakesNothing`, claimed for the files after the chip's files were locked, gives `LeavesOrEmpty` for the files at
-  -- the start.
+  -- If `MakesNothing` holds from the files `mid`, after the chip's files were locked, to the files `new`, then
+  -- `LeavesOrEmpty` holds from the files `old` at the start to the files `new`.
   or_empty : (named : Option (Bor Text)) (file : Bor Text) → named ≡ Some file → MakesNothing named mid new
       → LeavesOrEmpty file.now old new
   or_empty named file is makes left can = grind arith
 
-  -- The promise of a task that writes the chip back holds if its call was not made, because of a fault of the trace or
-  -- of the task's files.
+  -- Suppose that a task writes the chip back, but that its call was not made because of a fault of the trace or of the
+  -- task's files. Then its promise about the files (`KeepsFiles`) holds.
   pub keeps_before : (job : ChipJob) → FilesHaveOneRole old.view.nature job → writes_back job.task ≡ true
       → StayApart job.programmer.trace (made_by job.task) mid new → MakesNothing (journal_by job.task) mid new
       → KeepsFiles job.programmer job.task old new

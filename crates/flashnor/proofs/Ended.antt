@@ -1,4 +1,4 @@
--- How a run ends, from the end of its call and of its job.
+-- How a run ends, derived from how its call and its job end.
 use Rattle.std.proofs.Common.{◌≡◌, ℕ, Bool, List, Option, Result, Ok, Err, IfOk, arith, false, inl, inr, refl, true}
 use Rattle.nor_request.specs.declared.refusal.Refusal.{Refusal}
 use Rattle.nor_request.specs.declared.refusal.Refusal.TheVariants.{Memory}
@@ -34,7 +34,7 @@ starts_memory : (puts : Bool) (view : View) (programmer : Programmer) (fault : F
 starts_memory true view programmer fault is = inl is
 starts_memory false view programmer fault is = inl is
 
--- a fault of reading a chip's file is also one of locking and reading it
+-- Each fault of reading a file of the chip is also a fault of locking and reading the file.
 opening_locks : (view : View) (name : Text) (len : ℕ) (fault : Fault) → IsOpeningFault view name len fault
     → IsLockingFault view name len fault
 opening_locks view name len fault is = grind arith
@@ -52,7 +52,7 @@ pub opens_starts : (view : View) (on_chip : ChipJob) (fault : Fault) → FailsTo
     → FailsToStart (writes_back on_chip.task) view on_chip.programmer fault
 opens_starts view on_chip fault fails = starts_open (writes_back on_chip.task) view on_chip.programmer fault fails
 
--- out of memory is a fault from before the call
+-- Error 18 (out of memory) is one of the faults that a job may return before its call.
 pub fails_memory : (view : View) (on_chip : ChipJob) (fault : Fault) → fault ≡ end.Refused Memory
     → FailsJob view on_chip fault
 fails_memory view on_chip fault is =
@@ -64,7 +64,7 @@ module _ (files after : FilesState) (on_chip : ChipJob) (unwritten : Unwritten) 
       → EndsChipJob files after on_chip unwritten returned
   ends_called outcome returned called reported = grind arith
 
-  -- a fault from before the call ends the job
+  -- If a job returns a fault from before its call, `EndsChipJob` holds.
   fails_ends : (fault : Fault) → FailsJob files.view on_chip fault → EndsChipJob files after on_chip unwritten (Err fault)
   fails_ends (end.Refused refusal) fails = inr fails
   fails_ends (end.Usage fault reason) fails = fails
@@ -96,7 +96,7 @@ module _ (files after : FilesState) (on_chip : ChipJob) (unwritten : Unwritten) 
 
 -- ---- where a fault is printed
 
--- each result may be printed to standard error
+-- `IsPrintedAt` allows standard error for each result.
 pub printed_at : (nature : Nature) (returned : Result Answer Fault) → IsPrintedAt nature returned at.Errors
 printed_at nature (Ok found) = refl
 printed_at nature (Err fault) = tt
@@ -130,7 +130,7 @@ module _ (files after : FilesState) (words : List Text) where
     pub is_status : IsStatus files after words out out' err err' ending
     is_status = grind arith
 
--- `IsStatus` holds for a run that had no memory for its arguments: it changes no file, and prints that fault.
+-- If a run had no memory for its arguments, changed no file and printed that fault, `IsStatus` holds.
 pub is_without_memory : (files : FilesState) (words : List Text) (out out' err err' : Option (List ℕ)) (ending : Ending)
     → HasPrinted (Err (end.Usage usage.Memory because.Unsaid)) all_written at.Errors out out' err err' ending
     → IsStatus files files words out out' err err' ending

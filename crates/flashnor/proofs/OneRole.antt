@@ -1,4 +1,5 @@
--- The faults of comparing two files of a job, or one file with the streams, as faults of the job's roles.
+-- The faults of comparing two files of a job, or a file with a standard stream, are faults that `FailsFileRoles`
+-- allows.
 use Rattle.std.proofs.Common.{◌≡◌, IfErr, IfSome, Option, None, Some, Result, true, arith, inl, inr, refl}
 use Rattle.std.specs.Prelude.{IsSomeAnd}
 use Rattle.std.specs.Borrow.{Bor}
@@ -25,7 +26,8 @@ module _ (nature : Nature) (job : ChipJob) (fault : Fault) where
   pub stream_fails : changes_files job ≡ true → IsUnseenStream nature fault → FailsFileRoles nature job fault
   stream_fails changes unseen = inr (inr (inr (changes, unseen)))
 
--- the file in a role to which the program prints is a file of the job
+-- If the program may print to the file `found` that the job has in `role`, the name of `found` is that of a file of the
+-- job to which the program may print (`IsPrintedName`).
 pub printed_name : (nature : Nature) (job : ChipJob) (role : Role) (found : Option (Bor Text))
     → found ≡ file_with_role job role → IsSomeAnd found (λ given. nature.fails (Printed given.now) ≡ true)
     → IfSome found (λ name. IsPrintedName nature job name.now)

@@ -1,4 +1,4 @@
--- The text that several writes print.
+-- What a run has printed after several writes.
 use Rattle.std.proofs.Common.{◌≡◌, ℕ, Bool, List, Option, Some, Result, Err, IfSome, arith}
 use Rattle.std.proofs.Common.{false, true}
 use Rattle.std.specs.Fmt.{option_append}
@@ -18,31 +18,32 @@ use Rattle.flashnor.specs.declared.printing.Ending.{Ending}
 use Rattle.flashnor.specs.declared.streams.Reports.{Reports}
 use Rattle.flashnor.specs.declared.streams.Reports.TheVariants as at
 
--- The print of a line, and after it that of other lines, append both, if the first line is known.
+-- If a print appends `line`, and the next one appends `others`, then together they append `line` and `others`. If
+-- `line` is not known, nothing is claimed.
 pub appends_both : (line : Option (List ℕ)) (a b c : Option (List ℕ)) (others : List ℕ) → IfSome line (Appends a b) → Appends b c others
     → IfSome (option_append line (Some others)) (Appends a c)
 appends_both line a b c others one two = grind (arith, appends_then)
 
--- `HasPrinted` holds after a run with an answer or help
+-- `HasPrinted` holds after a run with an answer or the help.
 pub printed_well : (outcome : Result Answer Fault) (unwritten : Unwritten) (to : Reports)
     (out out' err err' : Option (List ℕ)) (ending : Ending) (is_printed : Bool)
     → IsAnswered outcome → (is_printed ≡ true → PrintsAnswer outcome out out')
     → EndsWell is_printed unwritten err err' ending → HasPrinted outcome unwritten to out out' err err' ending
 printed_well outcome unwritten to out out' err err' ending is_printed answered prints ends = grind arith
 
--- `HasPrinted` holds after a run with a fault that is not help
+-- `HasPrinted` holds after a run with a fault that is not the help, if the fault was printed to standard error.
 pub printed_badly : (fault : Fault) (unwritten : Unwritten) (out err err' : Option (List ℕ)) (ending : Ending)
     → (IsAnswered (Err fault) → ⊥) → EndsBadly fault unwritten err err' ending
     → HasPrinted (Err fault) unwritten at.Errors out out err err' ending
 printed_badly fault unwritten out err err' ending never ends = grind arith
 
--- `HasPrinted` holds after such a run whose fault was printed to standard output
+-- `HasPrinted` holds after a run with a fault that is not the help, if the fault was printed to standard output.
 pub printed_aside : (fault : Fault) (unwritten : Unwritten) (out out' err : Option (List ℕ)) (ending : Ending)
     → (IsAnswered (Err fault) → ⊥) → EndsBadly fault unwritten out out' ending
     → HasPrinted (Err fault) unwritten at.Output out out' err err ending
 printed_aside fault unwritten out out' err ending never ends = grind arith
 
--- `HasPrinted` holds after such a run that printed nothing
+-- `HasPrinted` holds after a run with a fault that is not the help, if nothing was printed.
 pub printed_nowhere : (fault : Fault) (unwritten : Unwritten) (out err : Option (List ℕ)) (ending : Ending)
     → (IsAnswered (Err fault) → ⊥) → ending ≡ record { status = 1; printed = false; reported = false }
     → HasPrinted (Err fault) unwritten at.Nowhere out out err err ending

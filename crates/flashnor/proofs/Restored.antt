@@ -1,4 +1,5 @@
--- The result of a restore on a modelled bus that is steady or whose chip is idle, from what it promises on every bus.
+-- The result of a restore on a modelled bus that is steady or whose chip is idle. It is derived from what a restore
+-- promises on every bus.
 use Rattle.std.proofs.Common.{◌∙◌, Option, None, Some, Result, Ok, Err, inl, inr, true}
 use Rattle.nor_model.specs.Bus.{BusState}
 use Rattle.nor_driver.specs.OnlyReads.{IsSteadyOrIdle, OnlyReads}
@@ -37,7 +38,7 @@ passes_named (Some name) old found modelled steady_or_idle is =
 
 module _ (journal : Journal) (named : Option ChipName) (old new : BusState) (modelled : IsModelled old)
     (steady_or_idle : IsSteadyOrIdle old) where
-  -- the check of the name returned this error
+  -- If the check of the name returned an error, `HasRestoredNamed` holds with this error.
   pub restored_unnamed : (refusal : Refusal) → HasIdentified named old new (Err refusal)
       → HasRestoredNamed journal named old new (Err refusal)
   restored_unnamed refusal failed =

@@ -1,4 +1,4 @@
--- The configuration of the emulated chips, with any unique ID, and the chip type that they show.
+-- The configuration of an emulated chip with any unique ID, and the chip type as which it is identified.
 use Rattle.std.proofs.Common.{◌≡◌, ◌∙◌, List, ℕ, Option, Ok, sym, arith}
 use Rattle.nor_model.specs.declared.config.Config.{Config}
 use Rattle.nor_probe.specs.Known.{IsKnown, shown_as}
@@ -8,7 +8,8 @@ use Rattle.flashnor.specs.Found.{emulated_part}
 use Rattle.nor_words.specs.Programmer.{IsConfigOfEmulated}
 use Rattle.nor_words.specs.declared.programmer.Emulated.{Emulated}
 
--- A configuration with a given unique ID is that of the emulated chip, except for the unique ID.
+-- If `config` is the configuration of `chip` with the unique ID `number`, it is that of the emulated chip after its
+-- unique ID is replaced by some `unique`.
 made_with : (chip : Emulated) (number : Option (List ℕ)) (config : Config) → IsConfigWith chip number config
     → (unique : List ℕ) × IsConfigOfEmulated chip (record config { unique = unique })
 made_with chip number config is = grind arith

@@ -68,14 +68,14 @@ same_with chip (Some number) one other a b =
 
 -- ---- names
 
--- If two programmers name the same file, or neither names one, a later run that may find some contents under the name
--- of one may also find them under the name of the other (`MayFind`).
+-- Suppose that two programmers name the same file, or that neither names one. If a later run may find the contents
+-- `left` under the name `other`, it may also find them under the name `one` (`MayFind`).
 found_one : (one other : Option (Bor Text)) (was left : Found) (files : FilesState) → NameOne one other
     → MayFind other was left files → MayFind one was left files
 found_one one other was left files same can = grind arith
 
--- if a host crash may leave of a file only what it could leave before, a run may find of it only what it could find
--- before
+-- If a host crash can leave of a file only what it could leave before, then a run may find of that file only what it
+-- could find before.
 less_of : (one other : Option (Bor Text)) (was left : Found) (old new : FilesState) → NameOne one other
     → LeavesNoMoreOf other old new → MayFind one was left new → MayFind one was left old
 less_of one other was left old new same less can = grind arith
@@ -98,8 +98,8 @@ same_journal journal other n sound is reads =
 
 module _ (programmer : Programmer) (file : Text) (start : FilesState) (first : Opened programmer start)
     (other : Programmer) (same : HaveOneChip programmer other) where
-  -- If a host crash can leave no more of the journal than before, and no more may be found of the chip's files than
-  -- before, the journal can still restore the original chip.
+  -- Suppose that a host crash can leave of the journal's file only what it could leave before, and that a run may find
+  -- of the chip's files only what it could find before. Then the journal can still restore the original chip.
   restorable_less : (old new : FilesState) → LeavesNoMore file old new
       → ((found : Found) → MayFind programmer.image first.read.bytes.found found new
       → MayFind programmer.image first.read.bytes.found found old)
@@ -113,7 +113,7 @@ module _ (programmer : Programmer) (file : Text) (start : FilesState) (first : O
     back = λ i s opened can_i can_s from. restorable.back i s opened (image i can_i) (status s can_s) from;
   }
 
-  -- if no image was found at first, the original chip has the bytes that stand for a missing image
+  -- If no image was found at first, each byte of the original chip is FFh.
   first_byte : first.read.bytes.found ≡ None → (a : ℕ)
       → slice_index (replicate first.bus.chip.config.size 255) a ≡ first.bus.chip.bytes a
   first_byte none a = grind arith
@@ -123,14 +123,14 @@ module _ (programmer : Programmer) (file : Text) (start : FilesState) (first : O
 
   module _ (mid : FilesState) (rest : AreAtRest mid) (may_stay : (name : Name) → mid.may_leave name (mid.view.seen name))
       (restorable : IsRestorableFrom file first mid) where
-    -- the journal that the run reads is the one that was left in the file
+    -- The journal that the run reads is the one that an earlier run left in the file.
     one_journal : (journal : Journal) → IsContent journal → IsRead mid.view file 16793662 (text journal)
         → journal ≡ restorable.journal
     one_journal journal is reads =
         same_journal restorable.journal journal 16793662 restorable.sound is (reads (known_at_rest rest file)
         ∙ ap (option_map (take 16793662)) (restorable.left (mid.view.seen file) (may_stay file)))
 
-    -- the chip that a run opens from the files `mid`
+    -- The chip `found` that a run opens from the files `mid`.
     module _ (found : Opened other mid) where
       one_setup : found.bus.chip.config ≡ first.bus.chip.config
       one_setup =
@@ -140,7 +140,7 @@ module _ (programmer : Programmer) (file : Text) (start : FilesState) (first : O
       from : IsOpenedFrom found.read.bytes.found found.read.status.found first.bus.chip.config found.bus.chip
       from = grind (arith, one_setup, opened_size found)
 
-      -- the journal can restore the original chip from the chip that the run opened
+      -- The journal can restore the original chip from the chip `found` that the run opened.
       can_restore_then : (journal : Journal) → IsContent journal → IsRead mid.view file 16793662 (text journal)
           → CanRestore journal first.bus.chip found.bus
       can_restore_then journal is reads =
@@ -150,7 +150,8 @@ module _ (programmer : Programmer) (file : Text) (start : FilesState) (first : O
           (found_one programmer.status other.status _ _ mid same.status
           (left_seen mid rest may_stay other.status _ _ found.read.status.is_found found.read.status.whole _)) from)
 
-    -- the contents `image` and `status` of the chip's files, which a later run may find after a restore
+    -- After a restore, a later run may find the contents `image` and `status` of the chip's files, and opens the chip
+    -- of `later` from them.
     module _ (new : FilesState) (may_stay' : (name : Name) → new.may_leave name (new.view.seen name))
         (kept : LeavesRestorable other file mid new) (image status : Found) (later : BusState)
         (can_image : MayFind programmer.image first.read.bytes.found image new)
@@ -177,7 +178,7 @@ module _ (programmer : Programmer) (file : Text) (start : FilesState) (first : O
           pick programmer.status other.status _ _ status 2 mid new same.status rest may_stay' found.read.status.is_found
           found.read.status.whole kept.status can_status is.two
 
-      -- the bus that a later run would open if none of the files that the restore found were moved aside
+      -- The bus that a later run would open if nobody had moved aside a file that the restore found.
       abbrev state : BusState
       state = record later {
         chip = record later.chip {
@@ -207,7 +208,7 @@ module _ (programmer : Programmer) (file : Text) (start : FilesState) (first : O
           (λ a. grind (arith, kept_image.3, setup, is.bytes a, first_byte)) (grind (arith, kept_status.3, is.kept, first_kept))
           is.idle
 
-    -- `IsRestorableFrom` still holds for the files that a restore leaves at any exit.
+    -- `IsRestorableFrom` still holds for the files that a restore leaves, at any exit.
     restorable_at_exit : (new : FilesState) → ((name : Name) → new.may_leave name (new.view.seen name))
         → KeepsRestorable other file mid new → IsRestorableFrom file first new
     restorable_at_exit new may_stay' (inl none) =
@@ -221,11 +222,11 @@ module _ (programmer : Programmer) (file : Text) (start : FilesState) (first : O
 
   -- ---- at the end
 
-  -- files that durably hold the original chip open to that chip
+  -- If the chip's files durably hold the original chip, each later run opens that chip.
   module _ (chip : Chip) (new : FilesState) (lawful : is_lawful new.view ≡ true) (is : IsSame first.bus.chip chip)
       (put : AreWrittenBack other chip None None new) where
-    -- What may be found of a file of the chip is what was written to it; or nothing is found, and no file is named or
-    -- the file was missing at first.
+    -- Under the name of a file of the chip, a later run finds what was written to the file. As an exception, it finds
+    -- nothing if no file is named, or if the file was missing at first and was moved aside.
     durable : (name given : Option (Bor Text)) (was : Found) (bytes : List ℕ) (left : Found) → (given ≡ None → was ≡ None)
         → NameOne given name → ArePut name bytes None new → MayFind given was left new
         → ((was ≡ None) × (left ≡ None)) ⊎ (left ≡ Some bytes)

@@ -1,4 +1,5 @@
--- Both files of the chip, written one after the other, and the names of those that could not be written.
+-- What the chip's two files hold after they were written one after the other, and the names of those that could not be
+-- written.
 use Rattle.std.proofs.Common.{◌≡◌, ℕ, Bool, List, Option, None, Some, IfSome, arith, true}
 use Rattle.std.specs.Borrow.{Bor}
 use Rattle.nor_model.specs.Chip.{Chip, status_of}
@@ -11,13 +12,13 @@ use Rattle.flashnor.specs.Chips.{AreWrittenBack}
 use Rattle.flashnor.specs.Holding.{AreAmid, AreReady, IsReadyIfNamed, LeavesAmid, MakesDurable}
 use Rattle.nor_lines.specs.Stored.{AreTwo, Happens, IsNot, IsReportedOf}
 
--- Holds if, provided that the files obey their contract, each file is as it was whose name is apart from the given one,
--- if one is given.
+-- Holds if each file whose name is apart from `name` is as it was. If no name is given, all files must be as they were.
+-- Both are required only of files that obey their contract.
 abbrev OthersOf : Option (Bor Text) → (old new : FilesState) → Type 0
 OthersOf name old new = is_lawful old.view ≡ true → (any : Name) → IsNot old.view.nature name any → KeepsFile any old new
 
--- the clauses of `write_if_named` for a file, if one is named; `failed` is the name that is returned if the file could
--- not be written
+-- What `write_if_named` ensures for a file, if one is named. `failed` is the name that it returns if the file could not
+-- be written.
 abbrev PutsBack : Option (Bor Text) → (there : Bool) → (bytes : List ℕ) → (failed : Option (Bor Text))
     → (old new : FilesState) → Type 0
 PutsBack name there bytes failed old new = record {
@@ -30,7 +31,7 @@ PutsBack name there bytes failed old new = record {
 
 -- ---- the other file stays
 
--- A write to the other file keeps two promises about this file: `MakesDurable` and `LeavesAmid`.
+-- A write to the file `other` keeps two promises about the file `one`: `MakesDurable` and `LeavesAmid`.
 other_write_keeps : (there : Bool) (had bytes : List ℕ) (a b c : FilesState) (one other : Option (Bor Text))
     → AreTwo a.view.nature one other → b.view.nature ≡ a.view.nature → OthersOf other b c
     → IsReadyIfNamed one there had bytes a

@@ -1,4 +1,4 @@
--- The chip that the identification finds.
+-- The emulated chip as the identification finds it.
 use Rattle.std.specs.Prelude.{◌≡◌, Option}
 use Rattle.nor_probe.specs.Found.{IsWanted, part_in}
 use Rattle.nor_probe.specs.declared.probes.Found.{Found}
@@ -6,7 +6,7 @@ use Rattle.nor_probe.specs.declared.table.ChipName.{ChipName}
 use Rattle.nor_probe.specs.declared.table.Part.{Part}
 use Rattle.nor_words.specs.declared.programmer.Emulated.{Emulated}
 
--- the chip type that an emulated chip is identified as
+-- Returns the chip type as which an emulated chip is identified.
 abbrev pub emulated_part : Emulated → Part
 emulated_part chip = chip.part
 
@@ -14,8 +14,8 @@ emulated_part chip = chip.part
 abbrev pub HasName : Option ChipName → Emulated → Type 0
 HasName named chip = IsWanted named (emulated_part chip).name
 
--- Holds if the chip that was found has the type of the emulated chip, and the emulated chip has the given name, if one
--- is given.
+-- Holds if the chip that was found has the type of the emulated chip. If a name is given, it must be that of the
+-- emulated chip.
 pub record IsEmulatedFound (named : Option ChipName) (chip : Emulated) (found : Found) : Type 0 where
   pub part : part_in found ≡ emulated_part chip
   pub name : HasName named chip

@@ -16,16 +16,16 @@ use Rattle.flashnor.specs.Chips.{IsContentOf, OpensChip}
 use Rattle.nor_lines.specs.Stored.{IsNot, IsRead, LeavesNoMoreOf}
 use Rattle.flashnor.specs.declared.chips.Content.{Content}
 
--- Holds if a later run may find `found` of the named file: a host crash may leave `found`; or the file was missing at
--- first (`was`), and `found` is `None`. In the second case you may have moved the file aside. If no file is named,
--- `found` must be `None`.
+-- Holds if a later run may find the contents `found` under the given name. Either a host crash may leave `found`; or
+-- the file was missing at first (`was` is `None`), and it is missing again (`found` is `None`), for example because you
+-- moved it aside. If no name is given, `found` must be `None`.
 abbrev pub MayFind : Option (Bor Text) → (was found : Found) → FilesState → Type 0
 MayFind None was found files = found ≡ None
 MayFind (Some name) was found files = files.may_leave name.now found ⊎ ((was ≡ None) × (found ≡ None))
 
--- Holds for an idle chip with the configuration `setup`, whose bytes and non-volatile status bits are those of its
--- files. An image has as many bytes as the chip, a status file has two. FFh stands for a missing image, and clear
--- status bytes for a missing status file.
+-- Holds if `chip` is an idle chip with the configuration `setup`, whose bytes and non-volatile status bits are those of
+-- its files `image` and `status`. An image must have as many bytes as the chip, and a status file two bytes. If the
+-- image is missing, all bytes are FFh. If the status file is missing, both status bytes are 0.
 pub record IsOpenedFrom (image status : Found) (setup : Config) (chip : Chip) : Type 0 where
   pub config : chip.config ≡ setup
   pub whole : IfSome image (λ bytes. length bytes ≡ setup.size)
@@ -34,21 +34,21 @@ pub record IsOpenedFrom (image status : Found) (setup : Config) (chip : Chip) : 
   pub kept : chip.kept ≡ kept_in (unwrap_or status (0 ∷ 0 ∷ []))
   pub idle : chip.busy ≡ 0
 
--- Holds if a host crash may leave only the encoding of this journal in the file of that name.
+-- Holds if a host crash can leave nothing under the name `file` except the encoding of this journal.
 abbrev pub LeavesOneJournal : (file : Text) → Journal → FilesState → Type 0
 LeavesOneJournal file journal files = (left : Found) → files.may_leave file left → left ≡ Some (text journal)
 
--- The contents that a run reads from the chip's files (`IsContentOf`), and a bus to the chip with these contents
--- (`OpensChip`).
+-- The chip that a run opens from its files: `content` is what it reads from these files (`IsContentOf`), and `bus` is a
+-- bus to a chip with these contents (`OpensChip`).
 pub record Opened (programmer : Programmer) (files : FilesState) : Type 0 where
   pub content : Content
   pub read : IsContentOf files.view programmer content
   pub bus : BusState
   pub opens : OpensChip programmer content bus
 
--- Holds if `Is` holds for each bus whose chip a later run may open. That chip has the configuration of the chip of
--- `first`. It is opened (`IsOpenedFrom`) from some contents that the later run may find of the chip's files
--- (`MayFind`).
+-- Holds if `Is` holds for every bus whose chip a later run may open. Such a chip has the configuration of the chip of
+-- `first`. Its bytes and status bits come from an image and a status file that the later run may find (`MayFind`,
+-- `IsOpenedFrom`).
 abbrev pub LeavesOnly : {programmer : Programmer} {old : FilesState} → Opened programmer old → (BusState → Type 0)
     → FilesState → Type 0
 LeavesOnly {programmer} first Is files = (image status : Found) (opened : BusState)
@@ -56,8 +56,8 @@ LeavesOnly {programmer} first Is files = (image status : Found) (opened : BusSta
     → MayFind programmer.status first.read.status.found status files
     → IsOpenedFrom image status first.bus.chip.config opened.chip → Is opened
 
--- Holds if a host crash may leave only one valid journal in the file of that name. That journal can restore the
--- original chip (the chip of `first`) from each chip that a later run may open (`LeavesOnly`).
+-- Holds if a host crash can leave only one valid journal under the name `file`. This journal can restore the original
+-- chip (the chip of `first`) from every chip that a later run may open (`LeavesOnly`).
 pub record IsRestorableFrom {programmer : Programmer} {old : FilesState} (file : Text) (first : Opened programmer old)
     (files : FilesState) : Type 0 where
   pub journal : Journal
@@ -65,21 +65,23 @@ pub record IsRestorableFrom {programmer : Programmer} {old : FilesState} (file :
   pub left : LeavesOneJournal file journal files
   pub back : LeavesOnly first (CanRestore journal first.bus.chip) files
 
--- Holds if the name is apart from each name that the programmer gives to its image, status file and trace.
+-- Holds if `name` is apart from the names of the programmer's image, status file and trace, as far as these are given
+-- (`IsNot`).
 pub record IsNoFileOf (nature : Nature) (programmer : Programmer) (name : Text) : Type 0 where
   pub image : IsNot nature programmer.image name
   pub status : IsNot nature programmer.status name
   pub trace : IsNot nature programmer.trace name
 
--- Holds if no file is named, if the named file was missing, or if a host crash leaves it with as many bytes as it had.
+-- Holds if no file is named, if the named file was missing, or if a host crash can leave it only with as many bytes as
+-- it had.
 abbrev pub LeavesAsLong : Option (Bor Text) → (old new : FilesState) → Type 0
 LeavesAsLong None old new = ⊤
 LeavesAsLong (Some name) old new = (had : List ℕ) → old.view.seen name.now ≡ Some had → (left : Found)
     → new.may_leave name.now left → IsSomeAnd left (λ has. length has ≡ length had)
 
--- Holds if the original chip is not lost in a change whose journal is in the file of this name; that file was missing
+-- Holds if the original chip is not lost in a change with its journal in the file of this name, which was missing
 -- before. One of two cases holds, and `sealed` says which. `same`: each chip that a later run may open (`LeavesOnly`)
--- is the original chip. `back`: a host crash may leave only one journal, which can restore the original chip
+-- is the original chip. `back`: a host crash can leave only one journal, and this journal can restore the original chip
 -- (`IsRestorableFrom`). A file of the chip that existed keeps its length. Every other file is as it was, if its name is
 -- apart from those of the trace, the chip's files and the journal.
 pub record LeavesOriginalRestorable (programmer : Programmer) (file : Text) (old new : FilesState) : Type 0 where
@@ -93,9 +95,9 @@ pub record LeavesOriginalRestorable (programmer : Programmer) (file : Text) (old
   pub same : sealed ≡ false → LeavesOnly first (λ opened. IsSame first.bus.chip opened.chip) new
   pub back : sealed ≡ true → IsRestorableFrom file first new
 
--- Holds if a host crash can leave no contents that it couldn't leave before, for the following files. They are the
--- chip's files, even if the trace has the name of one of them, and each file whose name is apart from those of the
--- trace and the journal. The journal's file can also be left empty, if it was missing.
+-- Holds if a host crash can leave only contents that it could leave before, in each of these files: the chip's files
+-- (even if the trace has the name of one of them), and each file whose name is apart from those of the trace and the
+-- journal. A journal's file that was missing may also be left empty.
 pub record LeavesAll (programmer : Programmer) (file : Text) (old new : FilesState) : Type 0 where
   pub image : LeavesNoMoreOf programmer.image old new
   pub status : LeavesNoMoreOf programmer.status old new
@@ -103,26 +105,25 @@ pub record LeavesAll (programmer : Programmer) (file : Text) (old new : FilesSta
       → LeavesNoMore name old new
   pub empty : LeavesOrEmpty file old new
 
--- Holds in one of two cases after a change with its journal in the file of this name. First case (`LeavesAll`): a host
+-- Holds after a change with its journal in the file of this name, in one of two cases. First case (`LeavesAll`): a host
 -- crash can leave only what it could leave before, except for the trace and an empty file for the journal. Second case
 -- (`LeavesOriginalRestorable`): the original chip is not lost.
 abbrev pub KeepsOriginalFiles : Programmer → (file : Text) → (old new : FilesState) → Type 0
 KeepsOriginalFiles programmer file old new =
     LeavesAll programmer file old new ⊎ LeavesOriginalRestorable programmer file old new
 
--- Holds if a host crash can leave no contents that it couldn't leave before, for the following files. They are the
--- chip's files and the journal, even if the trace has the name of one of them, and each file whose name is apart from
--- the trace's.
+-- Holds if a host crash can leave only contents that it could leave before, in each of these files: the chip's files
+-- and the journal (even if the trace has the name of one of them), and each file whose name is apart from the trace's.
 pub record LeavesSources (programmer : Programmer) (file : Text) (old new : FilesState) : Type 0 where
   pub image : LeavesNoMoreOf programmer.image old new
   pub status : LeavesNoMoreOf programmer.status old new
   pub journal : LeavesNoMore file old new
   pub others : (name : Text) → IsNot old.view.nature programmer.trace name → LeavesNoMore name old new
 
--- Holds if a restore from the journal in the file of this name keeps each original chip restorable. If the journal can
--- restore an original chip from the opened chip (`found`), it can also restore that chip from each chip that a later
--- run may open (`LeavesOnly`). A file of the chip that existed keeps its length. The journal's file is as it was, and
--- so is each file whose name is apart from those of the trace and the chip's files.
+-- Holds if a restore from the journal in the file of this name keeps every original chip restorable. If the journal can
+-- restore an original chip from the chip that the restore opened (`found`), it can also restore that original chip from
+-- every chip that a later run may open (`LeavesOnly`). A file of the chip that existed keeps its length. The journal's
+-- file is as it was, and so is each file whose name is apart from those of the trace and the chip's files.
 pub record LeavesRestorable (programmer : Programmer) (file : Text) (old new : FilesState) : Type 0 where
   pub others : (name : Text) → IsNoFileOf old.view.nature programmer name → KeepsFile name old new
   pub image : LeavesAsLong programmer.image old new
@@ -134,9 +135,9 @@ pub record LeavesRestorable (programmer : Programmer) (file : Text) (old new : F
   pub stays : KeepsFile file old new
   pub back : (first : Chip) → CanRestore journal first found.bus → LeavesOnly found (CanRestore journal first) new
 
--- Holds in one of two cases after a restore from the journal in the file of this name. First case (`LeavesSources`): a
+-- Holds after a restore from the journal in the file of this name, in one of two cases. First case (`LeavesSources`): a
 -- host crash can leave only what it could leave before, except for the trace. Second case (`LeavesRestorable`): the
--- journal can still restore each original chip that it could restore from the chip that the run opened.
+-- journal can still restore every original chip that it could restore from the chip that the run opened.
 abbrev pub KeepsRestorable : Programmer → (file : Text) → (old new : FilesState) → Type 0
 KeepsRestorable programmer file old new =
     LeavesSources programmer file old new ⊎ LeavesRestorable programmer file old new

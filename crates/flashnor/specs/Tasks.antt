@@ -8,7 +8,7 @@ use Rattle.nor_words.specs.declared.job.JournalUse.TheVariants as uses
 use Rattle.nor_words.specs.declared.job.Task.{Task}
 use Rattle.nor_words.specs.declared.job.Task.TheVariants as task
 
--- True if a change keeps its journal in a file.
+-- True for a change that keeps its journal in a file, and false for a rehearsal.
 abbrev pub keeps_journal : JournalUse → Bool
 keeps_journal (uses.Journal file) = true
 keeps_journal (uses.Rehearse stops) = false
@@ -20,7 +20,8 @@ writes_back (task.Change change) = keeps_journal change.journal_use
 writes_back (task.Restore journal) = true
 writes_back _ = false
 
--- the name of the journal's file, if the task creates one; `None` for a rehearsal, whose journal is in memory
+-- Returns the name of the file in which the task creates its journal, or `None` if it creates none. A rehearsal creates
+-- none, since its journal is in memory.
 abbrev pub journal_by : Task → Option (Bor Text)
 journal_by (task.Change change) = journal_of change.journal_use
 journal_by _ = None

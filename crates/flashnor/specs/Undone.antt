@@ -16,10 +16,10 @@ use Rattle.nor_lines.specs.declared.answers.Answer.{Answer}
 use Rattle.flashnor.specs.declared.holding.Unwritten.{Unwritten}
 use Rattle.nor_lines.specs.declared.messages.Fault.{Fault}
 
--- Holds for the files `new` that a run finds after an earlier run left the files `old`, even if that run was killed or
--- the host crashed. The files `new` are at rest. A host crash can leave nothing of the journal's file that it couldn't
--- leave before. The contents of the chip's files that may be found (`MayFind`) could be found before; a file that was
--- missing at first may have been moved aside.
+-- Holds if a run may find the files `new` after an earlier run left the files `old`, even if that run was killed or the
+-- host crashed. The files `new` are at rest. A host crash can leave of the journal's file only what it could leave
+-- before. What may be found of the chip's files (`MayFind`) could be found before. You may have moved aside a file that
+-- was missing at first.
 pub record Follows {programmer : Programmer} {start : FilesState} (file : Text) (first : Opened programmer start)
     (old new : FilesState) : Type 0 where
   pub rest : AreAtRest new
@@ -35,7 +35,7 @@ NameOne None None = ⊤
 NameOne (Some one) (Some other) = other.now ≡ one.now
 NameOne _ _ = ⊥
 
--- Holds if the two programmers have the same chip, unique ID, image and status file; trace, `stop=`, `busy=` and
+-- Holds if the two programmers have the same chip, unique ID, image and status file. Their trace, `stop=`, `busy=` and
 -- `power=` may differ.
 pub record HaveOneChip (one other : Programmer) : Type 0 where
   pub chip : other.chip ≡ one.chip
@@ -48,9 +48,9 @@ abbrev pub Restores : Text → Task → Type 0
 Restores file (task.Restore journal) = journal.now ≡ file
 Restores file _ = ⊥
 
--- Holds if a run restores from a journal that can restore the original chip. An earlier run left that journal, in the
--- files `old`. The restoring run has the same chip and chip's files as `programmer` (`HaveOneChip`), finds the files
--- `mid`, has this result, and leaves the files `new`.
+-- Holds for a run `on_chip` that restores from a journal which can restore the original chip. An earlier run left this
+-- journal in the files `old`. The restoring run has the same chip and the same files of the chip as `programmer`
+-- (`HaveOneChip`). It finds the files `mid`, has the result `returned`, and leaves the files `new`.
 pub record RestoresFrom {programmer : Programmer} {start : FilesState} (file : Text)
     (first : Opened programmer start) (on_chip : ChipJob) (unwritten : Unwritten) (returned : Result Answer Fault)
     (old mid new : FilesState) : Type 0 where

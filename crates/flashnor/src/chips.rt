@@ -20,8 +20,8 @@ pub struct Content {
     pub status: [u8; 2],
 }
 
-/// Reads the chip's files. FFh stands for the bytes of an image that is missing or not named, and clear status bytes
-/// for a status file that is missing or not named. Returns the faults of `read_whole`, or error 18 if memory runs out.
+/// Reads the chip's files. If an image is missing or not named, all bytes are FFh. If a status file is missing or not
+/// named, both status bytes are 0. Returns the faults of `read_whole`, or error 18 if memory runs out.
 pub fn read_content<'a, R: Store>(rt: &R, programmer: &Programmer<'a>) -> Result<Content, Fault<'a>>
     ensures len { IfOk result (λ content. vec_len content.bytes ≡ (emulated_part programmer.now.chip).size) }
     ensures ok { IfOk result (IsContentOf (R.state rt.now).view programmer.now) }
@@ -33,9 +33,9 @@ pub fn read_content<'a, R: Store>(rt: &R, programmer: &Programmer<'a>) -> Result
     Ok(content_of(rt.alloc(), size, image, status)?)
 }
 
-/// Returns the contents of a chip of `size` bytes: the given bytes and status bytes, or FFh and clear status bytes for
-/// those that are missing. A given image must have `size` bytes, given status bytes must be two. The error is that
-/// memory ran out.
+/// Returns the contents of a chip of `size` bytes. Without an image all bytes are FFh, and without status bytes both
+/// are 0. A given image must have `size` bytes, and given status bytes must be two. Returns an error if memory runs
+/// out.
 pub fn content_of(
     alloc: Global,
     size: u32,
@@ -99,8 +99,8 @@ pub fn read_whole<'a, R: Store>(
     Ok(Some(bytes))
 }
 
-/// Returns a bus to the emulated chip, which is idle and has these contents. `content` must have as many bytes as the
-/// chip.
+/// Returns a bus to the emulated chip, which is idle and has the given contents. `content` must have as many bytes as
+/// the chip.
 ///
 /// The bus carries out the number of transactions that `stop=` gives, or `u64::MAX` without it. After each operation
 /// the chip is busy for the number of polls that `busy=` gives, or for none without it. If `power=` is given, a stop
@@ -115,8 +115,8 @@ pub fn start(programmer: &Programmer<'_>, content: Content) -> SimBus
     bus
 }
 
-// Returns a bus to the emulated chip, which is idle and has these contents. The bus carries out no transaction yet, and
-// a stop keeps the chip's power.
+// Returns a bus to the emulated chip, which is idle and has the given contents. The bus carries out no transaction yet,
+// and a stop does not cut the chip's power.
 fn hold(programmer: &Programmer<'_>, content: Content) -> SimBus
     requires { vec_len content.bytes ≡ (emulated_part programmer.now.chip).size }
     ensures held { HoldsFiles programmer.now content (⟦<SimBus as Bus>⟧.state result) }

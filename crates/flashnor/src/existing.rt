@@ -1,5 +1,4 @@
-//! Sessions whose journal already exists: the run ends with a fault, before any call to the engine, and the journal
-//! stays as it is.
+//! Ends a session whose journal already exists with a fault, before any call to the engine. The journal stays as it is.
 ghost use Rattle.std.specs.Prelude.{◌≡◌, IfErr, IfSome, IsSome, IsSomeAnd, Some, true};
 ghost use Rattle.nor_files.specs.Files.{AreAtRest, Name, KeepsFile, is_lawful};
 ghost use Rattle.nor_files.specs.Files.Failure.{There};
@@ -18,7 +17,7 @@ use nor_lines::{Fault, FileFault, create_log};
 use nor_words::{ChipJob, Task};
 use std::io::BufWriter;
 
-/// Returns the name of the task's journal, if the task is to create its file and a file or link of that name exists.
+/// Returns the name of the journal that the task is to create, if a file or link of that name already exists.
 pub fn existing_journal<'a, R: Store>(rt: &R, task: &Task<'a>) -> Option<&'a str>
     ensures { IfSome result (λ file. (journal_by task.now ≡ Some file)
         × Happens (R.state rt.now).view (There file.now)) }
@@ -33,10 +32,10 @@ pub fn existing_journal<'a, R: Store>(rt: &R, task: &Task<'a>) -> Option<&'a str
 ///
 /// The trace is first compared with the other files of the job. Then everything that a session reads before it creates
 /// its journal is read, and the trace is created or opened. The first fault of these steps is returned, or file fault 4
-/// if there is none.
+/// with the journal's name if there is none.
 ///
-/// The trace is the only file that is created, and only if its name is apart from the names of the job's other files.
-/// `Disk` does not truncate it, since nothing is written to it.
+/// The trace is the only file that is created, and only if the store reports that its name and the name of each other
+/// file of the job refer to different files. `Disk` does not truncate the trace, since nothing is written to it.
 pub fn fault_before<'a, R: Store>(rt: &mut R, job: &ChipJob<'a>, journal: &'a str) -> Fault<'a>
     requires makes { journal_by job.now.task ≡ Some journal }
     requires there { Happens (R.state rt.old).view (There journal.now) }
@@ -57,7 +56,8 @@ pub fn fault_before<'a, R: Store>(rt: &mut R, job: &ChipJob<'a>, journal: &'a st
     }
 }
 
-// Reads what a session reads before it creates its journal, and creates or opens the trace, in the order of a session.
+// Reads, in the order of a session, what a session reads before it creates its journal. Also creates or opens the
+// trace.
 fn read_all<'a, R: Store>(rt: &mut R, job: &ChipJob<'a>) -> Result<(), Fault<'a>>
     requires { IsSome (journal_by job.now.task) }
     ensures fails { IfErr result (FailsJob (R.state rt.old).view job.now) }
@@ -71,7 +71,7 @@ fn read_all<'a, R: Store>(rt: &mut R, job: &ChipJob<'a>) -> Result<(), Fault<'a>
     Ok(())
 }
 
-/// Creates or opens the trace's file, if a trace is requested, and returns a buffered writer to it.
+/// Creates or opens the trace's file, if a trace is requested, and returns a buffered writer to the file.
 pub fn create_trace<'a, R: Store>(
     rt: &mut R,
     trace: Option<&'a str>,

@@ -1,4 +1,4 @@
-//! The chip's files in a run that changes the chip: from when they are locked and read until they are written back.
+//! Locks and reads the chip's files in a run that changes the chip, and writes them back at the end of the run.
 ghost use Rattle.std.specs.Prelude.{◌≡◌, ◌+◌, true, false, List, ℕ, None, Some, IfErr, IfOk, IfSome, IsSomeAnd, OnErr};
 ghost use Rattle.std.specs.Prelude.{OnOk, option_map, vec_len};
 ghost use Rattle.nor_files.specs.Calls.{LeaveNoMore};
@@ -20,7 +20,7 @@ use nor_lines::{Fault, FileFault, reading, taken, unheld, unmade, unread};
 use nor_words::{Programmer, Task};
 use std::io;
 
-/// The initial contents of the chip, and which of its files existed.
+/// The initial contents of the chip, and whether its image and its status file existed.
 #[derive(Drop)]
 pub struct Held {
     pub content: Content,
@@ -69,8 +69,8 @@ pub fn hold_content<'a, R: Store>(
     })
 }
 
-// Locks and reads a file of the chip, which must have `len` bytes, if one is named and it exists; then syncs the file.
-// Syncs the directory of a named file even if the file is missing.
+// Locks, reads and syncs a file of the chip, which must have `len` bytes. Returns `None` if no file is named, or if the
+// named file is missing. Syncs the directory of a named file even if the file is missing.
 fn hold_whole<'a, R: Store>(
     rt: &mut R,
     name: Option<&'a str>,
@@ -100,8 +100,8 @@ fn hold_whole<'a, R: Store>(
     }
 }
 
-// Reads a file of the chip, which exists and must have `len` bytes, and syncs it. Syncs its directory too, since a run
-// that created the file may have been killed before it synced the directory.
+// Reads a file of the chip that was found to exist, and syncs it. The file must have `len` bytes. Syncs its directory
+// too, since a run that created the file may have been killed before it synced the directory.
 fn read_held<'a, R: Store>(rt: &mut R, name: &'a str, len: u32) -> Result<Vec<u8>, Fault<'a>>
     ensures nature { (R.state rt.new).view.nature ≡ (R.state rt.old).view.nature }
     ensures len { IfOk result (λ bytes. vec_len bytes ≡ len) }
@@ -125,8 +125,9 @@ fn read_held<'a, R: Store>(rt: &mut R, name: &'a str, len: u32) -> Result<Vec<u8
     }
 }
 
-/// The names of the chip's files that could not be written after a call, of the trace if it lost a line, and of the
-/// session's journal if it was removed, replaced or truncated after it was sealed.
+/// The names of files that were not written or were lost in a run. The image and the status file are named if they
+/// could not be written, and the trace if it lost a line. The journal is named if it was removed, replaced or truncated
+/// after the session sealed it.
 #[derive(Clone, Copy)]
 pub struct Unwritten<'a> {
     pub image: Option<&'a str>,
@@ -135,7 +136,7 @@ pub struct Unwritten<'a> {
     pub journal: Option<&'a str>,
 }
 
-/// Returns the name of the journal that the task created, if its file doesn't have it any more.
+/// Returns the name of the journal that the task created, if the file of that name no longer holds the journal.
 pub fn lost_journal<'a, R: Store>(rt: &R, task: &Task<'a>) -> Option<&'a str>
     ensures { IsReportedOf (journal_by task.now) result (R.state rt.now).view }
 {
@@ -146,9 +147,9 @@ pub fn lost_journal<'a, R: Store>(rt: &R, task: &Task<'a>) -> Option<&'a str>
 }
 
 /// Writes the chip's bytes and status bytes to the files that are named. `image_there` and `status_there` say which of
-/// them existed: such a file is overwritten in place, another one is created. Writes the status file even if the image
-/// could not be written. Returns the name of the image and that of the status file, each if the file could not be
-/// written.
+/// the files existed: such a file is overwritten in place, and another one is created. Writes the status file even if
+/// the image could not be written. Returns the name of the image and the name of the status file, each only if that
+/// file could not be written.
 pub fn write_back<'a, R: Store>(
     rt: &mut R,
     programmer: &Programmer<'a>,
@@ -178,8 +179,8 @@ pub fn write_back<'a, R: Store>(
     (image, status)
 }
 
-// Writes `bytes` to the file of this name, if one is given: overwrites it if it existed (`there`), or creates it.
-// Returns the name if that fails.
+// Writes `bytes` to the file of this name, if one is given. A file that existed (`there`) is overwritten in place, and
+// another one is created. Returns the name if the write fails.
 fn write_if_named<'a, R: Store>(
     rt: &mut R,
     name: Option<&'a str>,
@@ -223,9 +224,9 @@ fn write_over<R: Store>(rt: &mut R, name: &str, bytes: &[u8]) -> io::Result<()>
     rt.sync(name)
 }
 
-// Creates a file with these bytes. Until all of them are synced the file is empty, or has one byte more than `bytes`.
-// Therefore, if the files obey the contract of `Store`, a host crash leaves no other bytes in a file of the right
-// length.
+// Creates a file with these bytes. Until all bytes are synced, the file is empty or has one byte more than `bytes`.
+// Therefore, if the files obey the contract of `Store`, a host crash can leave the file with as many bytes as `bytes`
+// only if its contents are `bytes`.
 fn make_with<R: Store>(rt: &mut R, name: &str, bytes: &[u8]) -> io::Result<()>
     ensures nature { (R.state rt.new).view.nature ≡ (R.state rt.old).view.nature }
     ensures others { is_lawful (R.state rt.old).view ≡ true → OthersStay name.now (R.state rt.old) (R.state rt.new) }

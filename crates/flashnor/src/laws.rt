@@ -18,8 +18,8 @@ use nor_files::Store;
 /// host crash may leave (`IsRestorableFrom`). Then the journal can still restore that chip after each run that restores
 /// from it, wherever that run was interrupted.
 ///
-/// `ends`: the first of these runs that returns an answer and writes all files leaves the original chip, even if the
-/// host then crashes.
+/// `ends`: a run that restores from the journal, returns an answer and writes all files leaves the original chip, even
+/// if the host then crashes.
 ///
 /// Each of these runs must have the same chip, unique ID, image and status file as the change (`HaveOneChip`). Each run
 /// must find the files at rest (`AreAtRest`), which requires that they obey the contract of `Store`. Between two runs

@@ -11,21 +11,23 @@ use nor_lines::{
 };
 use std::io::Write;
 
-/// The end of a run, after everything that can be printed was printed.
+/// How a run ended, and what it could print.
 #[derive(Clone, Copy)]
 pub struct Ending {
     /// The exit status: 0 if the answer or the help was printed and every file was written, otherwise 1.
     pub status: u8,
     /// True if the answer or the help was printed.
     pub printed: bool,
-    /// True if each of these lines was printed: that of the fault, if there is one, that of standard output if the
-    /// answer or the help could not be printed, and that of each file that could not be written.
+    /// True if each of these messages was printed: that of the fault, if there is one; that of standard output, if the
+    /// answer or the help could not be printed; and that of each file that could not be written.
     pub reported: bool,
 }
 
-/// Prints the result of a run: its answer or help to `output`; its fault and a line for each file that could not be
-/// written to `errors`, or as `to` says. If a line of the answer or of the help can't be printed, prints file fault 2
-/// of standard output to `errors`, and the status is 1. Any other line that can't be printed is lost.
+/// Prints the result of a run. An answer or the help is printed to `output`, and a message for each file that could not
+/// be written to `errors`. A fault, with the messages of such files, is printed where `to` says.
+///
+/// If the answer or the help can't be printed, prints file fault 2 of standard output to `errors`, and the status is 1.
+/// Any other message that can't be printed is lost.
 #[tactic(auto, using(crate::proofs::Printed::printed_well, crate::proofs::Printed::printed_badly))]
 pub fn print_end<O: Write, E: Write>(
     output: &mut O,
@@ -60,7 +62,7 @@ pub fn print_end<O: Write, E: Write>(
     }
 }
 
-// Prints the line of the run's fault, and those of files that could not be written. The status is 1.
+// Prints the message of the run's fault, and a message for each file that could not be written. The status is 1.
 #[tactic(auto, using(crate::proofs::Printed::appends_both))]
 fn end_badly<W: Write>(errors: &mut W, fault: &Fault<'_>, unwritten: Unwritten<'_>) -> Ending
     ensures { EndsBadly fault.now unwritten.entry (W.contents errors.old) (W.contents errors.new) result }
@@ -74,8 +76,9 @@ fn end_badly<W: Write>(errors: &mut W, fault: &Fault<'_>, unwritten: Unwritten<'
     }
 }
 
-// Prints the line of standard output, if the answer or help could not be printed, and the lines of files that could not
-// be written. The status is 0 if the answer or help was printed and all files were written, and otherwise 1.
+// Prints the message of standard output, if the answer or the help could not be printed, and a message for each file
+// that could not be written. The status is 0 if the answer or the help was printed and all files were written, and
+// otherwise 1.
 #[tactic(auto, using(nor_lines::proofs::Printed::appends_then))]
 fn end_well<W: Write>(errors: &mut W, printed: bool, unwritten: Unwritten<'_>) -> Ending
     ensures { EndsWell printed unwritten.entry (W.contents errors.old) (W.contents errors.new) result }
@@ -94,8 +97,8 @@ fn end_well<W: Write>(errors: &mut W, printed: bool, unwritten: Unwritten<'_>) -
     }
 }
 
-// Prints the line of standard output, if the answer or help could not be printed. Returns false if that line could not
-// be printed.
+// Prints that standard output could not be written, if the answer or the help could not be printed. Returns false if
+// this message could not be printed.
 #[tactic(auto, using(crate::proofs::Printed::output_line))]
 fn print_lost<W: Write>(errors: &mut W, printed: bool) -> bool
     ensures reported { IsTrue result
@@ -108,7 +111,7 @@ fn print_lost<W: Write>(errors: &mut W, printed: bool) -> bool
     print_fault(errors, &lost_output())
 }
 
-// Prints a line for each file that could not be written after a call. Returns whether all were printed.
+// Prints a message for each file that could not be written. Returns true if all these messages were printed.
 fn print_unwritten<W: Write>(errors: &mut W, unwritten: Unwritten<'_>) -> bool
     ensures reported { IsTrue result
         → Appends (W.contents errors.old) (W.contents errors.new) (lines_of_unwritten unwritten.entry) }
@@ -121,7 +124,7 @@ fn print_unwritten<W: Write>(errors: &mut W, unwritten: Unwritten<'_>) -> bool
     image && status && trace && journal
 }
 
-// Prints the line of a file that could not be written, if `name` is given. Returns false if a line could not be
+// Prints that the file `name` could not be written, if a name is given. Returns false if this message could not be
 // printed.
 fn print_unwritten_file<W: Write>(errors: &mut W, name: Option<&str>) -> bool
     ensures reported { IsTrue result

@@ -1,4 +1,4 @@
-//! Checks that roles of a job which need different files have them.
+//! Checks that no file has two roles in a job, except roles that may share a file.
 ghost use Rattle.std.specs.Prelude.{◌≡◌, true, IfErr, OnOk};
 ghost use Rattle.flashnor.specs.Roles.{FailsFileRoles, FilesHaveOneRole, HasOwnTrace, file_with_role, must_differ};
 ghost use Rattle.nor_lines.specs.Stored.{AreTwo};
@@ -10,8 +10,8 @@ use nor_files::Store;
 use nor_lines::{Fault, Named, apart, look_ahead, named_by};
 use nor_words::ChipJob;
 
-/// The role of a file in a job. If two roles that need different files share one, the fault names the file of the later
-/// role in this order.
+/// What a job uses a file for. If two roles share a file although they need different files, the fault names the file
+/// of the later role in this order.
 #[derive(Clone, Copy)]
 pub enum Role {
     Image,
@@ -23,7 +23,8 @@ pub enum Role {
     Journal,
 }
 
-/// Checks that the trace's file is no other file of a session. Returns the faults of `have_one_role`.
+/// Checks that the trace's file has no second role in a session: image, status file, layout, image to write or journal.
+/// Returns the faults of `have_one_role`.
 pub fn has_own_trace<'a, R: Store>(rt: &R, job: &ChipJob<'a>) -> Result<(), Fault<'a>>
     ensures ok { OnOk result (HasOwnTrace (R.state rt.now).view.nature job.now) }
     ensures err { IfErr result (FailsFileRoles (R.state rt.now).view.nature job.now) }
@@ -35,14 +36,15 @@ pub fn has_own_trace<'a, R: Store>(rt: &R, job: &ChipJob<'a>) -> Result<(), Faul
     check_pair(rt, job, Role::Trace, Role::Journal)
 }
 
-/// Checks that roles of a job which need different files have them: the store must report that the names of each pair
-/// refer to different files.
+/// Checks that no file has two roles in a job, except roles that may share a file. For each pair of other roles whose
+/// files the job names, the store must report that the two names refer to different files.
 ///
-/// Two roles may share a file only if the job writes it in neither role, or if the two are the chip's image and the
-/// image to write. The journal of a restore counts as written.
+/// Two roles may share a file only if the job writes the file in neither role, or if the roles are the chip's image and
+/// the image to write. The journal of a restore counts as written.
 ///
-/// Returns file fault 5 with the name of the later of two roles (image, status, trace, layout, image to write or
-/// compare, output, journal). Returns file fault 1 if a name can't be looked up.
+/// Returns file fault 5 if two roles share a file that they may not share. The fault has the name of the later role, in
+/// this order: image, status, trace, layout, image to write or compare, output, journal. Returns file fault 1 if a name
+/// can't be looked up.
 pub fn have_one_role<'a, R: Store>(rt: &R, job: &ChipJob<'a>) -> Result<(), Fault<'a>>
     ensures ok { OnOk result (FilesHaveOneRole (R.state rt.now).view.nature job.now) }
     ensures err { IfErr result (FailsFileRoles (R.state rt.now).view.nature job.now) }
@@ -68,8 +70,8 @@ pub fn have_one_role<'a, R: Store>(rt: &R, job: &ChipJob<'a>) -> Result<(), Faul
     check_pair(rt, job, Role::Wanted, Role::Journal)
 }
 
-/// Looks up the files that the task only reads, before the run opens any file: the layout, and the image to write or
-/// compare. A later read of a name that can't be looked up now is file fault 1.
+/// Looks up the files that the task only reads (the layout, and the image to write or compare), before the run opens
+/// any file. If such a name can't be looked up now, reading the file later returns file fault 1.
 ///
 /// Returns error 18 if memory runs out.
 pub fn look_at_sources<'a, R: Store>(rt: &R, job: &ChipJob<'a>) -> Result<(), Fault<'a>>
@@ -79,7 +81,7 @@ pub fn look_at_sources<'a, R: Store>(rt: &R, job: &ChipJob<'a>) -> Result<(), Fa
     look_ahead(rt, file_with_role(job, Role::Wanted))
 }
 
-/// Returns the file that a job has in this role, if it names one.
+/// Returns the name of the file that a job has in this role, or `None` if it names none.
 pub fn file_with_role<'a>(job: &ChipJob<'a>, role: Role) -> Option<&'a str>
     ensures { result ≡ file_with_role job.now role }
 {
@@ -100,8 +102,8 @@ pub fn file_with_role<'a>(job: &ChipJob<'a>, role: Role) -> Option<&'a str>
     }
 }
 
-// Checks that two roles which need different files have them, if the job names both files. If the two have one file,
-// the fault names the file of the later role.
+// Checks that the files of two roles which need different files are different, if the job names both. If the two roles
+// share one file, the fault names the file of the later role.
 #[tactic(auto, using(crate::proofs::OneRole::pair_fails))]
 fn check_pair<'a, R: Store>(
     rt: &R,

@@ -1,4 +1,4 @@
-//! Checks that the program prints to no file of a job, and chooses where the fault is printed if it does.
+//! Checks that the program prints to no file of a job. If it does, chooses where the fault is printed.
 ghost use Rattle.std.specs.Prelude.{◌≡◌, IfErr, IfOk, IfSome};
 ghost use Rattle.flashnor.specs.Roles.{FailsFileRoles, IsPrintedName, changes_files};
 ghost use Rattle.flashnor.specs.Streams.{IsReportedTo};
@@ -9,25 +9,25 @@ use nor_files::{Store, Stream};
 use nor_lines::{Fault, found_streams, is_printed, taken};
 use nor_words::ChipJob;
 
-/// Where the line of a fault is printed.
+/// Where the message of a fault is printed.
 #[derive(Clone, Copy)]
 pub enum Reports {
     /// To standard error.
     Errors,
-    /// To standard output, because standard error is a file of the job.
+    /// To standard output, because standard error prints to a file of the job.
     Output,
-    /// Nowhere, because both are files of the job.
+    /// Nowhere, because standard output and standard error both print to files of the job.
     Nowhere,
 }
 
-/// A fault of comparing a job's files with the standard streams, and where it is printed.
+/// The fault that was found when a job's files were compared with the standard streams, and where it is printed.
 #[derive(Drop)]
 pub struct StreamFault<'a> {
     pub fault: Fault<'a>,
     pub to: Reports,
 }
 
-// All roles, in their order.
+// All roles, in the order of `Role`.
 const ROLES: [Role; 7] = [
     Role::Image,
     Role::Status,
@@ -40,9 +40,12 @@ const ROLES: [Role; 7] = [
 
 /// Checks that the program prints to no regular file that the job names, even if the job only reads that file.
 ///
-/// Returns file fault 5 with the name of such a file, of the first role if there are several. Returns file fault 1 with
-/// a name that can't be looked up. Also returns file fault 1 with the name of a standard stream that can't be looked
-/// up, if the job may change or create a file.
+/// Returns file fault 5 with the name of such a file. If standard output prints to files of the job, this is the one
+/// with the first role among them. Only if it prints to none, it is the one with the first role among those that
+/// standard error prints to.
+///
+/// Returns file fault 1 with a name that can't be looked up. If the job may change or create a file, also returns file
+/// fault 1 with the name of a standard stream that can't be looked up.
 pub fn are_unprinted<'a, R: Store>(rt: &R, job: &ChipJob<'a>) -> Result<(), StreamFault<'a>>
     ensures fails { IfErr result (λ refused. FailsFileRoles (R.state rt.now).view.nature job.now refused.fault) }
     ensures to { IfErr result (λ refused. IsReportedTo (R.state rt.now).view.nature refused.fault refused.to) }
@@ -66,8 +69,9 @@ pub fn are_unprinted<'a, R: Store>(rt: &R, job: &ChipJob<'a>) -> Result<(), Stre
     })
 }
 
-// Returns the names of the job's first files to which standard output and standard error print. Returns file fault 1 if
-// a stream or a name can't be looked up.
+// Returns the name of the job's file that standard output prints to, and the name of the one that standard error prints
+// to. If there are several such files for a stream, the one with the first role is returned; if there is none, `None`.
+// Returns file fault 1 if a stream or a name can't be looked up.
 #[tactic(auto, using(crate::proofs::OneRole::stream_fails))]
 fn files_printed<'a, R: Store>(
     rt: &R,
@@ -87,8 +91,8 @@ fn files_printed<'a, R: Store>(
     Ok((output, errors))
 }
 
-// Returns the name of the job's first file to which this stream prints, if there is one. Returns file fault 1 if a name
-// can't be looked up.
+// Returns the name of the job's file that this stream prints to, or `None` if there is none. If there are several,
+// returns the one with the first role. Returns file fault 1 if a name can't be looked up.
 fn file_printed<'a, R: Store>(
     rt: &R,
     job: &ChipJob<'a>,
@@ -106,7 +110,7 @@ fn file_printed<'a, R: Store>(
     Ok(None)
 }
 
-// Returns the name of the job's file in this role, if the stream prints to it.
+// Returns the name of the job's file in this role if the stream prints to it, and otherwise `None`.
 #[tactic(auto, using(crate::proofs::OneRole::printed_name, crate::proofs::OneRole::unseen_fails))]
 fn printed_in_role<'a, R: Store>(
     rt: &R,
@@ -126,7 +130,7 @@ fn printed_in_role<'a, R: Store>(
     }
 }
 
-// True if the job may change or create a file: one of the chip's, the trace, or the file of a copy.
+// True if the job may change or create a file: a file of the chip, the trace, or the output of a readout.
 fn changes_files(job: &ChipJob<'_>) -> bool
     ensures { result ≡ changes_files job.now }
 {

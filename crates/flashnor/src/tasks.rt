@@ -20,7 +20,7 @@ pub fn writes_back(task: &Task<'_>) -> bool
     }
 }
 
-/// Returns the name of the journal that the task creates, if it creates one.
+/// Returns the name of the journal that the task creates in a file, or `None` if it creates none.
 pub fn journal_by<'a>(task: &Task<'a>) -> Option<&'a str>
     ensures { result ≡ journal_by task.now }
 {
