@@ -12,7 +12,7 @@ use nor_lines::{Fault, FileFault, Outcome, backup_in_file};
 use nor_probe::ChipName;
 use nor_words::{Operation, Task};
 
-/// Checks that the file of a backup does not exist. A job that is no backup passes.
+/// Checks that the file which a backup is to create does not exist. Does nothing for other jobs.
 ///
 /// Returns file fault 4 if the file exists.
 pub fn check_new<'a, R: Store>(rt: &R, operation: &Operation<'a>) -> Result<(), Fault<'a>>
@@ -27,12 +27,11 @@ pub fn check_new<'a, R: Store>(rt: &R, operation: &Operation<'a>) -> Result<(), 
     }
 }
 
-/// Identifies the chip, and saves all of it in a journal in the file of this name, which must not exist. Sends no
-/// modifying command.
+/// Identifies the chip, and saves the whole chip in a journal, in a new file of this name. Sends no modifying command.
 ///
-/// The chip is identified before the file is created, so no file is created if there is no chip. The outer error is one
-/// of the identification or of creating the file. The inner error is one of `backup`, after which the file may hold
-/// only a part of the journal.
+/// The chip is identified before the file is created, so no file is created if there is no chip. Returns a fault if the
+/// identification fails or the file can't be created. Otherwise returns the result of `backup`: after an error of
+/// `backup` the file may hold only a part of the journal.
 pub fn backup_chip<'a, R: Store, B: Progress>(
     rt: &mut R,
     bus: &mut B,

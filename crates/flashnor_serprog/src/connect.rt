@@ -16,15 +16,16 @@ use std::os::unix::fs::FileTypeExt;
 
 const RELEASE_POWER_DOWN: u8 = 0xAB;
 
-/// The bus to a chip at a serial programmer: commands are sent together; polls are paced, also those between the parts
-/// of a program; commands are split if the programmer needs that; status registers are read twice and checked; IDs,
-/// SFDP and data are read twice; data is read ahead; and a terminal shows the progress.
+/// The bus to a chip at a serial programmer. Its layers, from the outside to the programmer, show the progress on a
+/// terminal; read data ahead; read IDs, SFDP and data twice; read status registers twice and check them; split commands
+/// if the programmer needs that; pace polls, also those between the parts of a program; and send commands together.
 pub type ChipBus<'a> = Shown<'a, ReadAhead<ReadTwice<CheckedStatus<PartsBus<'a>>>>>;
 
-// The bus that splits commands, over the one that paces polls.
+// The inner layers of `ChipBus`: the bus that splits commands, around the bus that paces polls, around the bus that
+// sends commands together.
 type PartsBus<'a> = SplittingBus<Paced<BatchingBus<DevicePort>, &'a HostRuntime>>;
 
-/// The bus to the chip at the programmer whose device has this name. Only `connect` makes one.
+/// A bus to the chip at a programmer, with the name of the programmer's device. Only `connect` creates a `Connected`.
 #[derive(Drop)]
 pub struct Connected<'a> {
     device: String,
@@ -32,15 +33,16 @@ pub struct Connected<'a> {
 }
 
 /// Opens and locks the device, identifies the programmer, sets its clock if `spispeed=` is given, and sets its chip
-/// select if `cs=` is given. Then wakes the chip, and sends no other transaction. A terminal shows, before the first
-/// exchange, what to do if no reply ever arrives. Returns a programmer fault from 1 to 11 if one of these steps fails.
+/// select if `cs=` is given. Then wakes the chip, and sends no other transaction. Before the first exchange, the
+/// terminal shows what to do if no reply ever arrives. Returns a programmer fault from 1 to 11 if one of these steps
+/// fails.
 ///
-/// The bus has carried out no transaction yet, and belongs to this device. No clause is about the frames that are sent
-/// before the bus exists.
+/// The returned bus has carried out no transaction yet, and belongs to this device. The contract says nothing about the
+/// frames that were sent before the bus existed.
 ///
-/// If `image` is given, data that equals `image` is read once. It must be the image with which the job compares the
-/// chip at its end. Then no data that was read once gets into a journal. After a write, that comparison finds a sector
-/// that was misread as equal; with `-v` it stays unnoticed.
+/// If `image` is given, data that equals `image` is read once, and all other data twice. `image` must be the image with
+/// which the job compares the chip at its end. Then no data that was read only once gets into a journal. If a sector is
+/// misread as equal to `image`, a write finds this in that comparison. With `-v` it stays unnoticed.
 pub fn connect<'a>(
     rt: &'a HostRuntime,
     terminal: Terminal<'a>,
@@ -73,7 +75,7 @@ pub fn connect<'a>(
     })
 }
 
-// Returns a bus that reads data twice, except data that equals `image`, if one is given.
+// Returns a bus over `bus` that reads data twice. If `image` is given, data that equals `image` is read only once.
 fn reading_twice<B: Bus + Drop>(bus: B, image: Option<Vec<u8>>) -> ReadTwice<B>
     ensures bus { twice_of result ≡ bus }
     ensures history { history_of result ≡ [] }
@@ -85,8 +87,8 @@ fn reading_twice<B: Bus + Drop>(bus: B, image: Option<Vec<u8>>) -> ReadTwice<B>
     }
 }
 
-// Sends ABh, which wakes a chip in deep power-down; any other chip ignores it. The chip is awake after 3 microseconds,
-// before the next frame can reach it (W25Q64FV datasheet, Release Power-down).
+// Sends ABh, which wakes a chip from deep power-down; a chip that is not in deep power-down ignores ABh. The chip is
+// awake after 3 microseconds, before the next frame can reach it (W25Q64FV datasheet, Release Power-down).
 fn wake(link: &mut Link<DevicePort>) -> Result<(), HandshakeFault<PortFault>> {
     let release = Command::Operate {
         out: &[RELEASE_POWER_DOWN],

@@ -47,7 +47,7 @@ pub fn end_well<O: Write, E: Write>(
     status_of(print_lines(output, answer, operation), errors)
 }
 
-// Prints the lines of an answer; with `--flash-name` only the name of the chip.
+// Prints the lines of an answer, or only the chip's name with `--flash-name`.
 fn print_lines<O: Write>(
     output: &mut O,
     answer: Answer,
@@ -63,7 +63,7 @@ fn print_lines<O: Write>(
     }
 }
 
-// Prints the lines of an answer and, if nothing was verified, the line that says so.
+// Prints the lines of an answer. If `unverified` is true, also prints the line that nothing was verified.
 fn print_verdict<O: Write>(output: &mut O, answer: Answer, unverified: bool) -> io::Result<()>
     ensures { OnOk result
         (Prints (AreLinesBy false unverified answer) (O.contents output.old) (O.contents output.new)) }
@@ -76,7 +76,7 @@ fn print_verdict<O: Write>(output: &mut O, answer: Answer, unverified: bool) -> 
     }
 }
 
-// Prints the name of the chip that was identified.
+// Prints the name of the chip if the answer is an identified chip, and otherwise the lines of the answer.
 #[tactic(auto, using(crate::proofs::Named::name_printed))]
 fn print_name<O: Write>(output: &mut O, answer: Answer) -> io::Result<()>
     ensures { OnOk result (Prints (AreNameLines answer) (O.contents output.old) (O.contents output.new)) }

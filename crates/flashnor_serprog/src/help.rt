@@ -2,8 +2,8 @@
 
 use nor_words::Help;
 
-/// The parts of the help that differ between the two programs: the program's name, and the text before and after the
-/// list of options.
+/// The parts of the help that differ between the two programs: the program's name and version, and the text before and
+/// after the list of options.
 pub const HELP: Help = Help {
     program: "flashnor-serprog",
     version: "1.0",

@@ -10,7 +10,7 @@ use std::{fmt, io};
 /// The reason why a port failed.
 #[derive(Debug, Drop)]
 pub enum PortFault {
-    /// A read returned no byte. That occurs if none arrives in the time that `stty` set.
+    /// A read returned no byte. This happens if no byte arrives in the time that `stty` set.
     Silent,
     /// The system returned an error.
     System(io::Error),
@@ -25,7 +25,7 @@ impl fmt::Display for PortFault {
     }
 }
 
-/// A port over the device of a programmer. No contract assumes anything about the device.
+/// A port over the device of a programmer. Its contract assumes nothing about the device.
 #[derive(Drop)]
 pub struct DevicePort {
     file: File,

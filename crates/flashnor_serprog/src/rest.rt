@@ -1,4 +1,4 @@
-//! The sectors that a restore's journal does not save, which are read before the restore and compared after it.
+//! Reads the sectors that a restore's journal does not save before the restore, and compares them after it.
 ghost use Rattle.std.specs.Prelude.{◌≡◌, ◌≤◌, ◌<◌, ◌/◌, ◌^◌, IfErr, OnErr, OnOk, length, replicate};
 ghost use Rattle.nor_journal.specs.Saved.{is_saved};
 ghost use Rattle.flashnor_serprog.specs.Rest.{AreUnsaved, FailsRest, HasKeptRest, HasReadRest};
@@ -13,14 +13,14 @@ use nor_lines::Outcome;
 use nor_plan::bounds;
 use nor_session::Refusal;
 
-// The number of sectors in the longest block that is read at once, which has 64 KiB.
+// The number of sectors in 64 KiB, the longest block that is read at once.
 const LONGEST_RUN: u32 = 16;
 
-/// Reads each sector that the journal doesn't save into `bytes`, at its own address. `bytes` must hold FFh for each
-/// byte of a chip of the journal's size.
+/// Reads each sector that the journal doesn't save, and stores its bytes in `bytes` at the sector's address. `bytes`
+/// must have one FFh for each byte of a chip of the journal's size.
 ///
-/// A saved sector is never read: after an interrupted operation two reads of it may differ, which would end the job
-/// before the restore. So no block that is read ahead reaches a saved sector.
+/// A saved sector is never read, since two reads of a sector may differ after an interrupted operation, and that would
+/// end the job before the restore. Therefore no block that is read ahead reaches a saved sector.
 pub fn read_rest<B: Progress>(
     bus: &mut B,
     journal: &Journal<'_>,
@@ -41,8 +41,8 @@ pub fn read_rest<B: Progress>(
     Ok(())
 }
 
-// Returns the first of the `LONGEST_RUN` sectors from `sector` on that the journal saves. If it saves none of them,
-// returns the one after them.
+// Returns the first sector that the journal saves, of the `LONGEST_RUN` sectors from `sector` on. If the journal saves
+// none of these, returns the sector after them.
 fn next_saved(journal: &Journal<'_>, sector: u32) -> u32
     requires { sector < 4096 }
     ensures { result ≤ 4112 }
@@ -63,16 +63,16 @@ pub fn sectors_of(journal: &Journal<'_>) -> u32
     journal.size() / SECTOR_LEN
 }
 
-// Returns whether the journal saves this sector.
+// True if the journal saves this sector.
 fn saves(journal: &Journal<'_>, sector: u32) -> bool
     ensures { result ≡ is_saved journal.now sector }
 {
     journal.find(sector).is_some()
 }
 
-/// Reads the sectors that the journal doesn't save again, and compares them with `rest`, their bytes before the
-/// restore. Returns error 14 with the address of the first byte that differs, or 12 if the bus stopped. `again` must
-/// hold FFh for each byte of a chip of the journal's size.
+/// Reads again the sectors that the journal doesn't save, and compares them with `rest`, their bytes before the
+/// restore. Returns error 14 with the address of the first byte that differs, or error 12 if the bus stopped. `again`
+/// must have one FFh for each byte of a chip of the journal's size.
 pub fn compare_rest<B: Progress>(
     bus: &mut B,
     journal: &Journal<'_>,
@@ -94,7 +94,7 @@ pub fn compare_rest<B: Progress>(
     }
 }
 
-/// Returns whether a restore with this result is followed by the comparison.
+/// True if the comparison is made after a restore with this result: the restore succeeded, or it returned error 14.
 pub fn is_followed(outcome: &Outcome) -> bool
     ensures { result ≡ is_followed outcome.now }
 {

@@ -30,7 +30,7 @@ pub enum WrongSetting<'a> {
     BaudRate { device: &'a str, rate: &'a str },
     /// The value doesn't begin with `serprog:`.
     NoPrefix,
-    /// The first setting with a flaw.
+    /// The setting has this flaw. It is the first setting with a flaw.
     Flawed { setting: &'a str, flaw: Flaw },
     /// No setting is wrong, but `dev=` is missing.
     NoDevice,
@@ -39,10 +39,9 @@ pub enum WrongSetting<'a> {
 impl<'a> Setting<'a> {
     /// Parses the value of `-p`. A `KEY=VALUE` pair ends at the next comma, and its key at the first `=`.
     ///
-    /// Returns `NoPrefix` if the text doesn't begin with `serprog:`. Otherwise returns `Network` if the first setting
-    /// with a flaw is `ip=..`, and `Flawed` if it is another one. If no setting has a flaw, returns `NoDevice` if
-    /// `dev=` is missing, and `BaudRate` if the device ends with a colon and a decimal number (at most 20 digits, below
-    /// 2^64).
+    /// Returns `NoPrefix` if the text doesn't begin with `serprog:`. If a setting has a flaw, returns `Network` if the
+    /// first such setting is `ip=..`, and otherwise `Flawed`. If no setting has a flaw, returns `NoDevice` if `dev=` is
+    /// missing, and `BaudRate` if the device ends with a colon and a decimal number (at most 20 digits, below 2^64).
     pub fn read(text: &'a str) -> Result<Setting<'a>, WrongSetting<'a>>
         ensures { MatchResult result (IsSetting text.now) (IsWrongSetting text.now) }
     {
@@ -65,7 +64,7 @@ impl<'a> Setting<'a> {
 }
 
 impl<'a> WrongSetting<'a> {
-    // Returns the error for a setting with a flaw.
+    // Returns the error for `setting`, which has a flaw.
     fn of(setting: &'a str) -> WrongSetting<'a>
         ensures { IsWrongBy setting.now result }
     {
@@ -80,7 +79,7 @@ impl<'a> WrongSetting<'a> {
     }
 }
 
-// Returns the first setting with an unknown key, with a wrong value, or with a key that another setting has too.
+// Returns the first setting with a flaw: an unknown key, a wrong value, or a key that another setting has too.
 fn first_wrong(list: &str) -> Option<&str>
     ensures { option_map (λ setting. setting.now) result ≡ first_wrong (pieces_of list.now) }
 {
@@ -114,7 +113,7 @@ fn has_serprog_key(setting: &str) -> bool
     matches!(key, "dev" | "spispeed" | "cs")
 }
 
-// True for `ip=..`, as flashrom takes a programmer in the network, and for `ip` alone.
+// True if the key is `ip`, with or without a value. In flashrom, `ip=..` names a programmer in the network.
 fn names_network(setting: &str) -> bool
     ensures { result ≡ names_network setting.now }
 {
@@ -122,8 +121,8 @@ fn names_network(setting: &str) -> bool
     key == "ip"
 }
 
-// Returns a clock in hertz, or `None` if the value is no number from 1 to 4,294,967,295: serprog has no clock of 0 Hz.
-// A number with leading zeros is decimal.
+// Returns the clock in hertz, or `None` if the value is no number from 1 to 4,294,967,295. serprog has no clock of 0
+// Hz. A number with leading zeros is decimal.
 fn read_hertz(value: &str) -> Option<u32>
     ensures { result ≡ clock_of value.now }
 {
