@@ -1,5 +1,5 @@
--- Files of the chip that were locked and read: the absence of a missing file is durable, and a fault of the second file
--- is one that the files had at the start.
+-- After the chip's files were locked and read, the absence of a missing file is durable. A fault of the second file
+-- could also occur with the files as they were at the start.
 use Rattle.std.proofs.Common.{◌≡◌, ℕ, Bool, Option, None, Ok, IsSomeAnd, arith, false}
 use Rattle.std.specs.Borrow.{Bor}
 use Rattle.nor_files.specs.Calls.{Holds, IsPlaced}

@@ -225,8 +225,8 @@ module _ (programmer : Programmer) (file : Text) (start : FilesState) (first : O
   -- If the chip's files durably hold the original chip, each later run opens that chip.
   module _ (chip : Chip) (new : FilesState) (lawful : is_lawful new.view ≡ true) (is : IsSame first.bus.chip chip)
       (put : AreWrittenBack other chip None None new) where
-    -- Under the name of a file of the chip, a later run finds what was written to the file. As an exception, it finds
-    -- nothing if no file is named, or if the file was missing at first and was moved aside.
+    -- Under the name of a file of the chip, a later run can find only what was written to the file. As an exception, it
+    -- may find nothing if no file is named, or if the file was missing at first.
     durable : (name given : Option (Bor Text)) (was : Found) (bytes : List ℕ) (left : Found) → (given ≡ None → was ≡ None)
         → NameOne given name → ArePut name bytes None new → MayFind given was left new
         → ((was ≡ None) × (left ≡ None)) ⊎ (left ≡ Some bytes)

@@ -35,8 +35,8 @@ pub record AreHeld (programmer : Programmer) (held : Held) (old new : FilesState
   pub image : MakesDurable programmer.image (was held.image_there held.content.bytes.items) new
   pub status : MakesDurable programmer.status (was held.status_there held.content.status) new
 
--- Holds if the bytes of `held` are FFh when the image is missing or not named, and its status bytes are 0 when the
--- status file is missing or not named.
+-- Holds if `held` has only bytes FFh for an image that is missing or not named, and two zero status bytes for a status
+-- file that is missing or not named.
 pub record FillsMissing (programmer : Programmer) (held : Held) : Type 0 where
   pub image : held.image_there ≡ false
       → held.content.bytes.items ≡ replicate (emulated_part programmer.chip).size 255

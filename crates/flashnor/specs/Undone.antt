@@ -16,8 +16,8 @@ use Rattle.nor_lines.specs.declared.answers.Answer.{Answer}
 use Rattle.flashnor.specs.declared.holding.Unwritten.{Unwritten}
 use Rattle.nor_lines.specs.declared.messages.Fault.{Fault}
 
--- Holds if a run may find the files `new` after an earlier run left the files `old`, even if that run was killed or the
--- host crashed. The files `new` are at rest. A host crash can leave of the journal's file only what it could leave
+-- Holds for files `new` that a run may find after an earlier run left the files `old`, even if that run was killed or
+-- the host crashed. The files `new` are at rest. A host crash can leave of the journal's file only what it could leave
 -- before. What may be found of the chip's files (`MayFind`) could be found before. You may have moved aside a file that
 -- was missing at first.
 pub record Follows {programmer : Programmer} {start : FilesState} (file : Text) (first : Opened programmer start)

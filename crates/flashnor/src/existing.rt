@@ -1,4 +1,5 @@
-//! Ends a session whose journal already exists with a fault, before any call to the engine. The journal stays as it is.
+//! Handles a session whose journal already exists: the run ends with a fault before any call to the engine, and the
+//! journal stays as it is.
 ghost use Rattle.std.specs.Prelude.{◌≡◌, IfErr, IfSome, IsSome, IsSomeAnd, Some, true};
 ghost use Rattle.nor_files.specs.Files.{AreAtRest, Name, KeepsFile, is_lawful};
 ghost use Rattle.nor_files.specs.Files.Failure.{There};

@@ -28,8 +28,8 @@ pub struct Held {
     pub status_there: bool,
 }
 
-/// Locks the chip's files against other runs and reads them. FFh stands for an image that is missing or not named, and
-/// clear status bytes for a status file that is missing or not named.
+/// Locks the chip's files against other runs, reads them and syncs them. If an image is missing or not named, all bytes
+/// are FFh. If a status file is missing or not named, both status bytes are 0.
 ///
 /// If the files obey the contract of `Store` and none is open for a vault or a log (`AreAtRest`), the contents that
 /// were read are durable: a host crash leaves them.
@@ -147,8 +147,8 @@ pub fn lost_journal<'a, R: Store>(rt: &R, task: &Task<'a>) -> Option<&'a str>
 }
 
 /// Writes the chip's bytes and status bytes to the files that are named. `image_there` and `status_there` say which of
-/// the files existed: such a file is overwritten in place, and another one is created. Writes the status file even if
-/// the image could not be written. Returns the name of the image and the name of the status file, each only if that
+/// the files existed: such a file is overwritten in place, and a missing file is created. Writes the status file even
+/// if the image could not be written. Returns the name of the image and the name of the status file, each only if that
 /// file could not be written.
 pub fn write_back<'a, R: Store>(
     rt: &mut R,
@@ -180,7 +180,7 @@ pub fn write_back<'a, R: Store>(
 }
 
 // Writes `bytes` to the file of this name, if one is given. A file that existed (`there`) is overwritten in place, and
-// another one is created. Returns the name if the write fails.
+// a missing file is created. Returns the name if the write fails.
 fn write_if_named<'a, R: Store>(
     rt: &mut R,
     name: Option<&'a str>,

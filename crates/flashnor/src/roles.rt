@@ -23,8 +23,8 @@ pub enum Role {
     Journal,
 }
 
-/// Checks that the trace's file has no second role in a session: image, status file, layout, image to write or journal.
-/// Returns the faults of `have_one_role`.
+/// Checks that the trace's file is none of the other files of a session: image, status file, layout, image to write and
+/// journal. Returns the faults of `have_one_role`.
 pub fn has_own_trace<'a, R: Store>(rt: &R, job: &ChipJob<'a>) -> Result<(), Fault<'a>>
     ensures ok { OnOk result (HasOwnTrace (R.state rt.now).view.nature job.now) }
     ensures err { IfErr result (FailsFileRoles (R.state rt.now).view.nature job.now) }

@@ -41,8 +41,8 @@ pub struct Connected<'a> {
 /// frames that were sent before the bus existed.
 ///
 /// If `image` is given, data that equals `image` is read once, and all other data twice. `image` must be the image with
-/// which the job compares the chip at its end. Then no data that was read only once gets into a journal. If a sector is
-/// misread as equal to `image`, a write finds this in that comparison. With `-v` it stays unnoticed.
+/// which the job compares the chip at its end. Then no data that was read only once gets into a journal. If a sector
+/// was misread as equal to `image`, the comparison after a write detects this. With `-v` it stays unnoticed.
 pub fn connect<'a>(
     rt: &'a HostRuntime,
     terminal: Terminal<'a>,

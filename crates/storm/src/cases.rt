@@ -11,7 +11,7 @@ use nor_session::{Request, What};
 use std::alloc::Global;
 use std::fmt::Write;
 
-/// A chip, a request, and the request's image.
+/// A test case: a chip, a request, and the image of the request.
 #[derive(Drop)]
 pub struct Case {
     pub chip: Chip,

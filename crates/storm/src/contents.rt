@@ -105,8 +105,8 @@ fn change_run(dice: &mut Dice, bytes: &mut [u8], style: Style) {
     }
 }
 
-// Draws a run of sectors: its first sector and its length. The run has one to three sectors, or begins at a multiple of
-// 32 or 64 KiB and has at least that length.
+// Draws the first sector and the length of a run of adjacent sectors. The run has one to three sectors, or it begins at
+// a multiple of 32 or 64 KiB and is at least that long.
 fn run_for(dice: &mut Dice, sectors: u32) -> (u32, usize) {
     let from = sector(dice, sectors);
     match dice.below(4) {

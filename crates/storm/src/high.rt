@@ -11,8 +11,8 @@ pub struct High {
     pub bit: u8,
 }
 
-/// A bus over `bus`. If `high` is `Some`, it sets a bit in each byte of the replies to one opcode; otherwise it adds no
-/// fault.
+/// A bus over `bus`. If `high` is `Some`, this bus sets a bit in each byte of the replies to one opcode. Otherwise it
+/// passes on all replies as they are.
 #[derive(Drop)]
 pub struct HighBus<B> {
     bus: B,

@@ -12,8 +12,8 @@ use std::alloc::Global;
 // The length of what follows the records: an end mark of four bytes and a SHA-256.
 const END_LEN: usize = 36;
 
-/// Returns the journal after the sectors below `below` were scanned: the header, and a record for each touched one of
-/// these sectors, in ascending order. The end mark and the digest are missing.
+/// Returns the journal as it is after the sectors below `below` were scanned. It has the header and, in ascending
+/// order, a record for each touched sector among them. The end mark and the digest are missing.
 pub fn begun(alloc: Global, case: &Case, wanted: &Wanted, below: u32) -> Result<Vec<u8>, Fault> {
     let mut text = Vec::new(alloc);
     put_head(&mut text, &case.chip)?;

@@ -15,8 +15,8 @@ fn sum(numbers: &[u64]) -> u64 {
     sum
 }
 
-/// Returns the number of transactions of a probe: polls until BUSY is clear, the ID, and three reads of SFDP. A probe
-/// doesn't read SFDP if the ID is in the table, or means that there is no chip.
+/// Returns the number of transactions of a probe: polls up to the first one that shows BUSY clear, the ID, and three
+/// reads of SFDP. A probe doesn't read SFDP if the ID is in the table, or means that there is no chip.
 pub fn probe(chip: &Chip) -> u64 {
     let polls = u64::from(chip.delays.now) + 1;
     let known = verdicts::is_in_table(&chip.config) || verdicts::is_no_chip(&chip.config);

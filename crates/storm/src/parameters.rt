@@ -57,8 +57,8 @@ pub fn show(dice: &mut Dice, told: Told) -> Shown {
     shown
 }
 
-// Draws the second double word, which has the size in bits: the number of bits minus one, or with bit 31 set the binary
-// logarithm of the number of bits.
+// Draws the second double word, which describes the size in bits. It is the number of bits minus one or, if bit 31 is
+// set, the binary logarithm of the number of bits.
 fn density(dice: &mut Dice, size: u32) -> [u8; 4] {
     let bits = size.saturating_mul(8);
     if dice.hits(1, 3) {
@@ -81,8 +81,8 @@ fn put_kinds(dice: &mut Dice, shown: &mut Shown, start: usize, told: Told) {
     }
 }
 
-/// Damages the bytes once or twice. After most damage `read` returns a fault, but a changed address of the table may be
-/// the same address modulo the chip's size.
+/// Damages the bytes once or twice. After most kinds of damage `read` returns a fault. If the address of the table was
+/// changed, the chip may still find the table, since it takes the address modulo its size.
 pub fn damage(dice: &mut Dice, shown: &mut Shown) {
     for _ in 0..dice.pick(1, &[1, 2]) {
         damage_once(dice, shown);
@@ -136,8 +136,8 @@ pub fn put(shown: &mut Shown, at: usize, piece: &[u8]) {
     }
 }
 
-/// Returns the size and erase types that the bytes describe, or the first of the eight faults. The chip takes the
-/// table's address modulo its size, `size`.
+/// Returns the size and the erase types that the bytes describe, or the first of the eight faults. `size` is the size
+/// of the chip that returns the bytes, which takes the table's address modulo this size.
 pub fn read(shown: &Shown, size: u32) -> Result<Told, SfdpFault> {
     if shown[..4] != [0x53, 0x46, 0x44, 0x50] {
         return Err(SfdpFault::Signature);
@@ -190,7 +190,8 @@ fn read_table(table: &[u8; 36]) -> Result<Told, SfdpFault> {
     })
 }
 
-// Returns the size in bytes, if it is one of the nine sizes that a chip may have.
+// Returns the size in bytes that `density`, the second double word, describes. Returns `None` if it is none of the nine
+// sizes that a chip may have.
 fn size_of(density: u32) -> Option<u32> {
     let bits = if density < 0x8000_0000 {
         Some(u64::from(density) + 1)

@@ -316,8 +316,8 @@ fn copy_out(alloc: Global, case: &Case, bus: SimBus, (nth, kept): (u64, usize)) 
 }
 
 // Checks the bytes and the trace of a readout whose vault refused a call. The vault must have the first `written` bytes
-// of the copy. A readout reads and writes 16 sectors at a time. It must read the sectors with included addresses up to
-// the end of the 16 that contain the first byte missing from the vault, and no later sectors.
+// of the copy. A readout reads and writes pieces of 16 sectors. It must have read the sectors with included addresses
+// up to the end of the piece that the vault refused, and no later sectors.
 fn check_part(alloc: Global, case: &Case, written: u64, copied: &Copied) -> Result<(), Fault> {
     check_first(alloc, case, written, copied.out.inner().bytes())?;
     let piece = u32::try_from(written / 65_536).unwrap_or(u32::MAX);

@@ -120,8 +120,8 @@ fn check_ran(alloc: Global, accepted: Accepted<'_>, plan: Plan, ran: &Ran) -> Re
     check_restores(alloc, accepted, plan, rehearsal.restores, &ran.sent)
 }
 
-// Checks that the rehearsal made the same number of restores, and sent the same transactions, as the session and the
-// restores called one by one.
+// Checks that the rehearsal ran as many restores, and sent the same transactions, as the session and the restores that
+// are called one by one.
 fn check_restores(
     alloc: Global,
     accepted: Accepted<'_>,

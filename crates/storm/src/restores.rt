@@ -45,7 +45,8 @@ pub fn run(
     }
 }
 
-// A restore: its chip and journal, and the results of the reference implementation if no stop occurs.
+// A restore without a stop: its chip, its journal, the journal's contents `saved`, and the target and the error, if
+// any, that the reference implementation computes.
 #[derive(Clone, Copy)]
 struct Whole<'a> {
     chip: &'a Chip,
@@ -96,8 +97,8 @@ fn lines_of(alloc: Global, whole: Whole<'_>) -> Result<Lines, Fault> {
     }
 }
 
-// Checks that the restore sends these lines, that with a stop it sends only those before the stop, and that it agrees
-// with the reference implementation on a faulty bus.
+// Checks the restore without a stop, with a stop, and on a faulty bus. Without a stop it must send `lines`, and with a
+// stop only the lines before the stop. On a faulty bus it must agree with the reference implementation there.
 fn check_lines(alloc: Global, dice: &mut Dice, whole: Whole<'_>, lines: &str) -> Result<(), Fault> {
     check_unstopped(alloc, whole, lines)?;
     check_stopped(alloc, dice, whole, lines)?;
@@ -160,7 +161,7 @@ fn check_stopped(
     check_left(alloc, whole.chip, lines, stop, &ran)
 }
 
-// Returns a fault unless the chip equals the model after the stop.
+// Returns a fault unless the chip after the stop equals the model.
 fn check_left(
     alloc: Global,
     chip: &Chip,
@@ -181,8 +182,8 @@ fn check_stop(wanted: Option<Refusal>, lines: &str, ran: &Restored) -> Result<()
     traces::check_trace(ran.sent.as_slice(), lines, "a restore under a stop")
 }
 
-// Draws a chip to restore: one time in twelve an unrelated small chip, otherwise the original chip of the journal after
-// random changes of its bytes. For half of the latter, status bits or the unique ID are drawn, too.
+// Draws a chip to restore. One time in twelve this is an unrelated small chip. Otherwise it is the original chip of the
+// journal with some changed bytes, half of the time also with new status bits or a new unique ID.
 fn other_chip(alloc: Global, dice: &mut Dice, chip: &Chip) -> Result<Chip, Fault> {
     if dice.hits(1, 12) {
         return chips::small(alloc, dice);

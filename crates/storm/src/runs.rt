@@ -33,9 +33,9 @@ pub fn run(alloc: Global, job: Job, seed: u64) -> (Tally, Option<FailedCase>) {
     (tally, None)
 }
 
-// Runs a case: its session, one time in four also on a faulty bus, and one time in eight the reading calls on its chip.
-// The session on a faulty bus and the reading calls draw from random numbers of their own, so that they don't change
-// the rest of the case.
+// Runs a case: its session, one time in four also on a faulty bus. One time in eight the reading calls are run on the
+// chip, too. The session on a faulty bus and the reading calls draw from random numbers of their own, so that they
+// don't change the rest of the case.
 fn run_case(alloc: Global, seed: u64, number: u64, tally: &mut Tally) -> Result<(), Fault> {
     let mut dice = Dice::new(seed, number);
     let case = Case::next(alloc, &mut dice)?;
@@ -67,8 +67,8 @@ fn check_case(
     check_session(alloc, dice, case, &ran, tally)
 }
 
-// Checks a session, which may be refused with one of errors 1 to 8 before the scan, refused with error 9 or 10 after
-// the scan, if there is one, or accepted.
+// Checks a session. The session may be accepted, refused with one of errors 1 to 8 before the scan, or refused with
+// error 9 or 10 after the scan (a request for a protection range has no scan).
 fn check_session(
     alloc: Global,
     dice: &mut Dice,
@@ -122,8 +122,9 @@ fn check_accepted(
     go_on(alloc, dice, accepted, ran, tally)
 }
 
-// Checks an accepted session, and the same session with a random stop and, if it sealed its vault, the restores after
-// it. Also checks a rehearsal one time in four, and a damaged journal and restores of another chip one time in three.
+// Checks an accepted session. Then runs the same session with a random stop and, if this session sealed its vault,
+// restores from its journal. Also checks a rehearsal one time in four, and a damaged journal and restores of another
+// chip one time in three.
 fn go_on(
     alloc: Global,
     dice: &mut Dice,

@@ -139,8 +139,8 @@ impl Caller<'_> {
         }
     }
 
-    // Polls until a reply shows BUSY clear, and returns this reply, status 1. After `MOST_POLLS` polls returns
-    // `Timeout` with `address`.
+    // Polls until a poll shows BUSY clear, and returns the status 1 of that poll. Returns `Timeout` with `address` if
+    // `MOST_POLLS` polls show BUSY.
     fn wait(&mut self, address: u32) -> Result<u8, CallError> {
         for _ in 0..MOST_POLLS {
             let mut status1 = [0];

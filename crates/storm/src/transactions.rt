@@ -28,11 +28,11 @@ use std::alloc::Global;
 /// Returns the lines of a session that succeeds.
 pub fn session(alloc: Global, case: &Case, wanted: &Wanted) -> Result<Lines, Fault> {
     let mut lines = Lines::new(alloc, &case.chip);
-    // Steps 1 to 3.
+    // Steps 1 to 3: find the chip, identify the device, and scan.
     save(&mut lines, case, case.chip.sectors());
-    // Steps 4 to 7.
+    // Steps 4 to 7: make the changes.
     change(&mut lines, &case.chip, wanted);
-    // Step 8, only if the request asks for it.
+    // Step 8: verify, only if the request asks for it.
     if case.request.verify {
         read_touched(&mut lines, wanted.sectors.as_slice());
     }
@@ -70,11 +70,11 @@ pub fn restore(
     wanted: &Wanted,
 ) -> Result<Lines, Fault> {
     let mut lines = Lines::new(alloc, chip);
-    // Steps 1 to 3.
+    // Steps 1 to 3: find the chip, identify the device, and scan.
     scan_saved(&mut lines, chip, saved);
-    // Steps 4 to 7.
+    // Steps 4 to 7: make the changes.
     change(&mut lines, chip, wanted);
-    // Step 8, always.
+    // Step 8: verify. A restore always does so.
     read_touched(&mut lines, wanted.sectors.as_slice());
     lines.whole()
 }
@@ -131,8 +131,8 @@ pub fn protection(alloc: Global, chip: &Chip, is_found: bool) -> Result<Lines, F
     lines.whole()
 }
 
-// Appends step 1. The SFDP reads are the SFDP header, the first parameter header, and the table at the address in that
-// parameter header.
+// Appends step 1: finds the chip. The SFDP reads are the SFDP header, the first parameter header, and the table at the
+// address in that parameter header.
 fn find(lines: &mut Lines, chip: &Chip) {
     let config = &chip.config;
     lines.wait();
@@ -147,7 +147,7 @@ fn find(lines: &mut Lines, chip: &Chip) {
     lines.read_parameters(pointer, 36);
 }
 
-// Appends step 2.
+// Appends step 2: reads status 2 and the unique ID.
 fn identify(lines: &mut Lines) {
     lines.read_status2();
     lines.read_unique();
@@ -171,10 +171,10 @@ fn read_touched(lines: &mut Lines, sectors: &[Sector]) {
     }
 }
 
-// Appends steps 4 to 7.
+// Appends steps 4 to 7: clears the protection bits, erases, programs, and sets the protection bits of the target.
 fn change(lines: &mut Lines, chip: &Chip, wanted: &Wanted) {
     prepare(lines, chip, wanted);
-    // Step 6.
+    // Step 6: program the touched sectors.
     for number in 0..chip.sectors() {
         if wanted.touches(number) {
             program_sector(lines, chip, wanted, number);
@@ -183,13 +183,13 @@ fn change(lines: &mut Lines, chip: &Chip, wanted: &Wanted) {
     protect(lines, chip, wanted);
 }
 
-/// Appends steps 4 and 5.
+/// Appends steps 4 and 5: clears the protection bits if a touched sector is protected, and erases the raised sectors.
 pub fn prepare(lines: &mut Lines, chip: &Chip, wanted: &Wanted) {
-    // Step 4. The write leaves the other non-volatile status bits as they are.
+    // Step 4: clear the protection bits. The write leaves the other non-volatile status bits as they are.
     if wanted.first_guarded(chip).is_some() {
         lines.write_status(guards::with_code(chip.status, 0));
     }
-    // Step 5.
+    // Step 5: erase the raised sectors.
     if wanted.raises_all(0, chip.sectors()) {
         lines.erase_chip();
     } else {
@@ -197,7 +197,8 @@ pub fn prepare(lines: &mut Lines, chip: &Chip, wanted: &Wanted) {
     }
 }
 
-/// Appends step 7. If step 4 was sent, the protection bits are 0 before this step.
+/// Appends step 7: sets the protection bits of the target, if they differ. If step 4 was sent, they are 0 before this
+/// step.
 pub fn protect(lines: &mut Lines, chip: &Chip, wanted: &Wanted) {
     let code = match wanted.first_guarded(chip) {
         Some(_) => 0,
@@ -208,8 +209,9 @@ pub fn protect(lines: &mut Lines, chip: &Chip, wanted: &Wanted) {
     }
 }
 
-// Appends the erases of step 5 for a chip that isn't erased as a whole. They are in ascending order, each for the
-// largest aligned block with only raised sectors for which the chip has an erase: 64 KiB, 32 KiB or one sector.
+// Appends the erases of step 5 for a chip that isn't erased as a whole. The erases are in ascending order. Each erases
+// the largest aligned block (64 KiB, 32 KiB or one sector) that has only raised sectors and that the chip can erase at
+// once.
 fn erase_blocks(lines: &mut Lines, chip: &Chip, wanted: &Wanted) {
     for block in 0..chip.sectors() / 16 {
         let first = block.saturating_mul(16);
@@ -250,7 +252,8 @@ pub fn program_sector(lines: &mut Lines, chip: &Chip, wanted: &Wanted, number: u
     }
 }
 
-// Appends the program of a page, from the first byte that must be programmed to the last one, if there is any.
+// Appends the program of a page, from the first byte that must be programmed to the last one. Appends nothing if no
+// byte must be programmed.
 fn program_page(lines: &mut Lines, start: u32, (old, new): (&[u8], &[u8]), is_erased: bool) {
     if let Some((first, last)) = span(old, new, is_erased) {
         let bytes = new.get(first..last.saturating_add(1)).unwrap_or(&[]);
@@ -268,8 +271,8 @@ fn page_at(bytes: &Vec<u8>, start: u32) -> &[u8] {
         .unwrap_or(&[])
 }
 
-// Returns the positions in a page of the first and the last byte that must be programmed. In an erased page these are
-// bytes whose target isn't FFh, otherwise bytes that differ from the target.
+// Returns the positions in a page of the first and the last byte that must be programmed, or `None` if no byte must. In
+// an erased page these are bytes whose target isn't FFh, otherwise bytes that differ from the target.
 fn span(old: &[u8], new: &[u8], is_erased: bool) -> Option<(usize, usize)> {
     let mut found = None;
     for (place, (old, new)) in old.iter().zip(new).enumerate() {

@@ -24,7 +24,7 @@ pub struct Sector {
 #[derive(Drop)]
 pub struct Wanted {
     pub bytes: Vec<u8>,
-    /// The non-volatile status bits.
+    /// The non-volatile status bits of the target.
     pub status: Status,
     pub sectors: Vec<Sector>,
 }
