@@ -107,7 +107,8 @@ printed_there nature fault to returned is reported = rw is reported
 
 -- ---- what the files hold
 
--- `HoldsResult` needs a proof only for a call that returned an answer, since it claims nothing after an error.
+-- Suppose that `HoldsTask` holds if the call returned an answer and all files were written. Then `HoldsResult` holds,
+-- since it claims nothing in the other cases.
 pub holds_reported : (on_chip : ChipJob) (unwritten : Unwritten) (outcome : Result Answer Refusal)
     (returned : Result Answer Fault) (old new : FilesState) → IsReportedAs outcome returned
     → ((found : Answer) → outcome ≡ Ok found → unwritten ≡ all_written

@@ -91,7 +91,8 @@ pub record IsRehearsed (request : Request) (image stops : List ℕ) (chip : Chip
   pub accepted : rehearsal.sealed ≡ true → IsAccepted request image chip
   pub saves : rehearsal.sealed ≡ true
       → JournalSaves (header_of chip) chip.bytes (is_touched chip.bytes (wanted request image chip)) vault.bytes
-  -- If the journal was sealed, the stops after the first fit the restores, of which the last one ended (`AreRestores`).
+  -- If the journal was sealed, restores ran with the stops after the first one, until a restore ended. The number of
+  -- restores fits these stops (`AreRestores`).
   pub restores : rehearsal.sealed ≡ true
       → AreRestores (sector_count (is_touched chip.bytes (wanted request image chip))) (drop 1 stops) rehearsal.restores
 
@@ -157,7 +158,7 @@ pub record RestoreRefuses (journal : Journal) (old new : BusState) (refusal : Re
   pub refuses : RestoreErrors journal old new refusal
   pub same : IsCheckedFirst refusal → IsSame old.chip new.chip
 
--- Holds if the chip has the given name, if one is given.
+-- Holds if no name is given, or if the given name is that of the chip.
 abbrev pub HasGivenName : Option ChipName → Chip → Type 0
 HasGivenName None chip = ⊤
 HasGivenName (Some name) chip = IsNamed (Some name) chip.config

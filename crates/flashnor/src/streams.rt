@@ -41,8 +41,8 @@ const ROLES: [Role; 7] = [
 /// Checks that the program prints to no regular file that the job names, even if the job only reads that file.
 ///
 /// Returns file fault 5 with the name of such a file. If standard output prints to files of the job, this is the one
-/// with the first role among them. Only if it prints to none, it is the one with the first role among those that
-/// standard error prints to.
+/// among them whose role comes first in `Role`. If standard output prints to none of them, it is the one whose role
+/// comes first among those that standard error prints to.
 ///
 /// Returns file fault 1 with a name that can't be looked up. If the job may change or create a file, also returns file
 /// fault 1 with the name of a standard stream that can't be looked up.

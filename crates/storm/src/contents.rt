@@ -3,7 +3,7 @@
 use crate::dice::Dice;
 use nor_chip::SECTOR_LEN;
 
-/// The way in which the bytes of each sector of a run change.
+/// How the bytes of each sector change, in a run of adjacent sectors.
 #[derive(Clone, Copy)]
 enum Style {
     /// All bytes become FFh.

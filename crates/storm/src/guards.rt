@@ -4,12 +4,12 @@
 /// Status 1 and status 2.
 pub type Status = [u8; 2];
 
-/// Returns the non-volatile status bits: all except BUSY and WEL in status 1, and SUS in status 2.
+/// Returns the non-volatile bits of `status`: all except BUSY and WEL in status 1, and SUS in status 2.
 pub fn kept(status: Status) -> Status {
     [status[0] & 0b1111_1100, status[1] & 0b0111_1111]
 }
 
-/// Returns the non-volatile status bits that are not protection bits.
+/// Returns the non-volatile bits of `status` that are not protection bits.
 pub fn fixed(status: Status) -> Status {
     [status[0] & 0b1000_0000, status[1] & 0b0011_1111]
 }

@@ -1,4 +1,4 @@
-//! The bytes that a session must write to its vault, by simple rules.
+//! The bytes that a session must write to its vault, computed by simple rules from the chip and its target.
 
 use crate::cases::Case;
 use crate::chips::Chip;
@@ -101,8 +101,8 @@ pub fn check_stopped(
     agree(held == begun.as_slice(), "the journal that a stop leaves")
 }
 
-// Returns one more than the number of the last sector that was scanned, if `scanned` sectors were scanned; 0 if none
-// was.
+// Returns one more than the number of the last scanned sector, after the first `scanned` sectors with an included
+// address were scanned. Returns 0 if `scanned` is 0.
 fn below(case: &Case, scanned: u64) -> u32 {
     let mut below = 0;
     let mut left = scanned;

@@ -48,8 +48,8 @@ pub fn saving(case: &Case) -> u64 {
 }
 
 /// Returns the number of transactions of a session that is refused with this error. Errors 1 to 3 are returned after
-/// the probe, 9 and 10 after the scan (for a protection range, which has no scan, 9 after the identification), and the
-/// others after the identification.
+/// the probe, errors 4 to 8 after the identification, and errors 9 and 10 after the scan. A request for a protection
+/// range has no scan.
 pub fn refused(case: &Case, refusal: Refusal) -> u64 {
     match refusal {
         Refusal::NoChip | Refusal::UnknownChip(_) | Refusal::OtherName => probe(&case.chip),

@@ -255,8 +255,9 @@ fn lie_for(dice: &mut Dice, count: u64) -> Lie {
     }
 }
 
-// Draws a fault of a `SpoiltBus`. The transaction of `Drop` or `BusyFrom` is in the last quarter of the call for half
-// of the draws, otherwise it is any from 0 to `count`. A `Drop` at 0 has no effect, as transactions are counted from 1.
+// Draws a fault of a `SpoiltBus`. `Drop` and `BusyFrom` have the number of a transaction. Half of the time this number
+// is in the last quarter of the call, otherwise it is any number from 0 to `count`. A `Drop` at 0 has no effect, as
+// transactions are counted from 1.
 fn spoil_for(dice: &mut Dice, count: u64) -> Spoil {
     let late = count / 4 * 3;
     let number = if dice.hits(1, 2) {

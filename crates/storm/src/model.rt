@@ -47,7 +47,7 @@ pub struct Model {
     work: Work,
 }
 
-// The operation that a busy chip performs, so that a loss of power can interrupt it.
+// The operation that a busy chip performs. A power failure may interrupt it.
 #[derive(Clone, Copy)]
 enum Work {
     // An operation that began before the model was made. The model doesn't know what it is.

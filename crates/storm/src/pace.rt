@@ -74,7 +74,7 @@ impl Pace {
         pace
     }
 
-    /// Returns the pace after a loss of power.
+    /// Returns the pace after a power failure: the chip is idle, and its write enable latch is clear.
     pub fn without_power(self) -> Pace {
         Pace {
             busy: 0,

@@ -40,7 +40,8 @@ pub fn show(dice: &mut Dice, told: Told) -> Shown {
     dice.fill(&mut table);
     let start = usize::from(at);
     put(&mut shown, start, &table);
-    // Bit 2 set: a write granularity of 64 bytes or more. Bit 18 clear: three address bytes are accepted.
+    // The first double word. Bit 2 is set: the write granularity is 64 bytes or more. Bit 18 is clear: three address
+    // bytes are accepted.
     let first = [
         dice.byte() | 0x04,
         dice.byte(),
@@ -163,7 +164,8 @@ pub fn read(shown: &Shown, size: u32) -> Result<Told, SfdpFault> {
 
 // Returns the size and erase types that double words 1 to 9 describe, or the first fault.
 fn read_table(table: &[u8; 36]) -> Result<Told, SfdpFault> {
-    // Bits 17 and 18 of the first double word. 2 (only four address bytes) and 3 (reserved) are rejected.
+    // Bits 17 and 18 of the first double word say how many address bytes the chip accepts. The values 2 (only four
+    // address bytes) and 3 (reserved) are rejected.
     if table[2] / 2 % 4 >= 2 {
         return Err(SfdpFault::Address);
     }

@@ -114,9 +114,9 @@ impl Reading {
     }
 
     // Checks the call with a stop after `allowed` transactions. `whole` has the lines that the call sends without a
-    // stop. If the stop is after all of them, the call must have its result without a stop; otherwise it must return
-    // `Stopped` after the lines before the stop. In both cases the chip's bytes and non-volatile status bits must be as
-    // before.
+    // stop. If the stop is after all these lines, the call must have the same result as without a stop. Otherwise it
+    // must return `Stopped` after the lines before the stop. In both cases the chip's bytes and non-volatile status
+    // bits must be as before.
     fn check_under(
         self,
         alloc: Global,
@@ -245,7 +245,7 @@ fn copy_of(alloc: Global, case: &Case) -> Result<Vec<u8>, Fault> {
 }
 
 // Checks the report on protection: the protected range, whether the status is locked, and the chip's size. An empty
-// range must be two zeros. For undefined protection bits there must be no range.
+// range must be reported with address 0 and length 0. If the protection bits are undefined, no range must be reported.
 fn check_protection(case: &Case, told: Protection) -> Result<(), Fault> {
     let code = guards::code_of(case.chip.status);
     let size = case.chip.config.size;

@@ -138,8 +138,8 @@ fn check_ended(whole: Whole<'_>, ran: &Restored) -> Result<(), Fault> {
 }
 
 // Checks the restore with a random stop. `lines` has the lines that it sends without a stop. If the stop is after all
-// of them, the restore must have its result without a stop, otherwise it must return `Stopped` after the lines before
-// the stop. In both cases the chip must equal the model.
+// these lines, the restore must have the same result as without a stop. Otherwise it must return `Stopped` after the
+// lines before the stop. In both cases the chip must equal the model.
 fn check_stopped(
     alloc: Global,
     dice: &mut Dice,

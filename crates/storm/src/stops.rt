@@ -103,8 +103,8 @@ fn check_refusal(
     traces::check_lines(ran.lines()?, first, "a refused session that was stopped")
 }
 
-/// Draws the number of transactions after which a session stops, up to all that it sends: one time in four any number,
-/// otherwise one that is enough for the seal.
+/// Draws the number of transactions after which a session stops, at most the number that it sends without a stop. Three
+/// times in four the number is high enough that the session seals its vault before the stop.
 pub fn stop_for(dice: &mut Dice, case: &Case, wanted: &Wanted) -> u64 {
     let whole = lengths::session(case, wanted.work(&case.chip));
     if dice.hits(1, 4) {
@@ -115,8 +115,8 @@ pub fn stop_for(dice: &mut Dice, case: &Case, wanted: &Wanted) -> u64 {
     saving.saturating_add(changes)
 }
 
-/// Draws the fill byte of a power failure at the stop: for half of the chips that were idle at the start, and otherwise
-/// `None`.
+/// Draws the fill byte of a power failure at the stop. Half of the chips that were idle at the start lose their power.
+/// For all other chips returns `None`.
 pub fn fill_for(dice: &mut Dice, case: &Case) -> Option<u8> {
     if case.chip.is_idle() && dice.hits(1, 2) {
         Some(dice.pick(0x5A, &[0x00, 0xFF, 0xA5]))
@@ -175,8 +175,8 @@ fn is_gentle(old: &[u8], new: &[u8], now: &[u8]) -> bool {
 }
 
 // Runs up to four restores with stops until one succeeds. If none does, runs a last one without a stop, which must
-// succeed. At each stop the chip loses its power if the session's stop `first` has a fill byte. Returns `cuts` with the
-// stops of these restores inside a transaction added.
+// succeed. At each stop the chip loses its power if the session's stop `first` has a fill byte. Returns the sum of
+// `cuts` and the numbers of stops of these restores inside a transaction.
 fn give_back(
     alloc: Global,
     dice: &mut Dice,

@@ -4,8 +4,8 @@ use crate::model::Stop;
 use nor_session::Refusal;
 use std::fmt;
 
-/// Returns the least number of cases of each kind that `is_sufficient` checks, for a run of `cases` cases: 5 if `cases`
-/// is 500 or more, otherwise 0.
+/// Returns the number that each count which `is_sufficient` checks must reach in a run of `cases` cases. This is 5 if
+/// `cases` is 500 or more, otherwise 0.
 pub fn least(cases: u64) -> u64 {
     if cases < 500 { 0 } else { 5 }
 }

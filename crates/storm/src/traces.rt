@@ -27,7 +27,7 @@ pub fn check_lines(sent: &str, wanted: &str, call: &'static str) -> Result<(), F
     }
 }
 
-/// Checks a trace that is given as bytes.
+/// Checks a trace that is given as bytes, as `check_lines` does for text.
 pub fn check_trace(sent: &[u8], wanted: &str, call: &'static str) -> Result<(), Fault> {
     check_lines(text(sent)?, wanted, call)
 }

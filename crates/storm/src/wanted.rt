@@ -146,8 +146,9 @@ fn take_span(case: &Case, span: Span, bytes: &mut [u8]) {
     }
 }
 
-// Returns the target's non-volatile status bits. For a request of a protection range they have the least protection
-// bits that protect exactly this range; if there are none, the bits are the chip's own, as for the other requests.
+// Returns the target's non-volatile status bits. If the request asks for a protection range, they have the least
+// protection bits that protect exactly this range. If there are none, and for all other requests, they are the chip's
+// own.
 fn wanted_status(case: &Case) -> Status {
     let status = guards::kept(case.chip.status);
     let What::WpRange { start, len } = case.request.what else {
@@ -190,8 +191,8 @@ fn rises(old: &[u8], new: &[u8]) -> bool {
     old.iter().zip(new).any(|(old, new)| *new & !*old != 0)
 }
 
-// Returns the number of pages of a sector to program. If the sector is raised, so that it is erased first, these are
-// the pages whose target isn't all FFh, otherwise those that change.
+// Returns the number of pages of a sector that are programmed. A raised sector is erased first, so these are the pages
+// whose target isn't all FFh. In any other sector these are the pages that change.
 fn pages_of(old: &[u8], new: &[u8], raised: bool) -> u32 {
     let mut pages = 0_u32;
     for (old, new) in old.chunks(256).zip(new.chunks(256)) {
