@@ -31,8 +31,7 @@ left_seen files rest may_stay (Some name) len found is whole was =
 
 -- ---- a file that is moved aside
 
--- This is the case of `pick` in which the file was missing at first and is missing again, for example because you moved
--- it aside.
+-- The lemma `pick` for a file that was missing at first and is missing again, for example because you moved it aside.
 aside_of : (other : Bor Text) (was found left : Found) (len : ℕ) (mid new : FilesState) → AreAtRest mid
     → ((name : Name) → new.may_leave name (new.view.seen name)) → IsFileFound mid.view (Some other) len found
     → IfSome found (λ all. length all ≡ len) → LeavesAsLong (Some other) mid new → (was ≡ None) × (left ≡ None)

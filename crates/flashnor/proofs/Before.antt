@@ -23,8 +23,8 @@ pub two_kept : (nature : Nature) (done : Task) (one : Option (Bor Text)) → Are
     → AreTwo nature one (journal_by done)
 two_kept nature done one two = grind arith
 
--- If each file has one role, that stays so after calls, since it depends only on the nature of the files, which calls
--- keep.
+-- If each file has one role under the nature `old`, the same holds under an equal nature `new`. Calls keep the nature
+-- of the files.
 pub roles_after : {old new : Nature} (job : ChipJob) → new ≡ old → FilesHaveOneRole old job → FilesHaveOneRole new job
 roles_after job same roles = grind arith
 

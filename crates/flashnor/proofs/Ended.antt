@@ -34,7 +34,7 @@ starts_memory : (puts : Bool) (view : View) (programmer : Programmer) (fault : F
 starts_memory true view programmer fault is = inl is
 starts_memory false view programmer fault is = inl is
 
--- Each fault of reading a file of the chip is also a fault of locking and reading the file.
+-- A fault of reading a file of the chip is also a fault of locking and reading this file.
 opening_locks : (view : View) (name : Text) (len : ℕ) (fault : Fault) → IsOpeningFault view name len fault
     → IsLockingFault view name len fault
 opening_locks view name len fault is = grind arith

@@ -1,4 +1,4 @@
--- What a run has printed after several writes.
+-- The bytes that a run has printed after several writes.
 use Rattle.std.proofs.Common.{◌≡◌, ℕ, Bool, List, Option, Some, Result, Err, IfSome, arith}
 use Rattle.std.proofs.Common.{false, true}
 use Rattle.std.specs.Fmt.{option_append}

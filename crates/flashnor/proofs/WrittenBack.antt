@@ -1,5 +1,5 @@
--- What the chip's two files hold after they were written one after the other, and the names of those that could not be
--- written.
+-- The contents of the chip's two files after they were written one after the other, and the names of those that could
+-- not be written.
 use Rattle.std.proofs.Common.{◌≡◌, ℕ, Bool, List, Option, None, Some, IfSome, arith, true}
 use Rattle.std.specs.Borrow.{Bor}
 use Rattle.nor_model.specs.Chip.{Chip, status_of}
@@ -17,8 +17,8 @@ use Rattle.nor_lines.specs.Stored.{AreTwo, Happens, IsNot, IsReportedOf}
 abbrev OthersOf : Option (Bor Text) → (old new : FilesState) → Type 0
 OthersOf name old new = is_lawful old.view ≡ true → (any : Name) → IsNot old.view.nature name any → KeepsFile any old new
 
--- What `write_if_named` ensures for a file, if one is named. `failed` is the name that it returns if the file could not
--- be written.
+-- The clauses that `write_if_named` ensures for a file, if one is named. `failed` is the name that it returns if the
+-- file could not be written.
 abbrev PutsBack : Option (Bor Text) → (there : Bool) → (bytes : List ℕ) → (failed : Option (Bor Text))
     → (old new : FilesState) → Type 0
 PutsBack name there bytes failed old new = record {

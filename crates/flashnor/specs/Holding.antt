@@ -79,7 +79,7 @@ pub record AreReady (programmer : Programmer) (image_there status_there : Bool) 
   pub image : (put : List ℕ) → AreChipBytes new put → IsReadyIfNamed programmer.image image_there bytes put files
   pub status : IsReadyIfNamed programmer.status status_there bits (status_of new) files
 
--- Holds if a host crash can leave of each named file of the chip only contents that `IsAmid` allows, while the image is
+-- Holds if a host crash can leave of each named file of the chip only contents that `IsAmid` allows. The image is being
 -- written with the bytes of the chip `new`, and the status file with its status bytes.
 pub record AreAmid (programmer : Programmer) (image_there status_there : Bool) (had bits : List ℕ) (new : Chip)
     (files : FilesState) : Type 0 where

@@ -1,5 +1,5 @@
--- What a host crash may leave of a chip's files and of its journal, and the chip that a later run opens from the chip's
--- files.
+-- The contents that a host crash may leave of a chip's files and of its journal, and the chip that a later run opens
+-- from the chip's files.
 use Rattle.std.specs.Prelude.{◌≡◌, ◌⊎◌, ◌∷◌, [], ℕ, Bool, true, false, List, Option, None, Some}
 use Rattle.std.specs.Prelude.{IfSome, IsSomeAnd, length, replicate, slice_index, unwrap_or, ⊤}
 use Rattle.std.specs.Borrow.{Bor}
@@ -66,7 +66,7 @@ pub record IsRestorableFrom {programmer : Programmer} {old : FilesState} (file :
   pub back : LeavesOnly first (CanRestore journal first.bus.chip) files
 
 -- Holds if `name` is apart from the names of the programmer's image, status file and trace, as far as these are given
--- (`IsNot`).
+-- (`IsNot`). If the files obey their contract, `name` then refers to none of these files.
 pub record IsNoFileOf (nature : Nature) (programmer : Programmer) (name : Text) : Type 0 where
   pub image : IsNot nature programmer.image name
   pub status : IsNot nature programmer.status name

@@ -10,8 +10,8 @@ use nor_files::Store;
 use nor_lines::{Fault, Named, apart, look_ahead, named_by};
 use nor_words::ChipJob;
 
-/// What a job uses a file for. If two roles share a file although they need different files, the fault names the file
-/// of the later role in this order.
+/// The purpose for which a job uses a file. If two roles share a file although they need different files, the fault
+/// names the file of the later role in this order.
 #[derive(Clone, Copy)]
 pub enum Role {
     Image,

@@ -11,7 +11,7 @@ pub const HELP: Help = Help {
     notes: NOTES,
 };
 
-// Each line except the first has at most 80 columns.
+// All lines except the first have at most 80 columns.
 const NOTES: &str = "\
 TEXT of -p is serprog: and then KEY=VALUE, between commas, each key at most once:
   dev=PATH      The serial port of the programmer; this key is required

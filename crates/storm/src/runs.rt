@@ -67,8 +67,8 @@ fn check_case(
     check_session(alloc, dice, case, &ran, tally)
 }
 
-// Checks a session. The session may be accepted, refused with one of errors 1 to 8 before the scan, or refused with
-// error 9 or 10 after the scan (a request for a protection range has no scan).
+// Checks a session. The session may be accepted, refused before the scan (errors 1 to 8), or refused after the scan
+// (errors 9 and 10). A request for a protection range has no scan.
 fn check_session(
     alloc: Global,
     dice: &mut Dice,
