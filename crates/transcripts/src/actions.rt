@@ -5,52 +5,93 @@ use crate::calls;
 use crate::digits::bytes_of;
 use crate::fault::Fault;
 use crate::setup::Way;
-use crate::step::{Action, Exchange};
+use crate::word::Word;
 use nor_chip::{Bus, Meter};
 use std::alloc::Global;
 
-/// Performs the action on `bus`, and compares the action's result with the expected one.
+/// Performs the action on `bus`, and compares the action's result with the expected one. `came` must be empty. If the
+/// fault is `Differs`, it has the actual result.
 ///
 /// Returns one of these faults:
 ///
 /// - `Unread` if a value in the line can't be parsed, or breaks a premise of the called function
 /// - `Differs` if the result differs from the expected one
-/// - `Stopped` if the bus stops a transaction that it must carry out
+/// - `Stopped` if the bus stops a transaction that it must carry out, `Replied` if it carries out one that it must stop
 /// - `Memory` if memory runs out
-pub fn take(alloc: Global, bus: &mut Way<'_>, action: Action<'_>) -> Result<(), Fault> {
-    match action {
-        Action::Carries(exchange) => carry(alloc, bus, exchange),
-        Action::Stops(exchange) => stop(alloc, bus, exchange),
-        Action::Allows(count) => {
-            bus.allow(count);
-            Ok(())
-        }
-        Action::Calls(call, wanted) => agree(alloc, calls::answer(alloc, bus, call)?, wanted),
+pub fn take(
+    alloc: Global,
+    bus: &mut Way<'_>,
+    came: &mut String,
+    word: Word,
+    rest: &str,
+) -> Result<(), Fault> {
+    match word {
+        Word::Carries => exchange(alloc, bus, came, false, rest),
+        Word::Stops => exchange(alloc, bus, came, true, rest),
+        Word::Allow => allow(bus, rest),
+        _ => call(alloc, bus, came, word, rest),
     }
 }
 
-// Sends a transaction that the bus must carry out, and compares the reply. The reply buffer first gets bytes that all
-// differ from the expected ones, so that the comparison fails if the bus does not write each of them.
-fn carry(alloc: Global, bus: &mut Way<'_>, exchange: Exchange<'_>) -> Result<(), Fault> {
-    let out = bytes_of(alloc, exchange.out)?;
-    let wanted = bytes_of(alloc, exchange.reply)?;
+fn allow(bus: &mut Way<'_>, count: &str) -> Result<(), Fault> {
+    bus.allow(count.parse()?);
+    Ok(())
+}
+
+fn call(
+    alloc: Global,
+    bus: &mut Way<'_>,
+    came: &mut String,
+    word: Word,
+    rest: &str,
+) -> Result<(), Fault> {
+    let (words, wanted) = rest.split_once(" = ").ok_or(Fault::Unread)?;
+    calls::call(alloc, bus, came, word, words)?;
+    agree(came, wanted)
+}
+
+// Sends a transaction. `words` has the bytes to send and, after `<`, the bytes that the reply buffer must have after the
+// transaction. `stops` is true if the bus must stop it.
+fn exchange(
+    alloc: Global,
+    bus: &mut Way<'_>,
+    came: &mut String,
+    stops: bool,
+    words: &str,
+) -> Result<(), Fault> {
+    let (out, reply) = words.split_once('<').unwrap_or((words, ""));
+    let out = bytes_of(alloc, out)?;
+    let wanted = bytes_of(alloc, reply)?;
+    send(alloc, bus, came, stops, (&out, &wanted))
+}
+
+// Sends `out`, and compares the reply buffer with `wanted`. If the bus must carry out the transaction, the buffer first
+// gets bytes that all differ from the expected ones, so that the comparison fails if the bus does not write each of
+// them. If the bus must stop it, the buffer first gets the expected bytes, which the bus must leave as they are.
+fn send(
+    alloc: Global,
+    bus: &mut Way<'_>,
+    came: &mut String,
+    stops: bool,
+    (out, wanted): (&[u8], &[u8]),
+) -> Result<(), Fault> {
     let mut reply = wanted.to_vec(alloc)?;
-    for byte in reply.iter_mut() {
+    if !stops {
+        invert(&mut reply);
+    }
+    let stopped = bus.transfer(out, &mut reply).is_err();
+    if stopped == stops {
+        return agree_bytes(came, &reply, wanted);
+    }
+    Err(if stopped {
+        Fault::Stopped
+    } else {
+        Fault::Replied
+    })
+}
+
+fn invert(bytes: &mut [u8]) {
+    for byte in bytes.iter_mut() {
         *byte = !*byte;
     }
-    bus.transfer(&out, &mut reply)?;
-    agree_bytes(alloc, &reply, &wanted)
-}
-
-// Sends a transaction at which the bus must stop, and checks that it leaves the bytes in the reply buffer as they were.
-fn stop(alloc: Global, bus: &mut Way<'_>, exchange: Exchange<'_>) -> Result<(), Fault> {
-    let out = bytes_of(alloc, exchange.out)?;
-    let wanted = bytes_of(alloc, exchange.reply)?;
-    let mut reply = wanted.to_vec(alloc)?;
-    let came = match bus.transfer(&out, &mut reply) {
-        Ok(()) => "a reply",
-        Err(_) => "a stop",
-    };
-    agree(alloc, String::from_str(alloc, came)?, "a stop")?;
-    agree_bytes(alloc, &reply, &wanted)
 }

@@ -1,23 +1,29 @@
-//! Comparisons of results with expected values.
+//! Comparisons of results with expected values. The text `came` gets the actual value.
 
 use crate::fault::Fault;
-use std::alloc::Global;
+use std::fmt::Write;
 
-/// Returns `Differs`, with both texts, if the actual text `came` differs from the expected text `wanted`.
-pub fn agree(alloc: Global, came: String, wanted: &str) -> Result<(), Fault> {
-    if came.as_str() == wanted {
-        return Ok(());
+/// Returns `Differs` if the actual text `came` differs from the expected text `wanted`.
+pub fn agree(came: &str, wanted: &str) -> Result<(), Fault> {
+    if came == wanted {
+        Ok(())
+    } else {
+        Err(Fault::Differs)
     }
-    let wanted = String::from_str(alloc, wanted)?;
-    Err(Fault::Differs { came, wanted })
 }
 
-/// Returns `Differs`, with both values in hexadecimal, if the actual bytes `came` differ from the expected `wanted`.
-pub fn agree_bytes(alloc: Global, came: &[u8], wanted: &[u8]) -> Result<(), Fault> {
-    if came == wanted {
+/// Returns `Differs`, with the actual bytes in hexadecimal in `came`, if `bytes` differs from the expected `wanted`.
+pub fn agree_bytes(came: &mut String, bytes: &[u8], wanted: &[u8]) -> Result<(), Fault> {
+    if bytes == wanted {
         return Ok(());
     }
-    let came = hex::encode(alloc, came)?;
-    let wanted = hex::encode(alloc, wanted)?;
-    Err(Fault::Differs { came, wanted })
+    for byte in bytes {
+        write!(came, "{byte:02x}")?;
+    }
+    Err(Fault::Differs)
+}
+
+/// Appends the number in decimal digits to `came`.
+pub fn put_number(came: &mut String, number: u64) -> Result<(), Fault> {
+    Ok(write!(came, "{number}")?)
 }

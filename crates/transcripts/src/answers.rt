@@ -1,12 +1,13 @@
 //! The checks of a case after all its actions.
 
-use crate::agree::agree;
-use crate::digits::{address_of, byte_of, status_of};
+use crate::agree::{agree, put_number};
+use crate::digits::{address_of, addresses_of, byte_of, pair_of, status_of};
 use crate::fault::Fault;
 use crate::guards;
-use crate::step::Question;
-use nor_chip::{Config, Delays, Offered, SimBus, offered};
-use std::alloc::{AllocError, Global};
+use crate::word::Word;
+use nor_chip::{Config, Delays, Offered, SimBus, Status, code_for, offered};
+use std::alloc::Global;
+use std::fmt::Write;
 use std::str::Lines;
 
 /// The chip after the actions of a case, and the number of transactions that succeeded (those that the bus did not
@@ -42,124 +43,164 @@ impl<'a> Answers<'a> {
         }
     }
 
-    /// Makes one check. Returns `Differs` if the actual value differs from the expected one, `Unread` if a value can't
-    /// be parsed or isn't allowed, and `Memory` if memory runs out.
-    pub fn check(&mut self, alloc: Global, question: Question<'_>) -> Result<(), Fault> {
-        match question {
-            Question::Array(places, bytes) => self.check_array(alloc, places, bytes),
-            Question::Traced(line) => self.check_trace(alloc, line),
-            Question::Set(set, status) => self.check_set(alloc, set, status),
-            Question::Guards(status, places) => {
-                guards::check(alloc, self.config, status_of(status)?, places)
-            }
-            Question::Status(wanted) => {
-                let [one, two] = self.left.chip.status();
-                agree(alloc, format!(in alloc; "{one:02x}{two:02x}")?, wanted)
-            }
-            Question::Sent(wanted) => {
-                agree(alloc, format!(in alloc; "{}", self.left.sent)?, wanted)
-            }
-            Question::Sets(wanted) => {
-                let count = offered(self.config.size).count();
-                agree(alloc, format!(in alloc; "{count}")?, wanted)
-            }
-            Question::Unit(status, places, wanted) => {
-                let came = guards::unit(self.config, status_of(status)?, places)?;
-                agree(alloc, String::from_str(alloc, came)?, wanted)
-            }
-            Question::Least((start, len), wanted) => {
-                agree(
-                    alloc,
-                    guards::least(alloc, self.config, start, len)?,
-                    wanted,
-                )
-            }
-            Question::Size(words, wanted) => {
-                agree(alloc, String::from_str(alloc, made(alloc, words)?)?, wanted)
-            }
-            Question::Bytes(count, wanted) => {
-                agree(alloc, said_of(alloc, self.config, count)?, wanted)
-            }
+    /// Makes the check of a line. `came` must be empty. If the fault is `Differs`, it has the actual value. Returns
+    /// `Unread` if there is no such check or a value can't be parsed or isn't allowed, and `Memory` if memory runs out.
+    pub fn check(
+        &mut self,
+        alloc: Global,
+        came: &mut String,
+        word: Word,
+        rest: &str,
+    ) -> Result<(), Fault> {
+        if matches!(word, Word::Traced) {
+            return self.check_trace(came, rest);
+        }
+        let (words, wanted) = rest.split_once("= ").ok_or(Fault::Unread)?;
+        let words = words.trim();
+        match word {
+            Word::Array => self.check_array(came, words, wanted),
+            Word::Guards => self.check_guards(came, words, wanted),
+            Word::Set => self.check_set(came, words, wanted),
+            _ => self.check_text(alloc, came, word, words, wanted),
+        }
+    }
+
+    // Makes a check that compares texts.
+    fn check_text(
+        &self,
+        alloc: Global,
+        came: &mut String,
+        word: Word,
+        words: &str,
+        wanted: &str,
+    ) -> Result<(), Fault> {
+        self.put(alloc, came, word, words)?;
+        agree(came, wanted)
+    }
+
+    // Writes the actual value of a check that compares texts to `came`.
+    fn put(&self, alloc: Global, came: &mut String, word: Word, words: &str) -> Result<(), Fault> {
+        let config = &self.config;
+        match word {
+            Word::Status => put_status(came, self.left.chip.status()),
+            Word::Sent => put_number(came, self.left.sent),
+            Word::Sets => put_number(came, offered(config.size).count() as u64),
+            Word::Unit => guards::put_unit(came, config, words),
+            Word::Least => guards::put_least(came, config, words),
+            Word::Size => put_made(came, words),
+            Word::Bytes => put_length(alloc, came, *config, words),
+            _ => Err(Fault::Unread),
         }
     }
 
     /// Checks that the trace has no further lines. Checks nothing if no check of the case compared a line of the trace.
-    pub fn end(mut self, alloc: Global) -> Result<(), Fault> {
+    pub fn end(mut self, came: &mut String) -> Result<(), Fault> {
         match self.trace.next() {
             Some(line) if self.is_traced => {
-                agree(
-                    alloc,
-                    String::from_str(alloc, line)?,
-                    "no more lines of the trace",
-                )
+                came.push_str(line)?;
+                Err(Fault::Differs)
             }
             _ => Ok(()),
         }
     }
 
-    // Checks that the bytes from `places.0` up to, but not including, `places.1` have one value, and all other bytes a
-    // second one. `bytes` has both values, as `ff else 00`, or one value for the whole chip, as `ff`.
-    fn check_array(&self, alloc: Global, places: (u32, u32), bytes: &str) -> Result<(), Fault> {
+    // Checks that the bytes of the range `words` have one value, and all other bytes a second one. `bytes` has both
+    // values, as `ff else 00`, or one value for the whole chip, as `ff`.
+    fn check_array(&self, came: &mut String, words: &str, bytes: &str) -> Result<(), Fault> {
+        let places = addresses_of(words)?;
         let (inside, outside) = bytes.split_once(" else ").unwrap_or((bytes, bytes));
-        let (inside, outside) = (byte_of(inside)?, byte_of(outside)?);
-        let (start, end) = (places.0 as usize, places.1 as usize);
-        for (at, byte) in self.left.chip.bytes().iter().enumerate() {
-            let wanted = if start <= at && at < end {
-                inside
-            } else {
-                outside
-            };
-            if *byte != wanted {
-                let came = format!(in alloc; "{byte:02x} at {at:06x}")?;
-                return agree(alloc, came, bytes);
-            }
+        let values = (byte_of(inside)?, byte_of(outside)?);
+        match unlike(self.left.chip.bytes(), places, values) {
+            Some(place) => tell_place(came, place),
+            None => Ok(()),
         }
-        Ok(())
+    }
+
+    // Checks that the status `words` protects exactly the range `places`.
+    fn check_guards(&self, came: &mut String, words: &str, places: &str) -> Result<(), Fault> {
+        let status = status_of(words)?;
+        guards::check(came, &self.config, status, addresses_of(places)?)
     }
 
     // Checks that `line` is the next line of the trace.
-    fn check_trace(&mut self, alloc: Global, line: &str) -> Result<(), Fault> {
+    fn check_trace(&mut self, came: &mut String, line: &str) -> Result<(), Fault> {
         self.is_traced = true;
-        let came = self.trace.next().unwrap_or("the trace's end");
-        agree(alloc, String::from_str(alloc, came)?, line)
+        let next = self.trace.next().unwrap_or("the trace's end");
+        if next == line {
+            return Ok(());
+        }
+        came.push_str(next)?;
+        Err(Fault::Differs)
     }
 
-    // Checks that `set` is the next protectable range, that `status` has the least protection bits for it, and that
-    // these bits protect exactly this range. Only the first and the last address of each sector are compared.
-    fn check_set(&mut self, alloc: Global, set: (u32, u32), status: &str) -> Result<(), Fault> {
+    // Checks that the range `words` is the next protectable one, that the status `wanted` has the least protection bits
+    // for it, and that these bits protect exactly this range. Only the first and the last address of each sector are
+    // compared.
+    fn check_set(&mut self, came: &mut String, words: &str, wanted: &str) -> Result<(), Fault> {
+        let set = pair_of(words)?;
+        let status = status_of(wanted)?;
+        let next = self.sets.next();
+        if next != Some(set) {
+            return tell_set(came, next.unwrap_or((0, 0)));
+        }
         let (start, len) = set;
-        let came = match self.sets.next() {
-            Some((first, count)) => format!(in alloc; "{first:06x} {count:06x}")?,
-            None => String::from_str(alloc, "no set")?,
-        };
-        let wanted = format!(in alloc; "{start:06x} {len:06x}")?;
-        agree(alloc, came, &wanted)?;
-        let status = status_of(status)?;
-        let code = guards::least(alloc, self.config, start, len)?;
-        agree(alloc, code, &guards::code(alloc, status)?)?;
-        guards::check(
-            alloc,
-            self.config,
-            status,
-            (start, start.saturating_add(len)),
-        )
+        if code_for(start, len, self.config.size) != Some(Status::of(status).code()) {
+            return guards::put_least(came, &self.config, words).and(Err(Fault::Differs));
+        }
+        let places = (start, start.saturating_add(len));
+        guards::check(came, &self.config, status, places)
     }
 }
 
-// Returns `made` if `Config::new` accepts the size and the number of SFDP bytes that `words` has, otherwise `none`.
-fn made(alloc: Global, words: &str) -> Result<&'static str, Fault> {
-    let (size, count) = words.split_once(' ').ok_or(Fault::Unread)?;
-    let sfdp = vec![in alloc; 0xAB; count.parse::<usize>()?]?;
-    let config = Config::new([1, 2, 3], address_of(size)?, true, false, false, &sfdp);
-    Ok(if config.is_some() { "made" } else { "none" })
+fn tell_set(came: &mut String, (start, len): (u32, u32)) -> Result<(), Fault> {
+    write!(came, "{start:06x} {len:06x}")?;
+    Err(Fault::Differs)
 }
 
-// Returns what `SimBus::new` reports for this number of bytes: `taken`, or the text of its error.
-fn said_of(alloc: Global, config: Config, count: usize) -> Result<String, AllocError> {
-    let bytes = vec![in alloc; 0xFF; count]?;
+fn tell_place(came: &mut String, (at, byte): (usize, u8)) -> Result<(), Fault> {
+    write!(came, "{byte:02x} at {at:06x}")?;
+    Err(Fault::Differs)
+}
+
+// Returns the first address with another byte than the expected one: `inside` from `places.0` up to, but not including,
+// `places.1`, and `outside` elsewhere. Returns that byte, too.
+fn unlike(bytes: &[u8], places: (u32, u32), (inside, outside): (u8, u8)) -> Option<(usize, u8)> {
+    let (start, end) = (places.0 as usize, places.1 as usize);
+    for (at, byte) in bytes.iter().enumerate() {
+        let wanted = if start <= at && at < end {
+            inside
+        } else {
+            outside
+        };
+        if *byte != wanted {
+            return Some((at, *byte));
+        }
+    }
+    None
+}
+
+fn put_status(came: &mut String, [one, two]: [u8; 2]) -> Result<(), Fault> {
+    Ok(write!(came, "{one:02x}{two:02x}")?)
+}
+
+// The SFDP bytes of the chips that `put_made` makes, of which it takes the first ones.
+const SFDP: [u8; 512] = [0xAB; 512];
+
+// Appends `made` to `came` if `Config::new` accepts the size and the number of SFDP bytes in `words`, otherwise `none`.
+// Returns `Unread` if the number is greater than 512.
+fn put_made(came: &mut String, words: &str) -> Result<(), Fault> {
+    let (size, count) = words.split_once(' ').ok_or(Fault::Unread)?;
+    let sfdp = SFDP.get(..count.parse()?).ok_or(Fault::Unread)?;
+    let config = Config::new([1, 2, 3], address_of(size)?, true, false, false, sfdp);
+    Ok(came.push_str(if config.is_some() { "made" } else { "none" })?)
+}
+
+// Appends what `SimBus::new` reports for the number of bytes in `words` to `came`: `taken`, or the text of its error.
+fn put_length(alloc: Global, came: &mut String, config: Config, words: &str) -> Result<(), Fault> {
+    let bytes = vec![in alloc; 0xFF; words.parse()?]?;
     let delays = Delays { now: 0, each: 0 };
     match SimBus::new(config, bytes, [0x00, 0x00], delays) {
-        Ok(_) => String::from_str(alloc, "taken"),
-        Err(wrong) => format!(in alloc; "{wrong}"),
+        Ok(_) => Ok(came.push_str("taken")?),
+        Err(wrong) => Ok(write!(came, "{wrong}")?),
     }
 }

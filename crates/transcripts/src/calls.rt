@@ -3,67 +3,94 @@
 ghost use Rattle.std.specs.Prelude.{◌≡◌, ◌<◌, true, IfOk};
 ghost use Rattle.nor_driver.specs.Units.{is_aligned};
 
-use crate::digits::{address_of, bytes_of, status_of};
+use crate::digits::{address_of, byte_of, bytes_of};
 use crate::fault::Fault;
 use crate::setup::Way;
-use crate::step::Call;
+use crate::word::Word;
 use nor_chip::{MOST_SECTORS, Status};
 use nor_driver::{Erase, EraseBlock, OperationError, erase, program_page, wait, write_status};
-use std::alloc::{AllocError, Global};
+use std::alloc::Global;
+use std::fmt::Write;
 
-/// Calls the function and returns its result as text: the number of transactions that it sent, `stop`, or `timeout
-/// ADDRESS`. If a wait succeeds, the text begins with the status 1 of its last poll. Returns `Unread` if an argument
-/// can't be parsed or breaks the function's premises.
-pub fn answer(alloc: Global, bus: &mut Way<'_>, call: Call<'_>) -> Result<String, Fault> {
-    match call {
-        Call::Wait(address) => match wait(bus, address) {
-            Ok(waited) => Ok(format!(in alloc; "{:02x} {}", waited.status1, waited.polls)?),
-            Err(error) => Ok(text_of(alloc, Err(error))?),
-        },
-        Call::Program(address, words) => {
-            let bytes = bytes_of(alloc, words)?;
-            program(alloc, bus, address, &bytes)
-        }
-        Call::Erase(opcode, sector) => {
-            let erased = erase_of(opcode, sector)?;
-            Ok(text_of(alloc, erase(bus, erased))?)
-        }
-        Call::Protect(status, code) => protect(alloc, bus, status_of(status)?, address_of(code)?),
+/// Calls the function that `word` names with the arguments in `words`, and writes its result to `came`: the number of transactions
+/// that it sent, `stop`, or `timeout ADDRESS`. If a wait succeeds, the text begins with the status 1 of its last poll.
+/// Returns `Unread` if there is no such function, or if an argument can't be parsed or breaks the function's premises.
+pub fn call(
+    alloc: Global,
+    bus: &mut Way<'_>,
+    came: &mut String,
+    word: Word,
+    words: &str,
+) -> Result<(), Fault> {
+    let (first, second) = words.split_once(' ').unwrap_or((words, ""));
+    let first = address_of(first)?;
+    match word {
+        Word::Wait => wait_at(bus, came, first),
+        Word::Program => program(alloc, bus, came, first, second),
+        Word::Erase => erase_from(bus, came, first, second),
+        Word::Protect => protect(bus, came, first, second),
+        _ => Err(Fault::Unread),
     }
 }
 
-// Programs bytes within one page. Returns `Unread` if `bytes` is empty or crosses the end of the page, or if the
+fn wait_at(bus: &mut Way<'_>, came: &mut String, address: u32) -> Result<(), Fault> {
+    match wait(bus, address) {
+        Ok(waited) => Ok(write!(came, "{:02x} {}", waited.status1, waited.polls)?),
+        Err(error) => put(came, Err(error)),
+    }
+}
+
+// Programs bytes within one page. Returns `Unread` if there are none or they cross the end of the page, or if the
 // address is 1000000h or above.
-fn program(alloc: Global, bus: &mut Way<'_>, address: u32, bytes: &[u8]) -> Result<String, Fault> {
+fn program(
+    alloc: Global,
+    bus: &mut Way<'_>,
+    came: &mut String,
+    address: u32,
+    words: &str,
+) -> Result<(), Fault> {
+    let bytes = bytes_of(alloc, words)?;
     let room = 256 - (address % 256) as usize;
     if address >= 0x100_0000 || bytes.is_empty() || bytes.len() > room {
         return Err(Fault::Unread);
     }
-    Ok(text_of(alloc, program_page(bus, address, bytes))?)
+    put(came, program_page(bus, address, &bytes))
 }
 
-// Writes the status registers with the protection bits `code`. Returns `Unread` if `code` is 64 or more.
-fn protect(alloc: Global, bus: &mut Way<'_>, status: [u8; 2], code: u32) -> Result<String, Fault> {
-    let Ok(code) = u8::try_from(code) else {
+fn erase_from(
+    bus: &mut Way<'_>,
+    came: &mut String,
+    opcode: u32,
+    sector: &str,
+) -> Result<(), Fault> {
+    let erased = erase_of(opcode, address_of(sector)?)?;
+    put(came, erase(bus, erased))
+}
+
+// Writes the status registers with the protection bits `code`. `status` has status 1 in bits 15 to 8, and status 2 in
+// bits 7 to 0. Returns `Unread` if the status has further bits, or the code is 64 or more.
+fn protect(bus: &mut Way<'_>, came: &mut String, status: u32, code: &str) -> Result<(), Fault> {
+    let code = byte_of(code)?;
+    let [0, 0, one, two] = status.to_be_bytes() else {
         return Err(Fault::Unread);
     };
     if code >= 64 {
         return Err(Fault::Unread);
     }
-    Ok(text_of(alloc, write_status(bus, Status::of(status), code))?)
+    put(came, write_status(bus, Status::of([one, two]), code))
 }
 
 // Returns the erase with this opcode whose block begins at this sector. Returns `Unread` if the opcode isn't 20h, 52h,
 // D8h or C7h, if the sector isn't below 4,096, or if no such erase block begins at it.
-fn erase_of(opcode: &str, sector: u32) -> Result<Erase, Fault>
+fn erase_of(opcode: u32, sector: u32) -> Result<Erase, Fault>
     ensures reachable { IfOk result (λ erase. erase.sector < 4096) }
     ensures aligned { IfOk result (λ erase. is_aligned erase.unit erase.sector ≡ true) }
 {
     let unit = match opcode {
-        "20" => EraseBlock::Sector,
-        "52" => EraseBlock::Block32,
-        "d8" => EraseBlock::Block64,
-        "c7" => EraseBlock::Chip,
+        0x20 => EraseBlock::Sector,
+        0x52 => EraseBlock::Block32,
+        0xD8 => EraseBlock::Block64,
+        0xC7 => EraseBlock::Chip,
         _ => return Err(Fault::Unread),
     };
     if sector >= MOST_SECTORS {
@@ -79,11 +106,11 @@ fn erase_of(opcode: &str, sector: u32) -> Result<Erase, Fault>
     Ok(erased)
 }
 
-// Returns the result of a call as text: the number of transactions, `stop`, or `timeout ADDRESS`.
-fn text_of(alloc: Global, outcome: Result<u32, OperationError>) -> Result<String, AllocError> {
-    match outcome {
-        Ok(count) => format!(in alloc; "{count}"),
-        Err(OperationError::Stopped) => String::from_str(alloc, "stop"),
-        Err(OperationError::Timeout { address }) => format!(in alloc; "timeout {address:06x}"),
-    }
+// Appends the result of a call to `came`: the number of transactions, `stop`, or `timeout ADDRESS`.
+fn put(came: &mut String, outcome: Result<u32, OperationError>) -> Result<(), Fault> {
+    Ok(match outcome {
+        Ok(count) => write!(came, "{count}")?,
+        Err(OperationError::Stopped) => came.push_str("stop")?,
+        Err(OperationError::Timeout { address }) => write!(came, "timeout {address:06x}")?,
+    })
 }

@@ -1,124 +1,133 @@
-//! Parses a text into cases, and plays a case.
+//! Plays a case.
 
 use crate::actions;
 use crate::answers::{Answers, Left};
 use crate::fault::{Fault, LineFault};
 use crate::setup::Setup;
-use crate::step::Step;
+use crate::word::Word;
 use std::alloc::Global;
 
-// A line of a case, and its line number in the text.
+/// A case: its name, the settings in its line `chip`, and the lines after that.
 #[derive(Clone, Copy)]
-struct Line<'a> {
-    number: usize,
-    step: Step<'a>,
-}
-
-/// A case: a chip, and the lines with its actions and checks.
-#[derive(Drop)]
 pub struct Case<'a> {
     pub name: &'a str,
-    number: usize,
-    setup: Option<Setup>,
-    lines: Vec<Line<'a>>,
+    settings: &'a str,
+    steps: &'a str,
+    // the number of the first line in `steps`
+    first: usize,
 }
 
-/// Parses the cases of a text. Returns the first fault, with the number of its line: the line can't be parsed, or
-/// memory runs out.
-pub fn cases_of<'a>(alloc: Global, text: &'a str) -> Result<Vec<Case<'a>>, LineFault> {
-    let mut cases = Vec::new(alloc);
-    let mut number = 0_usize;
-    for line in text.lines() {
-        number = number.saturating_add(1);
-        at(number, read_line(alloc, &mut cases, number, line.trim()))?;
-    }
-    Ok(cases)
-}
-
-// Parses one line, and adds it to the list of cases. A line `case` begins a case, and any other line belongs to the
-// case before it. Empty lines and lines that begin with `#` are skipped.
-fn read_line<'a>(
-    alloc: Global,
-    cases: &mut Vec<Case<'a>>,
-    number: usize,
-    line: &'a str,
-) -> Result<(), Fault> {
-    if line.is_empty() || line.starts_with('#') {
-        return Ok(());
-    }
-    let (word, rest) = line.split_once(' ').unwrap_or((line, ""));
-    if word == "case" {
-        cases.push(Case {
-            name: rest,
-            number,
-            setup: None,
-            lines: Vec::new(alloc),
-        })?;
-        return Ok(());
-    }
-    let case = cases.last_mut().ok_or(Fault::Unread)?;
-    if word == "chip" {
-        case.setup = Some(Setup::read(rest)?);
-    } else {
-        let step = Step::read(word, rest)?;
-        case.lines.push(Line { number, step })?;
-    }
-    Ok(())
-}
-
-impl Case<'_> {
-    /// Plays the case on a chip of its own, and returns the first failure. A case fails if it has no line `chip`, or
-    /// neither an action nor a check.
-    pub fn play(&self, alloc: Global) -> Result<(), LineFault> {
-        let Some(setup) = self.setup else {
-            return at(self.number, Err(Fault::Unread));
-        };
-        if self.lines.is_empty() {
-            return at(self.number, Err(Fault::Unread));
+impl<'a> Case<'a> {
+    /// Splits the text of a case into its parts. The text begins with the case's name, whose line has this number. If
+    /// the line `chip` doesn't follow the name, the case has no settings, and fails.
+    pub fn of(text: &'a str, number: usize) -> Case<'a> {
+        let (name, rest) = text.split_once('\n').unwrap_or((text, ""));
+        let (chip, steps) = rest.split_once('\n').unwrap_or((rest, ""));
+        Case {
+            name,
+            settings: chip.strip_prefix("chip ").unwrap_or(""),
+            steps,
+            first: number.saturating_add(2),
         }
+    }
+
+    /// Plays the case on a chip of its own, and returns the first failure. If that is `Differs`, `came` has the actual
+    /// value. A case fails if it has no line `chip`, or neither an action nor a check.
+    pub fn play(self, alloc: Global, came: &mut String) -> Result<(), LineFault> {
+        let setup = match self.setup() {
+            Ok(setup) => setup,
+            Err(fault) => return at(self.first.saturating_sub(1), Err(fault)),
+        };
         let mut log = Vec::new(alloc);
-        let chip = self.act(alloc, setup, &mut log)?;
-        self.ask(alloc, Answers::new(setup.config, chip, &log))
+        let left = self.act(alloc, came, &setup, &mut log)?;
+        self.ask(alloc, came, Answers::new(setup.config, left, &log))
+    }
+
+    fn setup(self) -> Result<Setup, Fault> {
+        if is_blank(self.steps) {
+            Err(Fault::Unread)
+        } else {
+            Setup::read(self.settings)
+        }
     }
 
     // Performs all actions on a new bus. Returns the chip, and the number of transactions that the bus did not stop.
     // Returns the fault of making the bus, that of the first action that fails, or `Lost` if a line of the trace was
     // lost.
-    fn act(&self, alloc: Global, setup: Setup, log: &mut Vec<u8>) -> Result<Left, LineFault> {
+    fn act(
+        self,
+        alloc: Global,
+        came: &mut String,
+        setup: &Setup,
+        log: &mut Vec<u8>,
+    ) -> Result<Left, LineFault> {
         let mut bus = match setup.bus(alloc, log) {
             Ok(bus) => bus,
             Err(fault) => return Err(LineFault {
-                line: self.number,
+                line: self.first,
                 fault,
             }),
         };
-        for line in &self.lines {
-            if let Step::Does(action) = line.step {
-                at(line.number, actions::take(alloc, &mut bus, action))?;
+        for (number, line) in (self.first..).zip(self.steps.split('\n')) {
+            let (word, rest) = step_of(line);
+            came.clear();
+            if word.is_action() {
+                at(number, actions::take(alloc, &mut bus, came, word, rest))?;
             }
         }
-        if bus.lost() {
-            return Err(LineFault {
-                line: self.number,
-                fault: Fault::Lost,
-            });
-        }
+        let lost = bus.lost();
         let spoilt = bus.into_inner();
-        Ok(Left {
+        let left = Left {
             sent: spoilt.sent(),
             chip: spoilt.into_inner(),
-        })
+        };
+        if lost {
+            Err(LineFault {
+                line: self.first,
+                fault: Fault::Lost,
+            })
+        } else {
+            Ok(left)
+        }
     }
 
     // Makes all checks. If one of them compared a line of the trace, checks that the trace has no further lines.
-    fn ask(&self, alloc: Global, mut answers: Answers<'_>) -> Result<(), LineFault> {
-        for line in &self.lines {
-            if let Step::Asks(question) = line.step {
-                at(line.number, answers.check(alloc, question))?;
+    fn ask(
+        self,
+        alloc: Global,
+        came: &mut String,
+        mut answers: Answers<'_>,
+    ) -> Result<(), LineFault> {
+        for (number, line) in (self.first..).zip(self.steps.split('\n')) {
+            let (word, rest) = step_of(line);
+            came.clear();
+            if word.is_check() {
+                at(number, answers.check(alloc, came, word, rest))?;
             }
         }
-        at(self.number, answers.end(alloc))
+        came.clear();
+        at(self.first, answers.end(came))
     }
+}
+
+// Splits a line into its first word and the text after it.
+fn step_of(line: &str) -> (Word, &str) {
+    let line = line.trim();
+    if line.starts_with('#') {
+        return (Word::Nothing, "");
+    }
+    let (word, rest) = line.split_once(' ').unwrap_or((line, ""));
+    (Word::of(word), rest)
+}
+
+/// True if each line of the text is empty or begins with `#`.
+pub fn is_blank(text: &str) -> bool {
+    for line in text.split('\n') {
+        if !matches!(step_of(line).0, Word::Nothing) {
+            return false;
+        }
+    }
+    true
 }
 
 // Returns the outcome, with the number of the line if it is a fault.

@@ -44,3 +44,9 @@ pub fn addresses_of(places: &str) -> Result<(u32, u32), Fault> {
     let (start, end) = places.split_once("..").ok_or(Fault::Unread)?;
     Ok((address_of(start)?, address_of(end)?))
 }
+
+/// Parses two numbers in hexadecimal digits, with a space between them.
+pub fn pair_of(words: &str) -> Result<(u32, u32), Fault> {
+    let (first, second) = words.split_once(' ').ok_or(Fault::Unread)?;
+    Ok((address_of(first)?, address_of(second)?))
+}

@@ -1,31 +1,43 @@
-//! The faults of a line, a case or the program.
+//! The faults of a line or a case.
 
 use hex::FromHexError;
 use nor_chip::{Stopped, WrongLength};
 use std::alloc::{AllocError, AllocFailed};
-use std::io;
 use std::num::ParseIntError;
-use thiserror::Error;
 
-/// The reason why a line, a case or the program failed.
-#[derive(Debug, Drop, Error)]
+/// The reason why a line or a case failed.
+#[derive(Clone, Copy)]
 pub enum Fault {
-    #[error("can't be read")]
+    /// The line can't be parsed, or a value in it isn't allowed.
     Unread,
-    #[error("came {came}, wanted {wanted}")]
-    Differs { came: String, wanted: String },
-    #[error("the bus stopped")]
+    /// The actual value differs from the expected one.
+    Differs,
+    /// The bus stopped a transaction that it must carry out.
     Stopped,
-    #[error("a line of the trace is lost")]
+    /// The bus carried out a transaction that it must stop.
+    Replied,
+    /// A line of the trace is lost.
     Lost,
-    #[error("out of memory")]
+    /// Out of memory.
     Memory,
-    #[error("input or output failed")]
-    System(io::Error),
+}
+
+impl Fault {
+    /// Returns the text that is printed for this fault. For `Differs` the actual value follows it.
+    pub fn text(self) -> &'static str {
+        match self {
+            Fault::Unread => "can't be read",
+            Fault::Differs => "came ",
+            Fault::Stopped => "the bus stopped",
+            Fault::Replied => "the bus did not stop",
+            Fault::Lost => "a line of the trace is lost",
+            Fault::Memory => "out of memory",
+        }
+    }
 }
 
 /// A fault, and the number of the line where it occurred.
-#[derive(Debug, Drop)]
+#[derive(Clone, Copy)]
 pub struct LineFault {
     pub line: usize,
     pub fault: Fault,
@@ -52,12 +64,6 @@ impl From<WrongLength> for Fault {
     }
 }
 
-impl From<Stopped> for Fault {
-    fn from(_: Stopped) -> Fault {
-        Fault::Stopped
-    }
-}
-
 impl From<AllocError> for Fault {
     fn from(_: AllocError) -> Fault {
         Fault::Memory
@@ -67,11 +73,5 @@ impl From<AllocError> for Fault {
 impl<T: Drop> From<AllocFailed<T>> for Fault {
     fn from(_: AllocFailed<T>) -> Fault {
         Fault::Memory
-    }
-}
-
-impl From<io::Error> for Fault {
-    fn from(error: io::Error) -> Fault {
-        Fault::System(error)
     }
 }

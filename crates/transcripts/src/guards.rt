@@ -2,61 +2,62 @@
 
 ghost use Rattle.std.specs.Prelude.{IsTrue};
 
-use crate::agree::agree;
+use crate::agree::put_number;
+use crate::digits::{addresses_of, pair_of, status_of};
 use crate::fault::Fault;
-use nor_chip::{Config, SECTOR_LEN, Status, code_for, protected, unit_protected};
-use std::alloc::{AllocError, Global};
+use nor_chip::{Config, SECTOR_LEN, code_for, protected, unit_protected};
+use std::fmt::Write;
 
 /// Checks that `status` protects exactly the addresses from `start` up to, but not including, `end`. Checks only the
-/// first and the last address of each sector. Returns `Differs` for the first address with another result.
+/// first and the last address of each sector. Returns `Differs` for the first address with another result, which is
+/// then written to `came`.
 pub fn check(
-    alloc: Global,
-    config: Config,
+    came: &mut String,
+    config: &Config,
     status: [u8; 2],
     (start, end): (u32, u32),
 ) -> Result<(), Fault> {
     for sector in 0..config.size / SECTOR_LEN {
         let first = sector.saturating_mul(SECTOR_LEN);
         for at in [first, first.saturating_add(SECTOR_LEN - 1)] {
-            let wanted = start <= at && at < end;
-            let came = protected(status, config.size, at);
-            if came != wanted {
-                let came = format!(in alloc; "{} at {at:06x}", word(came))?;
-                return agree(alloc, came, word(wanted));
+            let is_protected = protected(status, config.size, at);
+            if is_protected != (start <= at && at < end) {
+                return tell(came, is_protected, at);
             }
         }
     }
     Ok(())
 }
 
+fn tell(came: &mut String, is_protected: bool, at: u32) -> Result<(), Fault> {
+    write!(came, "{} at {at:06x}", word(is_protected))?;
+    Err(Fault::Differs)
+}
+
 fn word(is_protected: bool) -> &'static str {
     if is_protected { "guarded" } else { "free" }
 }
 
-/// Returns `guarded` if `unit_protected` finds a protected address from `start` up to, but not including, `end`,
-/// otherwise `free`. Returns `Unread` if the range is empty or reaches past the chip's end.
-pub fn unit(
-    config: Config,
-    status: [u8; 2],
-    (start, end): (u32, u32),
-) -> Result<&'static str, Fault> {
+/// Appends `guarded` to `came` if `unit_protected` finds a protected address, otherwise `free`. `words` has the status,
+/// the first address, and the address after the last one. Returns `Unread` if the range is empty or reaches past the
+/// chip's end.
+pub fn put_unit(came: &mut String, config: &Config, words: &str) -> Result<(), Fault> {
+    let (status, places) = words.split_once(' ').ok_or(Fault::Unread)?;
+    let status = status_of(status)?;
+    let (start, end) = addresses_of(places)?;
     if start >= end || end > config.size {
         return Err(Fault::Unread);
     }
     let is_protected = unit_protected(status, config.size, start, end - start);
-    Ok(word(is_protected))
+    Ok(came.push_str(word(is_protected))?)
 }
 
-/// Returns the least protection bits that protect exactly `len` addresses from `start` on, as a number, or `none`.
-pub fn least(alloc: Global, config: Config, start: u32, len: u32) -> Result<String, AllocError> {
+/// Appends the least protection bits that protect exactly this range to `came`, as a number, or `none`. `words` has its
+/// first address and its length.
+pub fn put_least(came: &mut String, config: &Config, words: &str) -> Result<(), Fault> {
+    let (start, len) = pair_of(words)?;
     match code_for(start, len, config.size) {
-        Some(code) => format!(in alloc; "{code}"),
-        None => String::from_str(alloc, "none"),
+        Some(code) => put_number(came, u64::from(code)),
+        None => Ok(came.push_str("none")?),
     }
-}
-
-/// Returns the protection bits of a status as a number.
-pub fn code(alloc: Global, status: [u8; 2]) -> Result<String, AllocError> {
-    let code = Status::of(status).code();
-    format!(in alloc; "{code}")
 }

@@ -2,21 +2,22 @@
 //! trace, and the state that the chip has at the end, with those that the case states. It prints a line for each case
 //! that fails, and how many passed and failed.
 //!
-//! All lines are parsed before the first case is played. If a line can't be parsed, the program plays no case, and
-//! prints only the number and the fault of that line. Some values, such as the bytes of a transaction, are parsed only
-//! when their line is played. If such a value can't be parsed, its case fails, and the other cases are played.
+//! Each line is parsed when it is played. If a line can't be parsed, its case fails, and the other cases are played.
 //!
-//! - `main.rt`: reads the cases, plays them and prints the results
-//! - `case.rt`: parses the text into cases, and plays one case
-//! - `step.rt`: the parsed lines of a case
+//! - `main.rt`: splits the text into cases, plays them and prints the results
+//! - `case.rt`: plays one case
+//! - `word.rt`: the words with which lines begin
 //! - `setup.rt`: the chip of a case, and the bus to it
 //! - `actions.rt`: transactions and calls of nor_driver, and the comparison of their results
 //! - `calls.rt`: calls of the functions of nor_driver that wait for a chip or modify it
 //! - `answers.rt`: checks of the chip, the trace and the protection after all actions
 //! - `guards.rt`: checks of protected ranges
 //! - `digits.rt`: parses bytes and addresses in hexadecimal
-//! - `agree.rt`: comparisons that return a fault
-//! - `fault.rt`: the faults of a line, a case or the program
+//! - `agree.rt`: comparisons of results with expected values
+//! - `fault.rt`: the faults of a line or a case
+//!
+//! A comparison that fails has the actual value in a text that its caller passes, and not in its fault, since the
+//! prover proves at each exit of a function that all values that own memory are dropped.
 #![tactic(auto)]
 
 mod actions;
@@ -28,40 +29,60 @@ mod digits;
 mod fault;
 mod guards;
 mod setup;
-mod step;
+mod word;
 
-use case::{Case, cases_of};
+use case::{Case, is_blank};
 use fault::{Fault, LineFault};
 use std::io;
 use std::process::ExitCode;
 
-fn main(rt: HostRuntime) -> Result<ExitCode, Fault> {
+fn main(rt: HostRuntime) -> io::Result<ExitCode> {
     let text = io::read_to_string(rt.alloc(), rt.stdin())?;
-    match cases_of(rt.alloc(), &text) {
-        Ok(cases) => play(&rt, &cases),
-        Err(LineFault { line, fault }) => {
-            println!(rt; "Line {line} {fault}.")?;
-            Ok(ExitCode::FAILURE)
-        }
-    }
-}
-
-// Plays the cases, and prints each failure and the counts. Returns failure if a case failed or there is no case.
-fn play(rt: &(impl Print + AllocGlobal), cases: &[Case<'_>]) -> Result<ExitCode, Fault> {
-    let mut failed = 0_u64;
-    let mut passed = 0_u64;
-    for case in cases {
-        if let Err(LineFault { line, fault }) = case.play(rt.alloc()) {
-            failed = failed.saturating_add(1);
-            println!(rt; "{}: line {line}: {fault}.", case.name)?;
-        } else {
-            passed = passed.saturating_add(1);
-        }
-    }
+    let (passed, failed) = play_all(&rt, &text)?;
     println!(rt; "{passed} passed, {failed} failed")?;
     Ok(if failed == 0 && passed != 0 {
         ExitCode::SUCCESS
     } else {
         ExitCode::FAILURE
     })
+}
+
+// Plays the cases of a text, and prints each failure. Returns the numbers of cases that passed and failed. Text before
+// the first case counts as a failure, unless each of its lines is empty or begins with `#`.
+fn play_all(rt: &(impl Print + AllocGlobal), text: &str) -> io::Result<(u64, u64)> {
+    let (mut passed, mut failed) = (0_u64, 0_u64);
+    let mut number = 1_usize;
+    for (count, piece) in text.split("\ncase ").enumerate() {
+        if count == 0 {
+            failed = u64::from(!is_blank(piece));
+        } else if play(rt, Case::of(piece, number))? {
+            passed = passed.saturating_add(1);
+        } else {
+            failed = failed.saturating_add(1);
+        }
+        number = number.saturating_add(piece.split('\n').count());
+    }
+    Ok((passed, failed))
+}
+
+// Plays a case, and prints its failure. Returns whether it passed.
+fn play(rt: &(impl Print + AllocGlobal), case: Case<'_>) -> io::Result<bool> {
+    let mut came = String::new(rt.alloc());
+    match case.play(rt.alloc(), &mut came) {
+        Ok(()) => Ok(true),
+        Err(failure) => {
+            tell(rt, case.name, failure, &came)?;
+            Ok(false)
+        }
+    }
+}
+
+// Prints a failure. `came` is printed only for `Differs`, since other faults may leave a part of a text in it.
+fn tell(rt: &impl Print, name: &str, failure: LineFault, came: &str) -> io::Result<()> {
+    let LineFault { line, fault } = failure;
+    let came = match fault {
+        Fault::Differs => came,
+        _ => "",
+    };
+    println!(rt; "{name}: line {line}: {}{came}.", fault.text())
 }

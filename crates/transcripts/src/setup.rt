@@ -1,8 +1,6 @@
 //! The chip of a case, and the bus to it.
 
-use crate::digits::{byte_of, status_of};
 use crate::fault::Fault;
-use hex::FromHex;
 use nor_chip::{Config, Delays, Meter, SimBus, Spoil, SpoiltBus, TraceBus};
 use std::alloc::Global;
 
@@ -67,36 +65,73 @@ impl Start {
             spoil: HONEST,
         };
         for setting in settings.split_whitespace() {
-            let (key, value) = setting.split_once('=').ok_or(Fault::Unread)?;
-            start.set(key, value)?;
+            let (key, number) = setting_of(setting)?;
+            start.set(key, number);
         }
         Ok(start)
     }
 
-    fn set(&mut self, key: &str, value: &str) -> Result<(), Fault> {
+    fn set(&mut self, key: Key, number: u64) {
+        let [.., high, low] = number.to_be_bytes();
         match key {
-            "of" => self.fill = byte_of(value)?,
-            "status" => self.status = status_of(value)?,
-            "unique" => self.unique = <[u8; 8] as FromHex>::from_hex(value)?,
-            "busy" => self.delays.now = value.parse::<u16>()?,
-            "each" => self.delays.each = value.parse::<u16>()?,
-            "allow" => self.allowed = value.parse::<u64>()?,
-            "lose" => self.lost = Some(byte_of(value)?),
-            _ => self.spoil = spoil_of(key, value)?,
+            Key::Of => self.fill = low,
+            Key::Status => self.status = [high, low],
+            Key::Unique => self.unique = number.to_be_bytes(),
+            Key::Busy => self.delays.now = u16::from_be_bytes([high, low]),
+            Key::Each => self.delays.each = u16::from_be_bytes([high, low]),
+            Key::Allow => self.allowed = number,
+            Key::Lose => self.lost = Some(low),
+            Key::Answers => self.spoil = Spoil::Fill(low),
+            Key::BusyFrom => self.spoil = Spoil::BusyFrom(number),
+            Key::Drops => self.spoil = Spoil::Drop(number),
+            Key::Low => self.spoil = Spoil::Low(low),
         }
-        Ok(())
     }
 }
 
-// Parses a setting of the faulty bus.
-fn spoil_of(key: &str, value: &str) -> Result<Spoil, Fault> {
-    match key {
-        "answers" => Ok(Spoil::Fill(byte_of(value)?)),
-        "busy-from" => Ok(Spoil::BusyFrom(value.parse::<u64>()?)),
-        "drops" => Ok(Spoil::Drop(value.parse::<u64>()?)),
-        "low" => Ok(Spoil::Low(value.parse::<u8>()?)),
-        _ => Err(Fault::Unread),
+// The key of a setting.
+#[derive(Clone, Copy)]
+enum Key {
+    Of,
+    Status,
+    Unique,
+    Busy,
+    Each,
+    Allow,
+    Lose,
+    Answers,
+    BusyFrom,
+    Drops,
+    Low,
+}
+
+// The keys, the greatest value of each, and whether it has hexadecimal digits.
+const KEYS: [(&str, Key, u64, bool); 11] = [
+    ("of", Key::Of, 0xFF, true),
+    ("status", Key::Status, 0xFFFF, true),
+    ("unique", Key::Unique, u64::MAX, true),
+    ("busy", Key::Busy, 0xFFFF, false),
+    ("each", Key::Each, 0xFFFF, false),
+    ("allow", Key::Allow, u64::MAX, false),
+    ("lose", Key::Lose, 0xFF, true),
+    ("answers", Key::Answers, 0xFF, true),
+    ("busy-from", Key::BusyFrom, u64::MAX, false),
+    ("drops", Key::Drops, u64::MAX, false),
+    ("low", Key::Low, 0xFF, false),
+];
+
+// Parses a setting. Returns `Unread` if its key is unknown, or its value isn't a number that it can have.
+fn setting_of(setting: &str) -> Result<(Key, u64), Fault> {
+    let (name, value) = setting.split_once('=').ok_or(Fault::Unread)?;
+    for (known, key, most, is_hexadecimal) in &KEYS {
+        if *known == name {
+            let number = u64::from_str_radix(value, if *is_hexadecimal { 16 } else { 10 })?;
+            if number <= *most {
+                return Ok((*key, number));
+            }
+        }
     }
+    Err(Fault::Unread)
 }
 
 // Returns the configuration with this name, if there is one. In addition to the emulated chips there are two chips of
