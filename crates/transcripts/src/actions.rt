@@ -50,8 +50,8 @@ fn call(
     agree(came, wanted)
 }
 
-// Sends a transaction. `words` has the bytes to send and, after `<`, the bytes that the reply buffer must have after the
-// transaction. `stops` is true if the bus must stop it.
+// Sends a transaction. `words` has the bytes to send and, after `<`, the bytes that the reply buffer must have after
+// the transaction. `stops` is true if the bus must stop it.
 fn exchange(
     alloc: Global,
     bus: &mut Way<'_>,

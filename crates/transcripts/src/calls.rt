@@ -12,9 +12,10 @@ use nor_driver::{Erase, EraseBlock, OperationError, erase, program_page, wait, w
 use std::alloc::Global;
 use std::fmt::Write;
 
-/// Calls the function that `word` names with the arguments in `words`, and writes its result to `came`: the number of transactions
-/// that it sent, `stop`, or `timeout ADDRESS`. If a wait succeeds, the text begins with the status 1 of its last poll.
-/// Returns `Unread` if there is no such function, or if an argument can't be parsed or breaks the function's premises.
+/// Calls the function that `word` names with the arguments in `words`, and writes its result to `came`: the number of
+/// transactions that it sent, `stop`, or `timeout ADDRESS`. If a wait succeeds, the text begins with the status 1 of
+/// its last poll. Returns `Unread` if there is no such function, or if an argument can't be parsed or breaks the
+/// function's premises.
 pub fn call(
     alloc: Global,
     bus: &mut Way<'_>,
