@@ -10,7 +10,7 @@ MOST_LINES = 300
 HEADLINE = {
     "session": "nor_session/src/sessions.rt keeps always modelled",
     "restore": "nor_session/src/restores.rt restores_original modelled",
-    "Journal::read": "nor_journal/src/journal.rt only",
+    "Journal::read": "nor_journal/src/journal.rt found only",
 }
 
 # Of these records STATEMENT.md has only these fields; STATEMENT-FULL.md has all.
@@ -33,18 +33,17 @@ FIELDS = {
 # The names that STATEMENT.md describes in one line each; the appendices have their definitions.
 NAMES = {
     "Sent":
-        "`Sent`: the transactions that the bus was given, each with the bytes that it sends, the last one first. No program can read or "
-        "clear it.",
+        "`Sent`: the transactions that the bus was given, the last one first, each with all bytes that it was to send. "
+        "No program can read or clear it.",
     "Records":
-        "`Records out answer result old new`: the bus adds the transaction to its histories. `sent` gets all of `out` "
-        "in front, even if the bus stopped, unless `out` is empty or begins with 03h, 04h, 05h, 35h, 4Bh, 5Ah or 9Fh.",
+        "`Records out answer result old new`: if `out` is empty or begins with 03h, 04h, 05h, 35h, 4Bh, 5Ah or 9Fh, "
+        "`sent` stays. Otherwise all of `out` is put before the old `sent`, even if the bus stopped.",
     "IsFresh": "`IsFresh vault`: the vault is unsealed, and accepted no byte.",
     "Vault":
-        "`Vault`: the trait of a vault. `put` appends a piece to `bytes`, and `seal` sets `sealed`. A call that fails "
-        "counts as a refusal, doesn't set `sealed`, and may have appended a prefix of the piece.",
+        "`Vault`: the trait of a vault. `put` appends a piece to `bytes`. A call that fails counts as a refusal, and may "
+        "have appended a prefix of the piece.",
     "Kinds":
-        "`Kinds`: the fields `k32` and `k64` say whether 52h erases 32 KiB and D8h 64 KiB. Each chip erases 4 KiB "
-        "(20h) and the whole chip (C7h).",
+        "`Kinds`: the fields `k32` and `k64` say whether 52h erases 32 KiB and D8h 64 KiB.",
     "has_srp0": "`has_srp0 kept`: SRP0 is set.",
     "has_srp1": "`has_srp1 kept`: SRP1 is set.",
     "cmp_qe_srp1": "`cmp_qe_srp1`: CMP, QE and SRP1 in status 2.",
@@ -55,7 +54,7 @@ NAMES = {
     "with_code": "`with_code code kept`: `kept` with the protection bits of `code` in place of its own.",
     "is_chip_size": "`is_chip_size n`: `n` is a power of two from 64 KiB to 16 MiB.",
     "IsChip": "`IsChip chip`: bytes are below 256, status bits fit their registers, and `busy` is below 65,536.",
-    "Command": "`Command`: the type of what a transaction asks for. Its cases are in the equations above.",
+    "Command": "`Command`: what a transaction asks for. Its cases are in the equations above.",
     "is_idle": "`is_idle chip`: `busy` is 0.",
     "is_protected":
         "`is_protected chip a`: the chip has block protection, and its protection bits protect the address `a`.",
@@ -67,8 +66,8 @@ NAMES = {
         "`SameNature old new`: `honest`, `steady` and `unlimited` are as before. On a well-behaved bus `config` of the "
         "chip is, too.",
     "IsHonestFor":
-        "`IsHonestFor out n bus`: the bus is well-behaved; and it is `unlimited`, or `out` has at most 260 bytes and "
-        "`n` is at most 4,096. No call sends or reads more.",
+        "`IsHonestFor out n bus`: the bus is well-behaved, and takes a transaction of this length: `out` has at most 260 "
+        "bytes and `n` is at most 4,096, or the bus is `unlimited`. No call sends or reads more.",
     "IsGenuine":
         "`IsGenuine config`: if the table has the ID, size, erase types and block protection are those of its row: EF "
         "40 17 (W25Q64FV, 8 MiB) or EF 40 18 (W25Q128FV, 16 MiB), with all erase types and block protection. Otherwise "
@@ -79,35 +78,35 @@ NAMES = {
     "unique_of": "`unique_of config`: its unique ID.",
     "SavedSector": "`SavedSector`: the `number` of a saved sector, and its `bytes`.",
     "IsContent":
-        "`IsContent c`: the ID has 3 bytes, a unique ID 8, the status 2; the size is a power of two from 64 KiB to 16 "
-        "MiB. The numbers of the saved sectors rise and are below size / 4,096; each has 4,096 bytes.",
+        "`IsContent c`: the ID has 3 bytes, a unique ID 8, the status 2; `is_chip_size` holds for the size. "
+        "The numbers of the saved sectors rise and are below size / 4,096; each has 4,096 bytes.",
     "text":
-        "`text c`: `NORUNDO2` in ASCII (without a unique ID `NORUNDO1`), ID, unique ID if any, status, size; each "
-        "saved sector's number and bytes; FF FF FF FF; the SHA-256 of all bytes before it. Size and numbers take four "
-        "bytes, little-endian.",
+        "`text c`: `NORUNDO2` in ASCII, ID, unique ID, status 1 and 2, size; each saved sector's number and bytes; FF FF "
+        "FF FF; the SHA-256 of all bytes before it. Size and numbers take four bytes, little-endian. Format 1 has "
+        "`NORUNDO1` and no unique ID.",
     "IsOfType": "`IsOfType journal config`: the journal has the ID and the size of the chip.",
     "is_saved": "`is_saved journal s`: the journal saves sector `s`, which is the 4,096 addresses from 4096 * s on.",
     "Saves":
-        "`Saves old saved journal`: the journal is valid (`IsContent`), and saves exactly the sectors of `saved`, each "
-        "with its bytes in `old`.",
+        "`Saves old saved journal`: the journal is valid (`IsContent`), saves exactly the sectors of `saved`, and has "
+        "their bytes in `old`. In `SavesChip`, `saved` is the journal's own set, so there only the bytes matter.",
     "is_known_running": "`is_known_running running`: the operation isn't `Unknown`.",
     "Journal": "`Journal`: a journal that was read. In contracts its value is a `Content`.",
     "JournalFault": "`JournalFault`: why bytes are no journal.",
     "ChipName": "`ChipName`: W25Q64FV, W25Q128FV, SFDP for a chip without a row, or a name that no chip has.",
-    "Ranges": "`Ranges`: at most 64 spans of addresses.",
+    "Ranges": "`Ranges`: at most 64 spans of addresses, each with at least one address.",
     "is_requested":
         "`is_requested request size a`: the request is a write or an erase, and `a` is below `size` and included: in "
         "one of the spans, or the request has no `Ranges`.",
     "target": "`target what image a`: the byte of the image at `a` for a write, FFh for an erase.",
     "code_of": "`code_of kept`: CMP, SEC, TB, BP2, BP1 and BP0 as a number, CMP being the highest bit.",
     "IsLeastCode":
-        "`IsLeastCode size start len code`: `code` is the least number whose protection bits are defined (not SEC with "
-        "BP 110) and protect exactly the `len` addresses from `start` on.",
+        "`IsLeastCode size start len code`: `code` is the least number below 64 whose protection bits are defined (not "
+        "SEC with BP 110) and protect exactly the `len` addresses from `start` on.",
     "Report": "`Report`: the chip that was found, and numbers of sectors, erases, programs and transactions.",
     "Refusal": "`Refusal`: the errors of calls.",
-    "refusal_number": "`refusal_number refusal`: the number of the error, as in these lists.",
+    "refusal_number": "`refusal_number refusal`: the number of the error.",
     "RefusalHolds":
-        "`RefusalHolds request image chip refusal`: the error is one of 1 to 10, and applies as the first list says.",
+        "`RefusalHolds request image chip refusal`: the error is one of 1 to 10, and applies as the list says.",
     "CountsRefusal": "`CountsRefusal old new`: the vault refused a call between these states.",
     "EndsSealed":
         "`EndsSealed request old new vault vault' report`: `vault'` is sealed and refused nothing, and the report "
@@ -120,7 +119,7 @@ NAMES = {
         "`differing`: the touched sectors are the saved ones in which a byte differs from the saved byte, the raised "
         "ones those of them in which a bit must go from 0 to 1.",
     "IsRestoreVerdict":
-        "`IsRestoreVerdict choice journal chip refusal`: the error is the first of the second list's that applies.",
+        "`IsRestoreVerdict choice journal chip refusal`: the error is the first of the list above that applies.",
 }
 
 # The appendices of STATEMENT-FULL.md: the title of each, what breaks if it is wrong, and the definitions and contracts

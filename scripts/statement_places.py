@@ -11,7 +11,8 @@ PLACE = re.compile(r"\{(quote|describe) ([^}]*)\}")
 
 def quoted(names, words, shown):
     """Returns definitions as the prose of STATEMENT.md has them, by their files. A `-` before a name leaves out the
-    comments, except the one that names the fields that are left out; a `.` only the comment above the definition."""
+    comments, except the one that names the fields that are left out; a `.` only the comment above the definition. The
+    one that names fields begins with `also:` on the page."""
     lines, language = [], None
     for path, group in itertools.groupby(names, key=lambda name: words[name.lstrip("-.")].source.path):
         kind, sign = ("", "--") if path.endswith(".antt") else ("rust", "//")
@@ -22,7 +23,9 @@ def quoted(names, words, shown):
             word = words[name.lstrip("-.")]
             found = lines_of(shown[word])
             plain = [line for line in found if line.strip()[:2] not in ("--", "//") or line.startswith("  -- also, ")]
-            lines += [*(word.comment if name[0] not in "-." else []), *(plain if name[0] == "-" else found), ""]
+            found = [line.replace("  -- also, in the appendices: ", "  -- also: ") for line in
+                     (plain if name[0] == "-" else found)]
+            lines += [*(word.comment if name[0] not in "-." else []), *found, ""]
         lines.pop()
     return [*lines, "```"]
 
