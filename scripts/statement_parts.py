@@ -40,8 +40,8 @@ NAMES = {
         "`sent` stays. Otherwise all of `out` is put before the old `sent`, even if the bus stopped.",
     "IsFresh": "`IsFresh vault`: the vault is unsealed, and accepted no byte.",
     "Vault":
-        "`Vault`: the trait of a vault. `put` appends a piece to `bytes`. A call that fails counts as a refusal, and may "
-        "have appended a prefix of the piece.",
+        "`Vault`: the trait of a vault. `put` appends a piece to `bytes`. A call that fails counts as a refusal, and "
+        "may have appended a prefix of the piece.",
     "Kinds":
         "`Kinds`: the fields `k32` and `k64` say whether 52h erases 32 KiB and D8h 64 KiB.",
     "has_srp0": "`has_srp0 kept`: SRP0 is set.",
@@ -66,8 +66,8 @@ NAMES = {
         "`SameNature old new`: `honest`, `steady` and `unlimited` are as before. On a well-behaved bus `config` of the "
         "chip is, too.",
     "IsHonestFor":
-        "`IsHonestFor out n bus`: the bus is well-behaved, and takes a transaction of this length: `out` has at most 260 "
-        "bytes and `n` is at most 4,096, or the bus is `unlimited`. No call sends or reads more.",
+        "`IsHonestFor out n bus`: the bus is well-behaved, and takes a transaction of this length: `out` has at most "
+        "260 bytes and `n` is at most 4,096, or the bus is `unlimited`. No call sends or reads more.",
     "IsGenuine":
         "`IsGenuine config`: if the table has the ID, size, erase types and block protection are those of its row: EF "
         "40 17 (W25Q64FV, 8 MiB) or EF 40 18 (W25Q128FV, 16 MiB), with all erase types and block protection. Otherwise "
@@ -78,11 +78,11 @@ NAMES = {
     "unique_of": "`unique_of config`: its unique ID.",
     "SavedSector": "`SavedSector`: the `number` of a saved sector, and its `bytes`.",
     "IsContent":
-        "`IsContent c`: the ID has 3 bytes, a unique ID 8, the status 2; `is_chip_size` holds for the size. "
-        "The numbers of the saved sectors rise and are below size / 4,096; each has 4,096 bytes.",
+        "`IsContent c`: the ID has 3 bytes, a unique ID 8, the status 2; `is_chip_size` holds for the size. The "
+        "numbers of the saved sectors rise and are below size / 4,096; each has 4,096 bytes.",
     "text":
-        "`text c`: `NORUNDO2` in ASCII, ID, unique ID, status 1 and 2, size; each saved sector's number and bytes; FF FF "
-        "FF FF; the SHA-256 of all bytes before it. Size and numbers take four bytes, little-endian. Format 1 has "
+        "`text c`: `NORUNDO2` in ASCII, ID, unique ID, status 1 and 2, size; each saved sector's number and bytes; "
+        "FF FF FF FF; the SHA-256 of all bytes before it. Size and numbers take four bytes, little-endian. Format 1 has "
         "`NORUNDO1` and no unique ID.",
     "IsOfType": "`IsOfType journal config`: the journal has the ID and the size of the chip.",
     "is_saved": "`is_saved journal s`: the journal saves sector `s`, which is the 4,096 addresses from 4096 * s on.",
