@@ -82,7 +82,7 @@ NAMES = {
         "numbers of the saved sectors rise and are below size / 4,096; each has 4,096 bytes.",
     "text":
         "`text c`: `NORUNDO2` in ASCII, ID, unique ID, status 1 and 2, size; each saved sector's number and bytes; "
-        "FF FF FF FF; the SHA-256 of all bytes before it. Size and numbers take four bytes, little-endian. Format 1 has "
+        "FF FF FF FF; the SHA-256 of all bytes before it. Size and numbers take four bytes each, little-endian. Format 1 has "
         "`NORUNDO1` and no unique ID.",
     "IsOfType": "`IsOfType journal config`: the journal has the ID and the size of the chip.",
     "is_saved": "`is_saved journal s`: the journal saves sector `s`, which is the 4,096 addresses from 4096 * s on.",
