@@ -320,12 +320,16 @@ def options():
     parser.add_argument("--unique", type=bytes.fromhex, default=bytes(8), help="the unique ID")
     parser.add_argument("--scale", type=float, default=1.0, help="multiplies the durations of the chip; 0: never busy")
     parser.add_argument("--log", type=Path, help="gets the transactions when the server ends")
-    parser.add_argument("--event", nargs="*", default=[], metavar="N=EVENT", help="see the class Traits")
+    parser.add_argument("--event", nargs="*", default=[], metavar="N=EVENT", help="see the class Traits, except kill")
     for name in ("longest-write", "longest-read", "buffer", "selects", "version", "timeout"):
         parser.add_argument(f"--{name}", type=int, default=getattr(Traits, name.replace("-", "_")))
     for name in ("latency", "rate"):
         parser.add_argument(f"--{name}", type=float, default=0.0)
-    return parser.parse_args()
+    given = parser.parse_args()
+    given.event = {int(number): event for number, _, event in (it.partition("=") for it in given.event)}
+    if "kill" in given.event.values():
+        parser.error("the event kill is for the library: only that knows which process to kill")
+    return given
 
 
 def main():
@@ -334,7 +338,7 @@ def main():
     chip = Chip(given.chip, data, given.status, given.unique, given.scale)
     names = ("longest_write", "longest_read", "buffer", "selects", "version", "timeout", "latency", "rate")
     traits = Traits(**{name: getattr(given, name) for name in names})
-    traits.events = {int(it.partition("=")[0]): it.partition("=")[2] for it in given.event}
+    traits.events = given.event
     signal.pthread_sigmask(signal.SIG_BLOCK, {signal.SIGTERM, signal.SIGINT})
     server = Server(given.link, chip, traits)
     print("ready", flush=True)
