@@ -3,7 +3,7 @@ import reference
 from bench import STRIDE, check
 from chip import READ_ID, SECTOR
 from faults import DIFFER, LOST
-from losses import UNSEALED, session_wire
+from losses import session_wire
 from options import ALL, FREE, SIZE, images
 from refusals import LARGE
 from wire import STOPPED, begins, check_unchanged
@@ -110,13 +110,13 @@ def makes_a_new_file(start):
     bench = start(data=old)
     for content in b"", old, reference.journal("TINY64", old, [1]):
         bench.write("whole", content)
-        bench.expect(*BACKUP, err=["File fault 4: whole."])
+        bench.expect(*BACKUP, err=reference.file_fault(4, "whole"))
         bench.check_file("whole", content)
         bench.check_nothing_sent()
-    bench.expect("--backup", "dev", err=["File fault 5: dev."])
-    bench.expect("--backup", "none/whole", err=["File fault 2: none/whole."])
+    bench.expect("--backup", "dev", err=reference.file_fault(5, "dev"))
+    bench.expect("--backup", "none/whole", err=reference.file_fault(2, "none/whole"))
     bench.path("whole").unlink()
-    bench.expect(*BACKUP, "-c", "W25Q64FV", err=["Error 3: another chip than named."])
+    bench.expect(*BACKUP, "-c", "W25Q64FV", err=reference.OTHER_NAME)
     bench.check_frames(reference.probe("TINY64"))
     bench.check_absent("whole")
     bench.chip.transfer = lambda out, replies: (b"\0" if out == b"\x05" else b"\xff") * replies
@@ -149,7 +149,7 @@ def check_begun(bench, old):
     begun, journal = bench.path("whole").read_bytes(), reference.journal("TINY64", old, ALL)
     check("the file is a part of the journal", begun == journal[: len(begun)] and len(begun) < len(journal), True)
     for words in WAYS:
-        bench.expect(*words, err=UNSEALED)
+        bench.expect(*words, err=reference.UNSEALED)
         bench.check_nothing_sent()
     bench.path("whole").unlink()
 

@@ -4,14 +4,18 @@ A programmer fault is printed before the first transaction: no transaction is se
 """
 import fcntl
 import os
+import subprocess
+import sys
+from pathlib import Path
 
 import reference
-from bench import check, split_handshake
-from losses import UNSEALED, session_wire
+from bench import Differs, check, split_handshake
+from losses import session_wire
 from options import images
 
 STTY = "stty -F DEV raw -echo clocal -hupcl min 0 time 50"
-FIRMWARE = "Install other firmware on it."
+FIRMWARE = "Disconnect the programmer from power for a second, connect it again, set up the port, and repeat the " \
+    f"run; install other firmware only if this line comes again. To set up the port: {STTY}"
 # The time-out for tests of silence, in tenths of a second.
 SOON = 10
 UNPLUG = "Disconnect the programmer from power for a second before the next run."
@@ -128,7 +132,8 @@ def holds_its_lock(start):
 def needs_an_answer(start):
     """A programmer that never replies is programmer fault 4."""
     bench = start(is_silent=True, timeout=SOON)
-    refuse(bench, f"the programmer is silent. Check its cable, and set up the port: {STTY}", number=4)
+    refuse(bench, "the programmer is silent. Check its cable, disconnect the programmer from power for a second, "
+           f"connect it again, and set up the port: {STTY}", number=4)
 
 
 def says_why_it_waits(start):
@@ -243,6 +248,36 @@ def reports_the_port(start):
     check("the cause", (got.err[1][: len(begins)], got.err[1][-len(ends) :]), (begins, ends))
 
 
+def says_once_what_to_do(start):
+    """If only the comparison after a change or a restore stopped, the cause has no advice to restore."""
+    old, new = images("says_once_what_to_do")
+    wire = session_wire(old, new)
+    bench = start(data=old)
+    bench.write("new", new)
+    cause = f"Cause: the programmer refused command 13h. {UNPLUG}"
+    got = bench.run("-w", "new", "--journal", "j", events={len(wire) - 2: "nak"})
+    bench.compare(got, [], ["Error 12: stopped.", cause, "The change was made, and its sectors were verified. Only the "
+                            "comparison of the whole chip is missing."])
+    bench.check_chip(new)
+    bench.plug()
+    check("a restore", bench.run("--restore", "j").status, 0)
+    got = bench.run("--restore", "j", events={len(bench.server.log) - 1: "nak"})
+    bench.compare(got, [], ["Error 12: stopped.", cause, "The sectors that the journal doesn't save were not compared "
+                            "after the restore. Compare the chip with a backup."])
+    bench.check_chip(old)
+
+
+def takes_no_kill(start):
+    """The programmer that is started as a program refuses the event `kill`: it knows no process to kill."""
+    bench = start()
+    words = [sys.executable, str(Path(__file__).with_name("server.py")), str(bench.path("own")), "--event", "3=kill"]
+    try:
+        got = subprocess.run(words, stdout=subprocess.PIPE, stderr=subprocess.PIPE, text=True, timeout=10, check=False)
+    except subprocess.TimeoutExpired:
+        raise Differs("the programmer was started") from None
+    check("exit status and the end of the line", (got.returncode, "the event kill" in got.stderr), (2, True))
+
+
 def reads_twice(start):
     """Two reads that differ stop a session before anything is changed, and before a wrong byte is in the journal."""
     old, new = images("reads_twice")
@@ -258,7 +293,7 @@ def reads_twice(start):
         journal = bench.path(f"j{first}").read_bytes()
         whole = reference.journal("TINY64", old, (1, 2, 7, 15))
         check("the journal is a prefix", journal == whole[: len(journal)] and len(journal) < len(whole), True)
-        bench.expect("--restore", f"j{first}", err=UNSEALED)
+        bench.expect("--restore", f"j{first}", err=reference.UNSEALED)
     bench.write("same", old)
     wire = reference.carried(reference.probe("TINY64"))
     # The second block, after the first one and the ID.
@@ -269,4 +304,5 @@ def reads_twice(start):
 CASES = [needs_a_device, needs_a_character_device, locks_the_device, opens_only_its_device,
          sends_nothing_before_its_job, holds_its_lock, needs_an_answer,
          says_why_it_waits, needs_its_step, needs_right_replies, needs_a_port, needs_version_1, needs_commands,
-         has_the_chip_select, needs_spi, needs_wide_limits, reports_causes, reports_the_port, reads_twice]
+         has_the_chip_select, needs_spi, needs_wide_limits, reports_causes, reports_the_port, says_once_what_to_do,
+         takes_no_kill, reads_twice]

@@ -9,8 +9,7 @@ from options import images
 SIZE = 65536
 UNIQUE = bytes.fromhex("d16288504b2f1a07")
 RESTORE = "To restore: flashnor-serprog -p serprog:dev=PATH --restore j"
-NEVER = ("If a run wrote it and ended early, that run never changed the chip. If it was copied, the copy lost its "
-         "end.")
+NEVER = reference.UNSEALED[2]
 CHANGED = "Bytes of it have changed since it was sealed. Look for another copy."
 OTHER = "Is this the right file? If it is, look for another copy."
 
@@ -76,20 +75,20 @@ def warns_of_blank_sectors(start):
 
 
 def explains_invalid_journals(start):
-    """A journal that isn't sealed or is damaged is told apart, and error 15 is the last line; nothing is changed."""
+    """A journal that isn't sealed or is damaged is error 15, and then a line says what to do; nothing is changed."""
     bench = start()
     whole = reference.journal("TINY64", bytes(SIZE), (1, 2))
     cut = "error: the journal was never sealed, or was cut off later"
     for content, why, fault in (
-            (whole[:-1], [NEVER, cut], 1), (whole[:25], [NEVER, cut], 1), (b"", [NEVER, cut], 1),
-            (whole + b"\0", [CHANGED, "error: the journal is damaged"], 6),
-            (whole[:40] + b"\1" + whole[41:], [CHANGED, "error: the journal is damaged"], 7),
-            (whole[:21] + b"\1" + whole[22:], [CHANGED, "error: the journal is damaged"], 3),
-            (b"NORUNDO3" + whole[8:], [OTHER, "error: the file is no journal, or is damaged"], 2)):
+            (whole[:-1], [cut, NEVER], 1), (whole[:25], [cut, NEVER], 1), (b"", [cut, NEVER], 1),
+            (whole + b"\0", ["error: the journal is damaged", CHANGED], 6),
+            (whole[:40] + b"\1" + whole[41:], ["error: the journal is damaged", CHANGED], 7),
+            (whole[:21] + b"\1" + whole[22:], ["error: the journal is damaged", CHANGED], 3),
+            (b"NORUNDO3" + whole[8:], ["error: the file is no journal, or is damaged", OTHER], 2)):
         bench.write("j", content)
-        bench.compare(describe(bench, "j"), [], [*why, f"Error 15: journal fault {fault}."])
+        bench.compare(describe(bench, "j"), [], [why[0], f"Error 15: journal fault {fault}.", why[1]])
         bench.check_file("j", content)
-    bench.compare(describe(bench, "none"), [], ["File fault 1: none."])
+    bench.compare(describe(bench, "none"), [], reference.file_fault(1, "none"))
     bench.check_absent("none")
 
 

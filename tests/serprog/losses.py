@@ -15,7 +15,6 @@ from options import images
 # erase.
 FEW = (1, 2, 12, 13, 14, 15)
 MANY = (1, 2, *range(8, 16))
-UNSEALED = ["error: the journal was never sealed, or was cut off later", "Error 15: journal fault 1."]
 STOPPED = "Error 12: stopped."
 
 
@@ -108,7 +107,7 @@ def one_loss(bench, loss, old, new):
             return
         begun = bench.path("j").read_bytes()
         check("the journal is a prefix", begun == journal[: len(begun)] and len(begun) < len(journal), True)
-        bench.expect("--restore", "j", err=UNSEALED)
+        bench.expect("--restore", "j", err=reference.UNSEALED)
         bench.check_nothing_sent()
         return
     bench.check_file("j", journal)

@@ -11,7 +11,7 @@ from pathlib import Path
 
 import reference
 from bench import LONGEST, check
-from losses import UNSEALED, session_wire
+from losses import session_wire
 from options import ALL, images
 from refusals import LARGE
 
@@ -98,7 +98,7 @@ def makes_the_first_write(start):
             bench.write("whole.journal", b"")
         lines = run_in_shell(bench, block_with("-w new.bin"))
         if is_there:
-            check("lines", lines, ["File fault 4: whole.journal."])
+            check("lines", lines, reference.file_fault(4, "whole.journal"))
             bench.check_chip(old)
             bench.check_absent("j1")
         else:
@@ -123,7 +123,7 @@ def rescues_in_four_lines(start):
         bench.plug()
         lines = run_in_shell(bench, block_with("--restore j1\n#"), {"P": SETTING})
         restored = [reference.found("TINY64"), reference.report(reference.restore("TINY64", old, (1, 2, 7, 15)), 4)]
-        first = UNSEALED if number < sealed else restored
+        first = reference.UNSEALED if number < sealed else restored
         check("lines", lines, [*first, reference.found("TINY64"), "Verified."])
         bench.check_chip(old)
         check("the copy", bench.path("j1.copy").read_bytes(), bench.path("j1").read_bytes())

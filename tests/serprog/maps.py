@@ -67,7 +67,7 @@ def writes_regions_of_a_descriptor(start):
 
 
 def refuses_wrong_maps(start):
-    """An image without a valid map is a map fault, in words, before anything is sent."""
+    """An image without a valid map is a map fault, in words and with the file's name, before anything is sent."""
     bench = start(data=FREE)
     whole = with_fmap(FREE, 0x100, [(0, SIZE, b"ALL")])
     outside = "error: region 2 of the image does not lie in the image"
@@ -87,7 +87,7 @@ def refuses_wrong_maps(start):
             ("--ifd-file", whole[:4095], ["error: the image or its table of regions is cut off", "Map fault 2."]),
             ("--ifd-file", with_descriptor(FREE, [(0, 0), (1, 1), (2, 16)]), [outside, "Map fault 3."])):
         bench.write("before", image)
-        bench.expect("-r", "out", option, "before", "-i", "a", err=lines)
+        bench.expect("-r", "out", option, "before", "-i", "a", err=[*lines, "The regions are in the file before."])
         bench.check_nothing_sent()
         bench.check_absent("out")
 
@@ -101,7 +101,8 @@ def takes_one_layout(start):
             ("-r out --fmap-file a --ifd-file b", "--fmap-file and --ifd-file cannot be used together"),
             ("-r out -l a --fmap-file b --ifd-file c -i d", "-l and --ifd-file cannot be used together"),
             ("-r out --fmap-file a", "--fmap-file needs -i"), ("-r out --ifd-file a", "--ifd-file needs -i"),
-            ("--ifd-file a -i b", "--ifd-file and -i need -r, -v, -w or -E"), ("-r out -i b", "-i needs -l")):
+            ("--ifd-file a -i b", "--ifd-file and -i need -r, -v, -w or -E"),
+            ("-r out -i b", "-i needs -l, --fmap-file or --ifd-file")):
         bench.expect(*words.split(), err=[f"error: {why}", "Usage fault 7."])
         bench.check_nothing_sent()
 
@@ -111,7 +112,7 @@ def keeps_the_image_apart(start):
     old = with_fmap(random_image("apart"), 0, [(0, SIZE, b"ALL")])
     bench = start(data=old)
     bench.write("before", old)
-    bench.expect("-r", "before", "--fmap-file", "before", "-i", "ALL", err=["File fault 5: before."])
+    bench.expect("-r", "before", "--fmap-file", "before", "-i", "ALL", err=reference.file_fault(5, "before"))
     bench.check_file("before", old)
     bench.check_nothing_sent()
 

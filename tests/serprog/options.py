@@ -7,7 +7,7 @@ import random
 
 import reference
 from bench import check
-from chip import SECTOR, protected_range
+from chip import ERASES, SECTOR, protected_range
 
 SIZE = 65536
 FREE = b"\xff" * SIZE
@@ -77,7 +77,9 @@ def names_the_chip(start):
     """-c takes the name of the chip that is there, and another one is error 3."""
     bench = start()
     bench.expect("-c", "SFDP", out=[reference.found("TINY64")])
-    bench.expect("-c", "W25Q64FV", err=["Error 3: another chip than named."])
+    bench.expect("-c", "W25Q64FV", err=reference.OTHER_NAME)
+    bench.expect("-c", "other", err=[
+        reference.OTHER_NAME[0], "No chip that this program knows has the name of -c. The chip is SFDP (fe1010)."])
     bench.check_frames(reference.probe("TINY64"))
 
 
@@ -374,6 +376,14 @@ def protects(start):
     bench.expect("--wp-range", "0x1000,0x1000", "--journal", "k", err=["Error 8: range not offered."])
 
 
+def last_lines(plan):
+    """Returns the last plain lines of the steps of a change with this plan: those whose last number wasn't shown."""
+    changes = [out[0] for out, _ in plan[next(at for at, it in enumerate(plan) if it[0][0] in reference.CHANGING) :]]
+    counts = (("erase: erases sent", sum(it in (*ERASES, 0xC7) for it in changes), 16),
+              ("program: pages sent", changes.count(0x02), 256), ("read back: sectors read", changes.count(0x03), 256))
+    return [f"{text} {number}" for text, number, stride in counts if number and number % stride != 1]
+
+
 def shows_progress(start):
     """On a terminal each step has a line, and what a session or restore will change has one before the first change."""
     old, new = images("shows_progress")
@@ -384,10 +394,11 @@ def shows_progress(start):
     bench.expect_at_terminal("-w", "new", "--journal", "j", lines=[
         "identify 1", "scan: sector 1 of 16", f"Sectors to change: 4. Erases: 3. Bytes of journal: {journal}.",
         "SEALED: the chip is changed from here on.", "erase: erases sent 1", "read back: sectors read 1",
-        "program: pages sent 1", "compare: sector 1 of 16"])
+        "program: pages sent 1", *last_lines(reference.session("TINY64", old, new)), "compare: sector 1 of 16"])
     bench.expect_at_terminal("-v", "new", lines=["identify 1", "scan: sector 1 of 16"])
     steps = ["Sectors to change: 4. Erases: 4.", "The chip is changed from here on.", "erase: erases sent 1",
-             "program: pages sent 1", "read back: sectors read 1"]
+             "program: pages sent 1", "read back: sectors read 1",
+             *last_lines(reference.restore("TINY64", old, (1, 2, 7, 15)))]
     bench.expect_at_terminal("--restore", "j", lines=[
         "identify 1", "scan: sector 1 of 12", *steps, "compare: sector 1 of 12"])
     bench.check_chip(old)
@@ -405,9 +416,10 @@ def shows_progress(start):
         bench.expect_at_terminal(*words, "-l", "layout", "-i", "some,byte", lines=[
             "identify 1", "scan: sector 1 of 3"])
     bench.expect_at_terminal("-E", "--journal", "l", "-l", "layout", "-i", "byte", lines=[
-        "identify 1", "scan: sector 1 of 17", "Sectors to change: 1. Erases: 1. Bytes of journal: 4161.",
+        "identify 1", "scan: sector 1 of 16", "scan: sector 1 of 1",
+        "Sectors to change: 1. Erases: 1. Bytes of journal: 4161.",
         "SEALED: the chip is changed from here on.", "erase: erases sent 1", "program: pages sent 1",
-        "read back: sectors read 1", "compare: sector 1 of 16"])
+        "read back: sectors read 1", "program: pages sent 16", "compare: sector 1 of 16"])
 
 
 def shows_long_progress(start):
@@ -422,6 +434,7 @@ def shows_long_progress(start):
         f"Sectors to change: 34. Erases: 34. Bytes of journal: {25 + 34 * 4100 + 36}.",
         "SEALED: the chip is changed from here on.", *(f"erase: erases sent {n}" for n in (1, 17, 33)),
         *(f"program: pages sent {n}" for n in (1, 257, 513)), "read back: sectors read 1",
+        "erase: erases sent 34", "program: pages sent 544", "read back: sectors read 34",
         *(f"compare: sector {n} of 2048" for n in range(1, 2048, 256))])
     bench.expect_at_terminal("--wp-range", "0,0x800000", "--journal", "k", lines=[
         "identify 1", "Sectors to change: 0. Erases: 0. Bytes of journal: 61.",
@@ -429,25 +442,37 @@ def shows_long_progress(start):
 
 
 def shows_what_a_power_loss_means(start):
-    """On a terminal a line before the first change says what a loss of power means for SRP1, and for QE if it can."""
+    """A line before SEALED says what a loss of power means for SRP1, and for QE if the status is written."""
     srp1 = "Keep its power on: a loss of power clears SRP1, and a restore then ends with error 17."
     quad = "Keep its power on: a status write that is cut off may clear QE, and a restore then ends with error 17."
     old, new = images("shows_what_a_power_loss_means")
     large = b"\xff" * (1 << 23)
     words = "-E", "--journal", "j", "-l", "layout", "-i", "first"
-    for status, lines in (b"\0\1", [srp1]), (b"\x80\1", []), (b"\0\2", []):
+    sealed = "SEALED: the chip is changed from here on."
+    for status, option, lines in (
+            (b"\0\1", (), [srp1]), (b"\x80\1", (), []), (b"\0\2", (), []), (b"\0\2", ("--unlock",), []),
+            (b"\x7c\2", ("--unlock",), [quad])):
         bench = start("W25Q64FV", data=old[:4096] + large[4096:], status=status)
         bench.write("layout", b"0:fff first\n")
-        bench.expect_at_terminal(*words, lines=[
-            "identify 1", *(f"scan: sector {n} of 2049" for n in range(1, 2050, 256)),
-            "Sectors to change: 1. Erases: 1. Bytes of journal: 4161.",
-            "SEALED: the chip is changed from here on.", *lines, "erase: erases sent 1", "read back: sectors read 1",
+        writes = ["protect: status writes sent 1"] * bool(status[0] & 0x7C)
+        bench.expect_at_terminal(*words, *option, lines=[
+            "identify 1", *(f"scan: sector {n} of 2048" for n in range(1, 2048, 256)), "scan: sector 1 of 1",
+            "Sectors to change: 1. Erases: 1. Bytes of journal: 4161.", *lines, sealed, *writes,
+            "erase: erases sent 1", "read back: sectors read 1",
             *(f"compare: sector {n} of 2048" for n in range(1, 2048, 256))])
     for status, lines in (b"\0\2", [quad]), (b"\0\0", []):
         bench = start("W25Q64FV", data=large, status=status)
         bench.expect_at_terminal("--wp-range", "0,0x800000", "--journal", "k", lines=[
-            "identify 1", "Sectors to change: 0. Erases: 0. Bytes of journal: 61.",
-            "SEALED: the chip is changed from here on.", *lines, "protect: status writes sent 1"])
+            "identify 1", "Sectors to change: 0. Erases: 0. Bytes of journal: 61.", *lines, sealed,
+            "protect: status writes sent 1"])
+    # A restore that needs no status write has no line on QE.
+    for status, after, lines in (b"\0\2", b"\0\2", []), (b"\x1c\2", b"\0\2", [quad]), (b"\0\2", b"\x1c\2", [quad]):
+        bench = start("W25Q64FV", data=large, status=after)
+        bench.write("j", reference.journal("W25Q64FV", large, (3,), status))
+        bench.expect_at_terminal("--restore", "j", "-N", lines=[
+            "identify 1", "Sectors to change: 1. Erases: 1.", *lines, "The chip is changed from here on.",
+            *["protect: status writes sent 1"] * bool(after[0]), "erase: erases sent 1",
+            *["protect: status writes sent 1"] * (bool(status[0]) and not after[0]), "read back: sectors read 1"])
 
 
 def takes_long_names(start):
@@ -495,7 +520,8 @@ def prints_the_name(start):
         bench = start(part)
         bench.expect("--flash-name", "-c", name, out=[name])
         bench.check_frames(reference.probe(part))
-    bench.expect("--flash-name", "-c", "W25Q64FV", err=["Error 3: another chip than named."])
+    bench.expect("--flash-name", "-c", "W25Q64FV", err=[
+        reference.OTHER_NAME[0], "-c names W25Q64FV. The chip is W25Q128FV (ef4018)."])
     bench.expect("--flash-name", "--flash-size", err=[
         "error: --flash-size and --flash-name cannot be used together", "Usage fault 4."])
 

@@ -23,6 +23,26 @@ PROTECTION_1 = 0x7C
 BLOCK = 65536
 CHANGING = (0x06, 0x01, 0x02, *ERASES, 0xC7)
 
+# The line after that of a file fault.
+FILE_HINTS = {
+    1: "It is missing or can't be read: correct its name or its permissions.",
+    2: "It can't be created, written or locked: free disk space, or correct its permissions.",
+    4: "It exists already, and is never overwritten: choose a new name.",
+    5: "It has two roles in this run, or another program uses it: give each role its own file."}
+IS_JOURNAL = "It is a journal, which is never overwritten: choose a new name."
+# The lines of a journal that was not sealed.
+UNSEALED = [
+    "error: the journal was never sealed, or was cut off later", "Error 15: journal fault 1.",
+    "If the terminal showed the progress of its run, but not SEALED, the run never changed the chip. Otherwise the "
+    "file may have lost its end: look for another copy, and don't write or erase anything."]
+# The lines if -c names a chip of the table, and the chip is TINY64.
+OTHER_NAME = ["Error 3: another chip than named.", "-c names W25Q64FV. The chip is SFDP (fe1010)."]
+
+
+def file_fault(number, name):
+    """Returns the lines of this file fault."""
+    return [f"File fault {number}: {name}.", FILE_HINTS[number]]
+
 
 def command(opcode, address=None, dummies=0):
     """Returns an opcode, with three address bytes if an address is given, and dummy bytes."""

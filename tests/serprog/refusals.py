@@ -3,7 +3,6 @@
 import reference
 from bench import check
 from chip import SECTOR
-from losses import UNSEALED
 from options import FREE, SIZE, images
 
 LARGE = 1 << 23
@@ -39,7 +38,9 @@ def refuses_protected(start):
     bench = start("W25Q64FV", data=old, status=b"\x04\0")
     bench.write("new", new)
     bench.write("layout", LAYOUT)
-    bench.expect("-w", "new", "-l", "layout", "-i", "last", "--journal", "j", err=["Error 10: protected at 0x7ff000."])
+    bench.expect("-w", "new", "-l", "layout", "-i", "last", "--journal", "j", err=[
+        "Error 10: protected at 0x7ff000.",
+        "Include only regions that aren't protected, or use --unlock. Give the journal a new name."])
     plan = reference.identify("W25Q64FV") + [reference.read_sector(LAST)]
     bench.check_frames(reference.whole_run("W25Q64FV", reference.read_whole("W25Q64FV") + plan))
     bench.check_chip(old, b"\x04\0")
@@ -81,7 +82,7 @@ def restores_the_named_chip(start):
     old, new = images("restores_the_named_chip")
     bench = start(data=new)
     bench.write("j", reference.journal("TINY64", old, (1, 2, 7, 15)))
-    bench.expect("--restore", "j", "-c", "W25Q64FV", err=["Error 3: another chip than named."])
+    bench.expect("--restore", "j", "-c", "W25Q64FV", err=reference.OTHER_NAME)
     bench.check_frames(reference.probe("TINY64"))
     plan = reference.restore("TINY64", old, (1, 2, 7, 15))
     bench.expect("--restore", "j", "-c", "SFDP", out=[reference.found("TINY64"), reference.report(plan, 4)])
@@ -101,11 +102,18 @@ def restores_no_other(start):
     bench.write("large", reference.journal("W25Q64FV", bytes(LARGE), []))
     bench.write("device", reference.journal("TINY64", old, [1]))
     bench.write("status", reference.journal("TINY64", old, [1], b"\x80\0", unique))
-    bench.expect("--restore", "short", err=UNSEALED)
+    bench.expect("--restore", "short", err=reference.UNSEALED)
     bench.check_nothing_sent()
-    bench.expect("--restore", "large", err=["Error 16: another chip than the journal's."])
-    bench.expect("--restore", "device", err=["Error 20: another unit than the journal's."])
-    bench.expect("--restore", "status", err=["Error 17: status differs from the journal's."])
+    for words in (), ("-N",), ("--quick",):
+        bench.expect("--restore", "large", *words, err=[
+            "Error 16: another chip than the journal's.",
+            "The journal is of W25Q64FV (ef4017) with 8388608 bytes. The chip is SFDP (fe1010)."])
+        bench.expect("--restore", "device", *words, err=[
+            "Error 20: another unit than the journal's.",
+            "Unique ID in the journal: 0000000000000000. Unique ID of the chip: d1d2d3d4d5d6d7d8."])
+        bench.expect("--restore", "status", *words, err=[
+            "Error 17: status differs from the journal's.",
+            "Status in the journal: 80 00 SRP0. Status of the chip: 00 00."])
     bench.check_chip(new)
 
 
@@ -116,10 +124,10 @@ def keeps_old_journals(start):
     bench.write("new", new)
     for content in b"", reference.journal("TINY64", new, [1]):
         bench.write("j", content)
-        bench.expect("-w", "new", "--journal", "j", err=["File fault 4: j."])
+        bench.expect("-w", "new", "--journal", "j", err=reference.file_fault(4, "j"))
         bench.check_file("j", content)
         bench.check_nothing_sent()
-    bench.expect("-r", "j", err=["File fault 4: j."])
+    bench.expect("-r", "j", err=["File fault 4: j.", reference.IS_JOURNAL])
     bench.check_file("j", content)
 
 
@@ -130,7 +138,7 @@ def refuses_images(start):
     bench.write("short", new[:-1])
     bench.expect("-w", "short", "--journal", "j", err=["Error 4: image of 65535 bytes, chip of 65536 bytes."])
     bench.expect("-v", "short", err=["Error 4: image of 65535 bytes, chip of 65536 bytes."])
-    bench.expect("-w", "none", "--journal", "k", err=["File fault 1: none."])
+    bench.expect("-w", "none", "--journal", "k", err=reference.file_fault(1, "none"))
     bench.check_nothing_sent()
     bench.check_absent("k")
     bench.check_chip(old)
@@ -154,10 +162,11 @@ def refuses_regions(start):
         bench.expect(*words, "-N", err=[error])
         bench.path("j").unlink()
     bench.expect("-E", "-l", "wrong", "-i", "a", "--journal", "k",
-                 err=["error: the end is below the start", "Layout fault 3 at line 2."])
+                 err=["error: the end is below the start", "Layout fault 3 at line 2.",
+                      "The regions are in the file wrong."])
     bench.check_nothing_sent()
     bench.expect("-E", "-l", "layout", "-i", "c", "--journal", "k",
-                 err=["error: the layout has no region 'c'", "Layout fault 8."])
+                 err=["error: the layout has no region 'c'", "Layout fault 8.", "The regions are in the file layout."])
     bench.check_absent("k")
     bench.check_chip(bytes(SIZE))
 
@@ -228,9 +237,10 @@ def takes_stale_bytes(start):
         bench.expect(out=[reference.found("TINY64")])
 
 
+EMPTY = "a setting in -p is empty; give serprog:dev=PATH, with commas only between settings"
 # Values of -p that are usage fault 3, each with what is wrong: a setting with its flaw, and other texts.
 WRONG_SETTINGS = {
-    "": "unknown key in -p: ''", "dev=": "invalid value in -p: 'dev='", "dev=DEV,": "unknown key in -p: ''",
+    "": EMPTY, "dev=": "invalid value in -p: 'dev='", "dev=DEV,": EMPTY,
     "dev=DEV,dev=DEV": "repeated key in -p: 'dev=DEV'", "dev=DEV,image=x": "unknown key in -p: 'image=x'",
     "dev=DEV,dev": "repeated key in -p: 'dev=DEV'", "dev": "invalid value in -p: 'dev'",
     "dev=DEV,spispeed=0": "invalid value in -p: 'spispeed=0'",

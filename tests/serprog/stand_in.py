@@ -11,21 +11,22 @@ from pathlib import Path
 
 import reference
 from chip import CMP, PARTS, SECTOR, SRP0, SRP1, protected_range
-from stand_in_link import HELP, LOST, MISTAKE, Fault, Link, Stopped, arguments, check_usage, probe
+from stand_in_link import HELP, LOST, MISTAKE, Fault, Link, Stopped, arguments, check_usage, chip_text, probe
 
 RESTORE = " Then restore the chip with --restore and the journal."
 UNCHANGED = " The chip was not changed."
 # The bits of both status bytes that protect.
 PROTECTION = 0x7C40
 UNPLUG = "Disconnect the programmer from power for a second before the next run."
-UNSEALED = ("error: the journal was never sealed, or was cut off later", "Error 15: journal fault 1.")
+# The names of the bits of both status bytes, from bit 0 on.
+BITS = ("BUSY WEL BP0 BP1 BP2 TB SEC SRP0".split(), "SRP1 QE reserved LB1 LB2 LB3 CMP SUS".split())
 
 
 def read_file(name):
     try:
         return Path(name).read_bytes()
     except OSError:
-        raise Fault(f"File fault 1: {name}.") from None
+        raise Fault(*reference.file_fault(1, name)) from None
 
 
 def regions(given):
@@ -37,11 +38,13 @@ def regions(given):
         addresses, name = line.split()
         start, end = (int(it, 16) for it in addresses.split(":"))
         if end < start:
-            raise Fault("error: the end is below the start", f"Layout fault 3 at line {number}.")
+            raise Fault("error: the end is below the start", f"Layout fault 3 at line {number}.",
+                        f"The regions are in the file {given['-l']}.")
         found[name] = range(start, end + 1)
     for name in given["-i"].split(","):
         if name not in found:
-            raise Fault(f"error: the layout has no region '{name}'", "Layout fault 8.")
+            raise Fault(f"error: the layout has no region '{name}'", "Layout fault 8.",
+                        f"The regions are in the file {given['-l']}.")
     return [found[it] for it in given["-i"].split(",")]
 
 
@@ -69,6 +72,12 @@ def protects(status, size, sectors):
     return [it for it in sectors if it * SECTOR < after and first < (it + 1) * SECTOR and first < after]
 
 
+def status_text(status):
+    """Returns both status bytes, with the names of the bits that are set."""
+    names = [name for byte, its in zip(status, BITS) for bit, name in enumerate(its) if byte >> bit & 1]
+    return " ".join([f"{status[0]:02x} {status[1]:02x}", *names])
+
+
 class Job:
     """A run on a chip."""
 
@@ -93,7 +102,7 @@ class Job:
         line = self.found(self.given.get("-c"))
         name = self.given["-r"]
         if Path(name).exists() and Path(name).read_bytes()[:7] == b"NORUNDO":
-            raise Fault(f"File fault 4: {name}.")
+            raise Fault(f"File fault 4: {name}.", reference.IS_JOURNAL)
         data = self.scan(included_sectors(self.ranges, self.size))
         Path(name).write_bytes(mixed(b"\xff" * self.size, data, self.ranges))
         return line, f"Read {self.size} bytes."
@@ -106,7 +115,7 @@ class Job:
         try:
             name.touch()
         except OSError:
-            raise Fault(f"File fault 2: {name}.") from None
+            raise Fault(*reference.file_fault(2, name)) from None
         line = self.found(self.given.get("-c"))
         status = self.open_status()
         numbers = range(self.size // SECTOR // (2 if MISTAKE == "saves half of the chip" else 1))
@@ -188,7 +197,8 @@ class Job:
         self.lifts = False
         hit = protects(status, self.size, saved) if PARTS[self.part].has_row else []
         if hit and "--unlock" not in self.given:
-            raise Fault(f"Error 10: protected at 0x{hit[0] * SECTOR:06x}.")
+            raise Fault(f"Error 10: protected at 0x{hit[0] * SECTOR:06x}.",
+                        "Include only regions that aren't protected, or use --unlock. Give the journal a new name.")
         self.lifts = bool(hit)
         if hit:
             self.check_locked(status)
@@ -223,7 +233,7 @@ class Job:
         name = self.given["--restore"]
         whole = read_file(name)
         if hashlib.sha256(whole[:-32]).digest() != whole[-32:]:
-            raise Fault(*UNSEALED)
+            raise Fault(*reference.UNSEALED)
         return self.restore_from(whole)
 
     def restore_from(self, whole):
@@ -274,7 +284,9 @@ class Job:
 
     def check_kind(self, whole):
         if whole[8:11] != PARTS[self.part].id:
-            raise Fault("Error 16: another chip than the journal's.")
+            saved, size = chip_text(whole[8:11]), int.from_bytes(whole[21:25], "little")
+            raise Fault("Error 16: another chip than the journal's.",
+                        f"The journal is of {saved} with {size} bytes. The chip is {chip_text(PARTS[self.part].id)}.")
 
     def restore_saved(self, whole):
         self.link.count = 0
@@ -282,10 +294,14 @@ class Job:
         self.check_kind(whole)
         status = self.open_status()
         if whole[11:19] != self.unique and MISTAKE != "restores any device":
-            raise Fault("Error 20: another unit than the journal's.")
+            saved = whole[11:19].hex()
+            raise Fault("Error 20: another unit than the journal's.",
+                        f"Unique ID in the journal: {saved}. Unique ID of the chip: {self.unique.hex()}.")
         fixed = PROTECTION if PARTS[self.part].has_row else 0
         if any((one ^ other) & ~bits for one, other, bits in zip(whole[19:21], status, fixed.to_bytes(2, "big"))):
-            raise Fault("Error 17: status differs from the journal's.")
+            saved, found = status_text(whole[19:21]), status_text(status)
+            raise Fault("Error 17: status differs from the journal's.",
+                        f"Status in the journal: {saved}. Status of the chip: {found}.")
         saved, records = [], whole[25:-36]
         target = bytearray(b"\xff" * self.size)
         for at in range(0, len(records), SECTOR + 4):
@@ -394,15 +410,15 @@ def run(words):
             image = content if option == "-v" or option == "-w" and not {"-n", "-N"} & set(given) else image
     regions(given)
     if "--restore" in given and len(Path(given["--restore"]).read_bytes()) % (SECTOR + 4) not in (61,):
-        raise Fault(*UNSEALED)
+        raise Fault(*reference.UNSEALED)
     backup = given.get("--backup")
     if backup and os.path.realpath(backup) == os.path.realpath(keys["dev"]):
-        raise Fault(f"File fault 5: {backup}.")
+        raise Fault(*reference.file_fault(5, backup))
     if backup and Path(backup).exists() and MISTAKE != "overwrites backups":
-        raise Fault(f"File fault 4: {backup}.")
+        raise Fault(*reference.file_fault(4, backup))
     journal = given.get("--journal")
     if journal and Path(journal).exists() and MISTAKE != "overwrites journals":
-        raise Fault(f"File fault 4: {journal}.")
+        raise Fault(*reference.file_fault(4, journal))
     job = Job(Link(keys["dev"], keys), given)
     job.link.image = image
     if "--wp-range" in given:

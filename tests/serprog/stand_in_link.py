@@ -11,7 +11,8 @@ from reference import BLOCK
 MISTAKE = os.environ.get("MISTAKE", "")
 STTY = "stty -F {} raw -echo clocal -hupcl min 0 time 50"
 ROW = bytes.fromhex("10100010000010101000000010001010")
-FIRMWARE = ". Install other firmware on it."
+FIRMWARE = ". Disconnect the programmer from power for a second, connect it again, set up the port, and repeat the " \
+    f"run; install other firmware only if this line comes again. To set up the port: {STTY}"
 # A chip that sleeps shows BUSY for ever. The mistake that lets it sleep gives up soon, since only its failure counts.
 MOST_POLLS = 50 if MISTAKE == "does not wake" else 65536
 OPERATIONS = ("--flash-size", "--wp-status", "--wp-list", "-r", "-v", "-w", "-E", "--wp-range", "--restore",
@@ -205,9 +206,10 @@ class Link:
         """Raises the programmer fault with this text."""
         set_up = f"and set up the port: {STTY.format(self.path)}"
         for begin, number, advice in (
-            ("the programmer is silent", 4, f"Check its cable, {set_up}"),
+            ("the programmer is silent", 4, f"Check its cable, disconnect the programmer from power for a second, "
+             f"connect it again, {set_up}"),
             ("the port failed", 10, f"Connect the programmer again, {set_up}"),
-            ("the programmer refused", 11, FIRMWARE.removeprefix(". ")),
+            ("the programmer refused", 11, FIRMWARE.format(self.path).removeprefix(". ")),
             ("", 5, f"Disconnect the programmer from power, connect it again, {set_up}"),
         ):
             if text.startswith(begin):
@@ -229,9 +231,9 @@ class Link:
         version = int.from_bytes(self.exchange(b"\x01", 2), "little")
         if version != 1 and MISTAKE != "takes any version":
             raise Fault(f"Programmer fault 6: the programmer speaks version {version} of serprog, and only version 1 "
-                        "is known" + FIRMWARE)
+                        "is known" + FIRMWARE.format(self.path))
         self.map = int.from_bytes(self.exchange(b"\x02", 32), "little")
-        self.need(0x13, FIRMWARE)
+        self.need(0x13, FIRMWARE.format(self.path))
         self.select_spi()
         self.check_limits()
         if "spispeed" in keys:
@@ -259,7 +261,7 @@ class Link:
         buses = self.exchange(b"\x05", 1)[0] if self.has(0x05) else 8
         if not buses & 8 or (buses != 8 and not self.has(0x12)):
             raise Fault(f"Programmer fault 8: the programmer cannot be set to SPI: its types of bus are {buses:02X}h"
-                        + FIRMWARE)
+                        + FIRMWARE.format(self.path))
         if self.has(0x12):
             self.exchange(b"\x12\x08", 0)
 
@@ -270,14 +272,14 @@ class Link:
         sends, reads = limit(0x08, 3), limit(0x11, 3)
         if sends < 5 and MISTAKE != "takes small limits":
             raise Fault(f"Programmer fault 9: the programmer sends at most {sends} bytes in a transaction, too few "
-                        "for a page program" + FIRMWARE)
+                        "for a page program" + FIRMWARE.format(self.path))
         if MISTAKE != "reads past the limit":
             self.longest = min(reads, BLOCK) // SECTOR * SECTOR
         size = limit(0x04, 2)
         self.buffer = min(size, 512) if self.has(0x04) else 0
         if size < 12 and not self.has(0x08):
             raise Fault(f"Programmer fault 9: the serial buffer of the programmer has {size} bytes, too few for a page "
-                        "program" + FIRMWARE)
+                        "program" + FIRMWARE.format(self.path))
         self.sends, self.receives = sends if self.has(0x08) else min(sends, size - 7), reads
 
     def transfer(self, out, length):
@@ -450,6 +452,12 @@ class Link:
         return reply
 
 
+def chip_text(chip_id):
+    """Returns the name of the chip with this ID, or SFDP, and the ID."""
+    names = [it for it in PARTS if PARTS[it].id == chip_id and PARTS[it].has_row]
+    return f"{names[0] if names else 'SFDP'} ({chip_id.hex()})"
+
+
 def probe(link, name=None):
     """Returns the part that is there. Afterwards `link.status` has the bits of status 1 that are non-volatile."""
     poll = (b"\x05", 1)
@@ -463,5 +471,5 @@ def probe(link, name=None):
         if headers[0][:4] != b"SFDP":
             raise Fault("Error 2: unknown chip, SFDP fault 1.")
     if name not in (None, part if PARTS[part].has_row else "SFDP"):
-        raise Fault("Error 3: another chip than named.")
+        raise Fault("Error 3: another chip than named.", f"-c names {name}. The chip is {chip_text(found)}.")
     return part

@@ -16,10 +16,10 @@ WHOLE = re.compile(rb"([ -~]+)\r\n")
 # The line of a step. A step whose total is known has a percentage, and says at the end how long it took.
 STEP = re.compile(
     r"(identify|scan|erase|program|protect|read back|compare): (?:(\d+) %, )?(\d+)(?: of (?:at most )?(\d+))? "
-    r"(?:IDs|sectors|erases|pages|status writes)(?:, \d+\.\d KiB/s)?"
-    r", (?:(?:at most )?\d+:[0-5]\d left|\d+:[0-5]\d so far|took \d+:[0-5]\d)")
+    r"(IDs?|sectors?|erases?|pages?|status writes?)(?:, (?:\d\d?\.\d|\d{3,}) KiB/s)?"
+    r", (?:\d+:[0-5]\d left|\d+:[0-5]\d so far|took \d+:[0-5]\d)")
 
-COLUMNS = 79
+COLUMNS = 60
 
 
 class Screen:
@@ -51,11 +51,17 @@ class Screen:
             raise Differs("the line was not ended:", self.drawn[-1])
         for text in self.drawn:
             check(f"columns of {text!r}", len(text) <= COLUMNS, True)
-            check(f"the form of {text!r}", bool(STEP.fullmatch(text)), True)
+            found = STEP.fullmatch(text)
+            check(f"the form of {text!r}", bool(found), True)
+            check(f"the number of {text!r}", found[5].endswith("s"), int(found[4] or found[3]) != 1)
 
     def shares(self, name):
         """Returns the percentages that were drawn for this step."""
         return [int(found[2]) for found in map(STEP.fullmatch, self.drawn) if found[1] == name and found[2]]
+
+    def last(self, name):
+        """Returns the last line of this step that stays, without rate and time."""
+        return [it for it in self.lines if it.startswith(f"{name}: ")][-1].partition(", ")[0]
 
     def check_steps(self, *names):
         """Checks that exactly these steps have percentages, which never fall and end at 100."""
@@ -69,7 +75,7 @@ class Screen:
     def others(self):
         """Returns the lines that stay, without those of the steps, and with `M:SS` and `R` for times and rates."""
         lines = [it for it in self.lines if not STEP.fullmatch(it)]
-        return [re.sub(r"\d+\.\d KiB/s", "R", re.sub(r"\d+:[0-5]\d\b", "M:SS", it)) for it in lines]
+        return [re.sub(r"\d+(\.\d)? KiB/s", "R", re.sub(r"\d+:[0-5]\d\b", "M:SS", it)) for it in lines]
 
 
 def run(bench, *words, events=None, both=False):
@@ -106,6 +112,9 @@ def rewrites_a_line(start):
     check("the lines", screen.others(), lines_of_a_write(bench, 4, 3, "The change took M:SS."))
     screen.check_steps("scan", "erase", "compare")
     check("scans", screen.lines[1].startswith("scan: 100 %, 16 of 16 sectors, "), True)
+    pages = out[-1].split("programs ")[1].partition(",")[0]
+    check("last counts", (screen.last("program"), screen.last("read back")),
+          (f"program: {pages} pages", "read back: 5 sectors"))
     bench.check_chip(new)
     status, printed, _ = run(bench, "--restore", "j")
     screen = Screen(printed)
@@ -193,15 +202,21 @@ def logged(log):
     return lines
 
 
+def with_read_back(lines):
+    """Returns the lines of -V with that of the first read after a change: before the program of a blank sector."""
+    at = next(at for at, it in enumerate(lines) if it.startswith("program ")) - 1
+    return [*lines[:at], "read back", *lines[at:]]
+
+
 def logs_commands(start):
-    """With -V each modifying transaction has a line on standard error, with its time; on a terminal, too."""
+    """With -V each modifying transaction and each step that reads has a line on standard error, with its time."""
     old, new = images("logs_commands")
     bench = start(data=old)
     bench.write("new", new)
     got = bench.run("-w", "new", "--journal", "j", "-V")
     times, lines = zip(*(it.split(" ", 1) for it in got.err))
     check("status", got.status, 0)
-    check("the lines", list(lines), logged(bench.server.log))
+    check("the lines", list(lines), ["identify", "scan", *with_read_back(logged(bench.server.log)), "compare"])
     check("the form of the times", all(re.fullmatch(r"\d+\.\d{3}", it) for it in times), True)
     check("the times, which don't fall", list(times), sorted(times, key=float))
     got = bench.run("--restore", "j", "-V", events={60: "nak"})
@@ -212,10 +227,12 @@ def logs_commands(start):
     status, printed, _ = run(bench, "--restore", "j", "-V")
     check("status", status, 0)
     lines = [it.split(" ", 1)[-1] for it in Screen(printed).lines if re.match(r"\d+\.\d{3} ", it)]
-    check("the lines", lines, logged(bench.server.log))
+    check("the lines", lines, ["identify", "scan", *logged(bench.server.log), "read back", "compare"])
     bench = start("W25Q64FV", data=b"\xff" * (1 << 23))
     got = bench.run("--wp-range", "0,0x800000", "--journal", "k", "-V")
-    check("the lines", [it.split(" ", 1)[1] for it in got.err], logged(bench.server.log))
+    check("the lines", [it.split(" ", 1)[1] for it in got.err], ["identify", *logged(bench.server.log)])
+    got = bench.run("-r", "out", "-V")
+    check("the lines of a read", [it.split(" ", 1)[1] for it in got.err], ["identify", "scan"])
 
 
 def shows_nothing_if_asked(start):

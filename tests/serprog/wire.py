@@ -283,7 +283,10 @@ def refuses_unknown_protection(start):
             begins(" ".join(words), got, [f"Chip fault 1: status 1 of this chip is {1 << bit:02X}h."])
             check_unchanged(bench, old, status)
             bench.check_absent("j")
-        bench.expect("--restore", "k", err=["Error 17: status differs from the journal's."])
+        name = ("BP0", "BP1", "BP2", "TB", "SEC")[bit - 2]
+        bench.expect("--restore", "k", err=[
+            "Error 17: status differs from the journal's.",
+            f"Status in the journal: 00 00. Status of the chip: {1 << bit:02x} 00 {name}."])
         bench.expect("-r", "out", out=[reference.found("GUARD64"), "Read 65536 bytes."])
         check_unchanged(bench, old, status)
     bench = start("GUARD64", data=old)
@@ -335,7 +338,9 @@ def loses_the_power_lock(start):
     bench.check_file("j", reference.journal("W25Q64FV", data, [LAST], b"\0\x01"))
     now = bytes(bench.chip.data)
     bench.plug()
-    bench.expect("--restore", "j", err=["Error 17: status differs from the journal's."])
+    bench.expect("--restore", "j", err=[
+        "Error 17: status differs from the journal's.",
+        "Status in the journal: 00 01 SRP1. Status of the chip: 00 00."])
     check_unchanged(bench, now, b"\0\0")
 
 

@@ -61,6 +61,14 @@ impl JobFault<'_> {
         )
     }
 
+    /// True if the change or the restore was completed, and only the comparison after it failed.
+    pub fn follows_completion(&self) -> bool {
+        matches!(
+            self,
+            JobFault::NotCompared { .. } | JobFault::RestNotCompared { outcome: Ok(_), .. }
+        )
+    }
+
     /// Returns the line that follows the fault's own, if there is one: after a change or a restore that was made, the
     /// comparison failed with another error than a difference.
     pub fn note(&self) -> Option<&'static str> {

@@ -84,12 +84,17 @@ fn split_minutes(micros: u64) -> (u64, u64)
     (micros / 60_000_000, micros / 1_000_000 % 60)
 }
 
-/// A rate in tenths of a KiB a second, printed as `950.3 KiB/s`.
+/// A rate in tenths of a KiB a second, printed as `11.2 KiB/s` or, from 100 KiB/s on, as `950 KiB/s`.
 #[derive(Clone, Copy, Drop)]
 pub struct Rate(pub u64);
 
 impl fmt::Display for Rate {
     fn fmt<W: fmt::Write>(&self, f: &mut fmt::Formatter<W>) -> fmt::Result {
-        write!(f, "{}.{} KiB/s", self.0 / 10, self.0 % 10)
+        let (whole, tenths) = (self.0 / 10, self.0 % 10);
+        if whole < 100 {
+            write!(f, "{whole}.{tenths} KiB/s")
+        } else {
+            write!(f, "{whole} KiB/s")
+        }
     }
 }

@@ -63,7 +63,7 @@ fn merge_chip<B: Progress>(
     if included.reaches(size) {
         return Err(Refusal::RegionOutside);
     }
-    bus.expect_reads(sectors_before_change(size as usize, Some(included), true));
+    bus.expect_reads(sectors_to_read(size as usize, None));
     let mut chip = MemVault::new(alloc);
     let report = read_whole(bus, named, &mut chip)?;
     check_size(report.found.size, target.len())?;

@@ -77,6 +77,11 @@ impl Gauge {
         self.last = now;
     }
 
+    /// Forgets the scan so far: the next one is counted from 0.
+    pub fn restart_scan(&mut self) {
+        self.tallies.scan = Tally::default();
+    }
+
     /// Records a transaction of this step, or of no step, that was carried out before `now`. Returns the step whose
     /// line changed, if one did.
     pub fn record(

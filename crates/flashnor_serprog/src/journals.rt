@@ -6,6 +6,7 @@ ghost use Rattle.flashnor_serprog.specs.Journals.{AreEnds, Describes, FailsToDes
 ghost use Rattle.flashnor_serprog.specs.Journals.{are_blank, is_blank};
 
 use crate::ending::status_of;
+use crate::hints::print_hint;
 use nor_files::Store;
 use nor_geometry::SECTOR_LEN;
 use nor_journal::{Journal, JournalFault};
@@ -53,8 +54,8 @@ pub fn check_journal<R: Store, O: Write, E: Write>(
             status_of(printed, errors)
         }
         Err(fault) => {
-            print_advice(errors, &fault);
             print_fault(errors, &fault);
+            print_hint(errors, &fault);
             1
         }
     }
@@ -129,18 +130,12 @@ fn is_blank(bytes: &[u8]) -> bool
     bytes.iter().all(|byte| *byte == 0xFF)
 }
 
-// Prints the line that says what a fault of the journal means.
-fn print_advice<E: Write>(errors: &mut E, fault: &Fault<'_>) {
-    if let Fault::Refused(Refusal::BadJournal(why)) = fault {
-        let _ = writeln!(errors, "{}", advice(*why));
-    }
-}
-
-fn advice(fault: JournalFault) -> &'static str {
+/// Returns the line that says what to do about a fault of a journal.
+pub fn advice(fault: JournalFault) -> &'static str {
     match fault {
         JournalFault::Short => {
-            "If a run wrote it and ended early, that run never changed the chip. If it was copied, \
-             the copy lost its end."
+            "If the terminal showed the progress of its run, but not SEALED, the run never changed the chip. \
+             Otherwise the file may have lost its end: look for another copy, and don't write or erase anything."
         }
         JournalFault::Magic => "Is this the right file? If it is, look for another copy.",
         _ => "Bytes of it have changed since it was sealed. Look for another copy.",
@@ -189,7 +184,7 @@ impl fmt::Display for Lines<'_> {
             )?,
             None => writeln!(f, "Saves 0 of {sectors} sectors.")?,
         }
-        writeln!(f, "{}", Status(*status))?;
+        writeln!(f, "Status: {}.", StatusBits(*status))?;
         f.write_str("Sealed and undamaged.\n")?;
         if blank > &(saved / 2) {
             writeln!(
@@ -234,9 +229,9 @@ impl fmt::Display for Unit {
     }
 }
 
-// The line about the status bytes, with the names of the bits that are set.
-#[derive(Drop)]
-struct Status([u8; 2]);
+/// Status 1 and status 2 as hexadecimal digits, with the names of the bits that are set.
+#[derive(Clone, Copy, Drop)]
+pub struct StatusBits(pub [u8; 2]);
 
 // The bits of status 1, from bit 0 on (datasheets of W25Q64FV and W25Q128FV, section 7.1).
 const STATUS1: [&str; 8] = ["BUSY", "WEL", "BP0", "BP1", "BP2", "TB", "SEC", "SRP0"];
@@ -244,13 +239,12 @@ const STATUS1: [&str; 8] = ["BUSY", "WEL", "BP0", "BP1", "BP2", "TB", "SEC", "SR
 // The bits of status 2, from bit 0 on.
 const STATUS2: [&str; 8] = ["SRP1", "QE", "reserved", "LB1", "LB2", "LB3", "CMP", "SUS"];
 
-impl fmt::Display for Status {
+impl fmt::Display for StatusBits {
     fn fmt<W: fmt::Write>(&self, f: &mut fmt::Formatter<W>) -> fmt::Result {
         let [first, second] = self.0;
-        write!(f, "Status: {first:02x} {second:02x}")?;
+        write!(f, "{first:02x} {second:02x}")?;
         write_bits(f, first, &STATUS1)?;
-        write_bits(f, second, &STATUS2)?;
-        f.write_str(".")
+        write_bits(f, second, &STATUS2)
     }
 }
 

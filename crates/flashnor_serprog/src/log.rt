@@ -1,4 +1,4 @@
-//! The lines of `-V`: one for each modifying transaction.
+//! The lines of `-V`: one for each modifying transaction, and one for each step that reads.
 ghost use Rattle.std.specs.Prelude.{◌≡◌, IfSome};
 ghost use Rattle.nor_buses.specs.ReadsAs.{address_in};
 ghost use Rattle.flashnor_serprog.specs.Estimates.{millis_in, whole_seconds_in};
@@ -51,15 +51,17 @@ impl fmt::Display for CommandText<'_> {
     }
 }
 
-/// The line after the transaction at which the bus stopped, with the time since the start of the run.
+/// The line of an event that is no modifying transaction, with the time since the start of the run: a step begins that
+/// only reads, or the bus stopped.
 #[derive(Clone, Copy, Drop)]
-pub struct StopText {
+pub struct EventText {
     pub micros: u64,
+    pub name: &'static str,
 }
 
-impl fmt::Display for StopText {
+impl fmt::Display for EventText {
     fn fmt<W: fmt::Write>(&self, f: &mut fmt::Formatter<W>) -> fmt::Result {
-        write!(f, "{} stopped", Seconds(self.micros))
+        write!(f, "{} {}", Seconds(self.micros), self.name)
     }
 }
 

@@ -7,6 +7,7 @@
 //! - `run.rt`: a run of the program, from its arguments to its exit status
 //! - `ending.rt`: the end of a run: prints its answer or its fault
 //! - `help.rt`: the text of the help that `-h` prints
+//! - `hints.rt`: the line after that of a fault, with what to do, or what was found and expected
 //! - `setting.rt`: the value of `-p`
 //! - `roles.rt`: checks that neither the device nor a file that a job writes has a second role
 //! - `sources.rt`: reads the files that a job needs, before the programmer is used
@@ -15,7 +16,7 @@
 //! - `terminal.rt`: standard error: the line that is rewritten, and the lines with what a change will do
 //! - `steps.rt`: the steps of a job, and the line that shows one
 //! - `gauge.rt`: counts and times the operations of a job
-//! - `log.rt`: the lines of `-V`, one for each modifying transaction
+//! - `log.rt`: the lines of `-V`, for each modifying transaction and each step that reads
 //! - `estimates.rt`: percent, rate and time left, and about how long a change takes
 //! - `connect.rt`: opens the device and identifies the programmer
 //! - `jobs.rt`: performs a job on the chip
@@ -37,6 +38,7 @@ mod estimates;
 mod following;
 mod gauge;
 mod help;
+mod hints;
 mod jobs;
 mod journals;
 mod log;

@@ -3,6 +3,8 @@ ghost use Rattle.std.specs.Prelude.{◌≡◌};
 
 use crate::estimates::Minutes;
 use crate::gauge::{Gauge, micros_between};
+use crate::hints::Replies;
+use crate::status_line::protects;
 use crate::steps::{Phase, Step, Total, step_of};
 use crate::terminal::Look;
 pub use crate::terminal::Terminal;
@@ -47,22 +49,23 @@ const SRP1: u8 = 0x01;
 
 const QE: u8 = 0x02;
 
-// The line before the first modifying command of a session. That of a restore is `CHANGED`.
+// The line before the first modifying command of a session. The line of a restore is `CHANGED`.
 const SEALED: &str = "SEALED: the chip is changed from here on.";
 
 const CHANGED: &str = "The chip is changed from here on.";
 
-// The line after `SEALED` or `CHANGED` if SRP1 is set without SRP0 (W25Q64FV datasheet, Status Register Protect).
+// The line before `SEALED` or `CHANGED` if SRP1 is set without SRP0 (W25Q64FV datasheet, Status Register Protect).
 const POWER_LOCKED: &str =
     "Keep its power on: a loss of power clears SRP1, and a restore then ends with error 17.";
 
-// The line before the first status write if QE is set.
+// The line before `SEALED` or `CHANGED` if QE is set and the job may write the status.
 const QUAD: &str =
     "Keep its power on: a status write that is cut off may clear QE, and a restore then ends with error 17.";
 
 /// A bus that shows the progress of a job.
 pub trait Progress: Bus {
-    /// Records how many sectors the scan of the job will read, for its progress lines. The state of the bus, as
+    /// Records how many sectors the scan of the job will read, for its progress lines: all from its begin on, or some of
+    /// them. If those that were named before are read, the others are shown as a second scan. The state of the bus, as
     /// contracts see it, stays the same.
     fn expect_reads(&mut self, sectors: usize)
         ensures { Self.state self.new ≡ Self.state self.old };
@@ -88,8 +91,8 @@ pub trait Progress: Bus {
 ///
 /// A step is recognized by the opcode of a transaction. Before the first modifying command a line says that the chip is
 /// changed from here on. In a session that line begins with `SEALED`, since a session sends no modifying command before
-/// its journal is sealed. If SRP1 is set without SRP0, or QE is set before a status write, another line says what a
-/// loss of power would mean. In contracts, the state of this bus is that of the bus inside.
+/// its journal is sealed. If SRP1 is set without SRP0, or QE is set and the job may write the status, a line before it
+/// says what a loss of power would mean. In contracts, the state of this bus is that of the bus inside.
 #[derive(Drop)]
 pub struct Shown<'a, B> {
     bus: B,
@@ -103,8 +106,20 @@ pub struct Shown<'a, B> {
     gauge: Gauge,
     // when the first modifying command was sent
     changed: Option<Instant>,
-    // status 1 and 2 as last read before the first modifying command; 0 if they were not read
-    status: [u8; 2],
+    // whether the job may write the status
+    status_write: StatusWrite,
+    // what the chip replied before the first modifying command
+    replies: Replies,
+}
+
+/// Whether a job may write the chip's status.
+#[derive(Clone, Copy)]
+pub enum StatusWrite {
+    Never,
+    /// Only if the chip has set protection bits.
+    IfProtected,
+    /// It may write them on any chip.
+    OnAnyChip,
 }
 
 impl<'a, B: Bus + Drop> Shown<'a, B> {
@@ -121,7 +136,8 @@ impl<'a, B: Bus + Drop> Shown<'a, B> {
             counts: Counts::default(),
             gauge: Gauge::new(terminal.now()),
             changed: None,
-            status: [0, 0],
+            status_write: StatusWrite::Never,
+            replies: Replies::default(),
         }
     }
 
@@ -135,11 +151,18 @@ impl<'a, B: Bus + Drop> Shown<'a, B> {
         self.terminal
     }
 
-    /// Marks the transactions from now on as those of a session, whose journal is sealed before the first change.
-    pub fn begin_session(&mut self)
+    /// Returns what the chip replied before the first modifying command.
+    pub fn replies(&self) -> Replies {
+        self.replies
+    }
+
+    /// Records whether the transactions from now on are those of a session, whose journal is sealed before the first
+    /// change, and whether the job may write the status.
+    pub fn begin_job(&mut self, in_session: bool, status_write: StatusWrite)
         ensures { self.new.bus ≡ self.old.bus }
     {
-        self.in_session = true;
+        self.in_session = in_session;
+        self.status_write = status_write;
     }
 
     /// Ends the line of the progress, after the last transaction of the job and before any other line is printed. If a
@@ -153,14 +176,11 @@ impl<'a, B: Bus + Drop> Shown<'a, B> {
 }
 
 impl<B> Shown<'_, B> {
-    // Shows nothing if the terminal is hidden. Otherwise prints a line if this transaction is the first modifying
-    // command. On plain lines prints another if it is number 1, 1 + `stride`, 1 + 2 * `stride`, .. of its step.
+    // Prints lines if this transaction is the first modifying command, and with `-V` one if it is the first read of its
+    // step. On plain lines prints another if it is number 1, 1 + `stride`, 1 + 2 * `stride`, .. of its step.
     fn show(&mut self, out: &[u8])
         ensures { self.new.bus ≡ self.old.bus }
     {
-        if self.terminal.look() == Look::Hidden {
-            return;
-        }
         if is_changing(out) && self.phase == Phase::Before {
             self.begin_change();
         }
@@ -168,8 +188,8 @@ impl<B> Shown<'_, B> {
             return;
         };
         let count = self.counts.count(step);
-        if count == 1 && step == Step::Protect && self.status[1] & QE != 0 {
-            self.terminal.print(&QUAD);
+        if count == 1 && step.is_reading() {
+            self.terminal.log_step(step.name());
         }
         if self.terminal.look() == Look::Plain && count % step.stride() == 1 {
             self.show_step(step, count);
@@ -183,25 +203,45 @@ impl<B> Shown<'_, B> {
         self.phase = Phase::Changing;
         self.changed = self.terminal.now();
         self.gauge.restart(self.changed);
-        let what = if self.in_session { SEALED } else { CHANGED };
-        self.terminal.print(&what);
         if self.has_power_lock() {
             self.terminal.print(&POWER_LOCKED);
         }
+        if self.may_clear_quad() {
+            self.terminal.print(&QUAD);
+        }
+        let what = if self.in_session { SEALED } else { CHANGED };
+        self.terminal.print(&what);
     }
 
     // True if SRP1 was set without SRP0 before the first modifying command.
     fn has_power_lock(&self) -> bool {
-        self.status[1] & SRP1 != 0 && self.status[0] & SRP0 == 0
+        let [one, two] = self.replies.status;
+        two & SRP1 != 0 && one & SRP0 == 0
     }
 
-    // Stores a status byte that the chip replied before the first modifying command.
+    // True if QE was set before the first modifying command, and the job may write the status.
+    fn may_clear_quad(&self) -> bool {
+        let writes = match self.status_write {
+            StatusWrite::Never => false,
+            StatusWrite::IfProtected => protects(self.replies.status),
+            StatusWrite::OnAnyChip => true,
+        };
+        writes && self.replies.status[1] & QE != 0
+    }
+
+    // Stores an ID or a status byte that the chip replied before the first modifying command.
     fn remember(&mut self, out: &[u8], reply: &[u8])
         ensures { self.new.bus ≡ self.old.bus }
     {
         match (self.phase, out, reply) {
-            (Phase::Before, [0x05, ..], [status1, ..]) => self.status[0] = *status1,
-            (Phase::Before, [0x35, ..], [status2, ..]) => self.status[1] = *status2,
+            (Phase::Before, [0x05, ..], [status1, ..]) => self.replies.status[0] = *status1,
+            (Phase::Before, [0x35, ..], [status2, ..]) => self.replies.status[1] = *status2,
+            (Phase::Before, [0x9F, ..], [maker, kind, capacity]) => {
+                self.replies.id = Some([*maker, *kind, *capacity]);
+            }
+            (Phase::Before, [0x4B, ..], [a, b, c, d, e, f, g, h]) => {
+                self.replies.unique = Some([*a, *b, *c, *d, *e, *f, *g, *h]);
+            }
             _ => {}
         }
     }
@@ -254,12 +294,43 @@ impl<B> Shown<'_, B> {
         }
     }
 
-    // Says how long a change took, if one began and its comparison did not. Only a line that is rewritten says that.
+    // If a change began and its comparison did not, shows how many pages were programmed and sectors were read back. On
+    // a line that is rewritten also says how long the change took.
     fn show_duration(&self) {
-        if self.terminal.look() == Look::Line && self.phase == Phase::Changing {
-            let took = Minutes(micros_between(self.changed, self.terminal.now()));
-            self.terminal.clear_line();
-            self.terminal.print(&Took(took));
+        if self.phase != Phase::Changing {
+            return;
+        }
+        match self.terminal.look() {
+            Look::Hidden => {}
+            Look::Plain => {
+                self.show_last(Step::Erase, self.counts.erase);
+                self.show_last(Step::Program, self.counts.program);
+                self.show_last(Step::ReadBack, self.counts.read_back);
+            }
+            Look::Line => {
+                let now = self.terminal.now();
+                self.terminal.clear_line();
+                self.draw_last(Step::Program, now);
+                self.draw_last(Step::ReadBack, now);
+                self.terminal
+                    .print(&Took(Minutes(micros_between(self.changed, now))));
+            }
+        }
+    }
+
+    // Prints the last plain line of a step with this number of transactions, unless its last line has that number.
+    fn show_last(&self, step: Step, count: u64) {
+        if count > 0 && count % step.stride() != 1 {
+            self.show_step(step, count);
+        }
+    }
+
+    // Prints the last line of a step, if it has an operation that is done.
+    fn draw_last(&self, step: Step, now: Option<Instant>) {
+        let line = self.gauge.line(step, Total::Done, now);
+        if line.tally.done > 0 {
+            self.terminal.draw(&line);
+            self.terminal.end_line();
         }
     }
 }
@@ -325,8 +396,16 @@ impl<B: Bus> Bus for Shown<'_, B> {
 
 impl<B: Bus + Drop> Progress for Shown<'_, ReadAhead<B>> {
     fn expect_reads(&mut self, sectors: usize) {
-        // A job may name the same reads again after it did some of them, or only those that are left.
-        self.expected = Some(sectors.max(self.expected.unwrap_or(0)));
+        let known = self.expected.unwrap_or(0);
+        if known > 0 && self.counts.scan >= known as u64 && sectors > known {
+            // The reads that were named before are done. The others are a scan of their own.
+            self.expected = Some(sectors - known);
+            self.counts.scan = 0;
+            self.gauge.restart_scan();
+        } else {
+            // A job may name the same reads again after it did some of them, or only those that are left.
+            self.expected = Some(sectors.max(known));
+        }
     }
 
     fn expect_comparison(&mut self, sectors: usize) {

@@ -14,12 +14,14 @@ use crate::chip_faults::JobFault;
 use crate::connect::{ChipBus, Connected, connect};
 use crate::ending::{end_badly, end_well, status_of};
 use crate::help::HELP;
-use crate::jobs::perform;
+use crate::hints::{Replies, Saved, print_operation_hint};
+use crate::jobs::{changes_bytes, perform};
 use crate::journals::check_journal;
-use crate::progress::{Progress, Terminal};
+use crate::progress::{Progress, StatusWrite, Terminal};
 use crate::roles::have_one_role;
 use crate::setting::Setting;
 use crate::sources::{image_of, prepare_sources};
+use crate::status_line::protects;
 use crate::terminal::Screen;
 use crate::trouble::{Left, StopLine, Trouble};
 use clap::Error as WordsError;
@@ -149,9 +151,17 @@ fn run_on_chip<'b, R: Store, O: Write, E: Write>(
             status
         }
         Err(trouble) => {
-            let _ = writeln!(errors, "{trouble}");
+            print_trouble(errors, &trouble, operation);
             1
         }
+    }
+}
+
+// Prints the lines of a fault that ended a run before the first transaction.
+fn print_trouble<E: Write>(errors: &mut E, trouble: &Trouble<'_>, operation: &Operation<'_>) {
+    let _ = writeln!(errors, "{trouble}");
+    if let Trouble::Fault(fault) = trouble {
+        print_operation_hint(errors, fault, operation, None, Replies::default());
     }
 }
 
@@ -278,7 +288,8 @@ fn run_prepared<'b, R: Store, O: Write, E: Write>(
         (⟦<ChipBus<'b> as Bus>⟧.state bus.old) (⟦<ChipBus<'b> as Bus>⟧.state bus.new)
         (O.contents output.old) (O.contents output.new) result }
 {
-    mark_session(bus, &operation.task);
+    let saved = saved_by(&operation.task, &sources);
+    mark_job(bus, &operation.task, saved);
     let terminal = bus.terminal();
     match end_job(files, bus, terminal, operation, sources) {
         Ok(answer) => {
@@ -287,31 +298,60 @@ fn run_prepared<'b, R: Store, O: Write, E: Write>(
         }
         Err(fault) => {
             bus.end_progress(false);
-            print_job_fault(errors, &fault, bus, &operation.task);
+            print_job_fault(errors, &fault, bus, operation, saved);
             1
         }
     }
 }
 
-// Marks the transactions of a session, whose journal is sealed before the first change.
-fn mark_session<'b>(bus: &mut ChipBus<'b>, task: &Task<'_>)
-    ensures { ⟦<ChipBus<'b> as Bus>⟧.state bus.new ≡ ⟦<ChipBus<'b> as Bus>⟧.state bus.old }
-{
-    if let Task::Change(_) = task {
-        bus.begin_session();
+// Returns what the journal of a restore says about its chip, or `None` if it is no journal, or for another task.
+fn saved_by(task: &Task<'_>, sources: &Sources) -> Option<Saved> {
+    match task {
+        Task::Restore { .. } => Saved::read(&sources.bytes),
+        _ => None,
     }
 }
 
-// Prints the lines of a fault with which a job ended: its own, for error 12 the cause, and a note if there is one.
+// Marks the transactions of a session, whose journal is sealed before the first change, and those of a job that may
+// write the status.
+fn mark_job<'b>(bus: &mut ChipBus<'b>, task: &Task<'_>, saved: Option<Saved>)
+    ensures { ⟦<ChipBus<'b> as Bus>⟧.state bus.new ≡ ⟦<ChipBus<'b> as Bus>⟧.state bus.old }
+{
+    bus.begin_job(is_session(task), status_write_of(task, saved));
+}
+
+fn is_session(task: &Task<'_>) -> bool {
+    matches!(task, Task::Change(_))
+}
+
+// Returns whether a task may write the status. `saved` is what the journal of a restore says.
+fn status_write_of(task: &Task<'_>, saved: Option<Saved>) -> StatusWrite {
+    match task {
+        Task::Change(change) if !changes_bytes(change.wanted) => StatusWrite::OnAnyChip,
+        Task::Change(change) if change.unlock => StatusWrite::IfProtected,
+        Task::Restore { .. } => match saved {
+            Some(saved) if protects(saved.status) => StatusWrite::OnAnyChip,
+            _ => StatusWrite::IfProtected,
+        },
+        _ => StatusWrite::Never,
+    }
+}
+
+// Prints the lines of a fault with which a job ended: its own and, if there are such lines, its hint, the cause of error
+// 12, and a note.
 fn print_job_fault<E: Write>(
     errors: &mut E,
     fault: &JobFault<'_>,
     bus: &ChipBus<'_>,
-    task: &Task<'_>,
+    operation: &Operation<'_>,
+    saved: Option<Saved>,
 ) {
     let _ = writeln!(errors, "{fault}");
+    if let JobFault::Fault(fault) = fault {
+        print_operation_hint(errors, fault, operation, saved, bus.replies());
+    }
     if fault.is_stop() {
-        print_cause(errors, bus, task);
+        print_cause(errors, bus, fault, &operation.task);
     }
     if let Some(note) = fault.note() {
         let _ = writeln!(errors, "{note}");
@@ -346,14 +386,18 @@ fn end_call<'a>(outcome: Outcome) -> Result<Answer, JobFault<'a>>
 }
 
 // Prints the line that follows error 12: the cause, and advice.
-fn print_cause<E: Write>(errors: &mut E, bus: &ChipBus<'_>, task: &Task<'_>) {
+fn print_cause<E: Write>(errors: &mut E, bus: &ChipBus<'_>, fault: &JobFault<'_>, task: &Task<'_>) {
     let twice = bus.inner().inner();
     let checked = twice.inner();
     let line = StopLine {
         failure: checked.inner().inner().inner().cause(),
         status: checked.fault(),
         differed: twice.differed(),
-        left: left_by(task, checked.has_begun()),
+        left: if fault.follows_completion() {
+            Left::Completed
+        } else {
+            left_by(task, checked.has_begun())
+        },
     };
     let _ = writeln!(errors, "{line}");
 }

@@ -74,9 +74,9 @@ impl fmt::Display for NotStored {
     }
 }
 
-// Returns whether status bytes protect any address: if BP0 to BP2 and CMP are clear, they protect none (W25Q64FV
-// datasheet, memory protection tables).
-fn protects(status: [u8; 2]) -> bool {
+/// Returns whether status bytes may protect an address: if BP0 to BP2 and CMP are clear, they protect none (W25Q64FV
+/// datasheet, memory protection tables).
+pub fn protects(status: [u8; 2]) -> bool {
     status[0] & 0x1C != 0 || status[1] & 0x40 != 0
 }
 

@@ -71,17 +71,33 @@ impl Step {
         }
     }
 
-    // Returns the step's name, and what it counts.
-    fn names(self) -> (&'static str, &'static str) {
+    /// Returns the step's name.
+    pub fn name(self) -> &'static str {
+        self.names().0
+    }
+
+    // Returns the step's name, and the nouns for one and for several of what it counts.
+    fn names(self) -> (&'static str, &'static str, &'static str) {
         match self {
-            Step::Identify => ("identify", "IDs"),
-            Step::Scan => ("scan", "sectors"),
-            Step::Erase => ("erase", "erases"),
-            Step::Program => ("program", "pages"),
-            Step::Protect => ("protect", "status writes"),
-            Step::ReadBack => ("read back", "sectors"),
-            Step::Compare => ("compare", "sectors"),
+            Step::Identify => ("identify", "ID", "IDs"),
+            Step::Scan => ("scan", "sector", "sectors"),
+            Step::Erase => ("erase", "erase", "erases"),
+            Step::Program => ("program", "page", "pages"),
+            Step::Protect => ("protect", "status write", "status writes"),
+            Step::ReadBack => ("read back", "sector", "sectors"),
+            Step::Compare => ("compare", "sector", "sectors"),
         }
+    }
+
+    /// Returns whether the step only reads.
+    pub fn is_reading(self) -> bool {
+        !matches!(self, Step::Erase | Step::Program | Step::Protect)
+    }
+
+    // Returns the noun for this number of what the step counts.
+    fn unit(self, number: u64) -> &'static str {
+        let (_, one, several) = self.names();
+        if number == 1 { one } else { several }
     }
 }
 
@@ -108,6 +124,8 @@ pub enum Total {
     Unknown,
     AtMost(u64),
     Exactly(u64),
+    /// As many as are done.
+    Done,
 }
 
 impl Total {
@@ -137,7 +155,7 @@ impl StepLine {
 
 impl fmt::Display for StepLine {
     fn fmt<W: fmt::Write>(&self, f: &mut fmt::Formatter<W>) -> fmt::Result {
-        let (name, unit) = self.step.names();
+        let name = self.step.name();
         let Tally {
             done,
             bytes,
@@ -145,10 +163,16 @@ impl fmt::Display for StepLine {
         } = self.tally;
         let total = self.total.unless_exceeded(done);
         match total {
-            Total::Unknown => write!(f, "{name}: {done} {unit}")?,
-            Total::AtMost(most) => write!(f, "{name}: {done} of at most {most} {unit}")?,
+            Total::Unknown | Total::Done => {
+                write!(f, "{name}: {done} {}", self.step.unit(done))?;
+            }
+            Total::AtMost(most) => {
+                let unit = self.step.unit(most);
+                write!(f, "{name}: {done} of at most {most} {unit}")?;
+            }
             Total::Exactly(all) => {
                 let share = percent(done, all).unwrap_or(100);
+                let unit = self.step.unit(all);
                 write!(f, "{name}: {share} %, {done} of {all} {unit}")?;
             }
         }
@@ -169,7 +193,8 @@ impl fmt::Display for StepLine {
     }
 }
 
-// The end of the line of a step: the time that is left or, if that isn't known, the time that passed.
+// The end of the line of a step: the time that is left (at most, if the total is `AtMost`) or, if that isn't known, the
+// time that passed.
 #[derive(Clone, Copy, Drop)]
 struct TimeText {
     done: u64,
@@ -180,7 +205,7 @@ struct TimeText {
 impl fmt::Display for TimeText {
     fn fmt<W: fmt::Write>(&self, f: &mut fmt::Formatter<W>) -> fmt::Result {
         let left = match self.total {
-            Total::Unknown => None,
+            Total::Unknown | Total::Done => None,
             Total::AtMost(total) | Total::Exactly(total) => Some(total.saturating_sub(self.done)),
         };
         let time = left.and_then(|left| time_for(left, self.done, self.micros));
@@ -189,7 +214,8 @@ impl fmt::Display for TimeText {
                 write!(f, ", took {}", Minutes(self.micros))
             }
             (Total::Exactly(_), Some(time)) => write!(f, ", {} left", Minutes(time)),
-            (Total::AtMost(_), Some(time)) => write!(f, ", at most {} left", Minutes(time)),
+            (Total::AtMost(_), Some(time)) => write!(f, ", {} left", Minutes(time)),
+            (Total::Done, _) => write!(f, ", took {}", Minutes(self.micros)),
             _ => write!(f, ", {} so far", Minutes(self.micros)),
         }
     }

@@ -2,7 +2,7 @@
 
 use crate::estimates::{Minutes, Rate, change_micros, tenths_of_kib, time_for};
 use crate::gauge::micros_between;
-use crate::log::{CommandText, StopText, command_name};
+use crate::log::{CommandText, EventText, command_name};
 use crate::trouble::MODES;
 use nor_journal::journal_len;
 use nor_lines::Escaped;
@@ -14,15 +14,17 @@ use std::os::unix::fs::FileTypeExt;
 use std::time::Instant;
 use std::{fmt, fs};
 
-// The greatest number of columns of the line that is rewritten: a terminal has 80, and many wrap at the last one.
-const COLUMNS: usize = 79;
+// The greatest number of columns of the line that is rewritten. A line that is wrapped can't be rewritten, and std can't
+// return the number of columns of the terminal.
+const COLUMNS: usize = 60;
 
 // Erases from the cursor to the end of the line (ECMA-48, EL).
 const ERASE_TO_END: &str = "\x1b[K";
 
 // The line before the first exchange, without the command that sets up the port.
 const WAITING: &str =
-    "Waiting for the programmer. If no line follows in 10 seconds, press Ctrl-C and run:";
+    "Waiting for the programmer. If no line follows in 10 seconds, press Ctrl-C, disconnect the programmer \
+    from power for a second, connect it again, and run:";
 
 /// What all copies of a `Terminal` know: whether a line that may be rewritten is on the screen, what was announced, and
 /// how fast data was read.
@@ -129,7 +131,7 @@ impl<'a> Terminal<'a> {
         self.screen.known.set(Known { read, ..known });
     }
 
-    /// Rewrites the line, with this text, of which at most 79 bytes are shown. Shows nothing if memory runs out. The
+    /// Rewrites the line, with this text, of which at most 60 bytes are shown. Shows nothing if memory runs out. The
     /// text must be ASCII.
     pub fn draw<T: fmt::Display>(&self, text: &T) {
         let Ok(text) = format!(in self.rt.alloc(); "{text}") else {
@@ -159,11 +161,20 @@ impl<'a> Terminal<'a> {
         }
     }
 
+    /// With `-V`, prints that a step begins that only reads.
+    pub fn log_step(&self, name: &'static str) {
+        if self.is_verbose {
+            let micros = self.elapsed();
+            self.log(&EventText { micros, name });
+        }
+    }
+
     /// With `-V`, prints that the bus stopped.
     pub fn log_stop(&self) {
         if self.is_verbose {
             let micros = self.elapsed();
-            self.log(&StopText { micros });
+            let name = "stopped";
+            self.log(&EventText { micros, name });
         }
     }
 
@@ -240,7 +251,7 @@ impl<'a> Terminal<'a> {
     }
 }
 
-// Returns the text, or its first 79 bytes if it is longer.
+// Returns the text, or its first 60 bytes if it is longer.
 fn fit(text: &str) -> &str {
     match text.get(..COLUMNS) {
         Some(head) => head,

@@ -7,7 +7,7 @@ use crate::status_line::{DIFFERED, StatusLine};
 use nor_buses::CheckFault;
 use nor_lines::{Escaped, Fault, text_of_flaw};
 use nor_serprog::{Failure, HandshakeFault};
-use nor_words::WrongArguments;
+use nor_words::{Reason, WrongArguments};
 use std::fmt;
 
 /// The reason why a run ends before the first transaction.
@@ -59,6 +59,12 @@ impl<'a> From<WrongSetting<'a>> for Trouble<'a> {
 impl fmt::Display for Trouble<'_> {
     fn fmt<W: fmt::Write>(&self, f: &mut fmt::Formatter<W>) -> fmt::Result {
         match self {
+            Trouble::Fault(
+                Fault::Usage {
+                    fault,
+                    reason: Reason::NoLayout,
+                },
+            ) => write!(f, "{NO_LAYOUT}\n{fault}"),
             Trouble::Fault(fault) => write!(f, "{fault}"),
             Trouble::Setting(wrong) => write!(f, "{wrong}Usage fault 3."),
             Trouble::Programmer { fault, device } => {
@@ -79,6 +85,9 @@ impl fmt::Display for Trouble<'_> {
     }
 }
 
+// The line before that of usage fault 7 if no layout is given. That of `flashnor` names only -l.
+const NO_LAYOUT: &str = "error: -i needs -l, --fmap-file or --ifd-file";
+
 // Prints the line that precedes the line of usage fault 3, and says what is wrong or what to give instead.
 impl fmt::Display for WrongSetting<'_> {
     fn fmt<W: fmt::Write>(&self, f: &mut fmt::Formatter<W>) -> fmt::Result {
@@ -94,6 +103,9 @@ impl fmt::Display for WrongSetting<'_> {
             WrongSetting::NoPrefix => {
                 f.write_str("error: the value of -p does not begin with 'serprog:'\n")
             }
+            WrongSetting::Flawed { setting: "", .. } => f.write_str(
+                "error: a setting in -p is empty; give serprog:dev=PATH, with commas only between settings\n",
+            ),
             WrongSetting::Flawed { setting, flaw } => {
                 let setting = Escaped(setting);
                 writeln!(f, "error: {} in -p: '{setting}'", text_of_flaw(*flaw))
@@ -180,24 +192,30 @@ fn number_of(fault: &HandshakeFault<PortFault>) -> u8 {
 
 fn help_for(fault: &HandshakeFault<PortFault>) -> Remedy {
     match fault {
-        HandshakeFault::Failure(Failure::Port(PortFault::Silent)) => {
-            Remedy::DoAndSetUp("Check its cable, and set up the port:")
-        }
+        HandshakeFault::Failure(Failure::Port(PortFault::Silent)) => Remedy::DoAndSetUp(
+            "Check its cable, disconnect the programmer from power for a second, connect it again, and set up the port:",
+        ),
         HandshakeFault::Failure(Failure::Port(PortFault::System(_))) => {
             Remedy::DoAndSetUp("Connect the programmer again, and set up the port:")
         }
         HandshakeFault::Failure(Failure::Refused(0x16)) => {
             Remedy::Do("Give cs= the number of another chip select.")
         }
-        HandshakeFault::Failure(Failure::Refused(_)) => Remedy::Do("Install other firmware on it."),
+        HandshakeFault::Failure(Failure::Refused(_)) => Remedy::DoAndSetUp(AGAIN),
         HandshakeFault::Failure(_) => Remedy::DoAndSetUp(
             "Disconnect the programmer from power, connect it again, and set up the port:",
         ),
         HandshakeFault::Lacks(0x14) => Remedy::Do("Leave spispeed= out."),
         HandshakeFault::Lacks(0x16) => Remedy::Do("Leave cs= out."),
-        _ => Remedy::Do("Install other firmware on it."),
+        _ => Remedy::DoAndSetUp(AGAIN),
     }
 }
+
+// The advice for a reply that only wrong firmware should send. A programmer that received its own replies as commands,
+// because the port echoed them, or that still waits for the rest of a command, may send such replies, too.
+const AGAIN: &str =
+    "Disconnect the programmer from power for a second, connect it again, set up the port, and repeat the run; \
+    install other firmware only if this line comes again. To set up the port:";
 
 // The advice for a fault of the programmer at this device, as printed.
 #[derive(Drop)]
@@ -252,6 +270,8 @@ pub enum Left {
     Unchanged,
     /// A session that sent one, or a restore: the chip may be changed.
     Changed,
+    /// A session or a restore that was completed. Only the comparison after it stopped, which another line says.
+    Completed,
 }
 
 impl fmt::Display for StopLine<'_> {
@@ -263,7 +283,7 @@ impl fmt::Display for StopLine<'_> {
             (None, None) => f.write_str("Cause: unknown.")?,
         }
         f.write_str(match self.left {
-            Left::Reading => "",
+            Left::Reading | Left::Completed => "",
             Left::Unchanged => " The chip was not changed.",
             Left::Changed => " Then restore the chip with --restore and the journal.",
         })

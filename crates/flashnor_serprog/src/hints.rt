@@ -1,0 +1,227 @@
+//! The line that follows the line of a fault: it says what to do, or what was found and what was expected.
+
+use crate::journals::{StatusBits, advice};
+use nor_journal::Journal;
+use nor_lines::{Escaped, Fault, FileFault, named_by};
+use nor_probe::{ChipName, part_of};
+use nor_session::Refusal;
+use nor_words::{Change, Operation, Task};
+use std::fmt;
+use std::io::Write;
+
+/// What the chip replied last before the first modifying command. An ID is `None` if it was not read, and the status
+/// bytes are 0 if they were not read.
+#[derive(Clone, Copy, Default)]
+pub struct Replies {
+    pub id: Option<[u8; 3]>,
+    pub unique: Option<[u8; 8]>,
+    /// Status 1 and status 2.
+    pub status: [u8; 2],
+}
+
+/// What a journal says about its chip.
+#[derive(Clone, Copy)]
+pub struct Saved {
+    pub id: [u8; 3],
+    pub size: u32,
+    /// `None` for a journal of format 1, which doesn't contain the unique ID.
+    pub unique: Option<[u8; 8]>,
+    /// Status 1 and status 2.
+    pub status: [u8; 2],
+}
+
+impl Saved {
+    /// Returns what the journal with these bytes says about its chip, or `None` if they are no journal.
+    pub fn read(bytes: &[u8]) -> Option<Saved> {
+        match Journal::read(bytes) {
+            Ok(journal) => Some(Saved {
+                id: journal.id(),
+                size: journal.size(),
+                unique: journal.unique(),
+                status: journal.status(),
+            }),
+            Err(_) => None,
+        }
+    }
+}
+
+/// Prints the line that follows the line of a fault, if there is one that needs no more than the fault.
+pub fn print_hint<E: Write>(errors: &mut E, fault: &Fault<'_>) {
+    if let Some(text) = hint_for(fault) {
+        let _ = writeln!(errors, "{text}");
+    }
+}
+
+/// Prints the line that follows the line of a fault of an operation, if there is one. `saved` is what the journal of a
+/// restore says, and `replies` is what the chip replied.
+pub fn print_operation_hint<E: Write>(
+    errors: &mut E,
+    fault: &Fault<'_>,
+    operation: &Operation<'_>,
+    saved: Option<Saved>,
+    replies: Replies,
+) {
+    match fault {
+        Fault::Layout(_) | Fault::Map(_) | Fault::NoRegion { .. } => print_layout(
+            errors,
+            &operation.task,
+        ),
+        Fault::File {
+            fault: FileFault::Exists,
+            ..
+        } if reads(operation) => {
+            let _ = writeln!(errors, "{IS_JOURNAL}");
+        }
+        Fault::Refused(refusal) => match found_and_expected(*refusal, operation, saved, replies) {
+            Some(line) => {
+                let _ = writeln!(errors, "{line}");
+            }
+            None => print_hint(errors, fault),
+        },
+        _ => print_hint(errors, fault),
+    }
+}
+
+// True for `-r`, which truncates an existing file, except a journal.
+fn reads(operation: &Operation<'_>) -> bool {
+    matches!(operation.task, Task::Read { .. }) && !operation.is_backup
+}
+
+// Prints the line with the file that has the regions of a task.
+fn print_layout<E: Write>(errors: &mut E, task: &Task<'_>) {
+    if let Some(name) = named_by(task).layout {
+        let _ = writeln!(errors, "The regions are in the file {}.", Escaped(name));
+    }
+}
+
+// Returns the text that follows a fault, if there is one that needs no more than the fault.
+fn hint_for(fault: &Fault<'_>) -> Option<&'static str> {
+    match fault {
+        Fault::File { fault, .. } => file_hint(*fault),
+        Fault::Refused(Refusal::BadJournal(why)) => Some(advice(*why)),
+        _ => None,
+    }
+}
+
+fn file_hint(fault: FileFault) -> Option<&'static str> {
+    match fault {
+        FileFault::Read => Some(
+            "It is missing or can't be read: correct its name or its permissions.",
+        ),
+        FileFault::Write => {
+            Some(
+                "It can't be created, written or locked: free disk space, or correct its permissions.",
+            )
+        }
+        FileFault::Exists => Some(
+            "It exists already, and is never overwritten: choose a new name.",
+        ),
+        FileFault::Taken => Some(
+            "It has two roles in this run, or another program uses it: give each role its own file.",
+        ),
+        _ => None,
+    }
+}
+
+const IS_JOURNAL: &str = "It is a journal, which is never overwritten: choose a new name.";
+
+// Returns the line for an error that says what was found and what was expected, or which option helps.
+fn found_and_expected(
+    refusal: Refusal,
+    operation: &Operation<'_>,
+    saved: Option<Saved>,
+    replies: Replies,
+) -> Option<Line> {
+    match refusal {
+        Refusal::OtherName => Some(Line::Name {
+            named: operation.named?,
+            id: replies.id?,
+        }),
+        Refusal::Protected { .. } if !unlocks(&operation.task) => Some(Line::Unlock),
+        Refusal::OtherChip => Some(Line::Chip {
+            saved: saved?,
+            id: replies.id?,
+        }),
+        Refusal::StatusDiffers => Some(Line::Status {
+            saved: saved?.status,
+            found: replies.status,
+        }),
+        Refusal::OtherUnit => Some(Line::Unique {
+            saved: saved?.unique?,
+            found: replies.unique?,
+        }),
+        _ => None,
+    }
+}
+
+// True for a change with `--unlock`.
+fn unlocks(task: &Task<'_>) -> bool {
+    matches!(task, Task::Change(Change { unlock: true, .. }))
+}
+
+// A line that says what was found and what was expected, or which option helps.
+#[derive(Clone, Copy, Drop)]
+enum Line {
+    Name { named: ChipName, id: [u8; 3] },
+    Unlock,
+    Chip { saved: Saved, id: [u8; 3] },
+    Status { saved: [u8; 2], found: [u8; 2] },
+    Unique { saved: [u8; 8], found: [u8; 8] },
+}
+
+impl fmt::Display for Line {
+    fn fmt<W: fmt::Write>(&self, f: &mut fmt::Formatter<W>) -> fmt::Result {
+        match *self {
+            Line::Name {
+                named: ChipName::Other,
+                id,
+            } => write!(
+                f,
+                "No chip that this program knows has the name of -c. The chip is {}.",
+                ChipText(id)
+            ),
+            Line::Name { named, id } => {
+                let named = named.as_str();
+                write!(f, "-c names {named}. The chip is {}.", ChipText(id))
+            }
+            Line::Unlock => f.write_str(
+                "Include only regions that aren't protected, or use --unlock. Give the journal a new name.",
+            ),
+            Line::Chip { saved, id } => write!(
+                f,
+                "The journal is of {} with {} bytes. The chip is {}.",
+                ChipText(saved.id),
+                saved.size,
+                ChipText(id)
+            ),
+            Line::Status { saved, found } => write!(
+                f,
+                "Status in the journal: {}. Status of the chip: {}.",
+                StatusBits(saved),
+                StatusBits(found)
+            ),
+            Line::Unique { saved, found } => {
+                let (saved, found) = (u64::from_be_bytes(saved), u64::from_be_bytes(found));
+                write!(
+                    f,
+                    "Unique ID in the journal: {saved:016x}. Unique ID of the chip: {found:016x}."
+                )
+            }
+        }
+    }
+}
+
+// The name of the chip with this ID in the table, or `SFDP`, and then the ID.
+#[derive(Clone, Copy, Drop)]
+struct ChipText([u8; 3]);
+
+impl fmt::Display for ChipText {
+    fn fmt<W: fmt::Write>(&self, f: &mut fmt::Formatter<W>) -> fmt::Result {
+        let [maker, kind, capacity] = self.0;
+        let name = match part_of(self.0) {
+            Some(part) => part.name.as_str(),
+            None => ChipName::Sfdp.as_str(),
+        };
+        write!(f, "{name} ({maker:02x}{kind:02x}{capacity:02x})")
+    }
+}
