@@ -64,9 +64,9 @@ const QUAD: &str =
 
 /// A bus that shows the progress of a job.
 pub trait Progress: Bus {
-    /// Records how many sectors the scan of the job will read, for its progress lines: all from its begin on, or some of
-    /// them. If those that were named before are read, the others are shown as a second scan. The state of the bus, as
-    /// contracts see it, stays the same.
+    /// Records how many sectors the scan of the job will read, for its progress lines: all from its begin on, or some
+    /// of them. If those that were named before are read, the others are shown as a second scan. The state of the bus,
+    /// as contracts see it, stays the same.
     fn expect_reads(&mut self, sectors: usize)
         ensures { Self.state self.new ≡ Self.state self.old };
 

@@ -337,8 +337,8 @@ fn status_write_of(task: &Task<'_>, saved: Option<Saved>) -> StatusWrite {
     }
 }
 
-// Prints the lines of a fault with which a job ended: its own and, if there are such lines, its hint, the cause of error
-// 12, and a note.
+// Prints the lines of a fault with which a job ended: its own and, if there are such lines, its hint, the cause of
+// error 12, and a note.
 fn print_job_fault<E: Write>(
     errors: &mut E,
     fault: &JobFault<'_>,

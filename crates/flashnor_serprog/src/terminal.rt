@@ -14,8 +14,8 @@ use std::os::unix::fs::FileTypeExt;
 use std::time::Instant;
 use std::{fmt, fs};
 
-// The greatest number of columns of the line that is rewritten. A line that is wrapped can't be rewritten, and std can't
-// return the number of columns of the terminal.
+// The greatest number of columns of the line that is rewritten. A line that is wrapped can't be rewritten, and std
+// can't return the number of columns of the terminal.
 const COLUMNS: usize = 60;
 
 // Erases from the cursor to the end of the line (ECMA-48, EL).

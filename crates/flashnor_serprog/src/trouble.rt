@@ -193,7 +193,8 @@ fn number_of(fault: &HandshakeFault<PortFault>) -> u8 {
 fn help_for(fault: &HandshakeFault<PortFault>) -> Remedy {
     match fault {
         HandshakeFault::Failure(Failure::Port(PortFault::Silent)) => Remedy::DoAndSetUp(
-            "Check its cable, disconnect the programmer from power for a second, connect it again, and set up the port:",
+            "Check its cable, disconnect the programmer from power for a second, connect it again, and \
+            set up the port:",
         ),
         HandshakeFault::Failure(Failure::Port(PortFault::System(_))) => {
             Remedy::DoAndSetUp("Connect the programmer again, and set up the port:")
