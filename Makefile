@@ -180,13 +180,13 @@ statement: ## makes docs/STATEMENT.md, and its appendices out/STATEMENT-FULL.md,
 lint: ## checks each script with its linter (shellcheck, a C compiler, pyflakes)
 	@scripts/lint.sh
 
-quick: toolchain ## makes checks that need no proof, in a few minutes; CRATES='nor_words flashnor' tries only these
+quick: toolchain ## makes checks that need no proof, in a few minutes; CRATES='nor_args flashnor' tries only these
 	@scripts/quick.sh '$(PROGRAM)' $(CRATES)
 
 case: toolchain ## plays one case of crates/transcripts/stdin: make case NAME='a read runs on over the end'
 	@scripts/case.sh "$$NAME"
 
-prove: toolchain ## proves a crate and all crates that depend on it: make prove CRATE=nor_words
+prove: toolchain ## proves a crate and all crates that depend on it: make prove CRATE=nor_args
 	@scripts/prove.py "$$CRATE"
 
 check: toolchain ## the merge gate: all proofs, and all tests except 'make compare'

@@ -293,7 +293,7 @@ NOTES = {
         "`R: Store` is any store of files, and `R.state` what contracts see of it. In this appendix `Journal` is the "
         "content of a journal, which the others call `Content`, and `Content` is what the chip's files hold at the "
         "start. The clauses hold at every exit, even if all calls on files fail from some call on (`left`). So they "
-        "hold wherever the process is killed or its host crashes. `AreIncluded` (crates/nor_lines/specs/Requests.antt) "
+        "hold wherever the process is killed or its host crashes. `AreIncluded` (crates/nor_console/specs/Requests.antt) "
         "says which addresses the regions of a layout have. `run_over` promises all this for each job on a chip.",
 }
 
@@ -332,10 +332,10 @@ SUBJECTS = {
     "Backups": "nor_session: specs/Backup",
     "Calls in turn": "nor_session: specs/WrittenOver specs/InTurn",
     "Files": "nor_files: specs/Files specs/OneFile specs/Faults specs/Disk specs/Calls src/store",
-    "Jobs": "nor_words: specs/Text src/programmer specs/Programmer src/job",
+    "Jobs": "nor_args: specs/Text src/programmer specs/Programmer src/job",
     "A chip in files":
-        "flashnor: specs/Found src/chips nor_lines: specs/Stored flashnor: specs/Chips nor_lines: specs/Tasks "
-        "flashnor: specs/Tasks nor_lines: specs/Requests flashnor: specs/Requests specs/Changes src/holding "
+        "flashnor: specs/Found src/chips nor_console: specs/Stored flashnor: specs/Chips nor_console: specs/Tasks "
+        "flashnor: specs/Tasks nor_console: specs/Requests flashnor: specs/Requests specs/Changes src/holding "
         "specs/Endings nor_chip: specs/Start",
     "What a run leaves": "flashnor: specs/Left specs/Run src/run",
 }

@@ -48,7 +48,7 @@ def take_lines(page):
 
 def take_answers():
     """Compares the lines of results with SPECIFICATION, and checks that the examples have no other lines."""
-    words = [token.text for token in tokens("nor_lines/src/printing.rt")]
+    words = [token.text for token in tokens("nor_console/src/printing.rt")]
     lines = {words[at + 5].strip('"') for at in range(len(words)) if words[at : at + 3] == ["writeln", "!", "("]}
     inserted = "|".join(word[1:-1] for word in words if re.fullmatch(r'"[a-z]+"', word))
 
@@ -70,9 +70,9 @@ def take_numbers(page):
     journal = manual("man/flashnor-journal.5")
     sfdp = [row[0] for row in rows_of("docs/SPECIFICATION.md", "SFDP fault")]
     for kind, path, found in (
-            ("Usage", "nor_words/src/words.rt", rows(page, "Usage faults")),
+            ("Usage", "nor_args/src/words.rt", rows(page, "Usage faults")),
             ("Layout", "nor_layout/src/fault.rt", rows(page, "Layout faults")),
-            ("File", "nor_lines/src/messages.rt", rows(page, "File faults")),
+            ("File", "nor_console/src/messages.rt", rows(page, "File faults")),
             ("SFDP", "nor_probe/src/sfdp.rt", sfdp),
             ("Journal", "nor_journal/src/fault.rt", rows(journal, "FAULTS"))):
         numbers = {str(number) for number in rust.numbers_of_variants(tokens(path))}

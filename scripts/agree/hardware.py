@@ -28,7 +28,7 @@ def codes(crate):
 
 def options():
     """Returns the options of a program for hardware: for each one its spellings, and the name of its value."""
-    text = code("nor_words/src/options.rt") + code("nor_words/src/options/hardware.rt")
+    text = code("nor_args/src/options.rt") + code("nor_args/src/options/hardware.rt")
     left_out = re.findall(r'name != "([-a-z]+)"', text)
     table = re.findall(r"Choice \{\s*letter: (?:None|Some\('(\w)'\)),\s*name: \"([-a-z]+)\",\s*"
                        r"value: (?:None|Some\(\"([^\"]*)\"\))", text)
@@ -85,7 +85,7 @@ def take_names(page):
          Makefile=re.findall(r"(?m)^\tinstall .*'\$\(IN_BIN\)/(\S+-\S+)'$", read("Makefile")))
     same("version for hardware", help=re.findall(rf'about: "{NAME} ([\d.]+):', text),
          manual=re.findall(r'(?m)^\.TH .*"flashnor ([^"]*)"', read(PAGE)),
-         flashnor=re.findall(r'about: "flashnor ([\d.]+):', code("nor_words/src/options.rt")))
+         flashnor=re.findall(r'about: "flashnor ([\d.]+):', code("nor_args/src/options.rt")))
     modes = r"(?m)stty -F \S+ (raw .*?[0-9])(?:$|[`.])"
     same("setting of the port", sources=re.findall(r'MODES: &str = "(.*)"', code("flashnor_serprog/src/trouble.rt")),
          help=re.findall(modes, text), manual=re.findall(modes, "".join(part.text for part in page)),
@@ -112,10 +112,10 @@ def take_lines(page):
 
 def take_numbers(page):
     """Compares the numbers of each kind of fault."""
-    trouble, lines = code("flashnor_serprog/src/trouble.rt"), code("nor_lines/src/messages.rt")
+    trouble, lines = code("flashnor_serprog/src/trouble.rt"), code("nor_console/src/messages.rt")
     named = dict(zip(re.findall(r"(?m)^    (\w+)(?: = 1)?,$", re.search(r"(?s)enum FileFault \{(.*?)\n\}", lines)[1]),
-                     rust.numbers_of_variants(tokens("nor_lines/src/messages.rt"))))
-    used = set(re.findall(r"FileFault::(\w+)", codes("nor_lines") + codes("flashnor_serprog")))
+                     rust.numbers_of_variants(tokens("nor_console/src/messages.rt"))))
+    used = set(re.findall(r"FileFault::(\w+)", codes("nor_console") + codes("flashnor_serprog")))
     found = {
         "Usage": re.findall(r"(?m)^Usage fault (\d+):", code("flashnor_serprog/src/help.rt")),
         "Layout": map(str, rust.numbers_of_variants(tokens("nor_layout/src/fault.rt"))),

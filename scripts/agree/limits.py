@@ -35,7 +35,7 @@ def constant(path, name):
 
 def numeral(*start):
     """Returns the next argument of a call of `read_numeral` that has these first arguments."""
-    path, call = "nor_words/src/numbers.rt", f"read_numeral({', '.join(start)},"
+    path, call = "nor_args/src/numbers.rt", f"read_numeral({', '.join(start)},"
     return rust.number_after(tokens(path), call) or fail(path, call)
 
 
@@ -46,10 +46,10 @@ def bound(path, name):
 
 def limits():
     """Returns the name, the value and the words of each number."""
-    chip, files, region = "nor_geometry/src/limits.rt", "nor_lines/src/files.rt", "nor_layout/src/region.rt"
+    chip, files, region = "nor_geometry/src/limits.rt", "nor_console/src/files.rt", "nor_layout/src/region.rt"
     sector, digest = constant(chip, "SECTOR_LEN"), constant("nor_journal/src/records.rt", "DIGEST_LEN")
     image, polls = constant(files, "MOST_IMAGE_BYTES"), constant("nor_driver/src/waits.rt", "MOST_POLLS")
-    unique = rust.number_after(item("nor_words/src/numbers.rt", "read_unique"), "[u8;")
+    unique = rust.number_after(item("nor_args/src/numbers.rt", "read_unique"), "[u8;")
     few = re.search(r"\bfew\s*:\s*ending\.status\s*≤\s*(\d+)", (CRATES / "flashnor/specs/Run.antt").read_text("utf-8"))
     # A record begins with the sector's number in four bytes. The end mark takes the place of such a number.
     mark = 4
@@ -63,7 +63,7 @@ def limits():
         ("greatest sector", constant(chip, "MOST_SECTORS") - 1, "a number past #"),
         ("bytes of a record", sector + mark, "# (?:for )?each"),
         ("bytes of an empty journal", constant("nor_journal/src/head.rt", "HEADER_LEN") + mark + digest, "takes # bytes"),
-        ("stops", constant("nor_words/src/stops.rt", "MOST_STOPS"), "1 to # (?:of them|numbers)"),
+        ("stops", constant("nor_args/src/stops.rt", "MOST_STOPS"), "1 to # (?:of them|numbers)"),
         ("digits of a stop", numeral("text", "10"), "1 to # decimal digits up to 18"),
         ("greatest stop", 2**64 - 1, "1 to 20 decimal digits up to #"),
         ("digits of a place", len(str(2**32 - 1)), "1 to # decimal digits up to 4"),

@@ -67,7 +67,7 @@ def take_keys(told, page):
         text for _, heads, column, cell in cells_of("docs/FLASHROM.md") if heads[column] == "flashnor"
         for text in quoted(cell) if re.fullmatch(r"[a-z]+=[A-Z]+", text)])
     names = {key.partition("=")[0] for key in keys}
-    words = [token.text for token in tokens("nor_words/src/flaws.rt")]
+    words = [token.text for token in tokens("nor_args/src/flaws.rt")]
     same("keys", parser={word.strip('"') for word, after in zip(words, words[1:]) if word[0] == '"' and after in "=>|"},
          help=names, completion={word[len("dummy:") : -1] for word in completed("-p dummy:")})
     same("keys with files", help={key.partition("=")[0] for key in keys if key.endswith("=FILE")},
@@ -95,7 +95,7 @@ def take_versions(told):
     """Compares the version, which the program prints in its help, and the kit, if one is installed. README names the
     kits with which the gate passed; they have one logic."""
     makefile = printed_by("make", "-s", "--no-print-directory", "--eval", "told: ; @echo $(VERSION)", "told")
-    same("version", parser=re.findall(r"(?m)^flashnor ([\d.]+):", "\n".join(strings("nor_words/src/options.rt"))),
+    same("version", parser=re.findall(r"(?m)^flashnor ([\d.]+):", "\n".join(strings("nor_args/src/options.rt"))),
          help=re.findall(r"\Aflashnor ([^:]*):", told), Makefile=[makefile.strip()],
          manual=re.findall(r'(?m)^\.TH .*"flashnor ([^"]*)"', read("man/flashnor.8")),
          CHANGELOG=re.findall(r"(?m)^## \[(\d[^]]*)\] - \d{4}-\d\d-\d\d$", read("CHANGELOG.md"))[:1])

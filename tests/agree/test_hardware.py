@@ -10,7 +10,7 @@ import unittest
 
 TOP = pathlib.Path(__file__).resolve().parent.parent.parent
 PAGE, HELP, COMPLETION = "man/flashnor-serprog.8", "crates/flashnor_serprog/src/help.rt", "completion/flashnor.bash"
-SOURCES = "crates/flashnor_serprog crates/nor_words crates/nor_lines crates/nor_layout crates/nor_request " \
+SOURCES = "crates/flashnor_serprog crates/nor_args crates/nor_console crates/nor_layout crates/nor_request " \
     "crates/nor_serprog scripts man docs completion"
 # The file of each plant, a pattern whose first match is replaced, the new text, and the expected message.
 PLANTS = {
@@ -21,7 +21,7 @@ PLANTS = {
         "manual has '--backup NAME', sources hasn't"),
     "an option that the synopsis lacks": (PAGE, r" \[\\fB\\-N\\fR\]", "", "sources has '-N', synopsis hasn't"),
     "an option of the table that the program lacks": (
-        "crates/nor_words/src/options.rt", r'name != "rehearse"', 'name != "unlock"', "sources has '--rehearse"),
+        "crates/nor_args/src/options.rt", r'name != "rehearse"', 'name != "unlock"', "sources has '--rehearse"),
     "an option that the completion lacks": (
         COMPLETION, r" --noverify-all --quick --p", " --quick --p", "sources has '--noverify-all', completion hasn't"),
     "an option of flashnor in the completion": (

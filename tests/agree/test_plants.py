@@ -90,7 +90,7 @@ PLANTS = {
         WORDS, "completion/flashnor.bash", r"-w \| -v \| -l \| --restore\) _f", "-w | -v | -l) _f",
         "options with files: help has '--restore', completion hasn't"),
     "a key that the parser hasn't": (
-        WORDS, "crates/nor_words/src/flaws.rt", r'"busy" =>', '"delay" =>', "keys: parser has 'delay', help hasn't"),
+        WORDS, "crates/nor_args/src/flaws.rt", r'"busy" =>', '"delay" =>', "keys: parser has 'delay', help hasn't"),
     "a name that the completion offers for -c": (
         WORDS, "completion/flashnor.bash", r"W25Q128FV\)", "W25Q128JV)",
         "names for -c: completion has 'W25Q128JV', printed hasn't"),
@@ -206,7 +206,7 @@ HARMLESS = {
     "a message in another form": (
         FAULTS, "crates/nor_request/src/refusal.rt", r'f\.write_str\("stopped"\)',
         '{\n                "stopped".fmt(f)\n            }'),
-    "a key on two lines": (WORDS, "crates/nor_words/src/flaws.rt", r'"busy" =>', '"busy"\n                =>'),
+    "a key on two lines": (WORDS, "crates/nor_args/src/flaws.rt", r'"busy" =>', '"busy"\n                =>'),
 }
 
 

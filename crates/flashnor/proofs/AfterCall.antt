@@ -6,24 +6,24 @@ use Rattle.nor_probe.specs.declared.table.ChipName.{ChipName}
 use Rattle.nor_files.specs.Files.{FilesState, KeepsFile, View, is_lawful}
 use Rattle.nor_journal.specs.Vault.{VaultState}
 use Rattle.nor_request.specs.declared.refusal.Refusal.{Refusal}
-use Rattle.nor_words.specs.Text.{Text}
+use Rattle.nor_args.specs.Text.{Text}
 use Rattle.nor_layout.specs.declared.ranges.Span.{Span}
-use Rattle.nor_words.specs.declared.job.Regions.{Regions}
-use Rattle.nor_words.specs.declared.job.Wanted.{Wanted}
-use Rattle.nor_words.specs.declared.job.Wanted.TheVariants as wanted
-use Rattle.nor_words.specs.declared.programmer.Emulated.{Emulated}
-use Rattle.nor_words.specs.declared.job.JournalUse.{JournalUse}
-use Rattle.nor_words.specs.declared.job.Task.{Task}
-use Rattle.nor_words.specs.declared.job.Task.TheVariants as task
-use Rattle.nor_words.specs.declared.programmer.Programmer.{Programmer}
+use Rattle.nor_args.specs.declared.job.Regions.{Regions}
+use Rattle.nor_args.specs.declared.job.Wanted.{Wanted}
+use Rattle.nor_args.specs.declared.job.Wanted.TheVariants as wanted
+use Rattle.nor_args.specs.declared.programmer.Emulated.{Emulated}
+use Rattle.nor_args.specs.declared.job.JournalUse.{JournalUse}
+use Rattle.nor_args.specs.declared.job.Task.{Task}
+use Rattle.nor_args.specs.declared.job.Task.TheVariants as task
+use Rattle.nor_args.specs.declared.programmer.Programmer.{Programmer}
 use Rattle.flashnor.specs.Changes.{IsKeptIn}
-use Rattle.nor_lines.specs.Stored.{IsKeptFile, AreTwo}
-use Rattle.nor_lines.specs.Requests.{AreRangesOf}
+use Rattle.nor_console.specs.Stored.{IsKeptFile, AreTwo}
+use Rattle.nor_console.specs.Requests.{AreRangesOf}
 use Rattle.flashnor.specs.Requests.{IsBufferOf}
-use Rattle.nor_lines.specs.Tasks.{image_of, layout_of, named_by, journal_of}
+use Rattle.nor_console.specs.Tasks.{image_of, layout_of, named_by, journal_of}
 use Rattle.flashnor.specs.Run.{DoesJob, IsViewBut}
 use Rattle.flashnor.specs.Tasks.{writes_back}
-use Rattle.nor_lines.specs.declared.answers.Answer.{Answer}
+use Rattle.nor_console.specs.declared.answers.Answer.{Answer}
 use Rattle.flashnor.proofs.Stays.{StayApart, not_that}
 use Rattle.flashnor.proofs.Traced.{reads_before}
 

@@ -8,9 +8,9 @@ use Rattle.nor_model.specs.Chip.{Chip}
 use Rattle.nor_files.specs.Files.{AreAtRest, FilesState, Found, Name}
 use Rattle.nor_journal.specs.Text.{Content as Journal}
 use Rattle.nor_session.specs.Headline.{CanRestore}
-use Rattle.nor_words.specs.Text.{Text}
+use Rattle.nor_args.specs.Text.{Text}
 use Rattle.flashnor.specs.Left.{LeavesAsLong, MayFind}
-use Rattle.nor_lines.specs.Stored.{IsFileFound}
+use Rattle.nor_console.specs.Stored.{IsFileFound}
 use Rattle.flashnor.specs.Undone.{NameOne}
 use Rattle.flashnor.proofs.Stays.{known_at_rest}
 

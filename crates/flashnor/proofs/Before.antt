@@ -3,15 +3,15 @@ use Rattle.std.proofs.Common.{◌≡◌, Option, Some, arith, false, true}
 use Rattle.std.specs.Borrow.{Bor}
 use Rattle.nor_files.specs.Calls.{LeaveNoMore, LeavesNoMore, LeavesOrEmpty}
 use Rattle.nor_files.specs.Files.{AreAtRest, FilesState, KnownStay, Name, Nature, KeepsFile}
-use Rattle.nor_words.specs.Text.{Text}
-use Rattle.nor_words.specs.declared.job.ChipJob.{ChipJob}
-use Rattle.nor_words.specs.declared.job.Task.{Task}
-use Rattle.nor_words.specs.declared.job.Task.TheVariants as task
-use Rattle.nor_words.specs.declared.programmer.Programmer.{Programmer}
+use Rattle.nor_args.specs.Text.{Text}
+use Rattle.nor_args.specs.declared.job.ChipJob.{ChipJob}
+use Rattle.nor_args.specs.declared.job.Task.{Task}
+use Rattle.nor_args.specs.declared.job.Task.TheVariants as task
+use Rattle.nor_args.specs.declared.programmer.Programmer.{Programmer}
 use Rattle.flashnor.specs.Roles.{HasOwnTrace, FilesHaveOneRole}
-use Rattle.nor_lines.specs.Tasks.{named_by, made_by}
+use Rattle.nor_console.specs.Tasks.{named_by, made_by}
 use Rattle.flashnor.specs.Run.{KeepsFiles, StayBut}
-use Rattle.nor_lines.specs.Stored.{AreTwo, IsNot, LeavesNoMoreOf, MakesNothing}
+use Rattle.nor_console.specs.Stored.{AreTwo, IsNot, LeavesNoMoreOf, MakesNothing}
 use Rattle.flashnor.specs.Tasks.{journal_by, writes_back}
 use Rattle.flashnor.proofs.Stays.{StayApart}
 

@@ -16,22 +16,22 @@ use Rattle.nor_request.specs.declared.request.Request.{Request}
 use Rattle.nor_session.specs.Bounds.{most_of}
 use Rattle.nor_session.specs.Session.{CanBeUndone, HonestErrors, SessionAlways, SessionHonest, SessionModelled}
 use Rattle.nor_session.proofs.WrittenBack.{same_over, session_over}
-use Rattle.nor_words.specs.Text.{Text}
-use Rattle.nor_words.specs.declared.job.Change.{Change}
-use Rattle.nor_words.specs.declared.job.JournalUse.TheVariants as uses
-use Rattle.nor_words.specs.declared.job.Regions.{Regions}
-use Rattle.nor_words.specs.declared.programmer.Emulated.{Emulated}
+use Rattle.nor_args.specs.Text.{Text}
+use Rattle.nor_args.specs.declared.job.Change.{Change}
+use Rattle.nor_args.specs.declared.job.JournalUse.TheVariants as uses
+use Rattle.nor_args.specs.declared.job.Regions.{Regions}
+use Rattle.nor_args.specs.declared.programmer.Emulated.{Emulated}
 use Rattle.nor_files.specs.Calls.{BorrowsNone, LeavesOrEmpty}
 use Rattle.nor_files.specs.Files.{FilesState, IsKnownFile, View}
 use Rattle.flashnor.specs.Changes.{FailsSession, HasKeptChange, HasMadeChange, ReportsChange}
-use Rattle.nor_lines.specs.Readings.{AnswersCall, HasReadOut}
-use Rattle.nor_lines.specs.Requests.{AreRangesOf, request_for}
-use Rattle.nor_lines.specs.Sessions.{HasRunInFile, ReportsDone}
+use Rattle.nor_console.specs.Readings.{AnswersCall, HasReadOut}
+use Rattle.nor_console.specs.Requests.{AreRangesOf, request_for}
+use Rattle.nor_console.specs.Sessions.{HasRunInFile, ReportsDone}
 use Rattle.flashnor.specs.Requests.{IsBufferOf}
 use Rattle.flashnor.specs.Run.{ChangesChip, DoesRead}
-use Rattle.nor_lines.specs.declared.answers.Answer.{Answer}
-use Rattle.nor_lines.specs.declared.answers.Answer.TheVariants as answer
-use Rattle.nor_lines.specs.declared.messages.Fault.{Fault}
+use Rattle.nor_console.specs.declared.answers.Answer.{Answer}
+use Rattle.nor_console.specs.declared.answers.Answer.TheVariants as answer
+use Rattle.nor_console.specs.declared.messages.Fault.{Fault}
 
 pub does_change : (view : View) (after : FilesState) (chip : Emulated) (named : Option ChipName) (change : Change) (request : Request)
     (ranges : Option (List Span)) (image : List ℕ) (old new : BusState) (outcome : Result Answer Refusal)

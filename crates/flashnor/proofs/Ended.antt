@@ -2,24 +2,24 @@
 use Rattle.std.proofs.Common.{◌≡◌, ℕ, Bool, List, Option, Result, Ok, Err, IfOk, arith, false, inl, inr, refl, true}
 use Rattle.nor_request.specs.declared.refusal.Refusal.{Refusal}
 use Rattle.nor_request.specs.declared.refusal.Refusal.TheVariants.{Memory}
-use Rattle.nor_words.specs.Text.{Text}
-use Rattle.nor_words.specs.Words.{IsJob}
-use Rattle.nor_words.specs.declared.job.ChipJob.{ChipJob}
-use Rattle.nor_words.specs.declared.job.Job.TheVariants as job
-use Rattle.nor_words.specs.declared.reasons.Reason.TheVariants as because
-use Rattle.nor_words.specs.declared.words.UsageFault.TheVariants as usage
+use Rattle.nor_args.specs.Text.{Text}
+use Rattle.nor_args.specs.Words.{IsJob}
+use Rattle.nor_args.specs.declared.job.ChipJob.{ChipJob}
+use Rattle.nor_args.specs.declared.job.Job.TheVariants as job
+use Rattle.nor_args.specs.declared.reasons.Reason.TheVariants as because
+use Rattle.nor_args.specs.declared.words.UsageFault.TheVariants as usage
 use Rattle.flashnor.specs.Chips.{FailsToHold, FailsToOpen}
 use Rattle.flashnor.specs.Endings.{HasPrinted, all_written}
-use Rattle.nor_lines.specs.Files.{IsLockingFault, IsOpeningFault}
+use Rattle.nor_console.specs.Files.{IsLockingFault, IsOpeningFault}
 use Rattle.nor_files.specs.Files.{AreAtRest, FilesState, Nature, View}
-use Rattle.nor_words.specs.declared.programmer.Programmer.{Programmer}
+use Rattle.nor_args.specs.declared.programmer.Programmer.{Programmer}
 use Rattle.flashnor.specs.Run.{EndsChipJob, FailsJob, FailsToStart, AnswersArguments, HoldsResult, HoldsTask, IsCalled}
 use Rattle.flashnor.specs.Run.{IsPrintedAt, IsStatus, KeepsFiles}
-use Rattle.nor_lines.specs.Messages.{IsReportedAs}
-use Rattle.nor_lines.specs.declared.answers.Answer.{Answer}
+use Rattle.nor_console.specs.Messages.{IsReportedAs}
+use Rattle.nor_console.specs.declared.answers.Answer.{Answer}
 use Rattle.flashnor.specs.declared.holding.Unwritten.{Unwritten}
-use Rattle.nor_lines.specs.declared.messages.Fault.{Fault}
-use Rattle.nor_lines.specs.declared.messages.Fault.TheVariants as end
+use Rattle.nor_console.specs.declared.messages.Fault.{Fault}
+use Rattle.nor_console.specs.declared.messages.Fault.TheVariants as end
 use Rattle.flashnor.specs.declared.printing.Ending.{Ending}
 use Rattle.flashnor.specs.declared.run.Work.{Work}
 use Rattle.flashnor.specs.Streams.{IsReportedTo}

@@ -4,10 +4,10 @@ use Rattle.std.proofs.Common.{◌≡◌, ℕ, Bool, Option, None, Ok, IsSomeAnd,
 use Rattle.std.specs.Borrow.{Bor}
 use Rattle.nor_files.specs.Calls.{Holds, IsPlaced}
 use Rattle.nor_files.specs.Files.{FilesState, Found, IsKnownFile, IsDurable, KnownStay, Name}
-use Rattle.nor_words.specs.Text.{Text}
-use Rattle.nor_lines.specs.Files.{IsLockingFault}
-use Rattle.nor_lines.specs.Stored.{IsFileFound}
-use Rattle.nor_lines.specs.declared.messages.Fault.{Fault}
+use Rattle.nor_args.specs.Text.{Text}
+use Rattle.nor_console.specs.Files.{IsLockingFault}
+use Rattle.nor_console.specs.Stored.{IsFileFound}
+use Rattle.nor_console.specs.declared.messages.Fault.{Fault}
 
 -- ---- a file that is missing
 

@@ -13,32 +13,32 @@ use Rattle.nor_journal.specs.Text.{text}
 use Rattle.nor_request.specs.declared.refusal.Refusal.{Refusal}
 use Rattle.nor_request.specs.declared.request.Request.{Request}
 use Rattle.nor_session.specs.WrittenOver.{IsWrittenOver}
-use Rattle.nor_words.specs.Text.{Text}
+use Rattle.nor_args.specs.Text.{Text}
 use Rattle.nor_layout.specs.declared.ranges.Span.{Span}
-use Rattle.nor_words.specs.declared.job.Change.{Change}
-use Rattle.nor_words.specs.declared.job.ChipJob.{ChipJob}
-use Rattle.nor_words.specs.declared.job.JournalUse.{JournalUse}
-use Rattle.nor_words.specs.declared.job.JournalUse.TheVariants as uses
-use Rattle.nor_words.specs.declared.job.Task.{Task}
-use Rattle.nor_words.specs.declared.job.Task.TheVariants as task
+use Rattle.nor_args.specs.declared.job.Change.{Change}
+use Rattle.nor_args.specs.declared.job.ChipJob.{ChipJob}
+use Rattle.nor_args.specs.declared.job.JournalUse.{JournalUse}
+use Rattle.nor_args.specs.declared.job.JournalUse.TheVariants as uses
+use Rattle.nor_args.specs.declared.job.Task.{Task}
+use Rattle.nor_args.specs.declared.job.Task.TheVariants as task
 use Rattle.flashnor.specs.Changes.{HasMadeChange}
-use Rattle.nor_lines.specs.Stored.{IsKeptFile, AreTwo, IsNot}
+use Rattle.nor_console.specs.Stored.{IsKeptFile, AreTwo, IsNot}
 use Rattle.flashnor.specs.Chips.{AreWrittenBack, IsContentOf, OpensChip}
 use Rattle.flashnor.specs.Endings.{all_written}
 use Rattle.flashnor.specs.Holding.{AreAmid, AreHeld, AreReady, IsReadyIfNamed, MakesDurable, FillsMissing, was}
 use Rattle.flashnor.specs.Left.{IsNoFileOf, IsOpenedFrom, IsRestorableFrom, LeavesAsLong, MayFind, Opened}
-use Rattle.nor_lines.specs.Requests.{AreRangesOf, request_for}
+use Rattle.nor_console.specs.Requests.{AreRangesOf, request_for}
 use Rattle.flashnor.specs.Requests.{IsBufferOf}
 use Rattle.flashnor.specs.Roles.{FilesHaveOneRole}
-use Rattle.nor_lines.specs.Tasks.{image_of, layout_of, named_by, journal_of, made_by}
+use Rattle.nor_console.specs.Tasks.{image_of, layout_of, named_by, journal_of, made_by}
 use Rattle.flashnor.specs.Run.{DoesJob, HoldsChange, HoldsTask, IsViewBut, KeepsChange, KeepsFiles}
 use Rattle.flashnor.specs.Tasks.{keeps_journal, writes_back}
-use Rattle.nor_lines.specs.declared.answers.Answer.{Answer}
+use Rattle.nor_console.specs.declared.answers.Answer.{Answer}
 use Rattle.flashnor.specs.declared.holding.Held.{Held}
 use Rattle.flashnor.specs.declared.holding.Unwritten.{Unwritten}
 use Rattle.flashnor.proofs.Before.{image_made, status_made}
 use Rattle.flashnor.proofs.Stays.{StayApart, known_at_rest, not_that, rest_on}
-use Rattle.nor_lines.proofs.Lent.{lawful_after, stays_on}
+use Rattle.nor_console.proofs.Lent.{lawful_after, stays_on}
 use Rattle.flashnor.proofs.Traced.{missing_before, reads_before}
 use Rattle.flashnor.proofs.AfterCall.{buffer_before, kept_after, ranges_before}
 use Rattle.flashnor.proofs.Reopened.{as_long, found_either, opened_many, opened_size}

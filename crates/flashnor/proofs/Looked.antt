@@ -6,12 +6,12 @@ use Rattle.nor_probe.specs.declared.probes.Found.{Found}
 use Rattle.nor_probe.specs.declared.table.ChipName.{ChipName}
 use Rattle.nor_probe.specs.declared.table.Part.{Part}
 use Rattle.nor_request.specs.declared.refusal.Refusal.{Refusal}
-use Rattle.nor_words.specs.declared.programmer.Programmer.{Programmer}
+use Rattle.nor_args.specs.declared.programmer.Programmer.{Programmer}
 use Rattle.nor_jobs.specs.Finding.{HasIdentified, HasLookedUp, ReportsFound, ReportsSize}
 use Rattle.nor_jobs.proofs.Identified.{has_failed, has_found}
-use Rattle.nor_lines.specs.Readings.{AnswersCall}
-use Rattle.nor_lines.specs.declared.answers.Answer.{Answer}
-use Rattle.nor_lines.specs.declared.answers.Answer.TheVariants as answer
+use Rattle.nor_console.specs.Readings.{AnswersCall}
+use Rattle.nor_console.specs.declared.answers.Answer.{Answer}
+use Rattle.nor_console.specs.declared.answers.Answer.TheVariants as answer
 use Rattle.flashnor.specs.Chips.{IsReady}
 use Rattle.flashnor.specs.Found.{IsEmulatedFound}
 use Rattle.flashnor.specs.Readings.{FindRefuses, IdentifiesEmulated, ReportsEmulated, ReportsEmulatedSize}

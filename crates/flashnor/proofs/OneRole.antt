@@ -3,13 +3,13 @@
 use Rattle.std.proofs.Common.{◌≡◌, IfErr, IfSome, Option, None, Some, Result, true, arith, inl, inr, refl}
 use Rattle.std.specs.Prelude.{IsSomeAnd}
 use Rattle.std.specs.Borrow.{Bor}
-use Rattle.nor_words.specs.Text.{Text}
+use Rattle.nor_args.specs.Text.{Text}
 use Rattle.nor_files.specs.Files.{Nature}
 use Rattle.nor_files.specs.Files.Failure.{Printed}
-use Rattle.nor_lines.specs.Roles.{FailsApart, IsUnseenFile, IsUnseenStream}
-use Rattle.nor_words.specs.declared.job.ChipJob.{ChipJob}
+use Rattle.nor_console.specs.Roles.{FailsApart, IsUnseenFile, IsUnseenStream}
+use Rattle.nor_args.specs.declared.job.ChipJob.{ChipJob}
 use Rattle.flashnor.specs.Roles.{FailsFileRoles, IsPrintedName, changes_files, file_with_role, must_differ}
-use Rattle.nor_lines.specs.declared.messages.Fault.{Fault}
+use Rattle.nor_console.specs.declared.messages.Fault.{Fault}
 use Rattle.flashnor.specs.declared.roles.Role.{Role}
 
 pub pair_fails : {T : Type 0} (nature : Nature) (job : ChipJob) (earlier later : Role) (result : Result T Fault)

@@ -3,17 +3,17 @@ use Rattle.std.proofs.Common.{◌≡◌, ℕ, Bool, List, Option, Some, Result, 
 use Rattle.std.proofs.Common.{false, true}
 use Rattle.std.specs.Fmt.{option_append}
 use Rattle.std.specs.Io.KnownBytes.{Appends}
-use Rattle.nor_lines.proofs.Printed.{appends_then}
+use Rattle.nor_console.proofs.Printed.{appends_then}
 use Rattle.flashnor.specs.Endings.{EndsBadly, EndsWell, HasPrinted}
 use Rattle.flashnor.specs.FaultLines.{line_of_output}
-use Rattle.nor_lines.specs.FaultLines.{line_of}
-use Rattle.nor_lines.specs.Messages.{IsLostOutput}
-use Rattle.nor_lines.specs.Printing.{IsAnswered, PrintsAnswer}
-use Rattle.nor_lines.specs.declared.answers.Answer.{Answer}
+use Rattle.nor_console.specs.FaultLines.{line_of}
+use Rattle.nor_console.specs.Messages.{IsLostOutput}
+use Rattle.nor_console.specs.Printing.{IsAnswered, PrintsAnswer}
+use Rattle.nor_console.specs.declared.answers.Answer.{Answer}
 use Rattle.flashnor.specs.declared.holding.Unwritten.{Unwritten}
-use Rattle.nor_lines.specs.declared.messages.Fault.{Fault}
-use Rattle.nor_lines.specs.declared.messages.Fault.TheVariants as end
-use Rattle.nor_lines.specs.declared.messages.FileFault.TheVariants as file
+use Rattle.nor_console.specs.declared.messages.Fault.{Fault}
+use Rattle.nor_console.specs.declared.messages.Fault.TheVariants as end
+use Rattle.nor_console.specs.declared.messages.FileFault.TheVariants as file
 use Rattle.flashnor.specs.declared.printing.Ending.{Ending}
 use Rattle.flashnor.specs.declared.streams.Reports.{Reports}
 use Rattle.flashnor.specs.declared.streams.Reports.TheVariants as at

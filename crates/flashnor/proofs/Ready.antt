@@ -10,7 +10,7 @@ use Rattle.nor_probe.specs.declared.probes.ProbeFault.{ProbeFault}
 use Rattle.nor_probe.specs.declared.table.ChipName.{ChipName}
 use Rattle.nor_probe.specs.declared.table.Part.{Part}
 use Rattle.nor_request.specs.Refusal.{of_probe}
-use Rattle.nor_words.specs.declared.programmer.Programmer.{Programmer}
+use Rattle.nor_args.specs.declared.programmer.Programmer.{Programmer}
 use Rattle.flashnor.specs.Changes.{Passes}
 use Rattle.flashnor.specs.Chips.{IsReady, HoldsFiles, OpensChip, allowance_of}
 use Rattle.flashnor.specs.declared.chips.Content.{Content}

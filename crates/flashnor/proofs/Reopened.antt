@@ -4,12 +4,12 @@ use Rattle.std.proofs.Common.{slice_index, unwrap_or}
 use Rattle.std.specs.Borrow.{Bor}
 use Rattle.std.proofs.lemmas.List.{length-replicate}
 use Rattle.nor_files.specs.Files.{AllStay, FilesState, Found, View}
-use Rattle.nor_words.specs.Text.{Text}
-use Rattle.nor_words.specs.declared.programmer.Programmer.{Programmer}
+use Rattle.nor_args.specs.Text.{Text}
+use Rattle.nor_args.specs.declared.programmer.Programmer.{Programmer}
 use Rattle.flashnor.specs.Found.{emulated_part}
 use Rattle.flashnor.specs.Holding.{LeavesAmid, MakesDurable, was}
 use Rattle.flashnor.specs.Left.{LeavesAsLong, MayFind, Opened}
-use Rattle.nor_lines.specs.Stored.{AreOfFile}
+use Rattle.nor_console.specs.Stored.{AreOfFile}
 
 -- ---- files of the right length
 

@@ -16,10 +16,10 @@ use Rattle.nor_session.specs.Restore.{RestoreAlways, RestoreModelled}
 use Rattle.nor_jobs.specs.Finding.{HasIdentified, IsNamedFirst}
 use Rattle.nor_jobs.specs.Restoring.{HasRunRestore}
 use Rattle.nor_jobs.proofs.Identified.{has_failed, has_found}
-use Rattle.nor_lines.specs.Readings.{AnswersCall}
-use Rattle.nor_lines.specs.Sessions.{ReportsDone}
-use Rattle.nor_lines.specs.declared.answers.Answer.{Answer}
-use Rattle.nor_lines.specs.declared.answers.Answer.TheVariants as answer
+use Rattle.nor_console.specs.Readings.{AnswersCall}
+use Rattle.nor_console.specs.Sessions.{ReportsDone}
+use Rattle.nor_console.specs.declared.answers.Answer.{Answer}
+use Rattle.nor_console.specs.declared.answers.Answer.TheVariants as answer
 use Rattle.flashnor.specs.Changes.{HasRestoredNamed, Passes}
 use Rattle.flashnor.proofs.Ready.{only_reads_none, passes_none, passes_probe, same_after_reads}
 

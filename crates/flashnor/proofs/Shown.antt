@@ -5,8 +5,8 @@ use Rattle.nor_probe.specs.Known.{IsKnown, shown_as}
 use Rattle.nor_probe.proofs.Emulated.{emulated_known, emulated_shown, renumbered_known, renumbered_shown}
 use Rattle.flashnor.specs.Chips.{IsConfigWith}
 use Rattle.flashnor.specs.Found.{emulated_part}
-use Rattle.nor_words.specs.Programmer.{IsConfigOfEmulated}
-use Rattle.nor_words.specs.declared.programmer.Emulated.{Emulated}
+use Rattle.nor_args.specs.Programmer.{IsConfigOfEmulated}
+use Rattle.nor_args.specs.declared.programmer.Emulated.{Emulated}
 
 -- If `config` is the configuration of `chip` with the unique ID `number`, it is that of the emulated chip after its
 -- unique ID is replaced by some `unique`.

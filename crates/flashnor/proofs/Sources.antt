@@ -1,14 +1,14 @@
 -- What is read for a task before its call.
 use Rattle.std.proofs.Common.{ap, arith, inl, inr}
 use Rattle.nor_files.specs.Files.{AreUntouched, FilesState, KeepsFile, Name, View}
-use Rattle.nor_words.specs.declared.job.Task.{Task}
-use Rattle.nor_words.specs.declared.job.Task.TheVariants as task
-use Rattle.nor_words.specs.declared.job.Wanted.{Wanted}
-use Rattle.nor_words.specs.declared.job.Wanted.TheVariants as wanted
-use Rattle.nor_words.specs.Text.{Text}
+use Rattle.nor_args.specs.declared.job.Task.{Task}
+use Rattle.nor_args.specs.declared.job.Task.TheVariants as task
+use Rattle.nor_args.specs.declared.job.Wanted.{Wanted}
+use Rattle.nor_args.specs.declared.job.Wanted.TheVariants as wanted
+use Rattle.nor_args.specs.Text.{Text}
 use Rattle.nor_jobs.specs.Sources.{FailsImage, FailsSources}
-use Rattle.nor_lines.specs.Files.{IsSharingFault}
-use Rattle.nor_lines.specs.declared.messages.Fault.{Fault}
+use Rattle.nor_console.specs.Files.{IsSharingFault}
+use Rattle.nor_console.specs.declared.messages.Fault.{Fault}
 use Rattle.flashnor.specs.Run.{FailsTask, FailsToReadImage, FailsToRestore}
 
 image_fails : (view : View) (what : Wanted) (fault : Fault) → FailsImage view what fault

@@ -3,8 +3,8 @@ use Rattle.std.proofs.Common.{◌≡◌, Option, Some, arith}
 use Rattle.std.specs.Borrow.{Bor}
 use Rattle.nor_files.specs.Files.{AllStay, AreAtRest, FilesState, IsKnownFile, KnownStay, Name}
 use Rattle.nor_files.specs.Files.{Nature, KeepsFile}
-use Rattle.nor_lines.specs.Stored.{AreTwo, IsNot}
-use Rattle.nor_words.specs.Text.{Text}
+use Rattle.nor_console.specs.Stored.{AreTwo, IsNot}
+use Rattle.nor_args.specs.Text.{Text}
 
 -- ---- names that are apart
 

@@ -4,13 +4,13 @@ use Rattle.std.specs.Borrow.{Bor}
 use Rattle.nor_files.specs.Calls.{LeavesOrEmpty, ReadsFile}
 use Rattle.nor_files.specs.Files.{AreUntouched, FilesState, Found, IsKnownFile, KnownStay, Name, Nature, KeepsFile}
 use Rattle.nor_files.specs.Files.{View, is_lawful}
-use Rattle.nor_words.specs.Text.{Text}
-use Rattle.nor_words.specs.declared.job.ChipJob.{ChipJob}
-use Rattle.nor_lines.specs.Files.{IsMaking}
+use Rattle.nor_args.specs.Text.{Text}
+use Rattle.nor_args.specs.declared.job.ChipJob.{ChipJob}
+use Rattle.nor_console.specs.Files.{IsMaking}
 use Rattle.flashnor.specs.Run.{FailsTraced, IsViewBut}
-use Rattle.nor_lines.specs.declared.messages.Fault.{Fault}
-use Rattle.nor_lines.specs.Stored.{AreTwo, IsMissing, IsNot, MakesNothing}
-use Rattle.nor_lines.proofs.Lent.{lawful_after, stays_on}
+use Rattle.nor_console.specs.declared.messages.Fault.{Fault}
+use Rattle.nor_console.specs.Stored.{AreTwo, IsMissing, IsNot, MakesNothing}
+use Rattle.nor_console.proofs.Lent.{lawful_after, stays_on}
 use Rattle.flashnor.proofs.Sources.{untouched_keeps}
 use Rattle.flashnor.proofs.Stays.{not_that}
 

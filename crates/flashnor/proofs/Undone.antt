@@ -20,24 +20,24 @@ use Rattle.nor_files.specs.Files.{AreAtRest, FilesState, Found, Name, is_lawful}
 use Rattle.nor_journal.specs.Text.{Content as Journal, IsContent, text}
 use Rattle.nor_journal.proofs.OneForm.{one_text}
 use Rattle.nor_session.specs.Headline.{CanRestore}
-use Rattle.nor_words.specs.Text.{Text}
-use Rattle.nor_words.specs.declared.job.ChipJob.{ChipJob}
-use Rattle.nor_words.specs.declared.job.Task.{Task}
-use Rattle.nor_words.specs.declared.job.Task.TheVariants as task
-use Rattle.nor_words.specs.declared.programmer.Emulated.{Emulated}
-use Rattle.nor_words.specs.declared.programmer.Programmer.{Programmer}
+use Rattle.nor_args.specs.Text.{Text}
+use Rattle.nor_args.specs.declared.job.ChipJob.{ChipJob}
+use Rattle.nor_args.specs.declared.job.Task.{Task}
+use Rattle.nor_args.specs.declared.job.Task.TheVariants as task
+use Rattle.nor_args.specs.declared.programmer.Emulated.{Emulated}
+use Rattle.nor_args.specs.declared.programmer.Programmer.{Programmer}
 use Rattle.flashnor.specs.Chips.{AreWrittenBack, IsConfigWith}
 use Rattle.flashnor.specs.Endings.{all_written}
 use Rattle.flashnor.specs.Found.{emulated_part}
 use Rattle.flashnor.specs.Left.{IsOpenedFrom, KeepsRestorable, IsRestorableFrom, LeavesRestorable, MayFind, Opened}
-use Rattle.nor_lines.specs.Stored.{ArePut, IsRead, LeavesNoMoreOf}
+use Rattle.nor_console.specs.Stored.{ArePut, IsRead, LeavesNoMoreOf}
 use Rattle.flashnor.specs.Undone.{HaveOneChip, LeavesOriginal, NameOne, Restores, RestoresFrom}
-use Rattle.nor_lines.specs.declared.answers.Answer.{Answer}
+use Rattle.nor_console.specs.declared.answers.Answer.{Answer}
 use Rattle.flashnor.specs.declared.holding.Unwritten.{Unwritten}
-use Rattle.nor_lines.specs.declared.messages.Fault.{Fault}
+use Rattle.nor_console.specs.declared.messages.Fault.{Fault}
 use Rattle.flashnor.proofs.Reopened.{opened_many, opened_size}
 use Rattle.flashnor.proofs.Stays.{known_at_rest, not_that}
-use Rattle.nor_lines.proofs.Lent.{lawful_after}
+use Rattle.nor_console.proofs.Lent.{lawful_after}
 use Rattle.flashnor.proofs.Traced.{reads_before}
 use Rattle.flashnor.proofs.Aside.{left_seen, mixed_can_restore, pick}
 

@@ -6,11 +6,11 @@ use Rattle.nor_model.specs.Chip.{Chip, status_of}
 use Rattle.nor_chip.specs.Start.{AreChipBytes}
 use Rattle.nor_files.specs.Files.{FilesState, Name, KeepsFile, View, is_lawful}
 use Rattle.nor_files.specs.Files.Failure.{Unwritten}
-use Rattle.nor_words.specs.Text.{Text}
-use Rattle.nor_words.specs.declared.programmer.Programmer.{Programmer}
+use Rattle.nor_args.specs.Text.{Text}
+use Rattle.nor_args.specs.declared.programmer.Programmer.{Programmer}
 use Rattle.flashnor.specs.Chips.{AreWrittenBack}
 use Rattle.flashnor.specs.Holding.{AreAmid, AreReady, IsReadyIfNamed, LeavesAmid, MakesDurable}
-use Rattle.nor_lines.specs.Stored.{AreTwo, Happens, IsNot, IsReportedOf}
+use Rattle.nor_console.specs.Stored.{AreTwo, Happens, IsNot, IsReportedOf}
 
 -- Holds if each file whose name is apart from `name` is as it was. If no name is given, all files must be as they were.
 -- Both are required only of files that obey their contract.

@@ -26,13 +26,13 @@ use Rattle.nor_session.specs.Restore.{IsRestored, RestoreErrors, IsCheckedFirst}
 use Rattle.nor_session.specs.WrittenOver.{IsWrittenOver}
 use Rattle.nor_session.specs.Rehearsal.{AreRestores, CanEnd, IsRehearsal, RehearsalErrors, SealFits, first_allowance}
 use Rattle.nor_session.specs.declared.rehearsals.Rehearsal.{Rehearsal}
-use Rattle.nor_words.specs.declared.job.JournalUse.{JournalUse}
-use Rattle.nor_words.specs.declared.job.JournalUse.TheVariants as uses
+use Rattle.nor_args.specs.declared.job.JournalUse.{JournalUse}
+use Rattle.nor_args.specs.declared.job.JournalUse.TheVariants as uses
 use Rattle.nor_files.specs.Files.{FilesState, View, is_lawful}
-use Rattle.nor_lines.specs.Stored.{IsKeptFile, IsMissing}
-use Rattle.nor_lines.specs.Tasks.{journal_of}
-use Rattle.nor_lines.specs.declared.answers.Answer.{Answer}
-use Rattle.nor_lines.specs.declared.answers.Answer.TheVariants as answer
+use Rattle.nor_console.specs.Stored.{IsKeptFile, IsMissing}
+use Rattle.nor_console.specs.Tasks.{journal_of}
+use Rattle.nor_console.specs.declared.answers.Answer.{Answer}
+use Rattle.nor_console.specs.declared.answers.Answer.TheVariants as answer
 
 -- ---- sessions
 

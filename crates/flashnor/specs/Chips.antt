@@ -10,17 +10,17 @@ use Rattle.nor_model.specs.Chip.{status_of}
 use Rattle.nor_model.specs.declared.config.Config.{Config}
 use Rattle.nor_chip.specs.declared.sim.SimBus.{SimBus}
 use Rattle.nor_request.specs.declared.refusal.Refusal.TheVariants.{Memory}
-use Rattle.nor_words.specs.Programmer.{IsConfigOfEmulated}
-use Rattle.nor_words.specs.declared.programmer.Emulated.{Emulated}
-use Rattle.nor_words.specs.declared.programmer.Programmer.{Programmer}
-use Rattle.nor_words.specs.Text.{Text}
+use Rattle.nor_args.specs.Programmer.{IsConfigOfEmulated}
+use Rattle.nor_args.specs.declared.programmer.Emulated.{Emulated}
+use Rattle.nor_args.specs.declared.programmer.Programmer.{Programmer}
+use Rattle.nor_args.specs.Text.{Text}
 use Rattle.nor_files.specs.Files.{FilesState, View}
-use Rattle.nor_lines.specs.Stored.{AreOfFile, ArePut}
-use Rattle.nor_lines.specs.Files.{IsLockingFault, IsOpeningFault}
+use Rattle.nor_console.specs.Stored.{AreOfFile, ArePut}
+use Rattle.nor_console.specs.Files.{IsLockingFault, IsOpeningFault}
 use Rattle.flashnor.specs.Found.{emulated_part}
 use Rattle.flashnor.specs.declared.chips.Content.{Content}
-use Rattle.nor_lines.specs.declared.messages.Fault.{Fault}
-use Rattle.nor_lines.specs.declared.messages.Fault.TheVariants as end
+use Rattle.nor_console.specs.declared.messages.Fault.{Fault}
+use Rattle.nor_console.specs.declared.messages.Fault.TheVariants as end
 
 -- Holds for the configuration of an emulated chip with the given unique ID, or with eight zero bytes if none is given.
 abbrev pub IsConfigWith : Emulated → Option (List ℕ) → Config → Type 0

@@ -5,17 +5,17 @@ use Rattle.std.specs.Borrow.{Bor}
 use Rattle.std.specs.Fmt.{option_append}
 use Rattle.std.specs.Io.KnownBytes.{Appends}
 use Rattle.std.specs.declared.io.Error.{Error}
-use Rattle.nor_words.specs.Text.{Text}
-use Rattle.nor_lines.specs.FaultLines.{line_of}
-use Rattle.nor_lines.specs.Messages.{IsOfArguments}
-use Rattle.nor_lines.specs.Printing.{IsAnswered, PrintsAnswer}
+use Rattle.nor_args.specs.Text.{Text}
+use Rattle.nor_console.specs.FaultLines.{line_of}
+use Rattle.nor_console.specs.Messages.{IsOfArguments}
+use Rattle.nor_console.specs.Printing.{IsAnswered, PrintsAnswer}
 use Rattle.flashnor.specs.FaultLines.{line_if_lost, lines_of_unwritten}
 use Rattle.flashnor.specs.Streams.{AppendsTo}
-use Rattle.nor_lines.specs.declared.answers.Answer.{Answer}
+use Rattle.nor_console.specs.declared.answers.Answer.{Answer}
 use Rattle.flashnor.specs.declared.holding.Unwritten.{Unwritten}
-use Rattle.nor_lines.specs.declared.messages.Fault.{Fault}
-use Rattle.nor_lines.specs.declared.messages.Fault.TheVariants as end
-use Rattle.nor_lines.specs.declared.messages.FileFault.TheVariants as file
+use Rattle.nor_console.specs.declared.messages.Fault.{Fault}
+use Rattle.nor_console.specs.declared.messages.Fault.TheVariants as end
+use Rattle.nor_console.specs.declared.messages.FileFault.TheVariants as file
 use Rattle.flashnor.specs.declared.printing.Ending.{Ending}
 use Rattle.flashnor.specs.declared.streams.Reports.{Reports}
 use Rattle.flashnor.specs.declared.streams.Reports.TheVariants as at

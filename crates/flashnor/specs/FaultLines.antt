@@ -1,10 +1,10 @@
 -- The messages about files that could not be written.
 use Rattle.std.specs.Prelude.{ℕ, Bool, true, false, List, [], ◌++◌, Option, Some, None, codes}
 use Rattle.std.specs.Borrow.{Bor}
-use Rattle.nor_words.specs.Text.{Text}
-use Rattle.nor_lines.specs.FaultLines.{file_text}
-use Rattle.nor_lines.specs.Messages.{output_name}
-use Rattle.nor_lines.specs.declared.messages.FileFault.TheVariants as file
+use Rattle.nor_args.specs.Text.{Text}
+use Rattle.nor_console.specs.FaultLines.{file_text}
+use Rattle.nor_console.specs.Messages.{output_name}
+use Rattle.nor_console.specs.declared.messages.FileFault.TheVariants as file
 use Rattle.flashnor.specs.declared.holding.Unwritten.{Unwritten}
 
 -- Returns the message line which reports that the named file could not be written, or no bytes if no file is named.

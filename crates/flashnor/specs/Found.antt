@@ -4,7 +4,7 @@ use Rattle.nor_probe.specs.Found.{IsWanted, part_in}
 use Rattle.nor_probe.specs.declared.probes.Found.{Found}
 use Rattle.nor_probe.specs.declared.table.ChipName.{ChipName}
 use Rattle.nor_probe.specs.declared.table.Part.{Part}
-use Rattle.nor_words.specs.declared.programmer.Emulated.{Emulated}
+use Rattle.nor_args.specs.declared.programmer.Emulated.{Emulated}
 
 -- Returns the chip type as which an emulated chip is identified.
 abbrev pub emulated_part : Emulated → Part

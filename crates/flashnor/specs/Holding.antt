@@ -6,8 +6,8 @@ use Rattle.nor_model.specs.Chip.{Chip}
 use Rattle.nor_chip.specs.Start.{AreChipBytes}
 use Rattle.nor_model.specs.Chip.{status_of}
 use Rattle.nor_files.specs.Files.{AllStay, FilesState, Found, IsKnownFile, IsDurable}
-use Rattle.nor_words.specs.declared.programmer.Programmer.{Programmer}
-use Rattle.nor_words.specs.Text.{Text}
+use Rattle.nor_args.specs.declared.programmer.Programmer.{Programmer}
+use Rattle.nor_args.specs.Text.{Text}
 use Rattle.flashnor.specs.Found.{emulated_part}
 use Rattle.flashnor.specs.declared.holding.Held.{Held}
 

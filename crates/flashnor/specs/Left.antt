@@ -10,10 +10,10 @@ use Rattle.nor_files.specs.Calls.{LeavesNoMore, LeavesOrEmpty}
 use Rattle.nor_files.specs.Files.{AreApart, FilesState, Found, Nature, KeepsFile}
 use Rattle.nor_journal.specs.Text.{Content as Journal, IsContent, text}
 use Rattle.nor_session.specs.Headline.{CanRestore}
-use Rattle.nor_words.specs.declared.programmer.Programmer.{Programmer}
-use Rattle.nor_words.specs.Text.{Text}
+use Rattle.nor_args.specs.declared.programmer.Programmer.{Programmer}
+use Rattle.nor_args.specs.Text.{Text}
 use Rattle.flashnor.specs.Chips.{IsContentOf, OpensChip}
-use Rattle.nor_lines.specs.Stored.{IsNot, IsRead, LeavesNoMoreOf}
+use Rattle.nor_console.specs.Stored.{IsNot, IsRead, LeavesNoMoreOf}
 use Rattle.flashnor.specs.declared.chips.Content.{Content}
 
 -- Holds if a later run may find the contents `found` under the given name. Either a host crash may leave `found`; or

@@ -6,11 +6,11 @@ use Rattle.nor_probe.specs.Found.{most_probe}
 use Rattle.nor_probe.specs.declared.table.ChipName.{ChipName}
 use Rattle.nor_request.specs.declared.refusal.Refusal.{Refusal}
 use Rattle.nor_request.specs.declared.refusal.Refusal.TheVariants.{OtherName, Stopped}
-use Rattle.nor_words.specs.declared.programmer.Programmer.{Programmer}
+use Rattle.nor_args.specs.declared.programmer.Programmer.{Programmer}
 use Rattle.flashnor.specs.Chips.{allowance_of}
 use Rattle.flashnor.specs.Found.{HasName, IsEmulatedFound, emulated_part}
-use Rattle.nor_lines.specs.declared.answers.Answer.{Answer}
-use Rattle.nor_lines.specs.declared.answers.Answer.TheVariants as answer
+use Rattle.nor_console.specs.declared.answers.Answer.{Answer}
+use Rattle.nor_console.specs.declared.answers.Answer.TheVariants as answer
 
 -- Holds for each error that the identification of an emulated chip may return on a ready bus (`IsReady`). Error 3 is
 -- possible only if the given name isn't the chip's name. Error 12 is possible only if the bus carries out fewer than

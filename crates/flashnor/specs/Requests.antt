@@ -1,9 +1,9 @@
 -- The buffer of a session.
 use Rattle.std.specs.Prelude.{◌≡◌, [], ℕ, List, replicate}
-use Rattle.nor_words.specs.declared.job.Wanted.{Wanted}
-use Rattle.nor_words.specs.declared.job.Wanted.TheVariants as wanted
-use Rattle.nor_words.specs.declared.programmer.Emulated.{Emulated}
-use Rattle.nor_lines.specs.Stored.{IsRead}
+use Rattle.nor_args.specs.declared.job.Wanted.{Wanted}
+use Rattle.nor_args.specs.declared.job.Wanted.TheVariants as wanted
+use Rattle.nor_args.specs.declared.programmer.Emulated.{Emulated}
+use Rattle.nor_console.specs.Stored.{IsRead}
 use Rattle.nor_files.specs.Files.{View}
 use Rattle.flashnor.specs.Found.{emulated_part}
 

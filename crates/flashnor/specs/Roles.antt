@@ -1,17 +1,17 @@
 -- The roles of a job's files, and which roles need different files.
 use Rattle.std.specs.Prelude.{◌≡◌, ◌⊎◌, ◌&&◌, ◌||◌, ℕ, Bool, true, false, Option, IsSomeAnd, is_some, nat_lt}
 use Rattle.std.specs.Borrow.{Bor}
-use Rattle.nor_words.specs.Text.{Text}
-use Rattle.nor_words.specs.declared.job.ChipJob.{ChipJob}
+use Rattle.nor_args.specs.Text.{Text}
+use Rattle.nor_args.specs.declared.job.ChipJob.{ChipJob}
 use Rattle.nor_files.specs.Files.{Nature}
 use Rattle.nor_files.specs.Files.Failure.{Printed}
-use Rattle.nor_lines.specs.Roles.{IsShared, IsUnseenFile, IsUnseenStream}
-use Rattle.nor_lines.specs.Stored.{AreTwo}
-use Rattle.nor_lines.specs.Tasks.{named_by}
+use Rattle.nor_console.specs.Roles.{IsShared, IsUnseenFile, IsUnseenStream}
+use Rattle.nor_console.specs.Stored.{AreTwo}
+use Rattle.nor_console.specs.Tasks.{named_by}
 use Rattle.flashnor.specs.Tasks.{writes_back}
-use Rattle.nor_lines.specs.declared.messages.Fault.{Fault}
-use Rattle.nor_lines.specs.declared.messages.Fault.TheVariants as end
-use Rattle.nor_lines.specs.declared.messages.FileFault.TheVariants as file
+use Rattle.nor_console.specs.declared.messages.Fault.{Fault}
+use Rattle.nor_console.specs.declared.messages.Fault.TheVariants as end
+use Rattle.nor_console.specs.declared.messages.FileFault.TheVariants as file
 use Rattle.flashnor.specs.declared.roles.Role.{Role}
 use Rattle.flashnor.specs.declared.roles.Role.TheVariants as role
 

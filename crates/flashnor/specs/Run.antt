@@ -13,46 +13,46 @@ use Rattle.nor_layout.specs.declared.ranges.Span.{Span}
 use Rattle.nor_probe.specs.declared.table.ChipName.{ChipName}
 use Rattle.nor_request.specs.declared.refusal.Refusal.{Refusal}
 use Rattle.nor_request.specs.declared.refusal.Refusal.TheVariants.{Memory, BadJournal}
-use Rattle.nor_words.specs.Text.{Text}
+use Rattle.nor_args.specs.Text.{Text}
 use Rattle.clap.specs.Words.{IsAmong}
 use Rattle.clap.specs.declared.error.kind.ErrorKind.TheVariants as kind
-use Rattle.nor_words.specs.Words.{AreWrong, IsJob, IsRefusedArguments, refusals_of}
-use Rattle.nor_words.specs.declared.job.Change.{Change}
-use Rattle.nor_words.specs.declared.job.ChipJob.{ChipJob}
-use Rattle.nor_words.specs.declared.job.Job.{Job}
-use Rattle.nor_words.specs.declared.job.Job.TheVariants as job
-use Rattle.nor_words.specs.declared.job.JournalUse.{JournalUse}
-use Rattle.nor_words.specs.declared.job.Regions.{Regions}
-use Rattle.nor_words.specs.declared.job.JournalUse.TheVariants as uses
-use Rattle.nor_words.specs.declared.job.Task.{Task}
-use Rattle.nor_words.specs.declared.job.Task.TheVariants as task
-use Rattle.nor_words.specs.declared.job.Wanted.{Wanted}
-use Rattle.nor_words.specs.declared.job.Wanted.TheVariants as wanted
-use Rattle.nor_words.specs.declared.programmer.Emulated.{Emulated}
-use Rattle.nor_words.specs.declared.programmer.Programmer.{Programmer}
-use Rattle.nor_lines.specs.AnswerLines.{AreLines}
+use Rattle.nor_args.specs.Words.{AreWrong, IsJob, IsRefusedArguments, refusals_of}
+use Rattle.nor_args.specs.declared.job.Change.{Change}
+use Rattle.nor_args.specs.declared.job.ChipJob.{ChipJob}
+use Rattle.nor_args.specs.declared.job.Job.{Job}
+use Rattle.nor_args.specs.declared.job.Job.TheVariants as job
+use Rattle.nor_args.specs.declared.job.JournalUse.{JournalUse}
+use Rattle.nor_args.specs.declared.job.Regions.{Regions}
+use Rattle.nor_args.specs.declared.job.JournalUse.TheVariants as uses
+use Rattle.nor_args.specs.declared.job.Task.{Task}
+use Rattle.nor_args.specs.declared.job.Task.TheVariants as task
+use Rattle.nor_args.specs.declared.job.Wanted.{Wanted}
+use Rattle.nor_args.specs.declared.job.Wanted.TheVariants as wanted
+use Rattle.nor_args.specs.declared.programmer.Emulated.{Emulated}
+use Rattle.nor_args.specs.declared.programmer.Programmer.{Programmer}
+use Rattle.nor_console.specs.AnswerLines.{AreLines}
 use Rattle.flashnor.specs.Changes.{HasMadeChange, HasRestoredNamed, ReportsChange, ReportsRestore}
 use Rattle.flashnor.specs.Chips.{AreWrittenBack, FailsToHold, FailsToOpen, IsContentOf, StartsBus}
 use Rattle.flashnor.specs.Endings.{HasPrinted, all_written}
-use Rattle.nor_lines.specs.Printing.{Prints}
-use Rattle.nor_lines.specs.Stored.{IsNot, IsRead, IsReportedOf, StaysOf}
+use Rattle.nor_console.specs.Printing.{Prints}
+use Rattle.nor_console.specs.Stored.{IsNot, IsRead, IsReportedOf, StaysOf}
 use Rattle.flashnor.specs.Left.{KeepsOriginalFiles, KeepsRestorable, IsRestorableFrom, Opened}
 use Rattle.flashnor.specs.Roles.{FailsFileRoles, FilesHaveOneRole}
 use Rattle.flashnor.specs.Streams.{IsReportedTo}
 use Rattle.flashnor.specs.Tasks.{journal_by, writes_back}
-use Rattle.nor_lines.specs.Tasks.{made_by}
+use Rattle.nor_console.specs.Tasks.{made_by}
 use Rattle.nor_files.specs.Files.{AllStay, AreAtRest, FilesState, IsKnownFile, IsDurable, Name, KeepsFile, Nature, View}
-use Rattle.nor_lines.specs.Files.{IsMaking, IsReadingFault, IsSharingFault}
+use Rattle.nor_console.specs.Files.{IsMaking, IsReadingFault, IsSharingFault}
 use Rattle.flashnor.specs.Readings.{IdentifiesEmulated, ReportsEmulated, ReportsEmulatedSize}
-use Rattle.nor_lines.specs.Readings.{HasReadOut, HasReported, HasVerified, ListsRanges, ReportsProtection}
-use Rattle.nor_lines.specs.Requests.{AreRangesOf, FailsToInclude, request_for}
+use Rattle.nor_console.specs.Readings.{HasReadOut, HasReported, HasVerified, ListsRanges, ReportsProtection}
+use Rattle.nor_console.specs.Requests.{AreRangesOf, FailsToInclude, request_for}
 use Rattle.flashnor.specs.Requests.{IsBufferOf}
-use Rattle.nor_lines.specs.declared.answers.Answer.{Answer}
-use Rattle.nor_lines.specs.declared.answers.Answer.TheVariants as answer
+use Rattle.nor_console.specs.declared.answers.Answer.{Answer}
+use Rattle.nor_console.specs.declared.answers.Answer.TheVariants as answer
 use Rattle.flashnor.specs.declared.chips.Content.{Content}
 use Rattle.flashnor.specs.declared.holding.Unwritten.{Unwritten}
-use Rattle.nor_lines.specs.declared.messages.Fault.{Fault}
-use Rattle.nor_lines.specs.declared.messages.Fault.TheVariants as end
+use Rattle.nor_console.specs.declared.messages.Fault.{Fault}
+use Rattle.nor_console.specs.declared.messages.Fault.TheVariants as end
 use Rattle.flashnor.specs.declared.printing.Ending.{Ending}
 use Rattle.flashnor.specs.declared.streams.Reports.{Reports}
 use Rattle.flashnor.specs.declared.streams.Reports.TheVariants as at

@@ -3,9 +3,9 @@ use Rattle.std.specs.Prelude.{◌≡◌, ◌++◌, ℕ, List, Option, true, ⊤}
 use Rattle.std.specs.Io.KnownBytes.{Appends}
 use Rattle.nor_files.specs.Files.{Nature}
 use Rattle.nor_files.specs.Files.Failure.{Printed}
-use Rattle.nor_lines.specs.declared.messages.Fault.{Fault}
-use Rattle.nor_lines.specs.declared.messages.Fault.TheVariants as end
-use Rattle.nor_lines.specs.declared.messages.FileFault.TheVariants as file
+use Rattle.nor_console.specs.declared.messages.Fault.{Fault}
+use Rattle.nor_console.specs.declared.messages.Fault.TheVariants as end
+use Rattle.nor_console.specs.declared.messages.FileFault.TheVariants as file
 use Rattle.flashnor.specs.declared.streams.Reports.{Reports}
 use Rattle.flashnor.specs.declared.streams.Reports.TheVariants as to
 

@@ -1,12 +1,12 @@
 -- Which tasks write the chip back, and the journal that a task creates.
 use Rattle.std.specs.Prelude.{Bool, true, false, Option, None}
 use Rattle.std.specs.Borrow.{Bor}
-use Rattle.nor_lines.specs.Tasks.{journal_of}
-use Rattle.nor_words.specs.Text.{Text}
-use Rattle.nor_words.specs.declared.job.JournalUse.{JournalUse}
-use Rattle.nor_words.specs.declared.job.JournalUse.TheVariants as uses
-use Rattle.nor_words.specs.declared.job.Task.{Task}
-use Rattle.nor_words.specs.declared.job.Task.TheVariants as task
+use Rattle.nor_console.specs.Tasks.{journal_of}
+use Rattle.nor_args.specs.Text.{Text}
+use Rattle.nor_args.specs.declared.job.JournalUse.{JournalUse}
+use Rattle.nor_args.specs.declared.job.JournalUse.TheVariants as uses
+use Rattle.nor_args.specs.declared.job.Task.{Task}
+use Rattle.nor_args.specs.declared.job.Task.TheVariants as task
 
 -- True for a change that keeps its journal in a file, and false for a rehearsal.
 abbrev pub keeps_journal : JournalUse → Bool

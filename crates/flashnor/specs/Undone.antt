@@ -4,17 +4,17 @@ use Rattle.std.specs.Borrow.{Bor}
 use Rattle.nor_model.specs.Chip.{IsSame}
 use Rattle.nor_files.specs.Calls.{LeavesNoMore}
 use Rattle.nor_files.specs.Files.{AreAtRest, FilesState, Found}
-use Rattle.nor_words.specs.Text.{Text}
-use Rattle.nor_words.specs.declared.job.ChipJob.{ChipJob}
-use Rattle.nor_words.specs.declared.job.Job.TheVariants as job
-use Rattle.nor_words.specs.declared.job.Task.{Task}
-use Rattle.nor_words.specs.declared.job.Task.TheVariants as task
-use Rattle.nor_words.specs.declared.programmer.Programmer.{Programmer}
+use Rattle.nor_args.specs.Text.{Text}
+use Rattle.nor_args.specs.declared.job.ChipJob.{ChipJob}
+use Rattle.nor_args.specs.declared.job.Job.TheVariants as job
+use Rattle.nor_args.specs.declared.job.Task.{Task}
+use Rattle.nor_args.specs.declared.job.Task.TheVariants as task
+use Rattle.nor_args.specs.declared.programmer.Programmer.{Programmer}
 use Rattle.flashnor.specs.Left.{IsRestorableFrom, LeavesOnly, MayFind, Opened}
 use Rattle.flashnor.specs.Run.{AnswersJob}
-use Rattle.nor_lines.specs.declared.answers.Answer.{Answer}
+use Rattle.nor_console.specs.declared.answers.Answer.{Answer}
 use Rattle.flashnor.specs.declared.holding.Unwritten.{Unwritten}
-use Rattle.nor_lines.specs.declared.messages.Fault.{Fault}
+use Rattle.nor_console.specs.declared.messages.Fault.{Fault}
 
 -- Holds for files `new` that a run may find after an earlier run left the files `old`, even if that run was killed or
 -- the host crashed. The files `new` are at rest. A host crash can leave of the journal's file only what it could leave

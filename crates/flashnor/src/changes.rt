@@ -4,24 +4,24 @@ ghost use Rattle.nor_files.specs.Files.{Name, KeepsFile, View, is_lawful};
 ghost use Rattle.nor_driver.specs.OnlyReads.{IsSteadyOrIdle};
 ghost use Rattle.nor_journal.specs.Vault.{IsFresh};
 ghost use Rattle.nor_probe.specs.Known.{IsModelled};
-ghost use Rattle.nor_words.specs.declared.job.Wanted.TheVariants.{Erase};
+ghost use Rattle.nor_args.specs.declared.job.Wanted.TheVariants.{Erase};
 ghost use Rattle.flashnor.specs.Changes.{HasMadeChange, HasRehearsed, HasRestoredNamed};
 ghost use Rattle.nor_jobs.specs.Sources.{IsImage};
-ghost use Rattle.nor_lines.specs.Requests.{AreRangesOf};
+ghost use Rattle.nor_console.specs.Requests.{AreRangesOf};
 ghost use Rattle.flashnor.specs.Requests.{IsBufferOf};
 ghost use Rattle.flashnor.specs.Run.{ChangesChip, DoesRestore, FailsToKeep, FailsToReadImage, FailsToRestore};
-ghost use Rattle.nor_lines.specs.Tasks.{journal_of};
-ghost use Rattle.nor_lines.specs.Stored.{IsNot, IsRead, MakesNothing};
-ghost use Rattle.nor_words.specs.Text.{Text};
+ghost use Rattle.nor_console.specs.Tasks.{journal_of};
+ghost use Rattle.nor_console.specs.Stored.{IsNot, IsRead, MakesNothing};
+ghost use Rattle.nor_args.specs.Text.{Text};
 
+use nor_args::{Change, Emulated, JournalUse, Wanted};
 use nor_chip::{Bus, Meter};
+use nor_console::{Answer, Fault, Outcome, erased, request_for, session_in_file};
 use nor_files::Store;
 use nor_jobs::{Sources, check_name, run_restore};
 use nor_journal::{Journal, MemVault, Vault};
-use nor_lines::{Answer, Fault, Outcome, erased, request_for, session_in_file};
 use nor_probe::ChipName;
 use nor_session::{Refusal, Request, rehearse};
-use nor_words::{Change, Emulated, JournalUse, Wanted};
 use std::alloc::{AllocError, Global};
 
 /// Changes the chip, with the journal in a new file, or rehearses the change on `bus`, with the journal in memory.

@@ -3,14 +3,14 @@ ghost use Rattle.std.specs.Prelude.{◌≡◌, ◌∷◌, [], IfOk, IfErr, IfSom
 ghost use Rattle.std.specs.Prelude.{unwrap_or, vec_len};
 ghost use Rattle.nor_chip.specs.Sim.{pace_of, torn_of};
 ghost use Rattle.flashnor.specs.Chips.{FailsToOpen, HoldsFiles, IsConfigWith, IsContentOf, StartsBus};
-ghost use Rattle.nor_lines.specs.Stored.{IsFileFound};
-ghost use Rattle.nor_lines.specs.Files.{IsOpeningFault};
+ghost use Rattle.nor_console.specs.Stored.{IsFileFound};
+ghost use Rattle.nor_console.specs.Files.{IsOpeningFault};
 ghost use Rattle.flashnor.specs.Found.{emulated_part};
 
+use nor_args::Programmer;
 use nor_chip::{Bus, Config, Delays, Meter, SimBus};
+use nor_console::{Fault, FileFault, erased, reading, unread};
 use nor_files::Store;
-use nor_lines::{Fault, FileFault, erased, reading, unread};
-use nor_words::Programmer;
 use std::alloc::{AllocError, Global};
 
 /// The initial contents of a chip: all its bytes and its two status bytes.
@@ -69,7 +69,7 @@ pub fn content_of(
 /// - file fault 1 if the file can't be read, or if reading may block without end, as for a FIFO or a terminal
 /// - file fault 3 if the file has another length
 /// - error 18 if memory runs out
-#[tactic(auto, using(nor_lines::proofs::FileFaults::unread_opening))]
+#[tactic(auto, using(nor_console::proofs::FileFaults::unread_opening))]
 pub fn read_whole<'a, R: Store>(
     rt: &R,
     name: Option<&'a str>,

@@ -4,18 +4,18 @@ ghost use Rattle.std.specs.Prelude.{◌≡◌, IfErr, IfSome, IsSome, IsSomeAnd,
 ghost use Rattle.nor_files.specs.Files.{AreAtRest, Name, KeepsFile, is_lawful};
 ghost use Rattle.nor_files.specs.Files.Failure.{There};
 ghost use Rattle.flashnor.specs.Roles.{HasOwnTrace};
-ghost use Rattle.nor_lines.specs.Files.{IsMaking};
+ghost use Rattle.nor_console.specs.Files.{IsMaking};
 ghost use Rattle.flashnor.specs.Run.{FailsJob, KeepsFiles};
-ghost use Rattle.nor_lines.specs.Stored.{Happens, IsNot};
+ghost use Rattle.nor_console.specs.Stored.{Happens, IsNot};
 ghost use Rattle.flashnor.specs.Tasks.{journal_by};
 
 use crate::chips::read_content;
 use crate::roles::has_own_trace;
 use crate::tasks::journal_by;
+use nor_args::{ChipJob, Task};
+use nor_console::{Fault, FileFault, create_log};
 use nor_files::Store;
 use nor_jobs::read_sources;
-use nor_lines::{Fault, FileFault, create_log};
-use nor_words::{ChipJob, Task};
 use std::io::BufWriter;
 
 /// Returns the name of the journal that the task is to create, if a file or link of that name already exists.

@@ -5,19 +5,19 @@ ghost use Rattle.nor_files.specs.Calls.{LeaveNoMore};
 ghost use Rattle.nor_files.specs.Files.{AreAtRest, IsDurable, KnownStay, Name, OthersStay, KeepsFile, is_lawful};
 ghost use Rattle.nor_files.specs.Files.Failure.{Unwritten as FailsWrite};
 ghost use Rattle.flashnor.specs.Chips.{AreWrittenBack, FailsToHold, IsContentOf};
-ghost use Rattle.nor_lines.specs.Files.{IsLockingFault};
+ghost use Rattle.nor_console.specs.Files.{IsLockingFault};
 ghost use Rattle.flashnor.specs.Found.{emulated_part};
 ghost use Rattle.flashnor.specs.Holding.{AreAmid, AreHeld, AreReady, IsHeld, IsReadyIfNamed, IsReadyFile};
 ghost use Rattle.flashnor.specs.Holding.{LeavesAmid, LeavesFileAmid, MakesDurable, FillsMissing};
-ghost use Rattle.nor_lines.specs.Stored.{AreTwo, Happens, IsFileFound, IsNot, IsRead, IsReportedOf};
+ghost use Rattle.nor_console.specs.Stored.{AreTwo, Happens, IsFileFound, IsNot, IsRead, IsReportedOf};
 ghost use Rattle.flashnor.specs.Tasks.{journal_by};
 
 use crate::chips::{Content, content_of, read_whole};
 use crate::tasks::journal_by;
+use nor_args::{Programmer, Task};
 use nor_chip::{Bus, SimBus};
+use nor_console::{Fault, FileFault, reading, taken, unheld, unmade, unread};
 use nor_files::{LockFault, Store};
-use nor_lines::{Fault, FileFault, reading, taken, unheld, unmade, unread};
-use nor_words::{Programmer, Task};
 use std::io;
 
 /// The initial contents of the chip, and whether its image and its status file existed.

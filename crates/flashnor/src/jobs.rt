@@ -5,9 +5,9 @@ ghost use Rattle.flashnor.specs.Chips.{IsReady};
 ghost use Rattle.flashnor.specs.Found.{emulated_part};
 ghost use Rattle.nor_files.specs.Files.{Name, KeepsFile, is_lawful};
 ghost use Rattle.nor_jobs.specs.Sources.{AreSources};
-ghost use Rattle.nor_lines.specs.Files.{IsMaking};
-ghost use Rattle.nor_lines.specs.Stored.{AreTwo, IsNot, MakesNothing};
-ghost use Rattle.nor_lines.specs.Tasks.{made_by};
+ghost use Rattle.nor_console.specs.Files.{IsMaking};
+ghost use Rattle.nor_console.specs.Stored.{AreTwo, IsNot, MakesNothing};
+ghost use Rattle.nor_console.specs.Tasks.{made_by};
 ghost use Rattle.flashnor.specs.Roles.{FailsFileRoles};
 ghost use Rattle.flashnor.specs.Run.{DoesJob, DoesStarted, FailsTask, FailsTraced};
 ghost use Rattle.flashnor.specs.Tasks.{journal_by};
@@ -16,11 +16,11 @@ use crate::changes::{change_chip, restore_chip};
 use crate::chips::{Content, start};
 use crate::existing::create_trace;
 use crate::roles::have_one_role;
+use nor_args::{ChipJob, Task};
 use nor_chip::{Bus, Meter, SimBus, TraceBus};
+use nor_console::{Fault, Outcome, list_ranges, read_to_file, report_protection, verify_image};
 use nor_files::Store;
 use nor_jobs::{Sources, find_chip, read_sources, report_size};
-use nor_lines::{Fault, Outcome, list_ranges, read_to_file, report_protection, verify_image};
-use nor_words::{ChipJob, Task};
 use std::io::{BufWriter, Write};
 
 /// A call that was made: the bus after it, its result, and the trace's name if the trace lost a line.

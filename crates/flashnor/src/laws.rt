@@ -1,14 +1,14 @@
 //! A law about runs that follow one another, each of which a kill or a host crash may interrupt anywhere.
 ghost use Rattle.std.specs.Prelude.{◌≡◌, Ok, Result};
-ghost use Rattle.nor_words.specs.Text.{Text};
-ghost use Rattle.nor_words.specs.declared.job.ChipJob.{ChipJob};
-ghost use Rattle.nor_words.specs.declared.programmer.Programmer.{Programmer};
+ghost use Rattle.nor_args.specs.Text.{Text};
+ghost use Rattle.nor_args.specs.declared.job.ChipJob.{ChipJob};
+ghost use Rattle.nor_args.specs.declared.programmer.Programmer.{Programmer};
 ghost use Rattle.flashnor.specs.Endings.{all_written};
 ghost use Rattle.flashnor.specs.Left.{IsRestorableFrom, Opened};
 ghost use Rattle.flashnor.specs.Undone.{LeavesOriginal, RestoresFrom};
-ghost use Rattle.nor_lines.specs.declared.answers.Answer.{Answer};
+ghost use Rattle.nor_console.specs.declared.answers.Answer.{Answer};
 ghost use Rattle.flashnor.specs.declared.holding.Unwritten.{Unwritten};
-ghost use Rattle.nor_lines.specs.declared.messages.Fault.{Fault};
+ghost use Rattle.nor_console.specs.declared.messages.Fault.{Fault};
 
 use nor_files::Store;
 

@@ -13,11 +13,11 @@
 //! - `streams.rt`: checks that the program prints to no file of a job
 //! - `holding.rt`: opens, locks, reads and syncs the chip's files if the job writes them, and writes them back
 //! - `chips.rt`: reads the chip's files, and makes the simulated bus
-//! - `changes.rt`: the jobs that change a chip, and rehearsals; `nor_jobs` and `nor_lines` have the other jobs
+//! - `changes.rt`: the jobs that change a chip, and rehearsals; `nor_jobs` and `nor_console` have the other jobs
 //! - `laws.rt`: the law about a change and the restores that follow it
 //! - `printing.rt`: prints the end of a run, and chooses the exit status
 //!
-//! The crates `nor_jobs` and `nor_lines` have the code that this program shares with `flashnor_serprog`: what both do,
+//! The crates `nor_jobs` and `nor_console` have the code that this program shares with `flashnor_serprog`: what both do,
 //! print and read.
 #![tactic(auto)]
 
@@ -33,7 +33,7 @@ mod run;
 mod streams;
 mod tasks;
 
-use nor_lines::{by_line, keep_streams};
+use nor_console::{by_line, keep_streams};
 use run::{end_without_streams, run_words};
 use std::env;
 use std::process::ExitCode;

@@ -6,7 +6,7 @@ ghost use Rattle.flashnor.specs.FaultLines.{line_if_lost, line_of_unwritten, lin
 
 use crate::holding::Unwritten;
 use crate::streams::Reports;
-use nor_lines::{
+use nor_console::{
     Answer, Fault, help_of, lost_output, print_answer, print_fault, print_help, unmade,
 };
 use std::io::Write;
@@ -79,7 +79,7 @@ fn end_badly<W: Write>(errors: &mut W, fault: &Fault<'_>, unwritten: Unwritten<'
 // Prints the message of standard output, if the answer or the help could not be printed, and a message for each file
 // that could not be written. The status is 0 if the answer or the help was printed and all files were written, and
 // otherwise 1.
-#[tactic(auto, using(nor_lines::proofs::Printed::appends_then))]
+#[tactic(auto, using(nor_console::proofs::Printed::appends_then))]
 fn end_well<W: Write>(errors: &mut W, printed: bool, unwritten: Unwritten<'_>) -> Ending
     ensures { EndsWell printed unwritten.entry (W.contents errors.old) (W.contents errors.new) result }
 {

@@ -1,14 +1,14 @@
 //! Checks that no file has two roles in a job, except roles that may share a file.
 ghost use Rattle.std.specs.Prelude.{◌≡◌, true, IfErr, OnOk};
 ghost use Rattle.flashnor.specs.Roles.{FailsFileRoles, FilesHaveOneRole, HasOwnTrace, file_with_role, must_differ};
-ghost use Rattle.nor_lines.specs.Stored.{AreTwo};
-ghost use Rattle.nor_lines.specs.declared.messages.Fault.TheVariants as Faults;
+ghost use Rattle.nor_console.specs.Stored.{AreTwo};
+ghost use Rattle.nor_console.specs.declared.messages.Fault.TheVariants as Faults;
 ghost use Rattle.nor_request.specs.declared.refusal.Refusal.TheVariants as Refusals;
 
 use crate::tasks::writes_back;
+use nor_args::ChipJob;
+use nor_console::{Fault, Named, apart, look_ahead, named_by};
 use nor_files::Store;
-use nor_lines::{Fault, Named, apart, look_ahead, named_by};
-use nor_words::ChipJob;
 
 /// The purpose for which a job uses a file. If two roles share a file although they need different files, the fault
 /// names the file of the later role in this order.

@@ -1,9 +1,9 @@
 //! A run of the program: from its arguments to its exit status.
 ghost use Rattle.std.specs.Prelude.{◌≡◌, false, true, Err, IfErr, IfOk, map, string_bytes};
-ghost use Rattle.nor_words.specs.Words.{arguments_of};
+ghost use Rattle.nor_args.specs.Words.{arguments_of};
 ghost use Rattle.nor_files.specs.Disk.{unknown};
 ghost use Rattle.nor_files.specs.Files.{AreAtRest, is_lawful};
-ghost use Rattle.nor_lines.specs.Tasks.{made_by};
+ghost use Rattle.nor_console.specs.Tasks.{made_by};
 ghost use Rattle.flashnor.specs.Endings.{EndsWith, HasPrinted, IsUnread, IsWithoutStreams, all_written};
 ghost use Rattle.flashnor.specs.Roles.{FilesHaveOneRole};
 ghost use Rattle.flashnor.specs.Run.{AnswersArguments, EndsChipJob, FailsJob, HoldsResult, IsPrintedAt, IsStatus};
@@ -20,10 +20,10 @@ use crate::printing::{Ending, print_end};
 use crate::roles::{have_one_role, look_at_sources};
 use crate::streams::{Reports, StreamFault, are_unprinted};
 use crate::tasks::writes_back;
+use nor_args::{ChipJob, Job, WrongArguments, explained_request_of};
+use nor_console::{Answer, DIRECTORY, Fault, or_fault, unread};
 use nor_files::{Disk, LockFile, Store};
 use nor_jobs::arguments_after_name;
-use nor_lines::{Answer, DIRECTORY, Fault, or_fault, unread};
-use nor_words::{ChipJob, Job, WrongArguments, explained_request_of};
 use std::env::Args;
 use std::io;
 use std::io::Write;
@@ -133,7 +133,7 @@ impl<'a> Work<'a> {
 }
 
 // Performs the job given by the arguments. Returns its result, which isn't printed yet, and where a fault is printed.
-#[tactic(auto, using(crate::proofs::Ended::answer_ended, nor_lines::proofs::Lent::stays_same))]
+#[tactic(auto, using(crate::proofs::Ended::answer_ended, nor_console::proofs::Lent::stays_same))]
 fn run<'a, R: Store>(rt: &mut R, words: &'a [String]) -> (Work<'a>, Reports)
     ensures answers { AnswersArguments (R.state rt.old) (R.state rt.new) (map string_bytes words.now) result.0.answer
         result.0.unwritten }

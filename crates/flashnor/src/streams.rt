@@ -5,9 +5,9 @@ ghost use Rattle.flashnor.specs.Streams.{IsReportedTo};
 
 use crate::roles::{Role, file_with_role};
 use crate::tasks::writes_back;
+use nor_args::ChipJob;
+use nor_console::{Fault, found_streams, is_printed, taken};
 use nor_files::{Store, Stream};
-use nor_lines::{Fault, found_streams, is_printed, taken};
-use nor_words::ChipJob;
 
 /// Where the message of a fault is printed.
 #[derive(Clone, Copy)]

@@ -2,8 +2,8 @@
 ghost use Rattle.std.specs.Prelude.{◌≡◌};
 ghost use Rattle.flashnor.specs.Tasks.{journal_by, writes_back};
 
-use nor_lines::journal_of;
-use nor_words::{Change, JournalUse, Task};
+use nor_args::{Change, JournalUse, Task};
+use nor_console::journal_of;
 
 /// True if the chip is written back to its files after the call: the task is a restore, or a change that is not a
 /// rehearsal.

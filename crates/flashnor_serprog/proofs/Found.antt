@@ -6,20 +6,20 @@ use Rattle.nor_probe.specs.declared.table.ChipName.{ChipName}
 use Rattle.nor_request.specs.declared.refusal.Refusal.{Refusal}
 use Rattle.nor_files.specs.Files.{FilesState, View}
 use Rattle.nor_layout.specs.declared.ranges.Span.{Span}
-use Rattle.nor_words.specs.Text.{Text}
-use Rattle.nor_words.specs.declared.job.Change.{Change}
-use Rattle.nor_words.specs.declared.job.JournalUse.{JournalUse}
-use Rattle.nor_words.specs.declared.job.JournalUse.TheVariants as uses
-use Rattle.nor_words.specs.declared.job.Operation.{Operation}
-use Rattle.nor_words.specs.declared.job.Task.{Task}
-use Rattle.nor_words.specs.declared.job.Task.TheVariants as task
-use Rattle.nor_words.specs.declared.job.Wanted.{Wanted}
-use Rattle.nor_words.specs.declared.job.Wanted.TheVariants as wanted
-use Rattle.nor_lines.specs.Messages.{IsReportedAs}
-use Rattle.nor_lines.specs.Files.{IsMaking}
-use Rattle.nor_lines.specs.declared.answers.Answer.{Answer}
-use Rattle.nor_lines.specs.declared.messages.Fault.{Fault}
-use Rattle.nor_lines.specs.declared.messages.Fault.TheVariants as end
+use Rattle.nor_args.specs.Text.{Text}
+use Rattle.nor_args.specs.declared.job.Change.{Change}
+use Rattle.nor_args.specs.declared.job.JournalUse.{JournalUse}
+use Rattle.nor_args.specs.declared.job.JournalUse.TheVariants as uses
+use Rattle.nor_args.specs.declared.job.Operation.{Operation}
+use Rattle.nor_args.specs.declared.job.Task.{Task}
+use Rattle.nor_args.specs.declared.job.Task.TheVariants as task
+use Rattle.nor_args.specs.declared.job.Wanted.{Wanted}
+use Rattle.nor_args.specs.declared.job.Wanted.TheVariants as wanted
+use Rattle.nor_console.specs.Messages.{IsReportedAs}
+use Rattle.nor_console.specs.Files.{IsMaking}
+use Rattle.nor_console.specs.declared.answers.Answer.{Answer}
+use Rattle.nor_console.specs.declared.messages.Fault.{Fault}
+use Rattle.nor_console.specs.declared.messages.Fault.TheVariants as end
 use Rattle.flashnor_serprog.specs.Jobs.{DoesTask, FailsChange, FailsComparison, FailsPerform, FailsToChange}
 use Rattle.flashnor_serprog.specs.Following.{FailsToFollow}
 use Rattle.flashnor_serprog.specs.Jobs.{FailsToFill, FailsToTarget, HasChangedAndCompared, HasChangedBy}

@@ -2,17 +2,17 @@
 use Rattle.std.proofs.Common.{◌≡◌, arith, Bool, false, List, Some, inl, inr, subst}
 use Rattle.clap.specs.Words.{IsAmong}
 use Rattle.clap.specs.declared.error.Error.{Error}
-use Rattle.nor_words.specs.Text.{Text}
-use Rattle.nor_words.specs.Faults.{first_fault, operation_faults}
-use Rattle.nor_words.specs.Given.{Texts}
-use Rattle.nor_words.specs.Job.{IsWrongOperation}
-use Rattle.nor_words.specs.Words.{AreWrongForHardware, IsHardwareFault, hardware_refusals_of}
-use Rattle.nor_words.specs.declared.reasons.Reason.{Reason}
-use Rattle.nor_words.specs.declared.reasons.WrongArguments.{WrongArguments}
-use Rattle.nor_words.specs.declared.words.UsageFault.{UsageFault}
-use Rattle.nor_words.specs.declared.words.UsageFault.TheVariants as usage
-use Rattle.nor_words.proofs.Sound.{cases}
-use Rattle.nor_lines.specs.declared.messages.Fault.TheVariants as end
+use Rattle.nor_args.specs.Text.{Text}
+use Rattle.nor_args.specs.Faults.{first_fault, operation_faults}
+use Rattle.nor_args.specs.Given.{Texts}
+use Rattle.nor_args.specs.Job.{IsWrongOperation}
+use Rattle.nor_args.specs.Words.{AreWrongForHardware, IsHardwareFault, hardware_refusals_of}
+use Rattle.nor_args.specs.declared.reasons.Reason.{Reason}
+use Rattle.nor_args.specs.declared.reasons.WrongArguments.{WrongArguments}
+use Rattle.nor_args.specs.declared.words.UsageFault.{UsageFault}
+use Rattle.nor_args.specs.declared.words.UsageFault.TheVariants as usage
+use Rattle.nor_args.proofs.Sound.{cases}
+use Rattle.nor_console.specs.declared.messages.Fault.TheVariants as end
 use Rattle.flashnor_serprog.specs.Run.{ArgumentsAskForHelp, AsksForHelp, program}
 use Rattle.flashnor_serprog.specs.declared.trouble.Trouble.TheVariants as trouble
 

@@ -2,9 +2,9 @@
 use Rattle.std.proofs.Common.{ℕ, List, Option, refl}
 use Rattle.std.specs.Io.KnownBytes.{Appends}
 use Rattle.nor_probe.specs.declared.probes.Found.{Found}
-use Rattle.nor_lines.specs.AnswerLines.{name_line}
-use Rattle.nor_lines.specs.Printing.{Prints}
-use Rattle.nor_lines.specs.declared.answers.Answer.TheVariants as answer
+use Rattle.nor_console.specs.AnswerLines.{name_line}
+use Rattle.nor_console.specs.Printing.{Prints}
+use Rattle.nor_console.specs.declared.answers.Answer.TheVariants as answer
 use Rattle.flashnor_serprog.specs.Run.{AreNameLines}
 
 -- If the line with the name of the identified chip was printed, the lines that `--flash-name` requires were printed.

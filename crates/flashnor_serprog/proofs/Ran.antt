@@ -5,8 +5,8 @@ use Rattle.std.proofs.lemmas.Bool.{false≢true}
 use Rattle.std.specs.Borrow.{Bor}
 use Rattle.nor_model.specs.Bus.{BusState}
 use Rattle.nor_files.specs.Files.{FilesState}
-use Rattle.nor_words.specs.Text.{Text}
-use Rattle.nor_words.specs.declared.job.Operation.{Operation}
+use Rattle.nor_args.specs.Text.{Text}
+use Rattle.nor_args.specs.declared.job.Operation.{Operation}
 use Rattle.flashnor_serprog.specs.Connected.{device_of}
 use Rattle.flashnor_serprog.specs.Run.{HasRunJob, HasRunOperation, IsAskedFor}
 use Rattle.flashnor_serprog.specs.declared.connect.Connected.{Connected}

@@ -9,8 +9,8 @@ use Rattle.std.proofs.lemmas.Bool.Decides.{nat_tests}
 use Rattle.std.proofs.lemmas.List.Folds.{list_all_at}
 use Rattle.std.proofs.lemmas.Str.Pattern.{NoCharPasses-char}
 use Rattle.std.proofs.Math.Seq.{get_or-append_seam, get_or-drop, drop_at}
-use Rattle.nor_words.specs.Numbers.{decimal_number}
-use Rattle.nor_words.specs.Text.{Text, reads}
+use Rattle.nor_args.specs.Numbers.{decimal_number}
+use Rattle.nor_args.specs.Text.{Text, reads}
 use Rattle.flashnor_serprog.specs.Setting.{HasRate, HasNoRate}
 
 -- If `text` is `device`, a colon and a number, the byte at index `length device` is a colon.

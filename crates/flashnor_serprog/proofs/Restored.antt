@@ -4,8 +4,8 @@ use Rattle.std.proofs.lemmas.Result.{IfOk-weaker, MatchResult-weaker}
 use Rattle.nor_model.specs.Bus.{BusState}
 use Rattle.nor_journal.specs.Text.{Content as Journal, IsContent, text}
 use Rattle.nor_request.specs.declared.refusal.Refusal.{Refusal}
-use Rattle.nor_words.specs.declared.job.Operation.{Operation}
-use Rattle.nor_lines.specs.declared.answers.Answer.{Answer}
+use Rattle.nor_args.specs.declared.job.Operation.{Operation}
+use Rattle.nor_console.specs.declared.answers.Answer.{Answer}
 use Rattle.flashnor_serprog.specs.Rest.{FailsToFollowRestore, FollowsRestore, is_followed}
 use Rattle.nor_jobs.specs.Restoring.{HasRunRestore}
 use Rattle.flashnor_serprog.specs.Restoring.{FailsBy, FailsCompared, FailsRestore, HasReadBefore, HasRestored}

@@ -11,20 +11,20 @@ use Rattle.nor_request.specs.declared.refusal.Refusal.TheVariants.{Memory, Misma
 use Rattle.nor_request.specs.declared.request.Request.{Request}
 use Rattle.nor_request.specs.declared.request.What.{What}
 use Rattle.nor_session.specs.Session.{IsSavedCode, SendsSaved}
-use Rattle.nor_words.specs.Text.{Text}
-use Rattle.nor_words.specs.declared.job.Change.{Change}
-use Rattle.nor_words.specs.declared.job.JournalUse.{JournalUse}
-use Rattle.nor_words.specs.declared.job.JournalUse.TheVariants as uses
-use Rattle.nor_words.specs.declared.job.Operation.{Operation}
-use Rattle.nor_words.specs.declared.job.Task.{Task}
-use Rattle.nor_words.specs.declared.job.Task.TheVariants as task
-use Rattle.nor_words.specs.declared.job.Wanted.{Wanted}
-use Rattle.nor_words.specs.declared.job.Wanted.TheVariants as wanted
-use Rattle.nor_lines.specs.Requests.{what_of}
-use Rattle.nor_lines.specs.Sessions.{HasRunInFile}
-use Rattle.nor_lines.specs.declared.answers.Answer.{Answer}
-use Rattle.nor_lines.specs.declared.messages.Fault.{Fault}
-use Rattle.nor_lines.specs.declared.messages.Fault.TheVariants as end
+use Rattle.nor_args.specs.Text.{Text}
+use Rattle.nor_args.specs.declared.job.Change.{Change}
+use Rattle.nor_args.specs.declared.job.JournalUse.{JournalUse}
+use Rattle.nor_args.specs.declared.job.JournalUse.TheVariants as uses
+use Rattle.nor_args.specs.declared.job.Operation.{Operation}
+use Rattle.nor_args.specs.declared.job.Task.{Task}
+use Rattle.nor_args.specs.declared.job.Task.TheVariants as task
+use Rattle.nor_args.specs.declared.job.Wanted.{Wanted}
+use Rattle.nor_args.specs.declared.job.Wanted.TheVariants as wanted
+use Rattle.nor_console.specs.Requests.{what_of}
+use Rattle.nor_console.specs.Sessions.{HasRunInFile}
+use Rattle.nor_console.specs.declared.answers.Answer.{Answer}
+use Rattle.nor_console.specs.declared.messages.Fault.{Fault}
+use Rattle.nor_console.specs.declared.messages.Fault.TheVariants as end
 use Rattle.flashnor_serprog.specs.Following.{FailsToFollow, FailsToMerge, IsFollowed, IsWholeTarget}
 use Rattle.flashnor_serprog.specs.Jobs.{DoesTask, FailsBefore, FailsComparison, FailsPerform, FailsToChange}
 use Rattle.flashnor_serprog.specs.Jobs.{FailsToFill, FailsToTarget, HasChangedBy, HasReadBy, HasRunChange, HasTarget}

@@ -2,12 +2,12 @@
 use Rattle.std.specs.Prelude.{◌≡◌, Some, true}
 use Rattle.nor_files.specs.Files.{View}
 use Rattle.nor_files.specs.Files.Failure.{There}
-use Rattle.nor_words.specs.declared.job.Operation.{Operation}
-use Rattle.nor_lines.specs.Stored.{Happens}
-use Rattle.nor_lines.specs.Tasks.{made_by}
-use Rattle.nor_lines.specs.declared.messages.Fault.{Fault}
-use Rattle.nor_lines.specs.declared.messages.Fault.TheVariants as end
-use Rattle.nor_lines.specs.declared.messages.FileFault.TheVariants as file
+use Rattle.nor_args.specs.declared.job.Operation.{Operation}
+use Rattle.nor_console.specs.Stored.{Happens}
+use Rattle.nor_console.specs.Tasks.{made_by}
+use Rattle.nor_console.specs.declared.messages.Fault.{Fault}
+use Rattle.nor_console.specs.declared.messages.Fault.TheVariants as end
+use Rattle.nor_console.specs.declared.messages.FileFault.TheVariants as file
 
 -- Holds if the operation is a backup, and the fault is file fault 4 with the name of its file, which may exist already.
 abbrev pub IsExistingBackup : View → Operation → Fault → Type 0

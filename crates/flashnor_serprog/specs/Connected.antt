@@ -3,12 +3,12 @@ use Rattle.std.specs.Prelude.{◌≡◌, ◌&&◌, ℕ, Bool, true, false, List,
 use Rattle.nor_model.specs.Bus.{BusState}
 use Rattle.nor_buses.specs.Ahead.{ahead_of}
 use Rattle.nor_buses.specs.Twice.{expected_of}
-use Rattle.nor_words.specs.Text.{Text}
-use Rattle.nor_words.specs.declared.job.Operation.{Operation}
-use Rattle.nor_words.specs.declared.job.Task.{Task}
-use Rattle.nor_words.specs.declared.job.Task.TheVariants as task
-use Rattle.nor_words.specs.declared.job.Wanted.{Wanted}
-use Rattle.nor_words.specs.declared.job.Wanted.TheVariants as wanted
+use Rattle.nor_args.specs.Text.{Text}
+use Rattle.nor_args.specs.declared.job.Operation.{Operation}
+use Rattle.nor_args.specs.declared.job.Task.{Task}
+use Rattle.nor_args.specs.declared.job.Task.TheVariants as task
+use Rattle.nor_args.specs.declared.job.Wanted.{Wanted}
+use Rattle.nor_args.specs.declared.job.Wanted.TheVariants as wanted
 use Rattle.flashnor_serprog.specs.Jobs.{is_compared}
 use Rattle.flashnor_serprog.specs.declared.connect.Connected.{Connected}
 

@@ -12,8 +12,8 @@ use Rattle.nor_read.specs.Reading.{ReadOutAlways, ReadOutHonest, ReadOutModelled
 use Rattle.nor_request.specs.declared.refusal.Refusal.{Refusal}
 use Rattle.nor_request.specs.declared.refusal.Refusal.TheVariants.{ImageSize, Memory, Output, RegionOutside}
 use Rattle.nor_request.specs.declared.report.Report.{Report}
-use Rattle.nor_lines.specs.Readings.{HasVerified}
-use Rattle.nor_lines.specs.declared.answers.Answer.{Answer}
+use Rattle.nor_console.specs.Readings.{HasVerified}
+use Rattle.nor_console.specs.declared.answers.Answer.{Answer}
 use Rattle.flashnor_serprog.specs.declared.chip_faults.JobFault.{JobFault}
 use Rattle.flashnor_serprog.specs.declared.chip_faults.JobFault.TheVariants as ended
 

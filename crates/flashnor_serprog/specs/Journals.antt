@@ -3,10 +3,10 @@ use Rattle.std.specs.Prelude.{◌≡◌, ◌⊎◌, ◌+◌, ◌-◌, ◌*◌, �
 use Rattle.std.specs.List.{count_by, list_all}
 use Rattle.nor_files.specs.Files.{View}
 use Rattle.nor_journal.specs.Text.{Content, IsContent, SavedSector, text}
-use Rattle.nor_words.specs.Text.{Text}
-use Rattle.nor_lines.specs.Files.{IsSharingFault}
-use Rattle.nor_lines.specs.Stored.{IsRead}
-use Rattle.nor_lines.specs.declared.messages.Fault.{Fault}
+use Rattle.nor_args.specs.Text.{Text}
+use Rattle.nor_console.specs.Files.{IsSharingFault}
+use Rattle.nor_console.specs.Stored.{IsRead}
+use Rattle.nor_console.specs.declared.messages.Fault.{Fault}
 use Rattle.flashnor_serprog.specs.Sources.{IsInvalid}
 use Rattle.flashnor_serprog.specs.declared.journals.Description.{Description}
 

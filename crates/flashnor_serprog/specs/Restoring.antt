@@ -9,10 +9,10 @@ use Rattle.nor_probe.specs.declared.table.ChipName.{ChipName}
 use Rattle.nor_request.specs.declared.refusal.Refusal.{Refusal}
 use Rattle.nor_request.specs.declared.refusal.Refusal.TheVariants.{BadJournal, Memory, OtherChip, Stopped}
 use Rattle.nor_session.specs.Restore.{IsOfTypeFound}
-use Rattle.nor_words.specs.declared.job.Operation.{Operation}
-use Rattle.nor_lines.specs.declared.answers.Answer.{Answer}
-use Rattle.nor_lines.specs.declared.messages.Fault.{Fault}
-use Rattle.nor_lines.specs.declared.messages.Fault.TheVariants as end
+use Rattle.nor_args.specs.declared.job.Operation.{Operation}
+use Rattle.nor_console.specs.declared.answers.Answer.{Answer}
+use Rattle.nor_console.specs.declared.messages.Fault.{Fault}
+use Rattle.nor_console.specs.declared.messages.Fault.TheVariants as end
 use Rattle.nor_jobs.specs.Restoring.{HasRunRestore}
 use Rattle.nor_jobs.specs.Finding.{FailsToFind, HasIdentified, IsNamedFirst}
 use Rattle.flashnor_serprog.specs.Rest.{FailsRest, FollowsRestore, HasReadRest, HasStoppedInRest, is_followed}

@@ -7,18 +7,18 @@ use Rattle.clap.specs.declared.error.kind.ErrorKind.TheVariants as kind
 use Rattle.nor_model.specs.Bus.{BusState}
 use Rattle.nor_files.specs.Files.{FilesState, View}
 use Rattle.nor_layout.specs.declared.ranges.Span.{Span}
-use Rattle.nor_words.specs.Text.{Text}
-use Rattle.nor_words.specs.Words.{IsHardwareJob, hardware_refusals_of}
-use Rattle.nor_words.specs.declared.job.HardwareJob.TheVariants as hardware
-use Rattle.nor_words.specs.declared.job.Operation.{Operation}
-use Rattle.nor_words.specs.declared.job.Task.{Task}
-use Rattle.nor_words.specs.declared.job.Task.TheVariants as task
-use Rattle.nor_lines.specs.AnswerLines.{AreLines, name_line}
-use Rattle.nor_lines.specs.Lines.{line}
-use Rattle.nor_lines.specs.Printing.{AsksForVersion, IsAnswered, Prints}
-use Rattle.nor_lines.specs.declared.answers.Answer.{Answer}
-use Rattle.nor_lines.specs.declared.answers.Answer.TheVariants as answer
-use Rattle.nor_lines.specs.declared.messages.Fault.TheVariants as end
+use Rattle.nor_args.specs.Text.{Text}
+use Rattle.nor_args.specs.Words.{IsHardwareJob, hardware_refusals_of}
+use Rattle.nor_args.specs.declared.job.HardwareJob.TheVariants as hardware
+use Rattle.nor_args.specs.declared.job.Operation.{Operation}
+use Rattle.nor_args.specs.declared.job.Task.{Task}
+use Rattle.nor_args.specs.declared.job.Task.TheVariants as task
+use Rattle.nor_console.specs.AnswerLines.{AreLines, name_line}
+use Rattle.nor_console.specs.Lines.{line}
+use Rattle.nor_console.specs.Printing.{AsksForVersion, IsAnswered, Prints}
+use Rattle.nor_console.specs.declared.answers.Answer.{Answer}
+use Rattle.nor_console.specs.declared.answers.Answer.TheVariants as answer
+use Rattle.nor_console.specs.declared.messages.Fault.TheVariants as end
 use Rattle.nor_request.specs.declared.refusal.Refusal.{Refusal}
 use Rattle.flashnor_serprog.specs.Connected.{MayExpectImage, IsUnused, device_of, expected_by}
 use Rattle.flashnor_serprog.specs.Journals.{IsSealedIn}

@@ -5,12 +5,12 @@ use Rattle.nor_files.specs.Files.{FilesState, IsDurable, is_lawful}
 use Rattle.nor_request.specs.declared.request.What.{What}
 use Rattle.nor_scan.specs.SavedScan.{IsJournal}
 use Rattle.nor_session.specs.Session.{IsSavedCode, IsWrittenCode, SendsSaved}
-use Rattle.nor_words.specs.Text.{Text}
-use Rattle.nor_words.specs.declared.job.JournalUse.{JournalUse}
-use Rattle.nor_words.specs.declared.job.JournalUse.TheVariants as uses
-use Rattle.nor_words.specs.declared.job.Task.{Task}
-use Rattle.nor_words.specs.declared.job.Task.TheVariants as task
-use Rattle.nor_lines.specs.Requests.{what_of}
+use Rattle.nor_args.specs.Text.{Text}
+use Rattle.nor_args.specs.declared.job.JournalUse.{JournalUse}
+use Rattle.nor_args.specs.declared.job.JournalUse.TheVariants as uses
+use Rattle.nor_args.specs.declared.job.Task.{Task}
+use Rattle.nor_args.specs.declared.job.Task.TheVariants as task
+use Rattle.nor_console.specs.Requests.{what_of}
 
 -- Holds if no modifying command was sent: the record of modifying commands is the same before and after.
 abbrev pub KeepsSent : (old new : BusState) → Type 0

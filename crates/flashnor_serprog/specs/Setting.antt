@@ -2,10 +2,10 @@
 use Rattle.std.specs.Prelude.{◌≡◌, ◌&&◌, ◌||◌, ◌++◌, ℕ, Bool, true, false, not, List, [], ◌∷◌, Option, None, Some, codes, drop, find, nat_eq, nat_le, nat_lt, option_and_then, if◌then◌else◌}
 use Rattle.std.specs.List.{list_any, starts_with}
 use Rattle.std.specs.Str.{bytes_eq}
-use Rattle.nor_words.specs.Numbers.{decimal_number}
-use Rattle.nor_words.specs.Programmer.{has_key, is_alone_in, is_file, value_in}
-use Rattle.nor_words.specs.Reasons.{flaw_by}
-use Rattle.nor_words.specs.Text.{Text, key_of, pieces_of, reads, value_of}
+use Rattle.nor_args.specs.Numbers.{decimal_number}
+use Rattle.nor_args.specs.Programmer.{has_key, is_alone_in, is_file, value_in}
+use Rattle.nor_args.specs.Reasons.{flaw_by}
+use Rattle.nor_args.specs.Text.{Text, key_of, pieces_of, reads, value_of}
 use Rattle.flashnor_serprog.specs.declared.setting.Setting.{Setting}
 use Rattle.flashnor_serprog.specs.declared.setting.WrongSetting.{WrongSetting}
 use Rattle.flashnor_serprog.specs.declared.setting.WrongSetting.TheVariants.{Network, BaudRate, Flawed, NoDevice, NoPrefix}

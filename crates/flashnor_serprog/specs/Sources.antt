@@ -6,18 +6,18 @@ use Rattle.nor_files.specs.Files.{Nature, View}
 use Rattle.nor_files.specs.Files.Failure.{There}
 use Rattle.nor_journal.specs.Fault.{HasFault}
 use Rattle.nor_request.specs.declared.refusal.Refusal.TheVariants.{BadJournal}
-use Rattle.nor_words.specs.Text.{Text}
-use Rattle.nor_words.specs.declared.job.JournalUse.{JournalUse}
-use Rattle.nor_words.specs.declared.job.JournalUse.TheVariants as uses
-use Rattle.nor_words.specs.declared.job.Task.{Task}
-use Rattle.nor_words.specs.declared.job.Task.TheVariants as task
+use Rattle.nor_args.specs.Text.{Text}
+use Rattle.nor_args.specs.declared.job.JournalUse.{JournalUse}
+use Rattle.nor_args.specs.declared.job.JournalUse.TheVariants as uses
+use Rattle.nor_args.specs.declared.job.Task.{Task}
+use Rattle.nor_args.specs.declared.job.Task.TheVariants as task
 use Rattle.nor_jobs.specs.Sources.{FailsSources}
-use Rattle.nor_lines.specs.Roles.{FailsApart, FailsUnprinted}
-use Rattle.nor_lines.specs.Tasks.{named_by}
-use Rattle.nor_lines.specs.Stored.{AreTwo, Happens, IsRead}
-use Rattle.nor_lines.specs.declared.messages.Fault.{Fault}
-use Rattle.nor_lines.specs.declared.messages.Fault.TheVariants as end
-use Rattle.nor_lines.specs.declared.messages.FileFault.TheVariants as file
+use Rattle.nor_console.specs.Roles.{FailsApart, FailsUnprinted}
+use Rattle.nor_console.specs.Tasks.{named_by}
+use Rattle.nor_console.specs.Stored.{AreTwo, Happens, IsRead}
+use Rattle.nor_console.specs.declared.messages.Fault.{Fault}
+use Rattle.nor_console.specs.declared.messages.Fault.TheVariants as end
+use Rattle.nor_console.specs.declared.messages.FileFault.TheVariants as file
 
 -- ---- roles
 

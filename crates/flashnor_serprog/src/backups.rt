@@ -5,12 +5,12 @@ ghost use Rattle.flashnor_serprog.specs.Backups.{IsExistingBackup};
 ghost use Rattle.flashnor_serprog.specs.Jobs.{FailsToRead, HasBackedUpChip};
 
 use crate::progress::Progress;
+use nor_args::{Operation, Task};
+use nor_console::{Fault, FileFault, Outcome, backup_in_file};
 use nor_files::Store;
 use nor_geometry::SECTOR_LEN;
 use nor_jobs::find_first;
-use nor_lines::{Fault, FileFault, Outcome, backup_in_file};
 use nor_probe::ChipName;
-use nor_words::{Operation, Task};
 
 /// Checks that the file which a backup is to create does not exist. Does nothing for other jobs.
 ///

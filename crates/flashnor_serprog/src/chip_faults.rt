@@ -1,7 +1,7 @@
 //! The faults with which a job ends, and the lines of those that only this program has.
 ghost use Rattle.std.specs.Prelude.{◌≡◌};
 
-use nor_lines::{Fault, Outcome};
+use nor_console::{Fault, Outcome};
 use nor_session::Refusal;
 use std::alloc::AllocError;
 use std::fmt;
@@ -35,7 +35,7 @@ impl<'a> From<Fault<'a>> for JobFault<'a> {
 
 impl From<AllocError> for JobFault<'_> {
     ghost use Rattle.flashnor_serprog.specs.declared.chip_faults.JobFault.TheVariants as ended;
-    ghost use Rattle.nor_lines.specs.declared.messages.Fault.TheVariants.{Refused};
+    ghost use Rattle.nor_console.specs.declared.messages.Fault.TheVariants.{Refused};
     ghost use Rattle.nor_request.specs.declared.refusal.Refusal.TheVariants.{Memory};
 
     ghost from_gives = { λ _ of_job. of_job ≡ ended.Fault (Refused Memory) };

@@ -1,14 +1,14 @@
 //! The end of a run: prints its answer or its fault, and returns the exit status.
 ghost use Rattle.std.specs.Prelude.{◌≡◌, ◌≤◌, IsOk, OnOk, false};
 ghost use Rattle.std.specs.Io.KnownBytes.{Appends};
-ghost use Rattle.nor_lines.specs.AnswerLines.{name_line};
-ghost use Rattle.nor_lines.specs.Printing.{Prints};
+ghost use Rattle.nor_console.specs.AnswerLines.{name_line};
+ghost use Rattle.nor_console.specs.Printing.{Prints};
 ghost use Rattle.flashnor_serprog.specs.Run.{AreJobLines, AreLinesBy, AreNameLines, is_unverified, unverified_line};
 
 use crate::jobs::changes_bytes;
-use nor_lines::{Answer, Fault, lost_output, print_answer, print_fault};
+use nor_args::{Operation, Task};
+use nor_console::{Answer, Fault, lost_output, print_answer, print_fault};
 use nor_probe::ChipName;
-use nor_words::{Operation, Task};
 use std::io;
 use std::io::Write;
 
@@ -87,7 +87,7 @@ fn print_name<O: Write>(output: &mut O, answer: Answer) -> io::Result<()>
     }
 }
 
-#[tactic(auto, unfolding(nor_lines::specs::Lines::line))]
+#[tactic(auto, unfolding(nor_console::specs::Lines::line))]
 fn print_name_line<O: Write>(output: &mut O, name: ChipName) -> io::Result<()>
     ensures { OnOk result (Appends (O.contents output.old) (O.contents output.new) (name_line name)) }
 {
@@ -96,7 +96,7 @@ fn print_name_line<O: Write>(output: &mut O, name: ChipName) -> io::Result<()>
     output.flush()
 }
 
-#[tactic(auto, unfolding(nor_lines::specs::Lines::line))]
+#[tactic(auto, unfolding(nor_console::specs::Lines::line))]
 fn print_unverified<O: Write>(output: &mut O) -> io::Result<()>
     ensures { OnOk result (Appends (O.contents output.old) (O.contents output.new) unverified_line) }
 {

@@ -1,6 +1,6 @@
 //! The text of the help that `-h` prints.
 
-use nor_words::Help;
+use nor_args::Help;
 
 /// The parts of the help that differ between the two programs: the program's name and version, and the text before and
 /// after the list of options.

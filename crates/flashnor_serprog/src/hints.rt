@@ -1,11 +1,11 @@
 //! The line that follows the line of a fault: it says what to do, or what was found and what was expected.
 
 use crate::journals::{StatusBits, advice};
+use nor_args::{Change, Operation, Task};
+use nor_console::{Escaped, Fault, FileFault, named_by};
 use nor_journal::Journal;
-use nor_lines::{Escaped, Fault, FileFault, named_by};
 use nor_probe::{ChipName, part_of};
 use nor_session::Refusal;
-use nor_words::{Change, Operation, Task};
 use std::fmt;
 use std::io::Write;
 

@@ -1,9 +1,9 @@
 //! Performs a job on a chip, over any bus.
 ghost use Rattle.std.specs.Prelude.{◌≡◌, IfErr, IfOk, Ok, option_copied, true};
 ghost use Rattle.nor_files.specs.Files.{Name, OthersStay, KeepsFile, is_lawful};
-ghost use Rattle.nor_lines.specs.Tasks.{journal_of, made_by};
-ghost use Rattle.nor_lines.specs.Readings.{HasVerified};
-ghost use Rattle.nor_lines.specs.Stored.{IsNot};
+ghost use Rattle.nor_console.specs.Tasks.{journal_of, made_by};
+ghost use Rattle.nor_console.specs.Readings.{HasVerified};
+ghost use Rattle.nor_console.specs.Stored.{IsNot};
 ghost use Rattle.flashnor_serprog.specs.Jobs.{DoesTask, FailsChange, FailsPerform, FailsToAdmit, FailsToFill};
 ghost use Rattle.flashnor_serprog.specs.Jobs.{FailsToRead, HasChangedBy, HasReadChip, IsBufferOf, IsChangeable};
 ghost use Rattle.flashnor_serprog.specs.Jobs.{changes_bytes, is_compared, may_be_protected};
@@ -13,16 +13,16 @@ use crate::chip_faults::JobFault;
 use crate::following::{complete, follow, ranges_if, sectors_before_change, sectors_to_read};
 use crate::progress::{Progress, Terminal};
 use crate::restoring::restore_chip;
+use nor_args::{Change, JournalUse, Operation, Reason, Task, UsageFault, Wanted};
 use nor_chip::Bus;
-use nor_files::Store;
-use nor_jobs::{Sources, find_chip, find_first, report_size};
-use nor_layout::Ranges;
-use nor_lines::{
+use nor_console::{
     Fault, Outcome, erased, list_ranges, read_to_file, report_protection, request_for,
     session_in_file, verify_image,
 };
+use nor_files::Store;
+use nor_jobs::{Sources, find_chip, find_first, report_size};
+use nor_layout::Ranges;
 use nor_probe::{ChipName, Found};
-use nor_words::{Change, JournalUse, Operation, Reason, Task, UsageFault, Wanted};
 use std::alloc::{AllocError, Global};
 
 /// Performs the job that the arguments ask for, with the contents of the files that it needs. An error is a fault that

@@ -7,10 +7,10 @@ ghost use Rattle.flashnor_serprog.specs.Journals.{are_blank, is_blank};
 
 use crate::ending::status_of;
 use crate::hints::print_hint;
+use nor_console::{Escaped, Fault, print_fault, read_journal};
 use nor_files::Store;
 use nor_geometry::SECTOR_LEN;
 use nor_journal::{Journal, JournalFault};
-use nor_lines::{Escaped, Fault, print_fault, read_journal};
 use nor_probe::{ChipName, part_of};
 use nor_session::Refusal;
 use std::io::Write;

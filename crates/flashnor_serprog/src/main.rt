@@ -55,7 +55,7 @@ mod steps;
 mod terminal;
 mod trouble;
 
-use nor_lines::{by_line, keep_streams};
+use nor_console::{by_line, keep_streams};
 use run::{end_without_streams, run_words};
 use std::env;
 use std::process::ExitCode;

@@ -6,10 +6,10 @@ ghost use Rattle.flashnor_serprog.specs.Rest.{HasStoppedInRest, is_followed};
 
 use crate::progress::Progress;
 use nor_chip::Stopped;
+use nor_console::Outcome;
 use nor_driver::read_sector;
 use nor_geometry::SECTOR_LEN;
 use nor_journal::Journal;
-use nor_lines::Outcome;
 use nor_plan::bounds;
 use nor_session::Refusal;
 

@@ -11,12 +11,12 @@ ghost use Rattle.flashnor_serprog.specs.Restoring.{HasRestoredAndCompared, HasRe
 use crate::chip_faults::JobFault;
 use crate::progress::{Progress, Terminal};
 use crate::rest::{compare_rest, is_followed, read_rest, sectors_of};
+use nor_args::Operation;
+use nor_console::{Fault, Outcome, erased, or_fault};
 use nor_jobs::{check_name, find_first, run_restore};
 use nor_journal::Journal;
-use nor_lines::{Fault, Outcome, erased, or_fault};
 use nor_probe::Found;
 use nor_session::Refusal;
-use nor_words::Operation;
 use std::alloc::Global;
 
 /// Restores the chip from the bytes of a journal: erases and programs every saved sector, whatever it reads, or with

@@ -2,9 +2,9 @@
 ghost use Rattle.std.specs.Prelude.{IfErr, OnOk};
 ghost use Rattle.flashnor_serprog.specs.Sources.{FailsRoles, HaveOneRole};
 
+use nor_args::Task;
+use nor_console::{Fault, Named, apart, named_by, unprinted};
 use nor_files::Store;
-use nor_lines::{Fault, Named, apart, named_by, unprinted};
-use nor_words::Task;
 
 /// Checks that the device, and each file that the job writes, have no second role, and that the program does not print
 /// to the output file or to a journal. A layout and an image, which a job only reads, may be the same file.

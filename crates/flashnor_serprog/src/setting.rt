@@ -2,12 +2,12 @@
 
 ghost use Rattle.std.specs.Prelude.{◌≡◌, option_map};
 ghost use Rattle.std.specs.Result.{MatchResult};
-ghost use Rattle.nor_words.specs.Text.{pieces_of};
+ghost use Rattle.nor_args.specs.Text.{pieces_of};
 ghost use Rattle.flashnor_serprog.specs.Setting.{EndsWithRate, HasNoRate, IsSetting, IsWrongBy, IsWrongSetting};
 ghost use Rattle.flashnor_serprog.specs.Setting.{chip_select_of, clock_of, first_wrong, has_serprog_key};
 ghost use Rattle.flashnor_serprog.specs.Setting.{is_serprog_setting, is_wrong, names_network};
 
-use nor_words::{Flaw, is_alone, read_number, setting_value, split_setting};
+use nor_args::{Flaw, is_alone, read_number, setting_value, split_setting};
 
 /// The programmer that the value of `-p` describes. The value is `serprog:`, followed by `KEY=VALUE` pairs that are
 /// separated by commas, in any order, each key at most once. `dev=` is required.

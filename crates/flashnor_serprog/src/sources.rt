@@ -6,12 +6,12 @@ ghost use Rattle.flashnor_serprog.specs.Connected.{MayExpectImage, ends_with_ima
 ghost use Rattle.flashnor_serprog.specs.Sources.{FailsCheck, FailsToPrepare};
 
 use crate::jobs::is_compared;
+use nor_args::{Operation, Task, Wanted};
+use nor_console::{Fault, FileFault, journal_of};
 use nor_files::Store;
 use nor_jobs::{Sources, read_sources};
 use nor_journal::Journal;
-use nor_lines::{Fault, FileFault, journal_of};
 use nor_session::Refusal;
-use nor_words::{Operation, Task, Wanted};
 
 /// Returns a copy of the image that a job compares the whole chip with: that of `-v`, and that of `-w` except with `-n`
 /// or `-N`. Returns `None` for any other job, or if memory runs out.

@@ -4,10 +4,10 @@ ghost use Rattle.std.specs.Prelude.{◌≡◌};
 use crate::port::PortFault;
 use crate::setting::WrongSetting;
 use crate::status_line::{DIFFERED, StatusLine};
+use nor_args::{Reason, WrongArguments};
 use nor_buses::CheckFault;
-use nor_lines::{Escaped, Fault, text_of_flaw};
+use nor_console::{Escaped, Fault, text_of_flaw};
 use nor_serprog::{Failure, HandshakeFault};
-use nor_words::{Reason, WrongArguments};
 use std::fmt;
 
 /// The reason why a run ends before the first transaction.
@@ -36,7 +36,7 @@ impl<'a> From<Fault<'a>> for Trouble<'a> {
 
 impl<'a> From<WrongArguments<'a>> for Trouble<'a> {
     ghost use Rattle.flashnor_serprog.specs.declared.trouble.Trouble.TheVariants as trouble;
-    ghost use Rattle.nor_lines.specs.declared.messages.Fault.TheVariants as end;
+    ghost use Rattle.nor_console.specs.declared.messages.Fault.TheVariants as end;
 
     ghost from_gives = { λ wrong ended. ended ≡ trouble.Fault (end.Usage wrong.fault wrong.reason) };
 

@@ -7,8 +7,8 @@ use Rattle.nor_probe.specs.declared.probes.ProbeFault.{ProbeFault}
 use Rattle.nor_probe.specs.declared.table.ChipName.{ChipName}
 use Rattle.nor_request.specs.Refusal.{of_probe}
 use Rattle.nor_request.specs.declared.refusal.Refusal.{Refusal}
-use Rattle.nor_lines.specs.Messages.{IsReportedAs}
-use Rattle.nor_lines.specs.declared.messages.Fault.{Fault}
+use Rattle.nor_console.specs.Messages.{IsReportedAs}
+use Rattle.nor_console.specs.declared.messages.Fault.{Fault}
 use Rattle.nor_jobs.specs.Finding.{FailsToFind, HasIdentified, IsProbed}
 
 probed_found : (probed : Result Found ProbeFault) (chip : Found) → IsProbed probed (Ok chip) → probed ≡ Ok chip

@@ -9,9 +9,9 @@ use Rattle.nor_request.specs.declared.refusal.Refusal.{Refusal}
 use Rattle.nor_request.specs.declared.report.Report.{Report}
 use Rattle.nor_session.specs.Headline.{RestoresOriginal, RewritesOriginal}
 use Rattle.nor_session.specs.Restore.{AlwaysBy, Choice, HonestBy, ModelledBy, differing, every_saved}
-use Rattle.nor_lines.specs.Readings.{AnswersCall}
-use Rattle.nor_lines.specs.Sessions.{ReportsDone}
-use Rattle.nor_lines.specs.declared.answers.Answer.{Answer}
+use Rattle.nor_console.specs.Readings.{AnswersCall}
+use Rattle.nor_console.specs.Sessions.{ReportsDone}
+use Rattle.nor_console.specs.declared.answers.Answer.{Answer}
 
 -- the sectors that a restore rewrites: if it is quick those that differ, otherwise every saved one
 abbrev pub choice_of : (quick : Bool) → Choice

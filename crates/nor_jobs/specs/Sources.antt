@@ -2,14 +2,14 @@
 use Rattle.std.specs.Prelude.{◌≡◌, ◌⊎◌, [], ℕ, List, Option, ⊤}
 use Rattle.nor_files.specs.Files.{View}
 use Rattle.nor_layout.specs.declared.ranges.Span.{Span}
-use Rattle.nor_words.specs.declared.job.Task.{Task}
-use Rattle.nor_words.specs.declared.job.Task.TheVariants as task
-use Rattle.nor_words.specs.declared.job.Wanted.{Wanted}
-use Rattle.nor_words.specs.declared.job.Wanted.TheVariants as wanted
-use Rattle.nor_lines.specs.Files.{IsReadingFault, IsSharingFault}
-use Rattle.nor_lines.specs.Requests.{AreRangesOf, FailsToInclude}
-use Rattle.nor_lines.specs.Stored.{IsRead}
-use Rattle.nor_lines.specs.declared.messages.Fault.{Fault}
+use Rattle.nor_args.specs.declared.job.Task.{Task}
+use Rattle.nor_args.specs.declared.job.Task.TheVariants as task
+use Rattle.nor_args.specs.declared.job.Wanted.{Wanted}
+use Rattle.nor_args.specs.declared.job.Wanted.TheVariants as wanted
+use Rattle.nor_console.specs.Files.{IsReadingFault, IsSharingFault}
+use Rattle.nor_console.specs.Requests.{AreRangesOf, FailsToInclude}
+use Rattle.nor_console.specs.Stored.{IsRead}
+use Rattle.nor_console.specs.declared.messages.Fault.{Fault}
 
 -- the bytes of the image that a change writes, of which at most one byte more is read than the largest chip has; no
 -- bytes if the change writes no image

@@ -1,6 +1,6 @@
 //! The arguments of a run.
 ghost use Rattle.std.specs.Prelude.{◌≡◌, IfOk, map, string_bytes};
-ghost use Rattle.nor_words.specs.Words.{arguments_of};
+ghost use Rattle.nor_args.specs.Words.{arguments_of};
 
 use std::alloc::{AllocError, Global};
 use std::env::Args;

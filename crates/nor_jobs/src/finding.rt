@@ -3,7 +3,7 @@ ghost use Rattle.std.specs.Prelude.{Err, IfErr, IfOk, Ok, OnOk};
 ghost use Rattle.nor_jobs.specs.Finding.{FailsToFind, HasIdentified, HasLookedUp, IsNamedFirst, ReportsFound};
 ghost use Rattle.nor_jobs.specs.Finding.{ReportsSize};
 
-use nor_lines::{Answer, Fault, Outcome, or_fault};
+use nor_console::{Answer, Fault, Outcome, or_fault};
 use nor_model::Bus;
 use nor_probe::{ChipName, Found, probe};
 use nor_session::Refusal;

@@ -6,7 +6,7 @@
 //! - `finding.rt`: identifies the chip
 //! - `restoring.rt`: restores from a journal
 //!
-//! nor_lines has the calls that read, verify or change a chip, with their files.
+//! nor_console has the calls that read, verify or change a chip, with their files.
 #![tactic(auto)]
 
 mod arguments;

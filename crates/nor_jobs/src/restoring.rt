@@ -2,8 +2,8 @@
 ghost use Rattle.std.specs.Prelude.{false, true};
 ghost use Rattle.nor_jobs.specs.Restoring.{HasRunRestore};
 
+use nor_console::{Answer, Outcome};
 use nor_journal::Journal;
-use nor_lines::{Answer, Outcome};
 use nor_model::Bus;
 use nor_session::{Announcement, restore_announced, rewrite_announced};
 

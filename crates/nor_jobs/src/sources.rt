@@ -1,13 +1,13 @@
 //! The files that a job needs, which are read before its call to the engine.
 ghost use Rattle.std.specs.Prelude.{◌≡◌, ◌⊎◌, IfErr, IfOk};
 ghost use Rattle.nor_files.specs.Files.{AreUntouched};
-ghost use Rattle.nor_lines.specs.Requests.{AreRangesOf, FailsToInclude};
+ghost use Rattle.nor_console.specs.Requests.{AreRangesOf, FailsToInclude};
 ghost use Rattle.nor_jobs.specs.Sources.{AreSources, FailsImage, FailsSources, IsImage};
 
+use nor_args::{Change, Task, Wanted};
+use nor_console::{Fault, MOST_IMAGE_BYTES, read_file, read_included, read_journal};
 use nor_files::Store;
 use nor_layout::Ranges;
-use nor_lines::{Fault, MOST_IMAGE_BYTES, read_file, read_included, read_journal};
-use nor_words::{Change, Task, Wanted};
 
 /// The contents of the files that a job reads.
 #[derive(Drop)]

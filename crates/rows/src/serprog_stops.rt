@@ -10,7 +10,7 @@ use nor_chip::SimBus;
 use nor_journal::{Journal, MemVault, Vault};
 use nor_serprog::{Link, Port, Programmer, SerprogBus};
 use nor_session::{Refusal, Report};
-use nor_wire::{SimFailure, SimPort, restore_over, session_over};
+use serprog_session::{SimFailure, SimPort, restore_over, session_over};
 use std::alloc::Global;
 use std::process::Abort;
 

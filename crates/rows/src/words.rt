@@ -1,5 +1,5 @@
 //! Command lines of 1 to 14 arguments, with enough memory.
-use nor_words::request_of;
+use nor_args::request_of;
 use std::alloc::Global;
 use std::process::Abort;
 

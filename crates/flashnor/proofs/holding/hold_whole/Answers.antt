@@ -1,7 +1,7 @@
 use Rattle.std.proofs.Common.{arith}
 use Rattle.flashnor.proofs.Holds.{missing_durable}
 use Rattle.flashnor.proofs.Stays.{known_at_rest, rest_on}
-use Rattle.nor_lines.proofs.Lent.{stays_on}
+use Rattle.nor_console.proofs.Lent.{stays_on}
 use Rattle.flashnor.proofs.holding.hold_whole.Goals as goal
 
 pub returns-in_err-read_held-in-Ok-true-clause-no_more :

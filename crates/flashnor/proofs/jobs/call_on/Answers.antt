@@ -1,6 +1,6 @@
 use Rattle.std.proofs.Common.{◌∙◌, inl, inr}
 use Rattle.std.proofs.lemmas.Result.{IfErr-weaker, IfOk-weaker, err_from_is_err_and, on_err_weaker}
-use Rattle.nor_lines.proofs.Lent.{lawful_after}
+use Rattle.nor_console.proofs.Lent.{lawful_after}
 use Rattle.flashnor.proofs.Sources.{task_fails}
 use Rattle.flashnor.proofs.Traced.{keeps_called, keeps_read, makes_nothing_called, makes_nothing_read, nature_read}
 use Rattle.flashnor.proofs.Traced.{unmade_traced, view_apart, view_read}

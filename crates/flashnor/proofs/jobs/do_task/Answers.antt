@@ -3,7 +3,7 @@ use Rattle.std.proofs.lemmas.Result.{IfErr-weaker, on_err_weaker}
 use Rattle.flashnor.proofs.Doing.{does_read}
 use Rattle.flashnor.proofs.Looked.{found_chip, found_size}
 use Rattle.flashnor.proofs.Ready.{steady_or_idle-ready, modelled_ready}
-use Rattle.nor_lines.proofs.Lent.{stays_same}
+use Rattle.nor_console.proofs.Lent.{stays_same}
 use Rattle.flashnor.proofs.jobs.do_task.Goals as goal
 
 pub returns-in-Probe : goal.returns-in-Probe

@@ -5,7 +5,7 @@ use Rattle.nor_files.specs.Files.{AreAtRest}
 use Rattle.flashnor.proofs.Ended.{ends_called, holds_reported}
 use Rattle.flashnor.proofs.AfterCall.{does_after, setup_done}
 use Rattle.flashnor.proofs.Kept.{holds_task, keeps_files, ready_both}
-use Rattle.nor_lines.proofs.Lent.{lawful_after}
+use Rattle.nor_console.proofs.Lent.{lawful_after}
 use Rattle.flashnor.proofs.Traced.{fails_before, view_before}
 use Rattle.flashnor.proofs.WrittenBack.{reported_before}
 use Rattle.flashnor.proofs.Before.{keeps_before, roles_after, two_kept}

@@ -2,7 +2,7 @@ use Rattle.std.proofs.Common.{◌∙◌, inr, refl, sym, true≢false}
 use Rattle.std.proofs.lemmas.Result.{err_from_is_err_and}
 use Rattle.flashnor.proofs.Ended.{ends_called}
 use Rattle.flashnor.proofs.Before.{stays_but}
-use Rattle.nor_lines.proofs.Lent.{stays_same}
+use Rattle.nor_console.proofs.Lent.{stays_same}
 use Rattle.flashnor.proofs.run.look_at_files.Goals as goal
 
 pub returns-clause-ok : goal.returns-clause-ok

@@ -2,9 +2,9 @@ use Rattle.std.proofs.Common.{◌++◌, ℕ, List, Option, false, refl, true}
 use Rattle.std.proofs.KnownBytes.{Appends-trans}
 use Rattle.std.proofs.lemmas.Result.{on_ok_weaker}
 use Rattle.std.specs.Io.KnownBytes.{Appends}
-use Rattle.nor_lines.specs.AnswerLines.{AreLines}
-use Rattle.nor_lines.specs.Printing.{Prints}
-use Rattle.nor_lines.specs.declared.answers.Answer.{Answer}
+use Rattle.nor_console.specs.AnswerLines.{AreLines}
+use Rattle.nor_console.specs.Printing.{Prints}
+use Rattle.nor_console.specs.declared.answers.Answer.{Answer}
 use Rattle.flashnor_serprog.specs.Run.{AreLinesBy, unverified_line}
 use Rattle.flashnor_serprog.proofs.ending.print_verdict.Goals as goal
 

@@ -1,5 +1,5 @@
 use Rattle.std.proofs.Common.{rules}
-use Rattle.nor_lines.proofs.Lent.{stays_same}
+use Rattle.nor_console.proofs.Lent.{stays_same}
 use Rattle.flashnor_serprog.proofs.Found.{change_done, change_failed, restore_failed}
 use Rattle.flashnor_serprog.proofs.jobs.perform.Goals as goal
 

@@ -1,6 +1,6 @@
 use Rattle.std.proofs.Common.{Result, Ok, Err, OnOk}
 use Rattle.nor_request.specs.declared.refusal.Refusal.{Refusal}
-use Rattle.nor_lines.specs.Messages.{IsReportedAs}
+use Rattle.nor_console.specs.Messages.{IsReportedAs}
 use Rattle.flashnor_serprog.proofs.restoring.restore_uncompared.Goals as goal
 
 reported_ok : {T P : Type 0} (outcome : Result T Refusal) (value : T) → IsReportedAs outcome (Ok value)

@@ -1,6 +1,6 @@
 use Rattle.std.proofs.Common.{map, string_bytes}
 use Rattle.std.proofs.lemmas.Result.{err_from_is_err_and}
-use Rattle.nor_words.specs.Given.{hardware_given_by}
+use Rattle.nor_args.specs.Given.{hardware_given_by}
 use Rattle.flashnor_serprog.specs.Run.{program}
 use Rattle.flashnor_serprog.proofs.Helped.{options-ask, words-ask}
 use Rattle.flashnor_serprog.proofs.run.read_words.Goals as goal

@@ -1,7 +1,7 @@
 use Rattle.std.proofs.Common.{lit<, rules}
 use Rattle.std.proofs.lemmas.Iterator.Search.{find_from_yields_List}
 use Rattle.std.proofs.lemmas.Iterator.Splits.{YieldsList-from_str_split}
-use Rattle.nor_words.specs.Text.{pieces_of}
+use Rattle.nor_args.specs.Text.{pieces_of}
 use Rattle.flashnor_serprog.specs.Setting.{is_wrong}
 use Rattle.flashnor_serprog.proofs.setting.first_wrong.Goals as goal
 

@@ -1,0 +1,44 @@
+-- The operation of a program for hardware follows from the job that the same options ask for on an emulated chip.
+use Rattle.std.proofs.Common.{◌≡◌, Bool, None, Option, Some, arith, codes, option_map}
+use Rattle.std.specs.Prelude.{is_some, not}
+use Rattle.std.specs.Borrow.{Bor}
+use Rattle.nor_args.specs.Text.{Text}
+use Rattle.nor_args.specs.Given.{Texts, progress_mode}
+use Rattle.nor_args.specs.Faults.{first_fault, usage_faults}
+use Rattle.nor_args.specs.Job.{IsAsked, IsOperation, IsTask}
+use Rattle.nor_args.specs.declared.job.ChipJob.{ChipJob}
+use Rattle.nor_args.specs.declared.job.Job.TheVariants as job
+use Rattle.nor_args.specs.declared.job.ProgressMode.{ProgressMode}
+use Rattle.nor_args.specs.declared.job.Task.{Task}
+
+abbrev any_chip : Text
+any_chip = codes "dummy:emulate=TINY64"
+
+-- the same options, with an emulated chip as the value of `-p`
+abbrev pub emulated : Texts → Texts
+emulated given = record given { programmer = Some any_chip }
+
+task-same : (given : Texts) (asked : Task) → IsTask (emulated given) asked → IsTask given asked
+task-same given asked is = grind arith
+
+-- Whether an option has a value is the same if its text is represented as bytes instead of a borrow.
+pub given_text : (text : Option (Bor Text)) (is : Bool) → is ≡ is_some text → is ≡ is_some (option_map (λ t. t.now) text)
+given_text None is same = same
+given_text (Some text) is same = same
+
+-- Let the options ask for the job `on_chip` on an emulated chip. A program for hardware is then asked for the operation
+-- with the same name and task; its other fields have the values of their options.
+pub operation-asked : (given : Texts) (on_chip : ChipJob) (backup : Bool)
+    (progress : ProgressMode) → backup ≡ is_some given.backup → progress ≡ progress_mode given
+    → (first_fault (usage_faults (emulated given)) ≡ None) × IsAsked (emulated given) (job.Chip on_chip)
+    → IsOperation given (record {
+      named = on_chip.named;
+      verifies_all = not given.no_verify_all;
+      is_quick = given.quick;
+      is_backup = backup;
+      is_flash_name = given.flash_name;
+      progress = progress;
+      is_verbose = given.verbose;
+      task = on_chip.task;
+    })
+operation-asked given on_chip backup progress same shown is = search task-same

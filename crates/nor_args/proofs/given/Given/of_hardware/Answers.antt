@@ -1,0 +1,6 @@
+use Rattle.std.proofs.Common.{rules}
+use Rattle.clap.proofs.WalkLemmas.{first_value-rows}
+use Rattle.nor_args.proofs.given.Given.of_hardware.Goals as goal
+
+pub returns : goal.returns
+returns c = search (rules, first_value-rows)

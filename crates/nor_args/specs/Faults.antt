@@ -1,0 +1,104 @@
+-- The usage faults: which of the faults 2 to 9 the options have, provided that `clap` accepts the arguments, and the
+-- number and the message of each fault.
+use Rattle.std.specs.Prelude.{◌&&◌, ◌||◌, ◌++◌, ℕ, Bool, false, Option, Some, None, List, [], ◌∷◌, codes, decimal, drop, is_some, nat_eq, nat_lt, not, if◌then◌else◌}
+use Rattle.std.specs.Option.{option_map_or}
+use Rattle.nor_args.specs.Text.{Text, reads}
+use Rattle.nor_args.specs.Given.{Texts, asks_change, has_two_layouts, how_many, is_new_content, layout_file, operations, progress_of, takes_regions}
+use Rattle.nor_args.specs.Numbers.{range_of}
+use Rattle.nor_args.specs.Programmer.{has_stop, is_programmer_text}
+use Rattle.nor_args.specs.Stops.{stops_of}
+use Rattle.nor_args.specs.declared.words.UsageFault.{UsageFault}
+use Rattle.nor_args.specs.declared.words.UsageFault.TheVariants as why
+
+-- whether the options have a fault, and this fault
+abbrev pub Case : Type 0
+Case = Bool × UsageFault
+
+-- true if `text` is a value, not `None`, and the value passes `test`
+abbrev pub passes_test : (Text → Bool) → Option Text → Bool
+passes_test test text = option_map_or test text false
+
+-- true if `text` is a value, not `None`, and the value fails `test`
+abbrev pub is_no : (Text → Bool) → Option Text → Bool
+is_no test = passes_test (λ text. not (test text))
+
+-- fault 6: true if a change (`-w`, `-E` or `--wp-range`) is given, but not exactly one of `--journal` and `--rehearse`.
+-- True also if `--journal` or `--rehearse` is given, but no change.
+abbrev pub has_wrong_journal : Texts → Bool
+has_wrong_journal given =
+    not (nat_eq (how_many (is_some given.journal ∷ is_some given.rehearse ∷ [])) (if asks_change given then 1 else 0))
+
+-- fault 5: true if the value of `--wp-range` isn't a start and a length, or the value of `--progress` isn't a mode;
+-- flashnor lacks `--progress`
+abbrev pub has_wrong_value : Texts → Bool
+has_wrong_value given = is_no (reads range_of) given.wp_range || is_no (reads progress_of) given.progress
+
+-- fault 7: true if a layout (`-l`, `--fmap-file` or `--ifd-file`) is given without `-i`, or `-i` without a layout; if
+-- both are given without any of `-r`, `-v`, `-w` and `-E`; or if more than one layout is given. flashnor has only the
+-- layout of `-l`.
+abbrev pub has_wrong_regions : Texts → Bool
+has_wrong_regions given = (is_some (layout_file given) || is_some given.names)
+    && not (is_some (layout_file given) && (is_some given.names && (takes_regions given && not (has_two_layouts given))))
+
+-- true if `-N` is given without any of `-w`, `-E` and `--restore`, or `--quick` without `--restore`; flashnor has
+-- neither option
+abbrev pub has_unneeded_for_hardware : Texts → Bool
+has_unneeded_for_hardware given = (given.no_verify_all && not (is_new_content given || is_some given.restore))
+    || (given.quick && not (is_some given.restore))
+
+-- fault 8: true if `-n` or `--unlock` is given without `-w` or `-E`, or if `has_unneeded_for_hardware` is true
+abbrev pub has_unneeded : Texts → Bool
+has_unneeded given =
+    ((given.no_verify || given.unlock) && not (is_new_content given)) || has_unneeded_for_hardware given
+
+-- the faults 2 to 9, in this order; for each fault, whether the options have it
+abbrev pub usage_faults : Texts → List Case
+usage_faults given =
+    (not (is_some given.programmer) && not given.list, why.NoProgrammer)
+    ∷ (is_no is_programmer_text given.programmer, why.Programmer)
+    ∷ (nat_lt 1 (operations given), why.TwoOperations)
+    ∷ (has_wrong_value given, why.Range)
+    ∷ (has_wrong_journal given, why.Journal)
+    ∷ (has_wrong_regions given, why.Layout)
+    ∷ (has_unneeded given, why.Unneeded)
+    ∷ (
+      is_no (reads stops_of) given.rehearse
+          || (is_some given.rehearse && passes_test has_stop given.programmer),
+      why.Stops,
+    )
+    ∷ []
+
+-- the faults 4 to 9, in this order; for each fault, whether the options have it. The value of `-p` is ignored, as if it
+-- were correct and had no `stop=`. A program for hardware never has fault 9, because it lacks `--rehearse`.
+abbrev pub operation_faults : Texts → List Case
+operation_faults given = drop 2 (usage_faults (record given { programmer = None }))
+
+-- the first fault in the list that the options have, or `None` if they have none of them
+abbrev pub first_fault : List Case → Option UsageFault
+first_fault [] = None
+first_fault (case ∷ cases) = if case.0 then Some case.1 else first_fault cases
+
+-- ---- messages
+
+-- the number of a fault, which its message contains
+abbrev pub usage_fault_number : UsageFault → ℕ
+usage_fault_number (why.Words error) = 1
+usage_fault_number why.NoProgrammer = 2
+usage_fault_number why.Programmer = 3
+usage_fault_number why.TwoOperations = 4
+usage_fault_number why.Range = 5
+usage_fault_number why.Journal = 6
+usage_fault_number why.Layout = 7
+usage_fault_number why.Unneeded = 8
+usage_fault_number why.Stops = 9
+usage_fault_number why.Memory = 10
+
+-- the message of the fault with the given number
+abbrev pub numbered : ℕ → List ℕ
+numbered number = codes "Usage fault " ++ (decimal number ++ codes ".")
+
+-- the message of a fault, or `None` for fault 1. The message of fault 1 begins with the message of `clap`, and isn't
+-- specified.
+abbrev pub usage_fault_text : UsageFault → Option (List ℕ)
+usage_fault_text (why.Words error) = None
+usage_fault_text fault = Some (numbered (usage_fault_number fault))

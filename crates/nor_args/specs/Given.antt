@@ -1,0 +1,211 @@
+-- The values of the options in the arguments.
+use Rattle.std.specs.Prelude.{◌&&◌, ◌||◌, ℕ, Bool, false, Option, Some, None, List, [], ◌∷◌, codes, is_some, option_and_then, option_map, unwrap_or, if◌then◌else◌}
+use Rattle.std.specs.List.{count_by}
+use Rattle.std.specs.Option.{option_map_or, option_or}
+use Rattle.std.specs.Str.{bytes_eq}
+use Rattle.clap.specs.Words.{Row, first_of, matches_of}
+use Rattle.nor_args.specs.Text.{Text}
+use Rattle.nor_args.specs.Options.{hardware_options, options}
+use Rattle.nor_args.specs.declared.given.Given.{Given}
+use Rattle.nor_args.specs.declared.job.LayoutForm.{LayoutForm}
+use Rattle.nor_args.specs.declared.job.LayoutForm.TheVariants as form
+use Rattle.nor_args.specs.declared.job.ProgressMode.{ProgressMode}
+use Rattle.nor_args.specs.declared.job.ProgressMode.TheVariants as mode
+
+-- The options in the arguments. An option that takes a value has that value, or `None` if it isn't given. A flag is
+-- true if it is set.
+pub record Texts : Type 0 where
+  -- The values of `-p TEXT` and `-c NAME`.
+  pub programmer : Option Text
+  pub chip : Option Text
+  -- Whether `-L`, `--flash-size`, `--flash-name`, `--wp-status` and `--wp-list` are set.
+  pub list : Bool
+  pub flash_size : Bool
+  pub flash_name : Bool
+  pub wp_status : Bool
+  pub wp_list : Bool
+  -- The values of `-r FILE` and `-v FILE`.
+  pub read : Option Text
+  pub verify : Option Text
+  -- The values of `-w FILE`, `--wp-range S,L` and `--restore FILE`, and whether `-E` is set.
+  pub write : Option Text
+  pub erase : Bool
+  pub wp_range : Option Text
+  pub restore : Option Text
+  -- The values of `--backup FILE` and `--check-journal FILE`.
+  pub backup : Option Text
+  pub check_journal : Option Text
+  -- Whether `--quick` is set.
+  pub quick : Bool
+  -- The values of `--journal FILE` and `--rehearse N,N,..`.
+  pub journal : Option Text
+  pub rehearse : Option Text
+  -- The values of `-l FILE`, `--fmap-file FILE`, `--ifd-file FILE` and `-i NAMES`.
+  pub layout : Option Text
+  pub fmap_file : Option Text
+  pub ifd_file : Option Text
+  pub names : Option Text
+  -- Whether `-n`, `-N` and `--unlock` are set.
+  pub no_verify : Bool
+  pub no_verify_all : Bool
+  pub unlock : Bool
+  -- The value of `--progress MODE`, and whether `-V` is set.
+  pub progress : Option Text
+  pub verbose : Bool
+
+-- true if the value is the text `true`, which `clap` gives a flag that is set
+abbrev pub is_flag_set : Option Text → Bool
+is_flag_set value = option_map_or (λ text. bytes_eq text (codes "true")) value false
+
+-- the value of the option with the given ID in the rows, which are the result of a parse by `clap`
+abbrev pub text_in : List Row → Text → Option Text
+text_in rows id = first_of id rows
+
+-- true if the flag with the given ID is set in the rows, which are the result of a parse by `clap`
+abbrev pub is_set_in : List Row → Text → Bool
+is_set_in rows id = is_flag_set (first_of id rows)
+
+-- the options of flashnor in the rows of a parse; flashnor lacks the options that only programs for hardware have
+abbrev pub given_in : List Row → Texts
+given_in rows = record {
+  programmer = text_in rows (codes "programmer");
+  chip = text_in rows (codes "chip");
+  list = is_set_in rows (codes "list");
+  flash_size = is_set_in rows (codes "flash-size");
+  flash_name = false;
+  wp_status = is_set_in rows (codes "wp-status");
+  wp_list = is_set_in rows (codes "wp-list");
+  read = text_in rows (codes "read");
+  verify = text_in rows (codes "verify");
+  write = text_in rows (codes "write");
+  erase = is_set_in rows (codes "erase");
+  wp_range = text_in rows (codes "wp-range");
+  restore = text_in rows (codes "restore");
+  backup = None;
+  check_journal = None;
+  quick = false;
+  journal = text_in rows (codes "journal");
+  rehearse = text_in rows (codes "rehearse");
+  layout = text_in rows (codes "layout");
+  fmap_file = None;
+  ifd_file = None;
+  names = text_in rows (codes "include");
+  no_verify = is_set_in rows (codes "noverify");
+  no_verify_all = false;
+  unlock = is_set_in rows (codes "unlock");
+  progress = None;
+  verbose = false;
+}
+
+-- the options that flashnor's arguments contain, as `clap` parses them
+abbrev pub given_by : List Text → Texts
+given_by words = given_in (matches_of options words)
+
+-- the options of a program for hardware in the rows of a parse. The program has more options than flashnor, but neither
+-- `-L` nor `--rehearse`.
+abbrev pub hardware_given_in : List Row → Texts
+hardware_given_in rows = record (given_in rows) {
+  list = false;
+  rehearse = None;
+  flash_name = is_set_in rows (codes "flash-name");
+  backup = text_in rows (codes "backup");
+  check_journal = text_in rows (codes "check-journal");
+  quick = is_set_in rows (codes "quick");
+  fmap_file = text_in rows (codes "fmap-file");
+  ifd_file = text_in rows (codes "ifd-file");
+  no_verify_all = is_set_in rows (codes "noverify-all");
+  progress = text_in rows (codes "progress");
+  verbose = is_set_in rows (codes "verbose");
+}
+
+-- the options that the arguments of a program for hardware contain, as `clap` parses them; `program` is the program's
+-- name
+abbrev pub hardware_given_by : (program : Text) → List Text → Texts
+hardware_given_by program words = hardware_given_in (matches_of (hardware_options program) words)
+
+-- the options in `given` of the type `Given`, which the code uses, with each text as its bytes
+abbrev pub texts_of : Given → Texts
+texts_of given = record {
+  programmer = option_map (λ text. text.now) given.programmer;
+  chip = option_map (λ text. text.now) given.chip;
+  list = given.list;
+  flash_size = given.flash_size;
+  flash_name = given.flash_name;
+  wp_status = given.wp_status;
+  wp_list = given.wp_list;
+  read = option_map (λ text. text.now) given.read;
+  verify = option_map (λ text. text.now) given.verify;
+  write = option_map (λ text. text.now) given.write;
+  erase = given.erase;
+  wp_range = option_map (λ text. text.now) given.wp_range;
+  restore = option_map (λ text. text.now) given.restore;
+  backup = option_map (λ text. text.now) given.backup;
+  check_journal = option_map (λ text. text.now) given.check_journal;
+  quick = given.quick;
+  journal = option_map (λ text. text.now) given.journal;
+  rehearse = option_map (λ text. text.now) given.rehearse;
+  layout = option_map (λ text. text.now) given.layout;
+  fmap_file = option_map (λ text. text.now) given.fmap_file;
+  ifd_file = option_map (λ text. text.now) given.ifd_file;
+  names = option_map (λ text. text.now) given.names;
+  no_verify = given.no_verify;
+  no_verify_all = given.no_verify_all;
+  unlock = given.unlock;
+  progress = option_map (λ text. text.now) given.progress;
+  verbose = given.verbose;
+}
+
+-- the number of elements of the list that are true
+abbrev pub how_many : List Bool → ℕ
+how_many = count_by (λ asked. asked)
+
+-- the number of operations that the options ask for
+abbrev pub operations : Texts → ℕ
+operations given = how_many (
+    given.list ∷ given.flash_size ∷ given.flash_name ∷ given.wp_status ∷ given.wp_list
+    ∷ is_some given.read ∷ is_some given.verify
+    ∷ is_some given.write ∷ given.erase ∷ is_some given.wp_range ∷ is_some given.restore
+    ∷ is_some given.backup ∷ is_some given.check_journal ∷ [])
+
+-- the file name of the layout: the value of the first of `-l`, `--fmap-file` and `--ifd-file` that is given
+abbrev pub layout_file : Texts → Option Text
+layout_file given = option_or given.layout (option_or given.fmap_file given.ifd_file)
+
+-- the form of the layout in the file `layout_file`; it has a meaning only if a layout is given
+abbrev pub layout_form : Texts → LayoutForm
+layout_form given =
+    if is_some given.layout then form.Lines else if is_some given.fmap_file then form.Fmap else form.Descriptor
+
+-- true if more than one of `-l`, `--fmap-file` and `--ifd-file` is given
+abbrev pub has_two_layouts : Texts → Bool
+has_two_layouts given = (is_some given.layout && (is_some given.fmap_file || is_some given.ifd_file))
+    || (is_some given.fmap_file && is_some given.ifd_file)
+
+-- the mode with the given name, or `None` if `--progress` has no such mode
+abbrev pub progress_of : Text → Option ProgressMode
+progress_of text =
+    if bytes_eq text (codes "auto") then Some mode.Auto
+    else if bytes_eq text (codes "plain") then Some mode.Plain
+    else if bytes_eq text (codes "none") then Some mode.Hidden
+    else None
+
+-- the mode that `--progress` names, or `Auto` if the option is missing or its value isn't a mode
+abbrev pub progress_mode : Texts → ProgressMode
+progress_mode given = unwrap_or (option_and_then progress_of given.progress) mode.Auto
+
+-- the file into which the chip is read: the value of `-r`, or if `-r` is missing the value of `--backup`
+abbrev pub output_of : Texts → Option Text
+output_of given = option_or given.read given.backup
+
+-- true if `-w` or `-E` is given; both options change the bytes of the chip
+abbrev pub is_new_content : Texts → Bool
+is_new_content given = is_some given.write || given.erase
+
+-- true if `-w`, `-E` or `--wp-range` is given; each of these options changes the chip, and needs a journal or a
+-- rehearsal
+abbrev pub asks_change : Texts → Bool
+asks_change given = is_new_content given || is_some given.wp_range
+
+-- true if `-r`, `-v`, `-w` or `-E` is given; each of these options can be limited to regions of the chip
+abbrev pub takes_regions : Texts → Bool
+takes_regions given = is_some given.read || (is_some given.verify || is_new_content given)

@@ -1,0 +1,135 @@
+-- The job that options without a fault ask for, and its parts.
+use Rattle.std.specs.Prelude.{◌≡◌, ◌⊎◌, [], ◌∷◌, true, false, MatchResult, Option, Some, None, is_some, not, option_and_then, option_map}
+use Rattle.std.specs.Borrow.{Bor}
+use Rattle.std.specs.Option.{IsSomeAnd}
+use Rattle.nor_probe.specs.Table.{name_of}
+use Rattle.nor_args.specs.Faults.{first_fault, operation_faults}
+use Rattle.nor_args.specs.Given.{Texts, how_many, layout_file, layout_form, operations, output_of, progress_mode}
+use Rattle.nor_args.specs.Numbers.{range_of}
+use Rattle.nor_args.specs.Programmer.{IsProgrammer}
+use Rattle.nor_args.specs.Reasons.{IsReason}
+use Rattle.nor_args.specs.Stops.{stops_of}
+use Rattle.nor_args.specs.Text.{Text}
+use Rattle.nor_args.specs.declared.job.Change.{Change}
+use Rattle.nor_args.specs.declared.job.ChipJob.{ChipJob}
+use Rattle.nor_args.specs.declared.job.HardwareJob.{HardwareJob}
+use Rattle.nor_args.specs.declared.job.HardwareJob.TheVariants as hardware
+use Rattle.nor_args.specs.declared.job.Job.{Job}
+use Rattle.nor_args.specs.declared.job.Job.TheVariants as job
+use Rattle.nor_args.specs.declared.job.JournalUse.{JournalUse}
+use Rattle.nor_args.specs.declared.job.JournalUse.TheVariants as uses
+use Rattle.nor_args.specs.declared.job.Operation.{Operation}
+use Rattle.nor_args.specs.declared.job.ProgrammerJob.{ProgrammerJob}
+use Rattle.nor_args.specs.declared.job.Regions.{Regions}
+use Rattle.nor_args.specs.declared.job.Task.{Task}
+use Rattle.nor_args.specs.declared.job.Task.TheVariants as task
+use Rattle.nor_args.specs.declared.job.Wanted.{Wanted}
+use Rattle.nor_args.specs.declared.job.Wanted.TheVariants as want
+use Rattle.nor_args.specs.declared.reasons.Reason.TheVariants as because
+use Rattle.nor_args.specs.declared.reasons.WrongArguments.{WrongArguments}
+use Rattle.nor_args.specs.declared.words.UsageFault.TheVariants as why
+
+-- Holds if the option is given and its value is this file name.
+abbrev pub NamesFile : Option Text → Bor Text → Type 0
+NamesFile option text = option ≡ Some text.now
+
+-- Holds if the regions consist of the file of the layout, its form and the value of `-i`. `None` requires that no
+-- layout is given and `-i` is missing.
+abbrev pub IsRegions : Texts → Option Regions → Type 0
+IsRegions given None = (layout_file given ≡ None) × (given.names ≡ None)
+IsRegions given (Some regions) = NamesFile (layout_file given) regions.layout
+    × (regions.form ≡ layout_form given) × NamesFile given.names regions.names
+
+-- Holds if the options ask for this target of a change.
+abbrev pub IsWantedByArguments : Texts → Wanted → Type 0
+IsWantedByArguments given (want.Write image) = NamesFile given.write image
+IsWantedByArguments given want.Erase = given.erase ≡ true
+IsWantedByArguments given (want.Range start len) = option_and_then range_of given.wp_range ≡ Some (start, len)
+
+-- Holds if the journal is written into the file that `--journal` names, or if the change is rehearsed with the stops
+-- that `--rehearse` lists.
+abbrev pub IsJournalUse : Texts → JournalUse → Type 0
+IsJournalUse given (uses.Journal file) = NamesFile given.journal file
+IsJournalUse given (uses.Rehearse stops) = option_and_then stops_of given.rehearse ≡ Some stops.items
+
+-- Holds if each field of `change` has the value of its option.
+pub record IsChange (given : Texts) (change : Change) : Type 0 where
+  pub wanted : IsWantedByArguments given change.wanted
+  pub regions : IsRegions given change.regions
+  pub unlock : change.unlock ≡ given.unlock
+  pub verify : change.verify ≡ not given.no_verify
+  pub journal_use : IsJournalUse given change.journal_use
+
+-- Holds if the options ask for this operation. They ask for `Probe` if they contain no operation except perhaps
+-- `--flash-name`.
+abbrev pub IsTask : Texts → Task → Type 0
+IsTask given task.Probe = operations given ≡ how_many (given.flash_name ∷ [])
+IsTask given task.FlashSize = given.flash_size ≡ true
+IsTask given task.WpStatus = given.wp_status ≡ true
+IsTask given task.WpList = given.wp_list ≡ true
+IsTask given (task.Read file regions) = NamesFile (output_of given) file × IsRegions given regions
+IsTask given (task.Verify file regions) = NamesFile given.verify file × IsRegions given regions
+IsTask given (task.Change change) = IsChange given change
+IsTask given (task.Restore journal) = NamesFile given.restore journal
+
+-- Holds if each field of `on_chip`, a job on a chip, has the value of its option.
+pub record IsChipJob (given : Texts) (on_chip : ChipJob) : Type 0 where
+  pub programmer : IsSomeAnd given.programmer (λ text. IsProgrammer text on_chip.programmer)
+  pub named : on_chip.named ≡ option_map name_of given.chip
+  pub task : IsTask given on_chip.task
+
+-- Holds if the options ask for this job of flashnor: for the list of chips if `-L` is given, otherwise for a job on a
+-- chip.
+abbrev pub IsAsked : Texts → Job → Type 0
+IsAsked given job.List = given.list ≡ true
+IsAsked given (job.Chip on_chip) = (given.list ≡ false) × IsChipJob given on_chip
+
+-- ---- programs for hardware
+
+-- Holds if the options have none of the faults 4 to 9 and ask for this operation: `named` is the value of `-c`, and
+-- each other field has the value of its option.
+pub record IsOperation (given : Texts) (operation : Operation) : Type 0 where
+  pub sound : first_fault (operation_faults given) ≡ None
+  pub named : operation.named ≡ option_map name_of given.chip
+  pub verifies_all : operation.verifies_all ≡ not given.no_verify_all
+  pub is_quick : operation.is_quick ≡ given.quick
+  pub is_backup : operation.is_backup ≡ is_some given.backup
+  pub is_flash_name : operation.is_flash_name ≡ given.flash_name
+  pub progress : operation.progress ≡ progress_mode given
+  pub is_verbose : operation.is_verbose ≡ given.verbose
+  pub task : IsTask given operation.task
+
+-- Holds if `wrong` has the first of the faults 4 to 9 that the options have, and a reason for this fault.
+pub record IsWrongOperation (given : Texts) (wrong : WrongArguments) : Type 0 where
+  pub fault : first_fault (operation_faults given) ≡ Some wrong.fault
+  pub reason : IsReason given wrong.fault wrong.reason
+
+-- Holds if `-p` is missing, and `wrong` has fault 2 and its reason.
+pub record LacksProgrammer (given : Texts) (wrong : WrongArguments) : Type 0 where
+  pub fault : wrong.fault ≡ why.NoProgrammer
+  pub reason : wrong.reason ≡ because.NoProgrammer
+  pub lacks : given.programmer ≡ None
+
+-- Holds if the options of a program for hardware ask for no job, because of the fault in `wrong`. If `--check-journal`
+-- is given, this is the first of the faults 4 to 9 that the options have. If neither `--check-journal` nor `-p` is
+-- given, it is fault 2.
+abbrev pub IsWrongForHardware : Texts → WrongArguments → Type 0
+IsWrongForHardware given wrong = ((is_some given.check_journal ≡ true) × IsWrongOperation given wrong)
+    ⊎ ((given.check_journal ≡ None) × LacksProgrammer given wrong)
+
+-- Holds if `--check-journal` names this file, and the options have none of the faults 4 to 9.
+pub record IsJournalCheck (given : Texts) (file : Bor Text) : Type 0 where
+  pub named : NamesFile given.check_journal file
+  pub sound : first_fault (operation_faults given) ≡ None
+
+-- Holds if `--check-journal` is missing and `on_chip.programmer` is the value of `-p`. `on_chip.operation` must be the
+-- operation that the options ask for, or the first of the faults 4 to 9 that they have, with its reason.
+pub record IsProgrammerJob (given : Texts) (on_chip : ProgrammerJob) : Type 0 where
+  pub unchecked : given.check_journal ≡ None
+  pub programmer : NamesFile given.programmer on_chip.programmer
+  pub operation : MatchResult on_chip.operation (IsOperation given) (IsWrongOperation given)
+
+-- Holds if the options of a program for hardware ask for this job.
+abbrev pub IsHardwareAsked : Texts → HardwareJob → Type 0
+IsHardwareAsked given (hardware.CheckJournal file) = IsJournalCheck given file
+IsHardwareAsked given (hardware.Chip on_chip) = IsProgrammerJob given on_chip

@@ -1,0 +1,46 @@
+-- The numbers in the values of options.
+use Rattle.std.specs.Prelude.{◌&&◌, ℕ, Bool, List, Option, Some, None, codes, drop, length, nat_eq, nat_le, slice_get, option_and_then, option_map, if◌then◌else◌}
+use Rattle.std.specs.Char.{is_digit}
+use Rattle.std.specs.List.{list_all, starts_with}
+use Rattle.std.specs.Result.{result_ok}
+use Rattle.std.specs.Str.Parse.{digits_value}
+use Rattle.hex.specs.Hex.{decode_sized}
+use Rattle.nor_args.specs.Text.{Text, front_of, rest_of}
+
+-- true if the text consists of 1 to `most` digits to the base `radix`, with a value of at most `greatest`
+abbrev pub is_numeral : (radix most greatest : ℕ) → Text → Bool
+is_numeral radix most greatest text = list_all (λ digit. is_digit digit radix) text
+    && (nat_le 1 (length text) && (nat_le (length text) most && nat_le (digits_value radix text) greatest))
+
+-- the value of the text's digits, or `None` if `is_numeral` is false for the text
+abbrev pub numeral : (radix most greatest : ℕ) → Text → Option ℕ
+numeral radix most greatest text =
+    if is_numeral radix most greatest text then Some (digits_value radix text) else None
+
+-- the value of 1 to 20 decimal digits if it is below 2 to the power of 64; `None` for any other text
+abbrev pub decimal_number : Text → Option ℕ
+decimal_number = numeral 10 20 18446744073709551615
+
+-- a number of polls: the value of 1 to 20 decimal digits if it is at most 65,535; `None` for any other text
+abbrev pub polls_of : Text → Option ℕ
+polls_of = numeral 10 20 65535
+
+-- an address or a length: the value of `0x` and 1 to 8 hexadecimal digits, or of 1 to 10 decimal digits if it is below
+-- 2 to the power of 32; `None` for any other text
+abbrev pub number_or_length : Text → Option ℕ
+number_or_length text = if starts_with nat_eq text (codes "0x") then numeral 16 8 4294967295 (drop 2 text)
+    else numeral 10 10 4294967295 text
+
+-- the start that precedes the first comma and the length that follows it, or `None` if one of them isn't a number
+abbrev pub range_of : Text → Option (ℕ × ℕ)
+range_of text =
+    option_and_then (λ start. option_map (λ len. (start, len)) (number_or_length (rest_of text)))
+    (number_or_length (front_of text))
+
+-- the eight bytes that 16 hexadecimal digits encode, or `None` for any other text
+abbrev pub unique_number : Text → Option (List ℕ)
+unique_number text = result_ok (decode_sized text 8)
+
+-- the byte that two hexadecimal digits encode, or `None` for any other text
+abbrev pub byte_number : Text → Option ℕ
+byte_number text = option_and_then (λ bytes. slice_get bytes 0) (result_ok (decode_sized text 1))

@@ -1,0 +1,170 @@
+-- The options of flashnor and of programs for hardware, as rules of `clap`.
+use Rattle.std.specs.Prelude.{◌≡◌, ◌&&◌, Bool, true, false, List, [], ◌∷◌, ◌++◌, None, Some, codes, fold, is_some, map, not, slice_get, if◌then◌else◌}
+use Rattle.std.specs.List.{filter}
+use Rattle.std.specs.Str.{bytes_eq}
+use Rattle.clap.specs.Words.{App, Rule, new_app, new_rule, rule_of, with_rule}
+use Rattle.clap.specs.declared.builder.arg.Arg.{Arg}
+use Rattle.clap.specs.declared.builder.action.ArgAction.TheVariants.{Set, SetTrue, HelpShort, Version}
+use Rattle.nor_args.specs.declared.options.Choice.{Choice}
+use Rattle.nor_args.specs.Text.{Text}
+
+-- the option with this ID, which takes one value
+abbrev pub valued : Text → Rule
+valued id = record (new_rule id) { action = Some Set; value_names = 1 }
+
+-- the flag with this ID; a flag is an option that takes no value
+abbrev pub flag : Text → Rule
+flag id = record (new_rule id) { action = Some SetTrue }
+
+-- the same option, written as `-` and the given letter
+abbrev pub by_letter : Text → Rule → Rule
+by_letter letter rule = record rule { short = slice_get letter 0 }
+
+-- the same option, with its ID as a long name after `--`
+abbrev pub by_name : Rule → Rule
+by_name rule = record rule { long = Some rule.id }
+
+-- the options `-p` and `-c`, which name the programmer and the chip, and `-L`, which lists the chips
+abbrev pub chip_rules : List Rule
+chip_rules =
+    by_letter (codes "p") (valued (codes "programmer"))
+    ∷ by_letter (codes "c") (valued (codes "chip"))
+    ∷ by_letter (codes "L") (flag (codes "list"))
+    ∷ []
+
+-- the options for operations that only read the chip
+abbrev pub reader_rules : List Rule
+reader_rules =
+    by_name (flag (codes "flash-size"))
+    ∷ by_name (flag (codes "wp-status"))
+    ∷ by_name (flag (codes "wp-list"))
+    ∷ by_letter (codes "r") (valued (codes "read"))
+    ∷ by_letter (codes "v") (valued (codes "verify"))
+    ∷ []
+
+-- the options for operations that change the chip
+abbrev pub change_rules : List Rule
+change_rules =
+    by_letter (codes "w") (valued (codes "write"))
+    ∷ by_letter (codes "E") (flag (codes "erase"))
+    ∷ by_name (valued (codes "wp-range"))
+    ∷ by_name (valued (codes "restore"))
+    ∷ []
+
+-- the options that say how an operation is performed
+abbrev pub manner_rules : List Rule
+manner_rules =
+    by_name (valued (codes "journal"))
+    ∷ by_name (valued (codes "rehearse"))
+    ∷ by_letter (codes "l") (valued (codes "layout"))
+    ∷ by_letter (codes "i") (valued (codes "include"))
+    ∷ by_letter (codes "n") (flag (codes "noverify"))
+    ∷ by_name (flag (codes "unlock"))
+    ∷ []
+
+-- `-h`, which prints the help
+abbrev pub help_rule : Rule
+help_rule = by_letter (codes "h") (record (new_rule (codes "usage")) { action = Some HelpShort })
+
+-- all options of flashnor except `-h`: the rows of the table `CHOICES` in src/options.rt describe them
+abbrev pub most_rules : List Rule
+most_rules = chip_rules ++ reader_rules ++ change_rules ++ manner_rules
+
+-- Holds if `arg`, an option of `clap`, has the rule `option` and isn't a global option.
+pub record IsOption (option : Rule) (arg : Arg) : Type 0 where
+  pub rule : rule_of arg ≡ option
+  pub local : arg.global ≡ false
+
+-- the `clap` command of a program with this name, without options. The program's name isn't among the arguments that it
+-- parses, and `clap`'s own help option is disabled.
+abbrev pub no_options_of : Text → App
+no_options_of program = let app = new_app program in
+    record app { top = record app.top { no_binary_name = true; disable_help_flag = true } }
+
+-- the `clap` command of flashnor without options
+abbrev pub no_options : App
+no_options = no_options_of (codes "flashnor")
+
+-- the command with the options of the list appended
+abbrev pub with_rules : App → List Rule → App
+with_rules = fold with_rule
+
+-- the `clap` command of flashnor with all options
+abbrev pub options : App
+options =
+    with_rule (with_rules (with_rules (with_rules (with_rules no_options chip_rules) reader_rules) change_rules)
+    manner_rules) help_rule
+
+-- ---- programs for hardware
+
+-- true for the ID of an option that a program for hardware has: every option except `-L` and `--rehearse`
+abbrev pub is_for_hardware : Text → Bool
+is_for_hardware id = not (bytes_eq id (codes "list")) && not (bytes_eq id (codes "rehearse"))
+
+-- the options that only programs for hardware have, except `-R`. Here the options with a letter still lack their long
+-- names.
+abbrev pub own_rules : List Rule
+own_rules =
+    by_name (valued (codes "backup"))
+    ∷ by_letter (codes "N") (flag (codes "noverify-all"))
+    ∷ by_name (flag (codes "quick"))
+    ∷ by_name (flag (codes "flash-name"))
+    ∷ by_name (valued (codes "check-journal"))
+    ∷ by_name (valued (codes "fmap-file"))
+    ∷ by_name (valued (codes "ifd-file"))
+    ∷ by_name (valued (codes "progress"))
+    ∷ by_letter (codes "V") (flag (codes "verbose"))
+    ∷ []
+
+-- the `clap` command of a program for hardware with this name, without options. It has a version, and `clap`'s own
+-- version option is disabled.
+abbrev pub no_hardware_options_of : (program : Text) → App
+no_hardware_options_of program = let app = no_options_of program in
+    record app { top = record app.top { has_version = true; disable_version_flag = true } }
+
+-- the options of the list that a program for hardware has, all with a long name
+abbrev pub for_hardware : List Rule → List Rule
+for_hardware rules = map by_name (filter (λ rule. is_for_hardware rule.id) rules)
+
+-- `-R` or `--version`, which prints the version of a program for hardware
+abbrev pub version_rule : Rule
+version_rule = record (by_letter (codes "R") (new_rule (codes "release"))) {
+  long = Some (codes "version");
+  action = Some Version;
+}
+
+-- `-h` or `--help`, which prints the help of a program for hardware
+abbrev pub hardware_help_rule : Rule
+hardware_help_rule = record help_rule { long = Some (codes "help") }
+
+-- the `clap` command of a program for hardware with this name. It has the options of flashnor except `-L` and
+-- `--rehearse`, the options `own_rules`, and `-R` and `-h`, all with a long name.
+abbrev pub hardware_options : (program : Text) → App
+hardware_options program =
+    let shared = with_rules (no_hardware_options_of program) (for_hardware most_rules) in
+    with_rule (with_rule (with_rules shared (for_hardware own_rules)) version_rule) hardware_help_rule
+
+-- ---- the tables in src/options.rt and src/options/hardware.rt
+
+-- the option with the name and the letter of a row, before it is set whether the option takes a value
+abbrev pub named : Choice → Rule
+named choice = record (new_rule choice.name.now) {
+  short = choice.letter;
+  long = if is_some choice.letter then None else Some choice.name.now;
+}
+
+-- the option that a row describes, with a value if the row has a placeholder for it
+abbrev pub chosen : Choice → Rule
+chosen choice = record (named choice) {
+  action = Some (if is_some choice.value then Set else SetTrue);
+  value_names = if is_some choice.value then 1 else 0;
+}
+
+-- the command with the option of this row appended
+abbrev pub with_choice : App → Choice → App
+with_choice app choice = with_rule app (chosen choice)
+
+-- the command with the option of this row and its long name appended, if a program for hardware has this option
+abbrev pub with_hardware_choice : App → Choice → App
+with_hardware_choice app choice =
+    if is_for_hardware choice.name.now then with_rule app (by_name (chosen choice)) else app

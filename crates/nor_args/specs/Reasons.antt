@@ -1,0 +1,206 @@
+-- The reasons of usage faults: for each fault that the options may have (specs/Faults.antt), what is wrong with the
+-- options.
+use Rattle.std.specs.Prelude.{◌≡◌, ◌&&◌, ◌||◌, ℕ, Bool, true, false, ⊤, List, [], ◌∷◌, Option, Some, None, codes, find, is_some, nat_eq, not, option_map, reverse, if◌then◌else◌}
+use Rattle.std.specs.List.{list_any, starts_with}
+use Rattle.nor_args.specs.Text.{Text, pieces_of, reads}
+use Rattle.nor_args.specs.Given.{Texts, asks_change, has_two_layouts, is_new_content, progress_of}
+use Rattle.nor_args.specs.Faults.{is_no}
+use Rattle.nor_args.specs.Numbers.{decimal_number}
+use Rattle.nor_args.specs.Programmer.{has_key, is_setting, is_alone_in, keys, settings_of}
+use Rattle.nor_args.specs.Stops.{stops_of}
+use Rattle.nor_args.specs.declared.reasons.Flaw.{Flaw}
+use Rattle.nor_args.specs.declared.reasons.Flaw.TheVariants as flaw
+use Rattle.nor_args.specs.declared.reasons.OptionName.{OptionName}
+use Rattle.nor_args.specs.declared.reasons.OptionName.TheVariants as option
+use Rattle.nor_args.specs.declared.reasons.Reason.{Reason}
+use Rattle.nor_args.specs.declared.reasons.Reason.TheVariants as because
+use Rattle.nor_args.specs.declared.reasons.WrongArguments.{WrongArguments}
+use Rattle.nor_args.specs.declared.words.UsageFault.{UsageFault}
+use Rattle.nor_args.specs.declared.words.UsageFault.TheVariants as why
+
+-- the option as you type it
+abbrev pub option_text : OptionName → List ℕ
+option_text option.List = codes "-L"
+option_text option.FlashSize = codes "--flash-size"
+option_text option.FlashName = codes "--flash-name"
+option_text option.WpStatus = codes "--wp-status"
+option_text option.WpList = codes "--wp-list"
+option_text option.Read = codes "-r"
+option_text option.Verify = codes "-v"
+option_text option.Write = codes "-w"
+option_text option.Erase = codes "-E"
+option_text option.WpRange = codes "--wp-range"
+option_text option.Restore = codes "--restore"
+option_text option.Backup = codes "--backup"
+option_text option.CheckJournal = codes "--check-journal"
+option_text option.Journal = codes "--journal"
+option_text option.Rehearse = codes "--rehearse"
+option_text option.Layout = codes "-l"
+option_text option.FmapFile = codes "--fmap-file"
+option_text option.IfdFile = codes "--ifd-file"
+option_text option.NoVerify = codes "-n"
+option_text option.Unlock = codes "--unlock"
+
+-- ---- fault 3
+
+-- true if `setting`, one of `settings`, has an unknown key, a wrong value, or a key that another of `settings` has, too
+unfoldable pub is_flawed : List Text → Text → Bool
+is_flawed settings setting = not (is_setting setting) || not (is_alone_in settings setting)
+
+-- the first of `settings` for which `is_flawed` is true
+abbrev pub first_flawed : List Text → Option Text
+first_flawed settings = find (is_flawed settings) settings
+
+-- true if the setting has a known key
+abbrev pub has_known_key : Text → Bool
+has_known_key setting = list_any (λ known. has_key known.0 setting) keys
+
+-- The flaw of a setting that has a flaw. `known` says whether its key is known, and `valid` says whether the key is
+-- known and may have the setting's value. If both are true, another setting has the same key.
+abbrev pub flaw_by : (known valid : Bool) → Flaw
+flaw_by known valid = if not known then flaw.Key else if valid then flaw.Twice else flaw.Value
+
+-- what is wrong with `setting`, which must have a flaw
+abbrev pub flaw_of : Text → Flaw
+flaw_of setting = flaw_by (has_known_key setting) (is_setting setting)
+
+-- Holds if this is the reason why the value of `-p` is wrong. `NoPrefix`: the value doesn't begin with `dummy:`.
+-- `Setting`: this is the first setting with a flaw. `NoChip`: no setting has a flaw, so `emulate=` is missing.
+abbrev pub IsWrongProgrammer : Text → Reason → Type 0
+IsWrongProgrammer text because.NoPrefix = starts_with nat_eq text (codes "dummy:") ≡ false
+IsWrongProgrammer text (because.Setting setting wrong) = (starts_with nat_eq text (codes "dummy:") ≡ true)
+    × (first_flawed (settings_of text) ≡ Some setting.now) × (wrong ≡ flaw_of setting.now)
+IsWrongProgrammer text because.NoChip = (starts_with nat_eq text (codes "dummy:") ≡ true)
+    × (first_flawed (settings_of text) ≡ None)
+IsWrongProgrammer text _ = ⊥
+
+-- ---- fault 4
+
+-- whether an option is given, and this option
+abbrev pub Choosing : Type 0
+Choosing = Bool × OptionName
+
+-- each operation with whether it is given, in the order of the help except that `--flash-name` follows `--flash-size`
+abbrev pub operation_choices : Texts → List Choosing
+operation_choices given =
+    (given.list, option.List) ∷ (given.flash_size, option.FlashSize) ∷ (given.flash_name, option.FlashName)
+    ∷ (given.wp_status, option.WpStatus) ∷ (given.wp_list, option.WpList) ∷ (is_some given.read, option.Read) ∷ (is_some given.verify, option.Verify)
+    ∷ (is_some given.write, option.Write) ∷ (given.erase, option.Erase)
+    ∷ (is_some given.wp_range, option.WpRange) ∷ (is_some given.restore, option.Restore)
+    ∷ (is_some given.backup, option.Backup) ∷ (is_some given.check_journal, option.CheckJournal) ∷ []
+
+-- the first option in the list that is given, or `None` if none is given
+abbrev pub first_given : List Choosing → Option OptionName
+first_given choices =
+    option_map (λ (choosing : Choosing). choosing.1) (find (λ (choosing : Choosing). choosing.0) choices)
+
+-- the reason that names `first` and `last`, the first and the last of the options that are given
+abbrev pub operations_reason : (first last : Option OptionName) → Reason
+operations_reason (Some first) (Some last) = because.Operations first last
+operations_reason first last = because.Unsaid
+
+-- ---- faults 5 to 9
+
+-- Holds if the reason of fault 5 contains this value of `--wp-range`. Without a value there is no reason (`Unsaid`).
+abbrev pub IsWrongRange : Option Text → Reason → Type 0
+IsWrongRange (Some value) (because.Range text) = text.now ≡ value
+IsWrongRange None because.Unsaid = ⊤
+IsWrongRange value _ = ⊥
+
+-- Holds if the reason of fault 5 contains this value of `--progress`. Without a value there is no reason (`Unsaid`).
+abbrev pub IsWrongMode : Option Text → Reason → Type 0
+IsWrongMode (Some value) (because.Progress text) = text.now ≡ value
+IsWrongMode None because.Unsaid = ⊤
+IsWrongMode value _ = ⊥
+
+-- Holds if this is the reason of fault 5: the value of `--progress` if `wrong_mode` is true, otherwise the value of
+-- `--wp-range`.
+abbrev pub IsWrongValue : (wrong_mode : Bool) → Texts → Reason → Type 0
+IsWrongValue true given reason = IsWrongMode given.progress reason
+IsWrongValue false given reason = IsWrongRange given.wp_range reason
+
+-- the first of `-w`, `-E` and `--wp-range` that is given; `--wp-range` also if none of them is given
+abbrev pub change_option : Texts → OptionName
+change_option given = if is_some given.write then option.Write else if given.erase then option.Erase else option.WpRange
+
+-- the reason of fault 6: both `--journal` and `--rehearse` are given, or a change is given without either, or one of
+-- them without a change
+abbrev pub journal_reason : Texts → Reason
+journal_reason given =
+    if is_some given.journal && is_some given.rehearse then because.JournalAndRehearse
+    else if asks_change given then because.NoJournal (change_option given)
+    else because.NoChange (if is_some given.journal then option.Journal else option.Rehearse)
+
+-- the first of `-l`, `--fmap-file` and `--ifd-file` that is given, or `None` if none is given
+abbrev pub first_layout : Texts → Option OptionName
+first_layout given =
+    if is_some given.layout then Some option.Layout
+    else if is_some given.fmap_file then Some option.FmapFile
+    else if is_some given.ifd_file then Some option.IfdFile else None
+
+-- the last of `-l`, `--fmap-file` and `--ifd-file` that is given, or `None` if none is given
+abbrev pub last_layout : Texts → Option OptionName
+last_layout given =
+    if is_some given.ifd_file then Some option.IfdFile
+    else if is_some given.fmap_file then Some option.FmapFile
+    else if is_some given.layout then Some option.Layout else None
+
+-- the reason of fault 7 if at most one layout is given: `layout` is its option, and `names` is the value of `-i`
+abbrev pub names_reason : (layout : Option OptionName) → (names : Option Text) → Reason
+names_reason (Some layout) (Some names) = because.NoRegions layout
+names_reason (Some layout) None = because.NoNames layout
+names_reason None names = because.NoLayout
+
+-- the reason of fault 7: more than one layout is given, or something is missing
+abbrev pub regions_reason : Texts → Reason
+regions_reason given =
+    if has_two_layouts given then operations_reason (first_layout given) (last_layout given)
+    else names_reason (first_layout given) given.names
+
+-- the reason of fault 8: the option that is given without the operation that it needs. `-n` and `--unlock` need `-w` or
+-- `-E`, `-N` needs one of these or `--restore`, and `--quick` needs `--restore`.
+abbrev pub unneeded_reason : Texts → Reason
+unneeded_reason given =
+    if is_new_content given then because.NoRestore
+    else if given.no_verify then because.NoContent option.NoVerify
+    else if given.no_verify_all && not (is_some given.restore) then because.NoComparison
+    else if given.unlock then because.NoContent option.Unlock
+    else because.NoRestore
+
+-- the first part of the value of `--rehearse` that isn't a number
+abbrev pub first_unread : Text → Option Text
+first_unread text = find (λ piece. not (reads decimal_number piece)) (pieces_of text)
+
+-- Holds if this is the reason of fault 9. `Stop`: the first part of the value of `--rehearse` that isn't a number.
+-- `ManyStops`: the value has more than 64 numbers. `StopAndRehearse`: the value is correct, so the fault is the `stop=`
+-- of `-p`.
+abbrev pub IsWrongStops : Option Text → Reason → Type 0
+IsWrongStops (Some text) (because.Stop piece) = first_unread text ≡ Some piece.now
+IsWrongStops (Some text) because.ManyStops = (first_unread text ≡ None) × (stops_of text ≡ None)
+IsWrongStops (Some text) because.StopAndRehearse = (first_unread text ≡ None) × (is_some (stops_of text) ≡ true)
+IsWrongStops None because.Unsaid = ⊤
+IsWrongStops text _ = ⊥
+
+-- ---- all faults
+
+-- Holds if this is the reason of fault 3 for this value of `-p`, which is `None` if `-p` is missing.
+abbrev pub IsProgrammerReason : Option Text → Reason → Type 0
+IsProgrammerReason (Some text) reason = IsWrongProgrammer text reason
+IsProgrammerReason None reason = reason ≡ because.Unsaid
+
+-- Holds if `reason` is the reason of this fault. It says what is wrong if the options have the fault.
+abbrev pub IsReason : Texts → UsageFault → Reason → Type 0
+IsReason given why.NoProgrammer reason = reason ≡ because.NoProgrammer
+IsReason given why.Programmer reason = IsProgrammerReason given.programmer reason
+IsReason given why.TwoOperations reason = reason
+    ≡ operations_reason (first_given (operation_choices given)) (first_given (reverse (operation_choices given)))
+IsReason given why.Range reason = IsWrongValue (is_no (reads progress_of) given.progress) given reason
+IsReason given why.Journal reason = reason ≡ journal_reason given
+IsReason given why.Layout reason = reason ≡ regions_reason given
+IsReason given why.Unneeded reason = reason ≡ unneeded_reason given
+IsReason given why.Stops reason = IsWrongStops given.rehearse reason
+IsReason given _ reason = reason ≡ because.Unsaid
+
+-- Holds if `wrong` has the fault `Memory` (out of memory), which has no reason.
+abbrev pub IsOutOfMemory : WrongArguments → Type 0
+IsOutOfMemory wrong = (wrong.fault ≡ why.Memory) × (wrong.reason ≡ because.Unsaid)

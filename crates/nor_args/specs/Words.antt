@@ -1,0 +1,101 @@
+-- Which arguments ask for which job, which have which usage fault, and which ask neither for a job nor for help.
+use Rattle.std.specs.Prelude.{◌≡◌, ◌≢◌, [], List, Some, None, ⊤, ◌⊎◌, drop, is_some, map, string_bytes, true}
+use Rattle.std.specs.Global.{Global}
+use Rattle.std.specs.Vec.Iter.{into_iter_items}
+use Rattle.std.specs.declared.string.String.{String}
+use Rattle.std.specs.declared.vec.IntoIter.{IntoIter}
+use Rattle.clap.specs.Words.{Kinds, IsAmong, fault_of, kind_of}
+use Rattle.clap.specs.declared.error.Error.{Error}
+use Rattle.clap.specs.declared.error.kind.ErrorKind.TheVariants as kind
+use Rattle.nor_args.specs.Text.{Text}
+use Rattle.nor_args.specs.Options.{hardware_options, options}
+use Rattle.nor_args.specs.Given.{Texts, given_by, hardware_given_by}
+use Rattle.nor_args.specs.Faults.{first_fault, operation_faults, usage_faults}
+use Rattle.nor_args.specs.Job.{IsAsked, IsHardwareAsked}
+use Rattle.nor_args.specs.Reasons.{IsReason}
+use Rattle.nor_args.specs.declared.job.HardwareJob.{HardwareJob}
+use Rattle.nor_args.specs.declared.job.Job.{Job}
+use Rattle.nor_args.specs.declared.reasons.Reason.TheVariants as because
+use Rattle.nor_args.specs.declared.reasons.WrongArguments.{WrongArguments}
+use Rattle.nor_args.specs.declared.words.UsageFault.{UsageFault}
+use Rattle.nor_args.specs.declared.words.UsageFault.TheVariants as why
+
+-- the arguments of a run: all that the system provides after the program's name
+abbrev pub arguments_of : IntoIter (String Global) Global → List Text
+arguments_of args = map string_bytes (drop 1 (into_iter_items args))
+
+-- the kinds of error with which `clap` may reject the arguments of flashnor; the list is empty if `clap` accepts them
+abbrev pub refusals_of : List Text → Kinds
+refusals_of words = fault_of options words
+
+-- Holds if the arguments of flashnor ask for this job: `clap` accepts the arguments, the options have no fault, and
+-- each part of the job has the value of its option.
+pub record IsJob (words : List Text) (job : Job) : Type 0 where
+  pub taken : refusals_of words ≡ []
+  pub sound : first_fault (usage_faults (given_by words)) ≡ None
+  pub asked : IsAsked (given_by words) job
+
+-- Holds if a run with these arguments may report this fault. For the fault `Words`, `clap` may reject the arguments
+-- with an error of this kind. For the faults 2 to 9, `clap` accepts the arguments, and this is the first fault that the
+-- options have. The fault `Memory` (out of memory) is possible with any arguments.
+abbrev pub IsFault : List Text → UsageFault → Type 0
+IsFault words (why.Words error) = IsAmong (kind_of error) (refusals_of words)
+IsFault words why.Memory = ⊤
+IsFault words fault = (refusals_of words ≡ []) × (first_fault (usage_faults (given_by words)) ≡ Some fault)
+
+-- Holds if a run with these arguments may report this fault, and the reason belongs to the fault.
+pub record AreWrong (words : List Text) (wrong : WrongArguments) : Type 0 where
+  pub fault : IsFault words wrong.fault
+  pub reason : IsReason (given_by words) wrong.fault wrong.reason
+
+-- Holds for the usage fault that an error of `clap` becomes: `Memory` if memory ran out, otherwise `Words`.
+abbrev pub BecomesFault : Error → UsageFault → Type 0
+BecomesFault error fault =
+    ((kind_of error ≡ kind.OutOfMemory) × (fault ≡ why.Memory))
+    ⊎ ((kind_of error ≢ kind.OutOfMemory) × (fault ≡ why.Words error))
+
+-- Holds if `wrong` has the fault that an error of `clap` becomes, and no reason.
+pub record BecomesWrong (error : Error) (wrong : WrongArguments) : Type 0 where
+  pub fault : BecomesFault error wrong.fault
+  pub reason : wrong.reason ≡ because.Unsaid
+
+-- Holds if the arguments ask neither for a job nor for help.
+pub record IsRefusedArguments (words : List Text) : Type 0 where
+  pub no_job : (job : Job) → IsJob words job → ⊥
+  pub no_help : IsAmong kind.DisplayHelp (refusals_of words) → ⊥
+
+-- ---- programs for hardware
+
+-- the kinds of error with which `clap` may reject the arguments of a program for hardware with this name; the list is
+-- empty if `clap` accepts them
+abbrev pub hardware_refusals_of : (program : Text) → List Text → Kinds
+hardware_refusals_of program words = fault_of (hardware_options program) words
+
+-- Holds if the arguments of the program with this name ask for this job: `clap` accepts the arguments, and each part of
+-- the job has the value of its option.
+pub record IsHardwareJob (program : Text) (words : List Text) (job : HardwareJob) : Type 0 where
+  pub taken : hardware_refusals_of program words ≡ []
+  pub asked : IsHardwareAsked (hardware_given_by program words) job
+
+-- Holds if the options of a program for hardware ask for no job, because of this fault. If `--check-journal` is given,
+-- this is the first of the faults 4 to 9 that the options have. If neither `--check-journal` nor `-p` is given, it is
+-- fault 2.
+abbrev pub HasNoJob : Texts → UsageFault → Type 0
+HasNoJob given fault =
+    ((is_some given.check_journal ≡ true) × (first_fault (operation_faults given) ≡ Some fault))
+    ⊎ ((given.check_journal ≡ None) × ((fault ≡ why.NoProgrammer) × (given.programmer ≡ None)))
+
+-- Holds if a run of the program with this name may report this fault for these arguments. For the fault `Words`, `clap`
+-- may reject the arguments with an error of this kind. For another fault, `clap` accepts the arguments, and the options
+-- have this fault (`HasNoJob`). The fault `Memory` (out of memory) is possible with any arguments.
+abbrev pub IsHardwareFault : (program : Text) → List Text → UsageFault → Type 0
+IsHardwareFault program words (why.Words error) = IsAmong (kind_of error) (hardware_refusals_of program words)
+IsHardwareFault program words why.Memory = ⊤
+IsHardwareFault program words fault =
+    (hardware_refusals_of program words ≡ []) × HasNoJob (hardware_given_by program words) fault
+
+-- Holds if a run of the program with this name may report this fault for these arguments, and the reason belongs to the
+-- fault.
+pub record AreWrongForHardware (program : Text) (words : List Text) (wrong : WrongArguments) : Type 0 where
+  pub fault : IsHardwareFault program words wrong.fault
+  pub reason : IsReason (hardware_given_by program words) wrong.fault wrong.reason

@@ -1,0 +1,353 @@
+//! The values of the options in the arguments, and the job that these options ask for or the first usage fault that
+//! they have.
+ghost use Rattle.std.specs.Prelude.{◌≡◌, None, Some, codes, false, is_some, true, option_map, option_and_then, MatchOption, MatchResult};
+ghost use Rattle.std.specs.Option.{IsSomeAnd};
+ghost use Rattle.clap.specs.Words.{found_of, rows_of};
+ghost use Rattle.nor_args.specs.Given.{given_in, hardware_given_in, operations, is_new_content, asks_change, takes_regions};
+ghost use Rattle.nor_args.specs.Given.{has_two_layouts, layout_file, layout_form, progress_mode, progress_of};
+ghost use Rattle.nor_args.specs.Faults.{first_fault, has_unneeded, has_wrong_journal, has_wrong_regions, is_no, operation_faults, passes_test, usage_faults};
+ghost use Rattle.nor_args.specs.Job.{IsAsked, IsHardwareAsked, IsJournalUse, IsOperation, IsRegions, IsTask, IsWantedByArguments, IsWrongForHardware, IsWrongOperation};
+ghost use Rattle.nor_args.specs.Numbers.{range_of};
+ghost use Rattle.nor_args.specs.Programmer.{IsProgrammer, has_stop, is_programmer_text};
+ghost use Rattle.nor_args.specs.Stops.{stops_of};
+ghost use Rattle.nor_args.specs.Text.{reads};
+
+use crate::given::flags::is_set;
+use crate::job::{
+    Change, ChipJob, HardwareJob, Job, JournalUse, LayoutForm, Operation, ProgrammerJob,
+    ProgressMode, Regions, Task, Wanted,
+};
+use crate::numbers::read_range;
+use crate::programmer::Programmer;
+use crate::reasons::WrongArguments;
+use crate::stops::{MOST_STOPS, read_stops};
+use crate::words::UsageFault;
+use arrayvec::ArrayVec;
+use clap::ArgMatches;
+use nor_probe::ChipName;
+
+mod faults;
+mod flags;
+mod reasons;
+
+// A correct value of `-p`, without a `stop=`. The options of a program for hardware are checked with this value in
+// place of their own.
+const ANY_CHIP: &str = "dummy:emulate=TINY64";
+
+/// The options in the arguments. An option that takes a value has that value, or `None` if it isn't given. A flag is
+/// true if it is set.
+#[derive(Clone, Copy)]
+pub struct Given<'a> {
+    programmer: Option<&'a str>,
+    chip: Option<&'a str>,
+    list: bool,
+    flash_size: bool,
+    flash_name: bool,
+    wp_status: bool,
+    wp_list: bool,
+    read: Option<&'a str>,
+    verify: Option<&'a str>,
+    write: Option<&'a str>,
+    erase: bool,
+    wp_range: Option<&'a str>,
+    restore: Option<&'a str>,
+    backup: Option<&'a str>,
+    check_journal: Option<&'a str>,
+    quick: bool,
+    layout: Option<&'a str>,
+    fmap_file: Option<&'a str>,
+    ifd_file: Option<&'a str>,
+    names: Option<&'a str>,
+    no_verify: bool,
+    no_verify_all: bool,
+    unlock: bool,
+    journal: Option<&'a str>,
+    rehearse: Option<&'a str>,
+    progress: Option<&'a str>,
+    verbose: bool,
+}
+
+impl<'a> Given<'a> {
+    ghost use Rattle.nor_args.specs.Given.{texts_of};
+
+    /// Collects the options of flashnor from the result of `clap`. The options that only programs for hardware have are
+    /// missing or false.
+    pub fn of(matches: &ArgMatches<'a>) -> Given<'a>
+        ensures { texts_of result ≡ given_in (rows_of (found_of matches.now)) }
+    {
+        Given {
+            programmer: matches.get_str("programmer"),
+            chip: matches.get_str("chip"),
+            list: is_set(matches, "list"),
+            flash_size: is_set(matches, "flash-size"),
+            flash_name: false,
+            wp_status: is_set(matches, "wp-status"),
+            wp_list: is_set(matches, "wp-list"),
+            read: matches.get_str("read"),
+            verify: matches.get_str("verify"),
+            write: matches.get_str("write"),
+            erase: is_set(matches, "erase"),
+            wp_range: matches.get_str("wp-range"),
+            restore: matches.get_str("restore"),
+            backup: None,
+            check_journal: None,
+            quick: false,
+            layout: matches.get_str("layout"),
+            fmap_file: None,
+            ifd_file: None,
+            names: matches.get_str("include"),
+            no_verify: is_set(matches, "noverify"),
+            no_verify_all: false,
+            unlock: is_set(matches, "unlock"),
+            journal: matches.get_str("journal"),
+            rehearse: matches.get_str("rehearse"),
+            progress: None,
+            verbose: false,
+        }
+    }
+
+    /// Collects the options of a program for hardware from the result of `clap`. `-L` and `--rehearse`, which these
+    /// programs lack, are false and missing.
+    pub fn of_hardware(matches: &ArgMatches<'a>) -> Given<'a>
+        ensures { texts_of result ≡ hardware_given_in (rows_of (found_of matches.now)) }
+    {
+        Given {
+            list: false,
+            rehearse: None,
+            flash_name: is_set(matches, "flash-name"),
+            backup: matches.get_str("backup"),
+            check_journal: matches.get_str("check-journal"),
+            quick: is_set(matches, "quick"),
+            fmap_file: matches.get_str("fmap-file"),
+            ifd_file: matches.get_str("ifd-file"),
+            no_verify_all: is_set(matches, "noverify-all"),
+            progress: matches.get_str("progress"),
+            verbose: is_set(matches, "verbose"),
+            ..Given::of(matches)
+        }
+    }
+
+    /// Returns the job that the options ask for, or the first of the faults 2 to 9 that they have. The options must not
+    /// include `--check-journal`.
+    pub fn job(self) -> Result<Job<'a>, UsageFault>
+        requires { (texts_of self).check_journal ≡ None }
+        ensures { MatchResult result
+            (λ job. (first_fault (usage_faults (texts_of self.entry)) ≡ None) × IsAsked (texts_of self.entry) job)
+            (λ fault. first_fault (usage_faults (texts_of self.entry)) ≡ Some fault) }
+    {
+        if let Some(fault) = self.fault() {
+            return Err(fault);
+        }
+        match self.parsed_programmer() {
+            Some(programmer) if !self.list => Ok(Job::Chip(ChipJob {
+                programmer,
+                named: self.chip.map(ChipName::of),
+                task: self.task(),
+            })),
+            _ => Ok(Job::List),
+        }
+    }
+
+    /// Returns the job of a program for hardware. With `--check-journal` the job has the file name of the journal.
+    /// Otherwise it has the value of `-p`, and the operation or the first of the faults 4 to 9 that the options have.
+    ///
+    /// With `--check-journal`, returns the first of the faults 4 to 9 if the options have one. Returns fault 2 if `-p`
+    /// and `--check-journal` are missing. The options must not include `-L`.
+    pub fn hardware_job(self) -> Result<HardwareJob<'a>, WrongArguments<'a>>
+        requires { self.list ≡ false }
+        ensures { MatchResult result (IsHardwareAsked (texts_of self.entry)) (IsWrongForHardware (texts_of self.entry)) }
+    {
+        match (self.check_journal, self.programmer) {
+            (Some(file), _) => match self.emulated().fault() {
+                None => Ok(HardwareJob::CheckJournal { file }),
+                Some(fault) => Err(self.explained(fault)),
+            },
+            (None, Some(programmer)) => Ok(HardwareJob::Chip(ProgrammerJob {
+                programmer,
+                operation: self.operation(),
+            })),
+            (None, None) => Err(self.explained(UsageFault::NoProgrammer)),
+        }
+    }
+
+    // Returns the operation that the options ask for, or the first of the faults 4 to 9 that they have, with its
+    // reason. The options must include neither `-L`, so that the job is never a list of chips, nor `--check-journal`.
+    fn operation(self) -> Result<Operation<'a>, WrongArguments<'a>>
+        requires { (self.list ≡ false) × ((texts_of self).check_journal ≡ None) }
+        ensures { MatchResult result (IsOperation (texts_of self.entry)) (IsWrongOperation (texts_of self.entry)) }
+    {
+        match self.emulated().job() {
+            Ok(Job::Chip(ChipJob { named, task, .. })) => Ok(Operation {
+                named,
+                verifies_all: !self.no_verify_all,
+                is_quick: self.quick,
+                is_backup: self.backup.is_some(),
+                is_flash_name: self.flash_name,
+                progress: self.progress_mode(),
+                is_verbose: self.verbose,
+                task,
+            }),
+            Ok(Job::List) => Err(self.explained(UsageFault::TwoOperations)),
+            Err(fault) => Err(self.explained(fault)),
+        }
+    }
+
+    // Returns the same options with `ANY_CHIP` as the value of `-p`. The faults of the other options are the same for
+    // each correct value without a `stop=`, so any such value will do.
+    fn emulated(&self) -> Given<'a>
+        ensures { texts_of result
+            ≡ record (texts_of self.now) { programmer = Some (codes "dummy:emulate=TINY64") } }
+    {
+        Given {
+            programmer: Some(ANY_CHIP),
+            ..*self
+        }
+    }
+
+    // Returns the mode that `--progress` names, or `Auto` if the option is missing or its value isn't a mode.
+    fn progress_mode(&self) -> ProgressMode
+        ensures { result ≡ progress_mode (texts_of self.now) }
+    {
+        match self.progress {
+            Some(text) => ProgressMode::read(text).unwrap_or(ProgressMode::Auto),
+            None => ProgressMode::Auto,
+        }
+    }
+
+    // Returns the programmer that the value of `-p` describes, or `None` if `-p` is missing or its value is wrong.
+    #[tactic(auto, using(crate::proofs::OptionValues::means_read))]
+    fn parsed_programmer(&self) -> Option<Programmer<'a>>
+        ensures { MatchOption result (passes_test is_programmer_text (texts_of self.now).programmer ≡ false)
+            (λ programmer. IsSomeAnd (texts_of self.now).programmer (λ text. IsProgrammer text programmer)) }
+    {
+        self.programmer.and_then(Programmer::read)
+    }
+
+    // Returns the range that `--wp-range` gives, or `None` if the option is missing or its value can't be parsed.
+    #[tactic(auto, using(crate::proofs::Begins::and_then_read))]
+    fn parsed_range(&self) -> Option<(u32, u32)>
+        ensures { option_and_then range_of (texts_of self.now).wp_range ≡ result }
+    {
+        self.wp_range.and_then(read_range)
+    }
+
+    // Returns the stops that `--rehearse` gives, or `None` if the option is missing or its value can't be parsed.
+    #[tactic(auto, using(crate::proofs::OptionValues::viewed_read))]
+    fn parsed_stops(&self) -> Option<ArrayVec<u64, MOST_STOPS>>
+        ensures { option_and_then stops_of (texts_of self.now).rehearse ≡ option_map (λ stops. stops.items) result }
+    {
+        self.rehearse.and_then(read_stops)
+    }
+
+    // Returns the file name of the layout: the value of the first of `-l`, `--fmap-file` and `--ifd-file` that is
+    // given. Returns `None` if none is given.
+    fn layout_file(&self) -> Option<&'a str>
+        ensures { option_map (λ file. file.now) result ≡ layout_file (texts_of self.now) }
+    {
+        match (self.layout, self.fmap_file) {
+            (Some(file), _) => Some(file),
+            (None, Some(file)) => Some(file),
+            (None, None) => self.ifd_file,
+        }
+    }
+
+    // Returns the form of the layout in the file that `layout_file` returns. Without a layout the result has no
+    // meaning.
+    fn layout_form(&self) -> LayoutForm
+        ensures { result ≡ layout_form (texts_of self.now) }
+    {
+        if self.layout.is_some() {
+            LayoutForm::Lines
+        } else if self.fmap_file.is_some() {
+            LayoutForm::Fmap
+        } else {
+            LayoutForm::Descriptor
+        }
+    }
+
+    // Returns the operation on the chip. The options must have no fault, and must include neither `-L` nor
+    // `--check-journal`.
+    fn task(&self) -> Task<'a>
+        requires { ((texts_of self.now).list ≡ false) × ((texts_of self.now).check_journal ≡ None)
+            × (first_fault (usage_faults (texts_of self.now)) ≡ None) }
+        ensures { IsTask (texts_of self.now) result }
+    {
+        let Some(wanted) = self.wanted() else {
+            return self.plain_task();
+        };
+        Task::Change(Change {
+            wanted,
+            regions: self.regions(),
+            unlock: self.unlock,
+            verify: !self.no_verify,
+            journal_use: self.journal_use(),
+        })
+    }
+
+    // Returns the target of a change, or `None` if the options include neither `-w` nor `-E` nor a `--wp-range` whose
+    // value can be parsed.
+    fn wanted(&self) -> Option<Wanted<'a>>
+        ensures { MatchOption result ((is_new_content (texts_of self.now) ≡ false)
+            × (option_and_then range_of (texts_of self.now).wp_range ≡ None))
+            (IsWantedByArguments (texts_of self.now)) }
+    {
+        match (self.write, self.parsed_range()) {
+            (Some(image), _) => Some(Wanted::Write { image }),
+            (None, Some((start, len))) => Some(Wanted::Range { start, len }),
+            (None, None) if self.erase => Some(Wanted::Erase),
+            (None, None) => None,
+        }
+    }
+
+    // Returns what is done with the journal of a change. If there is no `--journal`, the value of `--rehearse` must be
+    // a list of stops, so the `unwrap` can't fail.
+    fn journal_use(&self) -> JournalUse<'a>
+        requires { (texts_of self.now).journal ≡ None
+            → is_some (option_and_then stops_of (texts_of self.now).rehearse) ≡ true }
+        ensures { IsJournalUse (texts_of self.now) result }
+    {
+        match self.journal {
+            Some(file) => JournalUse::Journal { file },
+            None => JournalUse::Rehearse {
+                stops: self.parsed_stops().unwrap(),
+            },
+        }
+    }
+
+    // Returns the layout and the names of the included regions, or `None` if both are missing. The options must not
+    // have fault 7.
+    fn regions(&self) -> Option<Regions<'a>>
+        requires { has_wrong_regions (texts_of self.now) ≡ false }
+        ensures { IsRegions (texts_of self.now) result }
+    {
+        match (self.layout_file(), self.names) {
+            (Some(layout), Some(names)) => Some(Regions {
+                layout,
+                form: self.layout_form(),
+                names,
+            }),
+            _ => None,
+        }
+    }
+
+    // Returns an operation other than `Change`: a read or a backup, a comparison, a report, a restore, or only the
+    // identification. The options must not have fault 7, and must include none of `-L`, `--check-journal`, `-w`, `-E`
+    // and `--wp-range`.
+    fn plain_task(&self) -> Task<'a>
+        requires { ((texts_of self.now).list ≡ false) × ((texts_of self.now).check_journal ≡ None)
+            × (asks_change (texts_of self.now) ≡ false)
+            × (has_wrong_regions (texts_of self.now) ≡ false) }
+        ensures { IsTask (texts_of self.now) result }
+    {
+        let regions = self.regions();
+        match (self.read.or(self.backup), self.verify, self.restore) {
+            (Some(file), _, _) => Task::Read { file, regions },
+            (None, Some(file), _) => Task::Verify { file, regions },
+            (None, None, Some(journal)) => Task::Restore { journal },
+            (None, None, None) if self.flash_size => Task::FlashSize,
+            (None, None, None) if self.wp_status => Task::WpStatus,
+            (None, None, None) if self.wp_list => Task::WpList,
+            (None, None, None) => Task::Probe,
+        }
+    }
+}

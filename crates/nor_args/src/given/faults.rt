@@ -1,0 +1,177 @@
+//! The usage faults 2 to 9 that the options may have.
+ghost use Rattle.std.specs.Prelude.{◌≡◌, ◌&&◌, ◌||◌, is_some, not};
+ghost use Rattle.nor_args.specs.Given.{asks_change, has_two_layouts, is_new_content, operations, progress_of, takes_regions};
+ghost use Rattle.nor_args.specs.Faults.{first_fault, has_unneeded, has_wrong_journal, has_wrong_regions, is_no, passes_test, usage_faults};
+ghost use Rattle.nor_args.specs.Numbers.{range_of};
+ghost use Rattle.nor_args.specs.Programmer.{has_stop, is_programmer_text};
+ghost use Rattle.nor_args.specs.Stops.{stops_of};
+ghost use Rattle.nor_args.specs.Text.{reads};
+
+use crate::given::Given;
+use crate::job::ProgressMode;
+use crate::words::UsageFault;
+
+impl Given<'_> {
+    ghost use Rattle.nor_args.specs.Given.{texts_of};
+
+    // Returns the first of the faults 2 to 9 that the options have, if any.
+    pub(super) fn fault(&self) -> Option<UsageFault>
+        ensures { result ≡ first_fault (usage_faults (texts_of self.now)) }
+    {
+        if self.lacks_programmer() {
+            Some(UsageFault::NoProgrammer)
+        } else if self.has_wrong_programmer() {
+            Some(UsageFault::Programmer)
+        } else if self.operations() > 1 {
+            Some(UsageFault::TwoOperations)
+        } else if self.has_wrong_range() || self.has_wrong_progress() {
+            Some(UsageFault::Range)
+        } else if self.has_wrong_journal() {
+            Some(UsageFault::Journal)
+        } else if self.has_wrong_regions() {
+            Some(UsageFault::Layout)
+        } else if self.has_unneeded() {
+            Some(UsageFault::Unneeded)
+        } else if self.has_wrong_stops() {
+            Some(UsageFault::Stops)
+        } else {
+            None
+        }
+    }
+
+    // Fault 2: true if there is neither `-p` nor `-L`.
+    fn lacks_programmer(&self) -> bool
+        ensures { result ≡ (not (is_some (texts_of self.now).programmer) && not (texts_of self.now).list) }
+    {
+        self.programmer.is_none() && !self.list
+    }
+
+    // Fault 3: true if the value of `-p` doesn't describe a programmer.
+    fn has_wrong_programmer(&self) -> bool
+        ensures { result ≡ is_no is_programmer_text (texts_of self.now).programmer }
+    {
+        self.programmer.is_some() && self.parsed_programmer().is_none()
+    }
+
+    // Fault 5: true if the value of `--wp-range` isn't a start and a length.
+    fn has_wrong_range(&self) -> bool
+        ensures { result ≡ is_no (reads range_of) (texts_of self.now).wp_range }
+    {
+        self.wp_range.is_some() && self.parsed_range().is_none()
+    }
+
+    // Fault 5: true if the value of `--progress` isn't the name of a mode.
+    pub(super) fn has_wrong_progress(&self) -> bool
+        ensures { result ≡ is_no (reads progress_of) (texts_of self.now).progress }
+    {
+        match self.progress {
+            Some(text) => ProgressMode::read(text).is_none(),
+            None => false,
+        }
+    }
+
+    // Fault 9: true if the value of `--rehearse` isn't a list of stops, or if both `--rehearse` and a `stop=` in `-p`
+    // are given.
+    fn has_wrong_stops(&self) -> bool
+        ensures { result ≡ (is_no (reads stops_of) (texts_of self.now).rehearse
+            || (is_some (texts_of self.now).rehearse && passes_test has_stop (texts_of self.now).programmer)) }
+    {
+        self.rehearse.is_some() && (self.parsed_stops().is_none() || self.has_stop())
+    }
+
+    // True if the value of `-p` describes a programmer and has a `stop=`.
+    fn has_stop(&self) -> bool
+        ensures { result ≡ passes_test has_stop (texts_of self.now).programmer }
+    {
+        match self.parsed_programmer() {
+            Some(programmer) => programmer.stop.is_some(),
+            None => false,
+        }
+    }
+
+    // Returns the number of operations that the options ask for.
+    fn operations(&self) -> usize
+        ensures { result ≡ operations (texts_of self.now) }
+    {
+        let asked = [
+            self.list,
+            self.flash_size,
+            self.flash_name,
+            self.wp_status,
+            self.wp_list,
+            self.read.is_some(),
+            self.verify.is_some(),
+            self.write.is_some(),
+            self.erase,
+            self.wp_range.is_some(),
+            self.restore.is_some(),
+            self.backup.is_some(),
+            self.check_journal.is_some(),
+        ];
+        asked.iter().filter(|asked| **asked).count()
+    }
+
+    // True if `-w` or `-E` is given. Both options change the bytes of the chip.
+    pub(super) fn is_new_content(&self) -> bool
+        ensures { result ≡ is_new_content (texts_of self.now) }
+    {
+        self.write.is_some() || self.erase
+    }
+
+    // True if `-w`, `-E` or `--wp-range` is given. Each of these options changes the chip, and needs a journal or a
+    // rehearsal.
+    pub(super) fn is_change(&self) -> bool
+        ensures { result ≡ asks_change (texts_of self.now) }
+    {
+        self.is_new_content() || self.wp_range.is_some()
+    }
+
+    // True if `-r`, `-v`, `-w` or `-E` is given. Each of these options can be limited to regions of the chip.
+    fn takes_regions(&self) -> bool
+        ensures { result ≡ takes_regions (texts_of self.now) }
+    {
+        self.read.is_some() || self.verify.is_some() || self.is_new_content()
+    }
+
+    // Fault 6: true if a change (`-w`, `-E` or `--wp-range`) is given, but not exactly one of `--journal` and
+    // `--rehearse`. True also if `--journal` or `--rehearse` is given, but no change.
+    fn has_wrong_journal(&self) -> bool
+        ensures { result ≡ has_wrong_journal (texts_of self.now) }
+    {
+        match (self.journal, self.rehearse) {
+            (None, None) => self.is_change(),
+            (Some(_), Some(_)) => true,
+            _ => !self.is_change(),
+        }
+    }
+
+    // Fault 8: true if `-n` or `--unlock` is given without `-w` or `-E`, `-N` without any of `-w`, `-E` and
+    // `--restore`, or `--quick` without `--restore`.
+    fn has_unneeded(&self) -> bool
+        ensures { result ≡ has_unneeded (texts_of self.now) }
+    {
+        let (changes, restores) = (self.is_new_content(), self.restore.is_some());
+        let unneeded = (self.no_verify_all && !(changes || restores)) || (self.quick && !restores);
+        ((self.no_verify || self.unlock) && !changes) || unneeded
+    }
+
+    // Fault 7: true if a layout (`-l`, `--fmap-file` or `--ifd-file`) is given without `-i`, or `-i` without a layout;
+    // if both are given without any of `-r`, `-v`, `-w` and `-E`; or if more than one layout is given.
+    fn has_wrong_regions(&self) -> bool
+        ensures { result ≡ has_wrong_regions (texts_of self.now) }
+    {
+        match (self.layout_file(), self.names) {
+            (None, None) => false,
+            (Some(_), Some(_)) => !self.takes_regions() || self.has_two_layouts(),
+            _ => true,
+        }
+    }
+
+    // True if more than one of `-l`, `--fmap-file` and `--ifd-file` is given.
+    pub(super) fn has_two_layouts(&self) -> bool
+        ensures { result ≡ has_two_layouts (texts_of self.now) }
+    {
+        let (fmap, descriptor) = (self.fmap_file.is_some(), self.ifd_file.is_some());
+        (self.layout.is_some() && (fmap || descriptor)) || (fmap && descriptor)
+    }
+}

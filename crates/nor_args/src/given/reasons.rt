@@ -1,0 +1,234 @@
+//! For each usage fault that the options may have, its reason: what is wrong with the options.
+ghost use Rattle.std.specs.Prelude.{◌≡◌, reverse};
+ghost use Rattle.nor_args.specs.Given.{texts_of};
+ghost use Rattle.nor_args.specs.Reasons.{IsProgrammerReason, IsReason, IsWrongMode, IsWrongRange, IsWrongStops};
+ghost use Rattle.nor_args.specs.Reasons.{change_option, first_given, first_layout, last_layout};
+ghost use Rattle.nor_args.specs.declared.words.UsageFault.TheVariants.{Range};
+ghost use Rattle.nor_args.specs.Reasons.{journal_reason, operation_choices, operations_reason, regions_reason, unneeded_reason};
+
+use crate::flaws::programmer_reason;
+use crate::given::Given;
+use crate::reasons::{OptionName, Reason, WrongArguments};
+use crate::stops::{first_unread, read_stops};
+use crate::words::UsageFault;
+
+impl<'a> Given<'a> {
+    /// Returns `fault` with its reason. The reason says what is wrong if the options have this fault; otherwise it has
+    /// no meaning.
+    pub fn explained(&self, fault: UsageFault) -> WrongArguments<'a>
+        ensures fault { result.fault ≡ fault }
+        ensures reason { IsReason (texts_of self.now) fault result.reason }
+    {
+        let reason = self.reason(&fault);
+        WrongArguments { fault, reason }
+    }
+
+    // Returns the reason of `fault`. It has a meaning only if the options have this fault.
+    fn reason(&self, fault: &UsageFault) -> Reason<'a>
+        ensures { IsReason (texts_of self.now) fault.now result }
+    {
+        match fault {
+            UsageFault::NoProgrammer => Reason::NoProgrammer,
+            UsageFault::Programmer => self.programmer_reason(),
+            UsageFault::TwoOperations => self.operations_reason(),
+            UsageFault::Range => self.value_reason(),
+            UsageFault::Journal => self.journal_reason(),
+            UsageFault::Layout => self.regions_reason(),
+            UsageFault::Unneeded => self.unneeded_reason(),
+            UsageFault::Stops => self.stops_reason(),
+            UsageFault::Words(_) | UsageFault::Memory => Reason::Unsaid,
+        }
+    }
+
+    fn programmer_reason(&self) -> Reason<'a>
+        ensures { IsProgrammerReason (texts_of self.now).programmer result }
+    {
+        match self.programmer {
+            Some(text) => programmer_reason(text),
+            None => Reason::Unsaid,
+        }
+    }
+
+    fn operations_reason(&self) -> Reason<'a>
+        ensures { result ≡ operations_reason (first_given (operation_choices (texts_of self.now)))
+            (first_given (reverse (operation_choices (texts_of self.now)))) }
+    {
+        match (self.first_operation(), self.last_operation()) {
+            (Some(first), Some(last)) => Reason::Operations { first, last },
+            _ => Reason::Unsaid,
+        }
+    }
+
+    // Returns the first given operation in the order of `operation_choices`, or `None` if no operation is given.
+    fn first_operation(&self) -> Option<OptionName>
+        ensures { result ≡ first_given (operation_choices (texts_of self.now)) }
+    {
+        match self.operation_choices().iter().find(|choice| choice.0) {
+            Some(choice) => Some(choice.1),
+            None => None,
+        }
+    }
+
+    // Returns the last given operation in the order of `operation_choices`, or `None` if no operation is given.
+    fn last_operation(&self) -> Option<OptionName>
+        ensures { result ≡ first_given (reverse (operation_choices (texts_of self.now))) }
+    {
+        match self
+            .operation_choices()
+            .iter()
+            .rev()
+            .find(|choice| choice.0)
+        {
+            Some(choice) => Some(choice.1),
+            None => None,
+        }
+    }
+
+    // Returns each operation with whether it is given. The operations are in the order of the help, except that
+    // `--flash-name` follows `--flash-size`.
+    fn operation_choices(&self) -> [(bool, OptionName); 13]
+        ensures { result ≡ operation_choices (texts_of self.now) }
+    {
+        [
+            (self.list, OptionName::List),
+            (self.flash_size, OptionName::FlashSize),
+            (self.flash_name, OptionName::FlashName),
+            (self.wp_status, OptionName::WpStatus),
+            (self.wp_list, OptionName::WpList),
+            (self.read.is_some(), OptionName::Read),
+            (self.verify.is_some(), OptionName::Verify),
+            (self.write.is_some(), OptionName::Write),
+            (self.erase, OptionName::Erase),
+            (self.wp_range.is_some(), OptionName::WpRange),
+            (self.restore.is_some(), OptionName::Restore),
+            (self.backup.is_some(), OptionName::Backup),
+            (self.check_journal.is_some(), OptionName::CheckJournal),
+        ]
+    }
+
+    fn value_reason(&self) -> Reason<'a>
+        ensures { IsReason (texts_of self.now) Range result }
+    {
+        if self.has_wrong_progress() {
+            self.progress_reason()
+        } else {
+            self.range_reason()
+        }
+    }
+
+    fn progress_reason(&self) -> Reason<'a>
+        ensures { IsWrongMode (texts_of self.now).progress result }
+    {
+        match self.progress {
+            Some(value) => Reason::Progress(value),
+            None => Reason::Unsaid,
+        }
+    }
+
+    fn range_reason(&self) -> Reason<'a>
+        ensures { IsWrongRange (texts_of self.now).wp_range result }
+    {
+        match self.wp_range {
+            Some(value) => Reason::Range(value),
+            None => Reason::Unsaid,
+        }
+    }
+
+    fn journal_reason(&self) -> Reason<'a>
+        ensures { result ≡ journal_reason (texts_of self.now) }
+    {
+        match (self.journal, self.rehearse) {
+            (Some(_), Some(_)) => Reason::JournalAndRehearse,
+            _ if self.is_change() => Reason::NoJournal(self.change_option()),
+            (Some(_), None) => Reason::NoChange(OptionName::Journal),
+            (None, _) => Reason::NoChange(OptionName::Rehearse),
+        }
+    }
+
+    // Returns the first of `-w`, `-E` and `--wp-range` that is given. If none is given, the result is `--wp-range`,
+    // too.
+    fn change_option(&self) -> OptionName
+        ensures { result ≡ change_option (texts_of self.now) }
+    {
+        if self.write.is_some() {
+            OptionName::Write
+        } else if self.erase {
+            OptionName::Erase
+        } else {
+            OptionName::WpRange
+        }
+    }
+
+    fn regions_reason(&self) -> Reason<'a>
+        ensures { result ≡ regions_reason (texts_of self.now) }
+    {
+        let (first, last) = (self.first_layout(), self.last_layout());
+        match (first, last, self.names) {
+            (Some(first), Some(last), _) if self.has_two_layouts() => {
+                Reason::Operations { first, last }
+            }
+            (Some(layout), _, Some(_)) => Reason::NoRegions(layout),
+            (Some(layout), _, None) => Reason::NoNames(layout),
+            (None, _, _) => Reason::NoLayout,
+        }
+    }
+
+    // Returns the first of `-l`, `--fmap-file` and `--ifd-file` that is given, or `None` if none is given.
+    fn first_layout(&self) -> Option<OptionName>
+        ensures { result ≡ first_layout (texts_of self.now) }
+    {
+        if self.layout.is_some() {
+            Some(OptionName::Layout)
+        } else if self.fmap_file.is_some() {
+            Some(OptionName::FmapFile)
+        } else if self.ifd_file.is_some() {
+            Some(OptionName::IfdFile)
+        } else {
+            None
+        }
+    }
+
+    // Returns the last of `-l`, `--fmap-file` and `--ifd-file` that is given, or `None` if none is given.
+    fn last_layout(&self) -> Option<OptionName>
+        ensures { result ≡ last_layout (texts_of self.now) }
+    {
+        if self.ifd_file.is_some() {
+            Some(OptionName::IfdFile)
+        } else if self.fmap_file.is_some() {
+            Some(OptionName::FmapFile)
+        } else if self.layout.is_some() {
+            Some(OptionName::Layout)
+        } else {
+            None
+        }
+    }
+
+    fn unneeded_reason(&self) -> Reason<'a>
+        ensures { result ≡ unneeded_reason (texts_of self.now) }
+    {
+        if self.is_new_content() {
+            Reason::NoRestore
+        } else if self.no_verify {
+            Reason::NoContent(OptionName::NoVerify)
+        } else if self.no_verify_all && self.restore.is_none() {
+            Reason::NoComparison
+        } else if self.unlock {
+            Reason::NoContent(OptionName::Unlock)
+        } else {
+            Reason::NoRestore
+        }
+    }
+
+    fn stops_reason(&self) -> Reason<'a>
+        ensures { IsWrongStops (texts_of self.now).rehearse result }
+    {
+        let Some(text) = self.rehearse else {
+            return Reason::Unsaid;
+        };
+        match first_unread(text) {
+            Some(part) => Reason::Stop(part),
+            None if read_stops(text).is_none() => Reason::ManyStops,
+            None => Reason::StopAndRehearse,
+        }
+    }
+}

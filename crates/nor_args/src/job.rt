@@ -1,0 +1,192 @@
+//! The types of the jobs that the arguments may ask for.
+ghost use Rattle.std.specs.Prelude.{◌≡◌};
+
+use crate::programmer::Programmer;
+use crate::reasons::WrongArguments;
+use crate::stops::MOST_STOPS;
+use arrayvec::ArrayVec;
+use nor_probe::ChipName;
+
+/// The job that the arguments of flashnor ask for.
+#[derive(Drop)]
+pub enum Job<'a> {
+    /// `-L`: list the table of chips.
+    List,
+    /// Without `-L`: identify a chip, and perform at most one operation on it.
+    Chip(ChipJob<'a>),
+}
+
+/// A job of flashnor on the emulated chip that `-p` names.
+#[derive(Drop)]
+pub struct ChipJob<'a> {
+    /// The parsed value of `-p`: the emulated chip and its files.
+    pub programmer: Programmer<'a>,
+    /// `-c NAME`: the name that the chip must have.
+    pub named: Option<ChipName>,
+    /// The operation on the chip.
+    pub task: Task<'a>,
+}
+
+/// The job that the arguments of a program for hardware ask for.
+#[derive(Drop)]
+pub enum HardwareJob<'a> {
+    /// `--check-journal FILE`: describe the journal in the named file. This needs no programmer, so `-p` is ignored.
+    CheckJournal { file: &'a str },
+    /// Without `--check-journal`: a job on the chip of a programmer.
+    Chip(ProgrammerJob<'a>),
+}
+
+/// A job on the chip of a programmer.
+#[derive(Drop)]
+pub struct ProgrammerJob<'a> {
+    /// The value of `-p` as you typed it. This crate doesn't parse it.
+    pub programmer: &'a str,
+    /// The operation that the options ask for, or the first of the usage faults 4 to 8 that they have, with its reason.
+    /// Fault 9 can't occur, because there is no `--rehearse`. If the program finds that the value of `-p` is wrong, it
+    /// must report usage fault 3 instead of a fault in this field.
+    pub operation: Result<Operation<'a>, WrongArguments<'a>>,
+}
+
+/// An operation of a program for hardware, and how the program performs and shows it.
+#[derive(Drop)]
+pub struct Operation<'a> {
+    /// `-c NAME`: the name that the chip must have.
+    pub named: Option<ChipName>,
+    /// True without `-N`: after a write, an erase or a restore, the program also compares the sectors that this
+    /// operation did not change.
+    pub verifies_all: bool,
+    /// True with `--quick`: a restore rewrites only the saved sectors that differ.
+    pub is_quick: bool,
+    /// True with `--backup`: `task` is `Task::Read`, and its file is a new journal that saves the whole chip.
+    pub is_backup: bool,
+    /// True with `--flash-name`: `task` is `Task::Probe`, and the program prints only the name of the identified chip.
+    pub is_flash_name: bool,
+    /// The mode of `--progress MODE`: how the program shows its progress.
+    pub progress: ProgressMode,
+    /// True with `-V`: the program prints more about the run.
+    pub is_verbose: bool,
+    /// The operation on the chip.
+    pub task: Task<'a>,
+}
+
+/// How a program for hardware shows the progress of its job.
+#[derive(Clone, Copy)]
+pub enum ProgressMode {
+    /// `auto`, also without `--progress`: progress is shown if standard error is a terminal.
+    Auto,
+    /// `plain`: one line is printed per step, even if standard error isn't a terminal.
+    Plain,
+    /// `none`: no progress is shown.
+    Hidden,
+}
+
+impl ProgressMode {
+    ghost use Rattle.nor_args.specs.Given.{progress_of};
+
+    /// Returns the mode that a value of `--progress` names: `auto`, `plain` or `none`. Returns `None` for any other
+    /// text.
+    pub fn read(text: &str) -> Option<ProgressMode>
+        ensures { result ≡ progress_of text.now }
+    {
+        if text == "auto" {
+            Some(ProgressMode::Auto)
+        } else if text == "plain" {
+            Some(ProgressMode::Plain)
+        } else if text == "none" {
+            Some(ProgressMode::Hidden)
+        } else {
+            None
+        }
+    }
+}
+
+/// An operation on a chip.
+#[derive(Drop)]
+pub enum Task<'a> {
+    /// Only identify the chip, because no operation is given. For `--flash-name` of a program for hardware the task is
+    /// the same, and `Operation::is_flash_name` is true.
+    Probe,
+    /// `--flash-size`: print the size of the chip.
+    FlashSize,
+    /// `--wp-status`: print the protected range, and whether the status is locked.
+    WpStatus,
+    /// `--wp-list`: list the ranges that can be protected.
+    WpList,
+    /// `-r FILE`: read the chip into the named file. For `--backup FILE` of a program for hardware the task is the
+    /// same, and `Operation::is_backup` is true.
+    Read {
+        file: &'a str,
+        regions: Option<Regions<'a>>,
+    },
+    /// `-v FILE`: compare the chip with the named file.
+    Verify {
+        file: &'a str,
+        regions: Option<Regions<'a>>,
+    },
+    /// `-w FILE`, `-E` or `--wp-range S,L`: change the chip.
+    Change(Change<'a>),
+    /// `--restore FILE`: restore the chip from the journal in the named file.
+    Restore {
+        journal: &'a str,
+    },
+}
+
+/// The regions to which an operation is limited: a layout, and the names of the included regions.
+#[derive(Clone, Copy)]
+pub struct Regions<'a> {
+    /// `-l FILE`, or for a program for hardware `--fmap-file FILE` or `--ifd-file FILE`: the name of the layout file.
+    pub layout: &'a str,
+    /// The form of the layout in the file `layout`.
+    pub form: LayoutForm,
+    /// `-i NAMES`: the names of the regions, separated by commas.
+    pub names: &'a str,
+}
+
+/// The form of a layout in a file.
+#[derive(Clone, Copy)]
+pub enum LayoutForm {
+    /// `-l`: lines `START:END NAME`, as in flashrom.
+    Lines,
+    /// `--fmap-file`: an image of the chip that contains an FMAP.
+    Fmap,
+    /// `--ifd-file`: an image of the chip that begins with an Intel flash descriptor.
+    Descriptor,
+}
+
+/// A write, an erase or a change of protection, either with a journal or as a rehearsal.
+#[derive(Drop)]
+pub struct Change<'a> {
+    /// The target: what the chip or its protection must become.
+    pub wanted: Wanted<'a>,
+    /// The regions to which the change is limited, or `None` for the whole chip.
+    pub regions: Option<Regions<'a>>,
+    /// True with `--unlock`: lift protection that is in the way, and set it again at the end.
+    pub unlock: bool,
+    /// True without `-n`: read back what was written, and compare it.
+    pub verify: bool,
+    /// What is done with the journal of this change.
+    pub journal_use: JournalUse<'a>,
+}
+
+/// The target of a change.
+#[derive(Clone, Copy)]
+pub enum Wanted<'a> {
+    /// `-w FILE`: the image in the named file.
+    Write { image: &'a str },
+    /// `-E`: FFh for each included byte.
+    Erase,
+    /// `--wp-range S,L`: protection of the `len` bytes from address `start` on, and of no others.
+    Range { start: u32, len: u32 },
+}
+
+/// What is done with the journal of a change: it is written into a file, or a rehearsal restores the chip from it in
+/// memory.
+#[derive(Drop)]
+pub enum JournalUse<'a> {
+    /// `--journal FILE`: write the journal into the named file.
+    Journal { file: &'a str },
+    /// `--rehearse N,N,..`: rehearse the change. The first number of `stops` is the number of transactions after which
+    /// the change is stopped. Each further number is the number of transactions after which one of the following
+    /// restores is stopped. The last restore isn't stopped.
+    Rehearse { stops: ArrayVec<u64, MOST_STOPS> },
+}

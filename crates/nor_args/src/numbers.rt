@@ -1,0 +1,83 @@
+//! Parses the numbers in the values of options.
+ghost use Rattle.std.specs.Prelude.{◌≡◌, ◌≤◌, option_map};
+ghost use Rattle.std.specs.Char.{is_digit};
+ghost use Rattle.std.specs.List.{list_all};
+ghost use Rattle.nor_args.specs.Numbers.{numeral, decimal_number, polls_of, number_or_length, range_of, unique_number, byte_number};
+
+use hex::FromHex;
+
+/// Parses 1 to 20 decimal digits with a value that fits in a `u64`. Returns `None` for any other text.
+pub fn read_number(text: &str) -> Option<u64>
+    ensures { result ≡ decimal_number text.now }
+{
+    read_numeral(text, 10, 20, u64::MAX)
+}
+
+/// Parses a number of polls: 1 to 20 decimal digits with a value of at most 65,535. Returns `None` for any other text.
+pub fn read_polls(text: &str) -> Option<u16>
+    ensures { result ≡ polls_of text.now }
+{
+    let polls = read_numeral(text, 10, 20, 65_535)?;
+    u16::try_from(polls).ok()
+}
+
+/// Parses a start and a length with a comma between them, each in the form that `read_place` accepts. Returns `None`
+/// for any other text.
+pub fn read_range(text: &str) -> Option<(u32, u32)>
+    ensures { result ≡ range_of text.now }
+{
+    let (start, len) = text.split_once(',')?;
+    Some((read_place(start)?, read_place(len)?))
+}
+
+// Parses an address or a length: either `0x` and 1 to 8 hexadecimal digits of either case, or 1 to 10 decimal digits
+// with a value that fits in a `u32`. Returns `None` for any other text.
+fn read_place(text: &str) -> Option<u32>
+    ensures { result ≡ number_or_length text.now }
+{
+    let place = match text.strip_prefix("0x") {
+        Some(digits) => read_numeral(digits, 16, 8, 0xFFFF_FFFF)?,
+        None => read_numeral(text, 10, 10, 0xFFFF_FFFF)?,
+    };
+    u32::try_from(place).ok()
+}
+
+// Parses 1 to `most` digits to the base `radix`, with a value of at most `greatest`. Returns `None` for any other text.
+fn read_numeral(text: &str, radix: u32, most: usize, greatest: u64) -> Option<u64>
+    requires { (2 ≤ radix) × (radix ≤ 36) }
+    ensures { result ≡ numeral radix most greatest text.now }
+{
+    if text.len() > most || !has_digits(text, radix) {
+        return None;
+    }
+    let number = u64::from_str_radix(text, radix).ok()?;
+    if number <= greatest {
+        Some(number)
+    } else {
+        None
+    }
+}
+
+// True if each byte of `text` is a digit to the base `radix`, also if `text` is empty. This test excludes the leading
+// plus sign that `from_str_radix` accepts.
+fn has_digits(text: &str, radix: u32) -> bool
+    requires { (2 ≤ radix) × (radix ≤ 36) }
+    ensures { result ≡ list_all (λ digit. is_digit digit radix) text.now }
+{
+    text.bytes().all(|digit| char::from(digit).is_digit(radix))
+}
+
+/// Decodes 16 hexadecimal digits to the eight bytes of a unique ID. Returns `None` for any other text.
+pub fn read_unique(text: &str) -> Option<[u8; 8]>
+    ensures { result ≡ unique_number text.now }
+{
+    <[u8; 8] as FromHex>::from_hex(text).ok()
+}
+
+/// Decodes two hexadecimal digits to a byte. Returns `None` for any other text.
+pub fn read_byte(text: &str) -> Option<u8>
+    ensures { result ≡ byte_number text.now }
+{
+    let [byte] = <[u8; 1] as FromHex>::from_hex(text).ok()?;
+    Some(byte)
+}

@@ -1,0 +1,70 @@
+//! The options that only programs for hardware have, such as flashnor-serprog.
+ghost use Rattle.std.specs.Prelude.{◌≡◌, map};
+ghost use Rattle.nor_args.specs.Options.{chosen, own_rules};
+
+use crate::options::Choice;
+
+// The rows are in the order of the help, which prints them after the options that these programs share with flashnor.
+static HARDWARE_CHOICES: [Choice; 9] = [
+    Choice {
+        letter: None,
+        name: "backup",
+        value: Some("FILE"),
+        help: "Save the whole chip in a new journal, for --restore",
+    },
+    Choice {
+        letter: Some('N'),
+        name: "noverify-all",
+        value: None,
+        help: "Do not compare the rest of the chip, see below",
+    },
+    Choice {
+        letter: None,
+        name: "quick",
+        value: None,
+        help: "Rewrite only sectors that differ; with --restore",
+    },
+    Choice {
+        letter: None,
+        name: "flash-name",
+        value: None,
+        help: "Print the name of the chip",
+    },
+    Choice {
+        letter: None,
+        name: "check-journal",
+        value: Some("FILE"),
+        help: "Describe a journal; needs no programmer",
+    },
+    Choice {
+        letter: None,
+        name: "fmap-file",
+        value: Some("FILE"),
+        help: "In place of -l: the regions of the FMAP in this image",
+    },
+    Choice {
+        letter: None,
+        name: "ifd-file",
+        value: Some("FILE"),
+        help: "In place of -l: those of its Intel flash descriptor",
+    },
+    Choice {
+        letter: None,
+        name: "progress",
+        value: Some("MODE"),
+        help: "How to show progress: auto, plain or none",
+    },
+    Choice {
+        letter: Some('V'),
+        name: "verbose",
+        value: None,
+        help: "Print more about the run",
+    },
+];
+
+// Returns the table `HARDWARE_CHOICES`. Its rows describe the options that the specification lists as `own_rules`.
+pub(super) fn hardware_choices() -> &'static [Choice; 9]
+    ensures { map chosen result.now ≡ own_rules }
+{
+    &HARDWARE_CHOICES
+}

@@ -1,0 +1,175 @@
+//! The reason of a usage fault: what is wrong with the arguments.
+ghost use Rattle.std.specs.Prelude.{◌≡◌};
+
+use crate::words::UsageFault;
+use clap::Error as WordsError;
+use std::alloc::AllocError;
+
+/// An option that a reason may name.
+#[derive(Clone, Copy)]
+pub enum OptionName {
+    List,
+    FlashSize,
+    FlashName,
+    WpStatus,
+    WpList,
+    Read,
+    Verify,
+    Write,
+    Erase,
+    WpRange,
+    Restore,
+    Backup,
+    CheckJournal,
+    Journal,
+    Rehearse,
+    Layout,
+    FmapFile,
+    IfdFile,
+    NoVerify,
+    Unlock,
+}
+
+impl OptionName {
+    ghost use Rattle.nor_args.specs.Reasons.{option_text};
+
+    /// Returns the option as you type it.
+    pub fn as_str(self) -> &'static str
+        ensures { result.now ≡ option_text self }
+    {
+        match self {
+            OptionName::List => "-L",
+            OptionName::FlashSize => "--flash-size",
+            OptionName::FlashName => "--flash-name",
+            OptionName::WpStatus => "--wp-status",
+            OptionName::WpList => "--wp-list",
+            OptionName::Read => "-r",
+            OptionName::Verify => "-v",
+            OptionName::Write => "-w",
+            OptionName::Erase => "-E",
+            OptionName::WpRange => "--wp-range",
+            OptionName::Restore => "--restore",
+            OptionName::Backup => "--backup",
+            OptionName::CheckJournal => "--check-journal",
+            OptionName::Journal => "--journal",
+            OptionName::Rehearse => "--rehearse",
+            OptionName::Layout => "-l",
+            OptionName::FmapFile => "--fmap-file",
+            OptionName::IfdFile => "--ifd-file",
+            OptionName::NoVerify => "-n",
+            OptionName::Unlock => "--unlock",
+        }
+    }
+}
+
+/// What is wrong with a setting of `-p`.
+#[derive(Clone, Copy)]
+pub enum Flaw {
+    /// The setting's key is unknown.
+    Key,
+    /// The setting's key is known, but may not have this value.
+    Value,
+    /// Another setting has the same key as this one.
+    Twice,
+}
+
+impl Flaw {
+    ghost use Rattle.nor_args.specs.Reasons.{flaw_by};
+
+    /// Returns the flaw of a setting that has a flaw. `known` says whether the setting's key is known, and `valid` says
+    /// whether the key is known and may have the setting's value.
+    pub fn of(known: bool, valid: bool) -> Flaw
+        ensures { result ≡ flaw_by known valid }
+    {
+        match (known, valid) {
+            (false, _) => Flaw::Key,
+            (true, false) => Flaw::Value,
+            (true, true) => Flaw::Twice,
+        }
+    }
+}
+
+/// The reason of a usage fault. The number at each variant is the number of this fault.
+#[derive(Clone, Copy)]
+pub enum Reason<'a> {
+    /// 1 and 10: there is no reason, because `clap`'s message contains it (fault 1), or because memory ran out (fault
+    /// 10).
+    Unsaid,
+    /// 2: `-p` is missing.
+    NoProgrammer,
+    /// 3: the value of `-p` doesn't begin with `dummy:`.
+    NoPrefix,
+    /// 3: `setting` is the first setting of `-p` that has a flaw, and `flaw` says which.
+    Setting { setting: &'a str, flaw: Flaw },
+    /// 3: no setting of `-p` has a flaw, but `emulate=` is missing.
+    NoChip,
+    /// 4: the first and the last of the given operations. They are in the order of the help, except that `--flash-name`
+    /// follows `--flash-size`. 7: the first and the last of the given layouts, in the order `-l`, `--fmap-file`,
+    /// `--ifd-file`.
+    Operations { first: OptionName, last: OptionName },
+    /// 5: this value of `--wp-range` isn't a start and a length.
+    Range(&'a str),
+    /// 5: this value of `--progress` isn't a mode.
+    Progress(&'a str),
+    /// 6: this option asks for a change, but neither `--journal` nor `--rehearse` is given.
+    NoJournal(OptionName),
+    /// 6: both `--journal` and `--rehearse` are given.
+    JournalAndRehearse,
+    /// 6: this option (`--journal` or `--rehearse`) is given without any of `-w`, `-E` and `--wp-range`.
+    NoChange(OptionName),
+    /// 7: this option names a layout, but `-i` is missing.
+    NoNames(OptionName),
+    /// 7: `-i` is given, but an option that names a layout is missing.
+    NoLayout,
+    /// 7: this option names a layout and `-i` is given, but without any of `-r`, `-v`, `-w` and `-E`.
+    NoRegions(OptionName),
+    /// 8: this option is given with neither `-w` nor `-E`.
+    NoContent(OptionName),
+    /// 8: `-N` is given with none of `-w`, `-E` and `--restore`.
+    NoComparison,
+    /// 8: `--quick` is given without `--restore`.
+    NoRestore,
+    /// 9: this is the first part of the value of `--rehearse` that isn't a number.
+    Stop(&'a str),
+    /// 9: the value of `--rehearse` has more than 64 numbers.
+    ManyStops,
+    /// 9: both `--rehearse` and a `stop=` of `-p` are given.
+    StopAndRehearse,
+}
+
+/// A usage fault with its reason.
+#[derive(Drop)]
+pub struct WrongArguments<'a> {
+    /// The fault that the arguments have.
+    pub fault: UsageFault,
+    /// What is wrong with the arguments.
+    pub reason: Reason<'a>,
+}
+
+impl From<AllocError> for WrongArguments<'_> {
+    ghost use Rattle.nor_args.specs.Reasons.{IsOutOfMemory};
+
+    ghost from_gives = { λ _ wrong. IsOutOfMemory wrong };
+
+    fn from(error: AllocError) -> Self {
+        let reason = Reason::Unsaid;
+        WrongArguments {
+            fault: UsageFault::from(error),
+            reason,
+        }
+    }
+}
+
+impl From<WordsError> for WrongArguments<'_> {
+    ghost use Rattle.nor_args.specs.Words.{BecomesWrong};
+
+    ghost from_gives = { BecomesWrong };
+
+    fn from(error: WordsError) -> Self {
+        let reason = Reason::Unsaid;
+        WrongArguments {
+            fault: UsageFault::from(error),
+            reason,
+        }
+    }
+}

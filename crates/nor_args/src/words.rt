@@ -1,0 +1,193 @@
+//! Turns arguments into jobs (`request_of`, and `operation_of` for programs for hardware), and defines the usage
+//! faults.
+ghost use Rattle.std.specs.Prelude.{◌≡◌, IfOk, MatchResult, map, string_bytes, true};
+ghost use Rattle.clap.specs.Words.{FailsBy, HasMatchesOf, app_of, fault_of, is_simple_and_free, kind_of};
+ghost use Rattle.nor_args.specs.Words.{AreWrong, AreWrongForHardware, IsFault, IsHardwareJob, IsJob};
+
+use crate::given::Given;
+use crate::job::{HardwareJob, Job};
+use crate::options::{Help, make_hardware_options, make_options};
+use crate::reasons::WrongArguments;
+use clap::error::ErrorKind;
+use clap::{ArgMatches, Command, Error as WordsError};
+use std::alloc::{AllocError, Global};
+use std::fmt;
+use thiserror::Error;
+
+/// A usage fault: why the arguments ask for no job. Its message has the number that is given at each variant.
+/// `request_of` returns the first of the faults 1 to 9 that the arguments have; it may return fault 10 for any
+/// arguments.
+#[derive(Debug, Drop, Error)]
+pub enum UsageFault {
+    /// 1: `clap` rejects the arguments, or they ask for the help, or in a program for hardware for the version. The
+    /// error has the text to print.
+    Words(WordsError),
+    /// 2: `-p` and `-L` are missing, or for a program for hardware `-p` and `--check-journal`.
+    NoProgrammer,
+    /// 3: the value of `-p` doesn't describe a programmer.
+    Programmer,
+    /// 4: more than one operation is given.
+    TwoOperations,
+    /// 5: the value of `--wp-range` isn't a start and a length. For a program for hardware also: the value of
+    /// `--progress` isn't a mode.
+    Range,
+    /// 6: a change (`-w`, `-E` or `--wp-range`) is given, but not exactly one of `--journal` and `--rehearse`. Also:
+    /// `--journal` or `--rehearse` is given, but no change.
+    Journal,
+    /// 7: `-l` or `-i` is given without the other, or both without any of `-r`, `-v`, `-w` and `-E`. A program for
+    /// hardware also has `--fmap-file` and `--ifd-file` in place of `-l`; more than one of the three is this fault,
+    /// too.
+    Layout,
+    /// 8: `-n` or `--unlock` is given without `-w` or `-E`. For a program for hardware also: `-N` is given without any
+    /// of `-w`, `-E` and `--restore`, or `--quick` without `--restore`.
+    Unneeded,
+    /// 9: the value of `--rehearse` isn't 1 to 64 numbers, or both `--rehearse` and a `stop=` of the programmer are
+    /// given.
+    Stops,
+    /// 10: memory ran out.
+    Memory,
+}
+
+impl UsageFault {
+    ghost use Rattle.nor_args.specs.Faults.{usage_fault_number};
+
+    /// Returns the number of the fault, 1 to 10, which its message contains.
+    pub fn number(&self) -> u8
+        ensures { result ≡ usage_fault_number self.now }
+    {
+        match self {
+            UsageFault::Words(_) => 1,
+            UsageFault::NoProgrammer => 2,
+            UsageFault::Programmer => 3,
+            UsageFault::TwoOperations => 4,
+            UsageFault::Range => 5,
+            UsageFault::Journal => 6,
+            UsageFault::Layout => 7,
+            UsageFault::Unneeded => 8,
+            UsageFault::Stops => 9,
+            UsageFault::Memory => 10,
+        }
+    }
+}
+
+// This `Display` is written by hand, because a derived one has no contract.
+impl fmt::Display for UsageFault {
+    ghost use Rattle.nor_args.specs.Faults.{usage_fault_text};
+
+    ghost output = { usage_fault_text };
+
+    fn fmt<W: fmt::Write>(&self, f: &mut fmt::Formatter<W>) -> fmt::Result {
+        if let UsageFault::Words(why) = self {
+            write!(f, "{why}")?;
+        }
+        write!(f, "Usage fault {}.", self.number())
+    }
+}
+
+impl From<AllocError> for UsageFault {
+    ghost use Rattle.nor_args.specs.declared.words.UsageFault.TheVariants.{Memory};
+
+    ghost from_gives = { λ _ fault. fault ≡ Memory };
+
+    fn from(_: AllocError) -> UsageFault {
+        UsageFault::Memory
+    }
+}
+
+impl From<WordsError> for UsageFault {
+    ghost use Rattle.nor_args.specs.Words.{BecomesFault};
+
+    ghost from_gives = { BecomesFault };
+
+    fn from(error: WordsError) -> UsageFault {
+        if error.kind() == ErrorKind::OutOfMemory {
+            UsageFault::Memory
+        } else {
+            UsageFault::Words(error)
+        }
+    }
+}
+
+/// Returns the job that the arguments ask for, or the first usage fault that they have. `words` has the arguments that
+/// follow the program's name. Fault 10, out of memory, may be returned for any arguments.
+pub fn request_of<'a>(alloc: Global, words: &'a [String]) -> Result<Job<'a>, UsageFault>
+    ensures { MatchResult result (IsJob (map string_bytes words.now)) (IsFault (map string_bytes words.now)) }
+{
+    match explained_request_of(alloc, words) {
+        Ok(job) => Ok(job),
+        Err(wrong) => Err(wrong.fault),
+    }
+}
+
+/// Returns the job or the fault that `request_of` returns, and with a fault also its reason.
+pub fn explained_request_of<'a>(
+    alloc: Global,
+    words: &'a [String],
+) -> Result<Job<'a>, WrongArguments<'a>>
+    ensures { MatchResult result (IsJob (map string_bytes words.now)) (AreWrong (map string_bytes words.now)) }
+{
+    let matches = parse_words(alloc, make_options(alloc)?, words)?;
+    let given = Given::of(&matches);
+    match given.job() {
+        Ok(job) => Ok(job),
+        Err(fault) => Err(given.explained(fault)),
+    }
+}
+
+/// Returns the job that the arguments of a program for hardware ask for. `words` has the arguments that follow the
+/// program's name. The options are those of flashnor except `-L` and `--rehearse`, and those that only programs for
+/// hardware have. The value of `-p` isn't parsed.
+///
+/// Returns one of these usage faults with its reason:
+///
+/// - fault 1 if `clap` rejects the arguments
+/// - fault 2 if `-p` and `--check-journal` are missing
+/// - the first of the faults 4 to 8 that the options have, if `--check-journal` is given; without `--check-journal`
+///   such a fault is part of the job (`ProgrammerJob::operation`)
+/// - fault 10, out of memory, which may be returned for any arguments
+pub fn operation_of<'a>(
+    alloc: Global,
+    help: Help,
+    words: &'a [String],
+) -> Result<HardwareJob<'a>, WrongArguments<'a>>
+    ensures { MatchResult result (IsHardwareJob help.program.now (map string_bytes words.now))
+        (AreWrongForHardware help.program.now (map string_bytes words.now)) }
+{
+    let matches = parse_words(alloc, make_hardware_options(alloc, help)?, words)?;
+    Given::of_hardware(&matches).hardware_job()
+}
+
+// Parses the arguments. If an argument is unknown, the tip of `clap` is removed from the error's text. The tip would
+// name an option that is spelled alike but may do something else, such as `--rehearse` for `--read`.
+fn parse_words<'a>(
+    alloc: Global,
+    mut options: Command<'a>,
+    words: &'a [String],
+) -> Result<ArgMatches<'a>, WordsError>
+    ensures matches { IfOk result (HasMatchesOf (app_of options.entry) (map string_bytes words.now)) }
+    ensures kinds { is_simple_and_free (app_of options.entry) ≡ true
+        → FailsBy (fault_of (app_of options.entry) (map string_bytes words.now)) result }
+{
+    match options.try_get_matches_from_mut(words) {
+        Ok(matches) => Ok(matches),
+        Err(error) if error.kind() == ErrorKind::UnknownArgument => {
+            Err(without_tip(alloc, &mut options, &error)?)
+        }
+        Err(error) => Err(error),
+    }
+}
+
+// Returns an error of the same kind as `error`. Its text is the first paragraph of the text of `error`, followed by the
+// usage of the program.
+fn without_tip(
+    alloc: Global,
+    options: &mut Command<'_>,
+    error: &WordsError,
+) -> Result<WordsError, AllocError>
+    ensures { IfOk result (λ shorter. kind_of shorter ≡ kind_of error.now) }
+{
+    let text = format!(in alloc; "{error}")?;
+    let said = text.split("\n\n").next().unwrap_or_default();
+    let message = said.strip_prefix("error: ").unwrap_or(said);
+    options.error(error.kind(), message)
+}

@@ -1,0 +1,40 @@
+-- The effect of borrowing a vault in a file and taking it back: on that file, and on the other files, which stay as
+-- they were.
+use Rattle.std.proofs.Common.{◌≡◌, ◌∙◌, Some, ap, refl, subst, sym, true}
+use Rattle.nor_files.specs.Calls.{Borrows, TakesBack}
+use Rattle.nor_files.specs.Files.{AreApart, FilesState, Name, Nature, KeepsFile, is_lawful}
+use Rattle.nor_journal.specs.Vault.{VaultState}
+use Rattle.nor_console.specs.Stored.{IsKeptFile}
+
+pub stays_same : (name : Name) (files : FilesState) → KeepsFile name files files
+stays_same name files = record { out = refl; seen = refl; leaves = λ left can. can }
+
+pub stays_on : {name : Name} {old mid new : FilesState} → KeepsFile name old mid → KeepsFile name mid new → KeepsFile name old new
+stays_on one other = record {
+  out = other.out ∙ one.out;
+  seen = other.seen ∙ one.seen;
+  leaves = λ left can. one.leaves left (other.leaves left can);
+}
+
+-- No call changes the nature of the files, so names that are apart before a call are apart after it.
+pub apart_after : {old new : Nature} {one other : Name} → new ≡ old → AreApart old one other → AreApart new one other
+apart_after {one = one} {other = other} same apart = subst (λ (n : Nature). AreApart n one other) (sym same) apart
+
+pub lawful_after : {old new : Nature} → new ≡ old → old.lawful ≡ true → new.lawful ≡ true
+lawful_after same is = ap (λ (n : Nature). n.lawful) same ∙ is
+
+-- A vault in the file `name` is borrowed between the states `old` and `mid`, and taken back between `mid` and `new`.
+module _ (name : Name) (old mid new : FilesState) (vault : VaultState)
+    (made : mid.view.nature ≡ old.view.nature) (borrows : is_lawful old.view ≡ true → Borrows name old mid)
+    (back : new.view.nature ≡ mid.view.nature)
+    (takes : is_lawful mid.view ≡ true → (n : Name) → mid.borrowed ≡ Some n → TakesBack n vault mid new) where
+  taken : is_lawful old.view ≡ true → TakesBack name vault mid new
+  taken is = takes (lawful_after made is) name (borrows is).borrowed
+
+  pub kept_file : is_lawful new.view ≡ true → IsKeptFile name vault new
+  kept_file is =
+      let t = taken (lawful_after (sym (back ∙ made)) is) in
+      record { telling = t.telling; seen = t.seen; durable = t.durable }
+
+  pub others_stay : is_lawful old.view ≡ true → (any : Name) → AreApart old.view.nature name any → KeepsFile any old new
+  others_stay is any other = stays_on ((borrows is).others any other) ((taken is).others any (apart_after made other))

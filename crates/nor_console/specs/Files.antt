@@ -1,0 +1,92 @@
+-- The faults of files. A definition with a `View` also states that the files allow the failure that causes the fault.
+use Rattle.std.specs.Prelude.{◌≡◌, ◌≢◌, ◌<◌, ◌+◌, ◌⊎◌, ℕ, List, None, length}
+use Rattle.nor_request.specs.declared.refusal.Refusal.TheVariants.{Memory}
+use Rattle.nor_args.specs.Text.{Text}
+use Rattle.nor_files.specs.Calls.{ReadsFile}
+use Rattle.nor_files.specs.Files.{View}
+use Rattle.nor_files.specs.Files.Failure.{Busy, There, Unheld, Unmade, Unread, Unwritten}
+use Rattle.nor_files.specs.declared.store.LockFault.{LockFault}
+use Rattle.nor_files.specs.declared.store.LockFault.TheVariants as why
+use Rattle.nor_console.specs.Stored.{Happens, IsRead}
+use Rattle.nor_console.specs.declared.messages.Fault.{Fault}
+use Rattle.nor_console.specs.declared.messages.Fault.TheVariants as end
+use Rattle.nor_console.specs.declared.messages.FileFault.TheVariants as file
+
+-- Holds if the fault is error 18 (out of memory), or file fault 1 with this name.
+abbrev pub IsUnreadFault : Text → Fault → Type 0
+IsUnreadFault name (end.Refused refusal) = refusal ≡ Memory
+IsUnreadFault name (end.File file.Read of) = of.now ≡ name
+IsUnreadFault name _ = ⊥
+
+-- Holds if the program reports this `LockFault` of a file of this name as `fault`: `Unread` as error 18 or file fault
+-- 1, `Unheld` as file fault 2, `Busy` as file fault 5.
+abbrev pub IsNotLocked : LockFault → Text → Fault → Type 0
+IsNotLocked (why.Unread error) name fault = IsUnreadFault name fault
+IsNotLocked why.Unheld name (end.File file.Write of) = of.now ≡ name
+IsNotLocked why.Busy name (end.File file.Taken of) = of.now ≡ name
+IsNotLocked _ name _ = ⊥
+
+-- Holds if reading at most `most` bytes of the named file may fail with this fault: error 18 (out of memory), or file
+-- fault 1 with this name. For file fault 1, the file must be missing, may fail to be read, or isn't known
+-- (`IsKnownFile`).
+abbrev pub IsReadingFault : View → Text → ℕ → Fault → Type 0
+IsReadingFault view name most (end.Refused refusal) = refusal ≡ Memory
+IsReadingFault view name most (end.File file.Read of) =
+    (of.now ≡ name) × (ReadsFile name most None view ⊎ Happens view (Unread name))
+IsReadingFault view name most _ = ⊥
+
+-- Holds for file fault 1 with this name, if the file has more than `most` bytes or isn't known (`IsKnownFile`).
+abbrev pub IsTooLong : View → Text → ℕ → Fault → Type 0
+IsTooLong view name most (end.File file.Read of) =
+    (of.now ≡ name) × ((bytes : List ℕ) × IsRead view name (most + 1) bytes × (most < length bytes))
+IsTooLong view name most _ = ⊥
+
+-- Holds if reading a chip's file, which must have `len` bytes, may fail with this fault:
+--
+-- - error 18 (out of memory)
+-- - file fault 1 with this name, if the file may fail to be read; a missing file is no fault
+-- - file fault 3 with this name, if the file has another length or isn't known (`IsKnownFile`)
+abbrev pub IsOpeningFault : View → Text → ℕ → Fault → Type 0
+IsOpeningFault view name len (end.Refused refusal) = refusal ≡ Memory
+IsOpeningFault view name len (end.File file.Read of) = (of.now ≡ name) × Happens view (Unread name)
+IsOpeningFault view name len (end.File file.Length of) =
+    (of.now ≡ name) × ((bytes : List ℕ) × IsRead view name (len + 1) bytes × (length bytes ≢ len))
+IsOpeningFault view name len _ = ⊥
+
+-- Holds if locking and reading a chip's file, which must have `len` bytes, may fail with this fault. It is a fault of
+-- `IsOpeningFault`, or one of these file faults with this name:
+--
+-- - file fault 1 if the file is missing (although it existed when it was locked) or isn't known (`IsKnownFile`)
+-- - file fault 2 if the file may fail to be opened for overwriting, to be locked or to be synced, or its directory may
+--   fail to be synced
+-- - file fault 5 if another process may have locked the file
+abbrev pub IsLockingFault : View → Text → ℕ → Fault → Type 0
+IsLockingFault view name len (end.File file.Read of) =
+    (of.now ≡ name) × (ReadsFile name (len + 1) None view ⊎ Happens view (Unread name))
+IsLockingFault view name len (end.File file.Write of) =
+    (of.now ≡ name) × (Happens view (Unheld name) ⊎ Happens view (Unwritten name))
+IsLockingFault view name len (end.File file.Taken of) = (of.now ≡ name) × Happens view (Busy name)
+IsLockingFault view name len fault = IsOpeningFault view name len fault
+
+-- Holds if locking a journal and reading at most `most` bytes of it may fail with this fault. It is a fault of
+-- `IsReadingFault`, or one of these file faults with this name:
+--
+-- - file fault 2 if the file may fail to be opened for overwriting or to be locked
+-- - file fault 5 if another process may have locked the file
+abbrev pub IsSharingFault : View → Text → ℕ → Fault → Type 0
+IsSharingFault view name most (end.File file.Write of) = (of.now ≡ name) × Happens view (Unheld name)
+IsSharingFault view name most (end.File file.Taken of) = (of.now ≡ name) × Happens view (Busy name)
+IsSharingFault view name most fault = IsReadingFault view name most fault
+
+-- Holds if creating or truncating the file of this name may fail with this fault:
+--
+-- - error 18 (out of memory)
+-- - file fault 2 if the file may fail to be created, read, truncated or locked, or its directory may fail to be synced
+-- - file fault 4 if the file may exist although it must be new, or may be a journal, which `Disk` never truncates
+-- - file fault 5 if another process may have locked the file
+abbrev pub IsMaking : View → Text → Fault → Type 0
+IsMaking view name (end.Refused refusal) = refusal ≡ Memory
+IsMaking view name (end.File file.Write of) = (of.now ≡ name) × Happens view (Unmade name)
+IsMaking view name (end.File file.Exists of) = (of.now ≡ name) × Happens view (There name)
+IsMaking view name (end.File file.Taken of) = (of.now ≡ name) × Happens view (Busy name)
+IsMaking view name _ = ⊥

@@ -1,0 +1,93 @@
+-- The lines that say what is wrong, byte by byte. Each is printed before the numbered line of a fault.
+use Rattle.std.specs.Prelude.{ℕ, List, [], ◌∷◌, codes, decimal}
+use Rattle.std.specs.List.{concat}
+use Rattle.nor_journal.specs.declared.fault.JournalFault.TheVariants as journal
+use Rattle.nor_layout.specs.declared.fault.LayoutFault.{LayoutFault}
+use Rattle.nor_layout.specs.declared.fault.LayoutFault.TheVariants as layout
+use Rattle.nor_layout.specs.declared.fault.LineFault.{LineFault}
+use Rattle.nor_layout.specs.declared.fault.LineFault.TheVariants as in_line
+use Rattle.nor_layout.specs.declared.layout.adding.RegionFault.{RegionFault}
+use Rattle.nor_layout.specs.declared.layout.adding.RegionFault.TheVariants as region
+use Rattle.nor_maps.specs.declared.fault.MapFault.{MapFault}
+use Rattle.nor_maps.specs.declared.fault.MapFault.TheVariants as map
+use Rattle.nor_request.specs.declared.refusal.Refusal.{Refusal}
+use Rattle.nor_request.specs.declared.refusal.Refusal.TheVariants.{BadJournal}
+use Rattle.nor_args.specs.Reasons.{option_text}
+use Rattle.nor_args.specs.declared.reasons.Flaw.{Flaw}
+use Rattle.nor_args.specs.declared.reasons.Flaw.TheVariants as flaw
+use Rattle.nor_args.specs.declared.reasons.Reason.{Reason}
+use Rattle.nor_args.specs.declared.reasons.Reason.TheVariants as because
+use Rattle.nor_console.specs.Escapes.{escaped}
+
+-- the words for a flaw of a setting
+abbrev pub flaw_text : Flaw → List ℕ
+flaw_text flaw.Key = codes "unknown key"
+flaw_text flaw.Value = codes "invalid value"
+flaw_text flaw.Twice = codes "repeated key"
+
+-- the line with the reason of a usage fault, or no bytes if there is no reason
+abbrev pub reason_line : Reason → List ℕ
+reason_line because.Unsaid = []
+reason_line because.NoProgrammer = codes "error: the option -p is missing\n"
+reason_line because.NoPrefix = codes "error: the value of -p does not begin with 'dummy:'\n"
+reason_line (because.Setting setting wrong) = concat (codes "error: " ∷ flaw_text wrong ∷ codes " in -p: '"
+    ∷ escaped setting.now ∷ codes "'\n" ∷ [])
+reason_line because.NoChip = codes "error: the value of -p lacks emulate=\n"
+reason_line (because.Operations first last) = concat (codes "error: " ∷ option_text first ∷ codes " and "
+    ∷ option_text last ∷ codes " cannot be used together\n" ∷ [])
+reason_line (because.Range value) =
+    concat (codes "error: invalid value of --wp-range: '" ∷ escaped value.now ∷ codes "'\n" ∷ [])
+reason_line (because.Progress value) =
+    concat (codes "error: invalid value of --progress: '" ∷ escaped value.now ∷ codes "'\n" ∷ [])
+reason_line (because.NoJournal option) = concat (codes "error: " ∷ option_text option ∷ codes " needs --journal\n" ∷ [])
+reason_line because.JournalAndRehearse = codes "error: --journal and --rehearse cannot be used together\n"
+reason_line (because.NoChange option) =
+    concat (codes "error: " ∷ option_text option ∷ codes " needs -w, -E or --wp-range\n" ∷ [])
+reason_line (because.NoNames option) = concat (codes "error: " ∷ option_text option ∷ codes " needs -i\n" ∷ [])
+reason_line because.NoLayout = codes "error: -i needs -l\n"
+reason_line (because.NoRegions option) =
+    concat (codes "error: " ∷ option_text option ∷ codes " and -i need -r, -v, -w or -E\n" ∷ [])
+reason_line (because.NoContent option) = concat (codes "error: " ∷ option_text option ∷ codes " needs -w or -E\n" ∷ [])
+reason_line because.NoComparison = codes "error: -N needs -w, -E or --restore\n"
+reason_line because.NoRestore = codes "error: --quick needs --restore\n"
+reason_line (because.Stop part) =
+    concat (codes "error: invalid number in --rehearse: '" ∷ escaped part.now ∷ codes "'\n" ∷ [])
+reason_line because.ManyStops = codes "error: more than 64 numbers in --rehearse\n"
+reason_line because.StopAndRehearse = codes "error: --rehearse and stop= cannot be used together\n"
+
+-- the words for what is wrong with a line of a layout
+abbrev pub line_fault_text : LineFault → List ℕ
+line_fault_text in_line.Line = codes "there is no colon, or no space between END and NAME"
+line_fault_text in_line.Address = codes "an address is not 1 to 8 hexadecimal digits"
+line_fault_text in_line.Backwards = codes "the end is below the start"
+line_fault_text in_line.Name = codes "the name is not 1 to 32 visible ASCII characters other than , and :"
+line_fault_text in_line.Twice = codes "an earlier line has this name"
+
+-- the line that says what is wrong with a layout, or no bytes if memory ran out
+abbrev pub layout_line : LayoutFault → List ℕ
+layout_line (layout.InLine line fault) = concat (codes "error: " ∷ line_fault_text fault ∷ codes "\n" ∷ [])
+layout_line layout.TooMany = codes "error: the layout has more than 64 regions\n"
+layout_line layout.Memory = []
+layout_line layout.NoRegion = codes "error: a name of -i is no region\n"
+
+-- the line that says why a layout can't have a region of an image, or no bytes if memory ran out
+abbrev pub region_fault_text : RegionFault → List ℕ
+region_fault_text region.Name = codes "error: the image has a region without a valid name\n"
+region_fault_text region.Twice = codes "error: the image has two regions with one name\n"
+region_fault_text region.TooMany = codes "error: the image has more than 64 regions\n"
+region_fault_text region.Memory = []
+
+-- the line that says what is wrong with an FMAP or a flash descriptor, or no bytes if memory ran out
+abbrev pub map_line : MapFault → List ℕ
+map_line map.Missing = codes "error: the image has no FMAP, or does not begin with a flash descriptor\n"
+map_line map.Short = codes "error: the image or its table of regions is cut off\n"
+map_line (map.Outside number) =
+    concat (codes "error: region " ∷ decimal number ∷ codes " of the image does not lie in the image\n" ∷ [])
+map_line (map.Region number fault) = region_fault_text fault
+
+-- the line that says whether an invalid journal was never sealed or is damaged, or no bytes for any other error
+abbrev pub journal_line : Refusal → List ℕ
+journal_line (BadJournal journal.Short) = codes "error: the journal was never sealed, or was cut off later\n"
+journal_line (BadJournal journal.Magic) = codes "error: the file is no journal, or is damaged\n"
+journal_line (BadJournal fault) = codes "error: the journal is damaged\n"
+journal_line _ = []

@@ -1,0 +1,129 @@
+-- The request that a change makes to a session, and the faults of reading the layout of its regions.
+use Rattle.std.specs.Prelude.{◌≡◌, ◌≤◌, ◌⊎◌, ℕ, true, List, Option, Some, None, Ok, Err, find, length, not}
+use Rattle.nor_layout.specs.declared.fault.LayoutFault.{LayoutFault}
+use Rattle.nor_layout.specs.declared.fault.LayoutFault.TheVariants as layout
+use Rattle.nor_layout.specs.declared.ranges.Span.{Span}
+use Rattle.nor_layout.specs.declared.region.Region.{Region}
+use Rattle.nor_layout.specs.Grammar.{IsLayout}
+use Rattle.nor_layout.specs.Included.{are_known, is_included, names_of}
+use Rattle.nor_layout.specs.Ranges.{contains}
+use Rattle.nor_layout.specs.Text.{AsksMemory, is_region_named, layout_says}
+use Rattle.nor_maps.specs.Descriptor.{AsksInDescriptor, descriptor_says}
+use Rattle.nor_maps.specs.Fmap.{AsksInFmap, fmap_says}
+use Rattle.nor_maps.specs.Records.{ReadsTable}
+use Rattle.nor_probe.specs.declared.table.ChipName.{ChipName}
+use Rattle.nor_request.specs.declared.request.Request.{Request}
+use Rattle.nor_request.specs.declared.request.What.{What}
+use Rattle.nor_request.specs.declared.request.What.TheVariants as what
+use Rattle.nor_args.specs.declared.job.Change.{Change}
+use Rattle.nor_args.specs.declared.job.LayoutForm.{LayoutForm}
+use Rattle.nor_args.specs.declared.job.LayoutForm.TheVariants as form
+use Rattle.nor_args.specs.declared.job.Regions.{Regions}
+use Rattle.nor_args.specs.declared.job.Wanted.{Wanted}
+use Rattle.nor_args.specs.declared.job.Wanted.TheVariants as wanted
+use Rattle.nor_console.specs.Stored.{IsRead}
+use Rattle.nor_files.specs.Files.{View}
+use Rattle.nor_console.specs.Files.{IsReadingFault, IsTooLong}
+use Rattle.nor_console.specs.declared.messages.Fault.{Fault}
+use Rattle.nor_console.specs.declared.messages.Fault.TheVariants as end
+
+-- the kind of change that a session is asked for, without the image
+abbrev pub what_of : Wanted → What
+what_of (wanted.Write image) = what.Write
+what_of wanted.Erase = what.Erase
+what_of (wanted.Range start len) = what.WpRange start len
+
+-- the request that `change` makes to a session, for the given name of the chip and the given ranges of addresses
+abbrev pub request_for : Change → Option ChipName → Option (List Span) → Request
+request_for change named ranges = record {
+  what = what_of change.wanted;
+  named = named;
+  included = ranges;
+  unlock = change.unlock;
+  verify = change.verify;
+}
+
+-- Holds if the text is a layout of the given form with these regions. `Lines`: a text of lines. `Fmap` and
+-- `Descriptor`: an image with an FMAP or a flash descriptor, for a chip that is as large as the image is long.
+abbrev pub HasLayout : LayoutForm → (text : List ℕ) → List Region → Type 0
+HasLayout form.Lines text regions = IsLayout text regions
+HasLayout form.Fmap text regions = fmap_says (length text) text ≡ Ok regions
+HasLayout form.Descriptor text regions = descriptor_says (length text) text ≡ Ok regions
+
+-- Holds if the text is a layout of the given form, and each of the comma-separated `names` is the name of one of its
+-- regions. `ranges` must contain exactly the addresses of the named regions.
+pub record AreIncluded (form : LayoutForm) (text names : List ℕ) (ranges : List Span) : Type 0 where
+  pub regions : List Region
+  pub layout : HasLayout form text regions
+  pub known : are_known regions names ≡ true
+  pub union : (a : ℕ) → contains ranges a ≡ is_included regions names a
+
+-- Holds if `ranges` are those of the named regions in the layout's file, which has at most 16 MiB. `text` is the
+-- content of the file if the file is known (`IsKnownFile`).
+pub record AreOfLayout (view : View) (regions : Regions) (ranges : List Span) : Type 0 where
+  pub text : List ℕ
+  pub read : IsRead view regions.layout.now 16777217 text
+  pub whole : length text ≤ 16777216
+  pub included : AreIncluded regions.form text regions.names.now ranges
+
+-- Holds if `ranges` are those of the named regions. If no regions are given, `ranges` must be `None` (the whole chip).
+abbrev pub AreRangesOf : View → Option Regions → Option (List Span) → Type 0
+AreRangesOf view None ranges = ranges ≡ None
+AreRangesOf view (Some regions) None = ⊥
+AreRangesOf view (Some regions) (Some ranges) = AreOfLayout view regions ranges
+
+-- Holds if the text isn't a layout, and `fault` is the first fault in it.
+pub record IsNoLayout (text : List ℕ) (fault : LayoutFault) : Type 0 where
+  pub none : (regions : List Region) → ¬ IsLayout text regions
+  pub first : layout_says text ≡ Err fault
+
+-- the first of the comma-separated `names` that none of the regions has, or `None` if there is none
+abbrev pub first_unknown : List Region → (names : List ℕ) → Option (List ℕ)
+first_unknown regions names = find (λ name. not (is_region_named regions name)) (names_of names)
+
+-- Holds if the text is a layout of the given form, and `name` is the first of the comma-separated `names` that none of
+-- its regions has.
+pub record IsUnknown (form : LayoutForm) (text names name : List ℕ) : Type 0 where
+  pub regions : List Region
+  pub layout : HasLayout form text regions
+  pub first : first_unknown regions names ≡ Some name
+
+-- Holds if the text may fail to be parsed with this fault: memory may run out, or the text isn't a layout and this is
+-- its fault.
+abbrev pub IsUnparsed : (text : List ℕ) → LayoutFault → Type 0
+IsUnparsed text layout.Memory = AsksMemory text
+IsUnparsed text layout.NoRegion = ⊥
+IsUnparsed text fault = IsNoLayout text fault
+
+-- Holds if the text may fail to be parsed as a layout of the given form with this fault.
+abbrev pub LacksLayout : LayoutForm → (text : List ℕ) → Fault → Type 0
+LacksLayout form.Lines text (end.Layout fault) = IsUnparsed text fault
+LacksLayout form.Fmap text (end.Map fault) =
+    ReadsTable (fmap_says (length text) text) (AsksInFmap (length text) text) (Err fault)
+LacksLayout form.Descriptor text (end.Map fault) =
+    ReadsTable (descriptor_says (length text) text) (AsksInDescriptor (length text) text) (Err fault)
+LacksLayout form text fault = ⊥
+
+-- Holds if no regions are included because of this fault: parsing the text as a layout failed, or a name is that of no
+-- region.
+abbrev pub IncludesNone : LayoutForm → (text names : List ℕ) → Fault → Type 0
+IncludesNone form text names (end.NoRegion name) = IsUnknown form text names name.now
+IncludesNone form text names fault = LacksLayout form text fault
+
+-- Holds if the layout's file has at most 16 MiB, and no regions are included because of this fault of its text or of
+-- the names. `text` is the content of the file if the file is known (`IsKnownFile`).
+pub record IsLayoutFault (view : View) (regions : Regions) (fault : Fault) : Type 0 where
+  pub text : List ℕ
+  pub read : IsRead view regions.layout.now 16777217 text
+  pub whole : length text ≤ 16777216
+  pub why : IncludesNone regions.form text regions.names.now fault
+
+-- Holds if including the regions may fail with this fault: a fault of the layout's text or of the names, a fault of
+-- reading its file, or file fault 1 for a file of more than 16 MiB. Without regions there is no fault.
+abbrev pub FailsToInclude : View → Option Regions → Fault → Type 0
+FailsToInclude view None fault = ⊥
+FailsToInclude view (Some regions) (end.Layout fault) = IsLayoutFault view regions (end.Layout fault)
+FailsToInclude view (Some regions) (end.Map fault) = IsLayoutFault view regions (end.Map fault)
+FailsToInclude view (Some regions) (end.NoRegion name) = IsLayoutFault view regions (end.NoRegion name)
+FailsToInclude view (Some regions) fault =
+    IsReadingFault view regions.layout.now 16777217 fault ⊎ IsTooLong view regions.layout.now 16777216 fault

@@ -1,0 +1,44 @@
+-- The faults of comparing the files of a run with each other and with the standard streams.
+use Rattle.std.specs.Prelude.{◌≡◌, ◌⊎◌, true, Option, IsSomeAnd}
+use Rattle.std.specs.Borrow.{Bor}
+use Rattle.nor_args.specs.Text.{Text}
+use Rattle.nor_files.specs.Disk.{IsStreamName}
+use Rattle.nor_files.specs.Files.{Nature}
+use Rattle.nor_files.specs.Files.Failure.{Printed, Shared, Unread}
+use Rattle.nor_console.specs.declared.messages.Fault.{Fault}
+use Rattle.nor_console.specs.declared.messages.Fault.TheVariants as end
+use Rattle.nor_console.specs.declared.messages.FileFault.TheVariants as file
+
+-- Holds for file fault 5 with the name `later`, if both names are given and may refer to one file.
+abbrev pub IsShared : Nature → (earlier later : Option (Bor Text)) → Fault → Type 0
+IsShared nature earlier later (end.File file.Taken of) = IsSomeAnd earlier (λ one. IsSomeAnd later (λ other.
+    (of.now ≡ other.now) × (nature.fails (Shared one.now other.now) ≡ true)))
+IsShared nature earlier later _ = ⊥
+
+-- Holds for file fault 5 with this name, if the name is given and the program may print to this file.
+abbrev pub IsPrintedTo : Nature → Option (Bor Text) → Fault → Type 0
+IsPrintedTo nature named (end.File file.Taken of) = IsSomeAnd named (λ name.
+    (of.now ≡ name.now) × (nature.fails (Printed name.now) ≡ true))
+IsPrintedTo nature named _ = ⊥
+
+-- Holds for file fault 1 with this name, if the name is given and looking it up may fail.
+abbrev pub IsUnseenFile : Nature → Option (Bor Text) → Fault → Type 0
+IsUnseenFile nature named (end.File file.Read of) = IsSomeAnd named (λ name.
+    (of.now ≡ name.now) × (nature.fails (Unread of.now) ≡ true))
+IsUnseenFile nature named _ = ⊥
+
+-- Holds if comparing two names may fail with this fault: both may refer to one file, or looking one of them up may
+-- fail.
+abbrev pub FailsApart : Nature → (earlier later : Option (Bor Text)) → Fault → Type 0
+FailsApart nature earlier later fault = IsShared nature earlier later fault
+    ⊎ (IsUnseenFile nature earlier fault ⊎ IsUnseenFile nature later fault)
+
+-- Holds if comparing a file with the standard streams may fail with this fault: the program may print to the file, or
+-- looking up its name may fail.
+abbrev pub FailsUnprinted : Nature → Option (Bor Text) → Fault → Type 0
+FailsUnprinted nature name fault = IsPrintedTo nature name fault ⊎ IsUnseenFile nature name fault
+
+-- Holds for file fault 1 with the name of standard output or standard error in `/dev/fd`, if looking it up may fail.
+abbrev pub IsUnseenStream : Nature → Fault → Type 0
+IsUnseenStream nature (end.File file.Read of) = IsStreamName of.now × (nature.fails (Unread of.now) ≡ true)
+IsUnseenStream nature _ = ⊥

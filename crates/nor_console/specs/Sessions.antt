@@ -1,0 +1,81 @@
+-- The results of the jobs that run a session or a backup and write its journal into a file. They include all promises
+-- of the engine for the call.
+use Rattle.std.specs.Prelude.{◌≡◌, ℕ, true, List, Option, None, Result}
+use Rattle.nor_model.specs.Bus.{BusState}
+use Rattle.nor_files.specs.Files.{FilesState, IsKnownFile, View, is_lawful}
+use Rattle.nor_journal.specs.Vault.{IsFresh, VaultState}
+use Rattle.nor_probe.specs.declared.table.ChipName.{ChipName}
+use Rattle.nor_probe.specs.Known.{IsModelled}
+use Rattle.nor_request.specs.declared.refusal.Refusal.{Refusal}
+use Rattle.nor_request.specs.declared.report.Report.{Report}
+use Rattle.nor_request.specs.declared.request.Request.{Request}
+use Rattle.nor_session.specs.Backup.{BackupAlways, BackupHonest, BackupModelled}
+use Rattle.nor_session.specs.Headline.{KeepsOriginal}
+use Rattle.nor_session.specs.Session.{SessionAlways, SessionHonest, SessionModelled}
+use Rattle.nor_session.specs.Announcing.{Announces}
+use Rattle.nor_session.specs.declared.announcement.Announcement.{Announcement}
+use Rattle.nor_args.specs.Text.{Text}
+use Rattle.nor_console.specs.Readings.{AnswersCall, ReportsReadOut}
+use Rattle.nor_console.specs.Stored.{IsKeptFile}
+use Rattle.nor_console.specs.declared.answers.Answer.{Answer}
+use Rattle.nor_console.specs.declared.answers.Answer.TheVariants as answer
+
+-- Holds if the answer is `Done` with this report: the answer of a change or a restore that succeeded.
+abbrev pub ReportsDone : Report → Answer → Type 0
+ReportsDone report (answer.Done returned) = returned ≡ report
+ReportsDone report _ = ⊥
+
+-- Holds if the job called `session` with a vault for the journal, the call kept all its promises, and the job's outcome
+-- is the call's report or error. `vault` is the vault's state before the call, and `vault'` the state after it.
+pub record HasRunSession (request : Request) (image : List ℕ) (old new : BusState) (vault vault' : VaultState)
+    (outcome : Result Answer Refusal) : Type 0 where
+  pub result : Result Report Refusal
+  pub keeps : KeepsOriginal old new vault'
+  pub always : SessionAlways request image old new vault vault' result
+  pub honest : old.honest ≡ true → SessionHonest request image old new result
+  pub modelled : IsModelled old → SessionModelled request image old new vault vault' result
+  pub returned : AnswersCall ReportsDone result outcome
+
+-- Holds if the job's outcome is the report or the error of a call of `session_announced` or `restore_announced`, and if
+-- `Announces` holds for that call: it made an announcement for which `Was` holds, or it sent no modifying command.
+pub record HasAnnounced (Was : Announcement → Type 0) (old new : BusState)
+    (outcome : Result Answer Refusal) : Type 0 where
+  pub result : Result Report Refusal
+  pub announced : Announces Was old new result
+  pub returned : AnswersCall ReportsDone result outcome
+
+-- Holds if a session was run with its journal in a new file. If the files obey their contract, the file then has
+-- exactly the bytes of the session's vault, and a host crash does not lose them if the vault is sealed. The file was
+-- missing before, provided that it was known (`IsKnownFile`).
+pub record HasRunInFile (request : Request) (image : List ℕ) (file : Text) (before : View) (after : FilesState)
+    (old new : BusState) (outcome : Result Answer Refusal) : Type 0 where
+  pub missing : IsKnownFile file before → before.seen file ≡ None
+  pub vault : VaultState
+  pub vault' : VaultState
+  pub fresh : IsFresh vault
+  pub kept_in : is_lawful after.view ≡ true → IsKeptFile file vault' after
+  pub ran : HasRunSession request image old new vault vault' outcome
+
+-- ---- backups
+
+-- Holds if the job called `backup` with a vault for the journal, the call kept all its promises, and the job's outcome
+-- is the call's report or error. `vault` is the vault's state before the call, and `vault'` the state after it.
+pub record HasBackedUp (named : Option ChipName) (old new : BusState) (vault vault' : VaultState)
+    (outcome : Result Answer Refusal) : Type 0 where
+  pub result : Result Report Refusal
+  pub always : BackupAlways named old new vault vault' result
+  pub honest : old.honest ≡ true → BackupHonest named old new result
+  pub modelled : IsModelled old → BackupModelled named old new vault' result
+  pub returned : AnswersCall ReportsReadOut result outcome
+
+-- Holds if a backup was made with its journal in a new file. If the files obey their contract, the file then has
+-- exactly the bytes of the backup's vault, and a host crash does not lose them if the vault is sealed. The file was
+-- missing before, provided that it was known (`IsKnownFile`).
+pub record HasBackedUpInFile (named : Option ChipName) (file : Text) (before : View) (after : FilesState)
+    (old new : BusState) (outcome : Result Answer Refusal) : Type 0 where
+  pub missing : IsKnownFile file before → before.seen file ≡ None
+  pub vault : VaultState
+  pub vault' : VaultState
+  pub fresh : IsFresh vault
+  pub kept_in : is_lawful after.view ≡ true → IsKeptFile file vault' after
+  pub ran : HasBackedUp named old new vault vault' outcome

@@ -1,0 +1,47 @@
+//! Names in messages, with their control characters escaped.
+
+use std::fmt;
+
+/// A name that is printed with its control characters escaped.
+///
+/// The control characters are U+0000 to U+001F and U+007F to U+009F. Each byte of their UTF-8 is printed as `\xNN`,
+/// with two lower-case hexadecimal digits. All other characters are printed unchanged, including the backslash. The
+/// printed name therefore contains neither a line feed nor an escape sequence for a terminal.
+#[derive(Drop)]
+pub struct Escaped<'a>(pub &'a str);
+
+impl fmt::Display for Escaped<'_> {
+    ghost use Rattle.std.specs.Prelude.{Some};
+    ghost use Rattle.nor_console.specs.Escapes.{escaped};
+
+    ghost output = { λ shown. Some (escaped shown.0.now) };
+
+    fn fmt<W: fmt::Write>(&self, f: &mut fmt::Formatter<W>) -> fmt::Result {
+        for character in self.0.chars() {
+            write!(f, "{}", EscapedCharacter(character))?;
+        }
+        Ok(())
+    }
+}
+
+// One character of a name, escaped if it is a control character.
+#[derive(Drop)]
+struct EscapedCharacter(char);
+
+impl fmt::Display for EscapedCharacter {
+    ghost use Rattle.std.specs.Prelude.{Some};
+    ghost use Rattle.nor_console.specs.Escapes.{escaped_character};
+
+    ghost output = { λ shown. Some (escaped_character shown.0) };
+
+    fn fmt<W: fmt::Write>(&self, f: &mut fmt::Formatter<W>) -> fmt::Result {
+        if !self.0.is_control() {
+            return f.write_char(self.0);
+        }
+        let mut buffer = [0; 4];
+        for byte in self.0.encode_utf8(&mut buffer).as_bytes() {
+            write!(f, "\\x{byte:02x}")?;
+        }
+        Ok(())
+    }
+}

@@ -1,0 +1,205 @@
+//! Reads, locks, creates and truncates the files of a run, and returns the faults of files.
+ghost use Rattle.std.specs.Prelude.{◌≡◌, ◌↔◌, true, IfOk, IfErr, OnOk, OnErr, None, Some};
+ghost use Rattle.std.specs.IoError.{error_kind};
+ghost use Rattle.std.specs.declared.io.ErrorKind.TheVariants as Kinds;
+ghost use Rattle.nor_files.specs.Calls.{Borrows, BorrowsNone};
+ghost use Rattle.nor_files.specs.Faults.{IsCreateFault};
+ghost use Rattle.nor_files.specs.Files.{AreUntouched, IsKnownFile, OthersStay, View, is_lawful};
+ghost use Rattle.nor_journal.specs.Vault.{IsFresh};
+ghost use Rattle.nor_console.specs.Stored.{IsRead};
+ghost use Rattle.nor_console.specs.Files.{IsReadingFault, IsMaking, IsSharingFault, IsNotLocked, IsUnreadFault};
+ghost use Rattle.nor_console.specs.Messages.{IsLostOutput};
+ghost use Rattle.nor_console.specs.declared.messages.Fault.TheVariants as Faults;
+ghost use Rattle.nor_console.specs.declared.messages.FileFault.TheVariants as FileFaults;
+ghost use Rattle.nor_request.specs.declared.refusal.Refusal.TheVariants as Refusals;
+
+use crate::messages::{Fault, FileFault};
+use nor_files::{CreateFault, LockFault, Store};
+use nor_session::Refusal;
+use std::io;
+use std::io::{BufWriter, ErrorKind};
+
+/// The greatest number of bytes that are read from an image: one more than the largest chip has, so that a longer image
+/// is detected.
+pub const MOST_IMAGE_BYTES: u64 = 16_777_217;
+
+/// The greatest number of bytes that are read from a journal. This is one more than the length of the longest journal,
+/// which saves all sectors of the largest chip, so that a longer file is detected.
+pub const MOST_JOURNAL_BYTES: u64 = 16_793_662;
+
+/// The greatest length of a layout file, in bytes.
+pub const MOST_LAYOUT_BYTES: u64 = 16_777_216;
+
+/// Reads at most `most` bytes of a file.
+///
+/// Returns file fault 1 if the file is missing or can't be read, or error 18 if memory runs out.
+#[tactic(auto, using(crate::proofs::FileFaults::unread_reading))]
+pub fn read_file<'a, R: Store>(rt: &R, name: &'a str, most: u64) -> Result<Vec<u8>, Fault<'a>>
+    ensures ok { IfOk result (λ bytes. IsRead ((R.state rt.now).view) name.now most bytes.items) }
+    ensures err { IfErr result (IsReadingFault ((R.state rt.now).view) name.now most) }
+{
+    match rt.read_named(name, most) {
+        Ok(Some(bytes)) => Ok(bytes),
+        Ok(None) => Err(unread(name)),
+        Err(error) => Err(reading(error, name)),
+    }
+}
+
+/// Returns the fault of a file that can't be opened or read: error 18 if memory ran out, otherwise file fault 1.
+pub fn reading(error: io::Error, name: &str) -> Fault<'_>
+    ensures file { IsUnreadFault name.now result }
+    ensures memory { result ≡ Faults.Refused Refusals.Memory ↔ error_kind error ≡ Kinds.OutOfMemory }
+{
+    match error.kind() {
+        ErrorKind::OutOfMemory => Fault::Refused(Refusal::Memory),
+        _ => unread(name),
+    }
+}
+
+/// Returns file fault 1: the file is missing, or can't be looked up, opened or read.
+pub fn unread(name: &str) -> Fault<'_>
+    ensures { result ≡ Faults.File FileFaults.Read name.entry }
+{
+    let fault = FileFault::Read;
+    Fault::File { fault, name }
+}
+
+/// Creates the file `name` or truncates it, and returns a vault that writes to it. If the file is a journal, `Disk`
+/// doesn't truncate it, and returns file fault 4. `making` lists the other faults.
+pub fn empty<'a, R: Store>(rt: &mut R, name: &'a str) -> Result<R::Filed, Fault<'a>>
+    ensures nature { (R.state rt.new).view.nature ≡ (R.state rt.old).view.nature }
+    ensures fresh { IfOk result (λ vault. IsFresh (R.Filed.state vault)) }
+    ensures borrows { is_lawful (R.state rt.old).view ≡ true
+        → OnOk result (Borrows name.now (R.state rt.old) (R.state rt.new)) }
+    ensures others { is_lawful (R.state rt.old).view ≡ true
+        → OthersStay name.now (R.state rt.old) (R.state rt.new) }
+    ensures err { IfErr result (IsMaking (R.state rt.old).view name.now) }
+{
+    match rt.vault_in(name) {
+        Ok(vault) => Ok(vault),
+        Err(fault) => Err(making(fault, name)),
+    }
+}
+
+/// Creates the file `name`, and returns a vault that writes to it. If the file exists, `Disk` leaves it as it is, and
+/// returns file fault 4. `making` lists the other faults.
+pub fn make<'a, R: Store>(rt: &mut R, name: &'a str) -> Result<R::Filed, Fault<'a>>
+    ensures nature { (R.state rt.new).view.nature ≡ (R.state rt.old).view.nature }
+    ensures fresh { IfOk result (λ vault. IsFresh (R.Filed.state vault)) }
+    ensures borrows { is_lawful (R.state rt.old).view ≡ true
+        → OnOk result (Borrows name.now (R.state rt.old) (R.state rt.new)) }
+    ensures missing { IsKnownFile name.now (R.state rt.old).view
+        → OnOk result ((R.state rt.old).view.seen name.now ≡ None) }
+    ensures fails { is_lawful (R.state rt.old).view ≡ true
+        → OnErr result (BorrowsNone name.now (R.state rt.old) (R.state rt.new)) }
+    ensures others { is_lawful (R.state rt.old).view ≡ true
+        → OthersStay name.now (R.state rt.old) (R.state rt.new) }
+    ensures err { IfErr result (IsMaking (R.state rt.old).view name.now) }
+{
+    match rt.vault_in_new(name) {
+        Ok(vault) => Ok(vault),
+        Err(fault) => Err(making(fault, name)),
+    }
+}
+
+/// Creates the file `name` or truncates it, and returns a buffered writer to it. If the file is a journal, `Disk`
+/// doesn't truncate it, and returns file fault 4. `making` lists the other faults. Error 18 may also occur after the
+/// file was created or truncated.
+pub fn create_log<'a, R: Store>(rt: &mut R, name: &'a str) -> Result<BufWriter<R::Log>, Fault<'a>>
+    ensures nature { (R.state rt.new).view.nature ≡ (R.state rt.old).view.nature }
+    ensures others { is_lawful (R.state rt.old).view ≡ true
+        → OthersStay name.now (R.state rt.old) (R.state rt.new) }
+    ensures err { IfErr result (IsMaking (R.state rt.old).view name.now) }
+{
+    let file = match rt.log_in(name) {
+        Ok(file) => file,
+        Err(fault) => return Err(making(fault, name)),
+    };
+    BufWriter::new(rt.alloc(), file).map_err(|_| Fault::Refused(Refusal::Memory))
+}
+
+/// Returns the fault of a file that can't be created or truncated:
+///
+/// - file fault 4 if the file exists and must be new, or is a journal, which `Disk` never truncates
+/// - file fault 5 if another process has locked the file
+/// - error 18 if memory ran out (`CreateFault::Memory`)
+/// - file fault 2 for any other reason
+pub fn making(fault: CreateFault, name: &str) -> Fault<'_>
+    ensures { (view : View) → IsCreateFault view.nature name.now fault → IsMaking view name.now result }
+{
+    match fault {
+        CreateFault::There => {
+            let fault = FileFault::Exists;
+            Fault::File { fault, name }
+        }
+        CreateFault::Busy => taken(name),
+        CreateFault::Unmade(_) => unmade(name),
+        CreateFault::Memory => Fault::Refused(Refusal::Memory),
+    }
+}
+
+/// Returns file fault 5: the file is in use, because it has another role in the run, another run has locked it, or the
+/// program prints to it.
+pub fn taken(name: &str) -> Fault<'_>
+    ensures { result ≡ Faults.File FileFaults.Taken name.entry }
+{
+    let fault = FileFault::Taken;
+    Fault::File { fault, name }
+}
+
+/// Returns file fault 2: the file can't be created, truncated, read before it is truncated, locked, written or synced,
+/// or its directory can't be synced.
+pub fn unmade(name: &str) -> Fault<'_>
+    ensures { result ≡ Faults.File FileFaults.Write name.entry }
+{
+    let fault = FileFault::Write;
+    Fault::File { fault, name }
+}
+
+/// Returns the fault of a failed write to standard output: file fault 2 with the name `standard output`.
+pub fn lost_output() -> Fault<'static>
+    ensures { IsLostOutput result }
+{
+    unmade("standard output")
+}
+
+/// Locks the file `journal`, so that other runs can read it but not change it. On a file system without locks nothing
+/// is locked. Returns the file's first `MOST_JOURNAL_BYTES` bytes, or all its bytes if it has fewer, without checking
+/// that they are a journal.
+///
+/// Returns one of these faults:
+///
+/// - file fault 1 if the file is missing or can't be read
+/// - file fault 2 if the file can't be locked
+/// - file fault 5 if another process has locked the file to change it, not only to read it
+/// - error 18 if memory runs out
+pub fn read_journal<'a, R: Store>(rt: &mut R, journal: &'a str) -> Result<Vec<u8>, Fault<'a>>
+    ensures same { AreUntouched (R.state rt.old) (R.state rt.new) }
+    ensures ok { IfOk result (λ bytes. IsRead (R.state rt.old).view journal.now 16793662 bytes.items) }
+    ensures err { IfErr result (IsSharingFault (R.state rt.old).view journal.now 16793662) }
+{
+    match rt.share(journal) {
+        Ok(()) => {}
+        Err(fault) => return Err(unheld(fault, journal)),
+    }
+    match read_file(rt, journal, MOST_JOURNAL_BYTES) {
+        Ok(bytes) => Ok(bytes),
+        Err(fault) => Err(fault),
+    }
+}
+
+/// Returns the fault of a file that can't be opened or locked.
+///
+/// - error 18 if memory ran out
+/// - file fault 1 if the file can't be looked up, opened or read
+/// - file fault 2 if a file or link of this name exists, but can't be overwritten or locked
+/// - file fault 5 if another process has locked the file
+pub fn unheld(fault: LockFault, name: &str) -> Fault<'_>
+    ensures { IsNotLocked fault name.now result }
+{
+    match fault {
+        LockFault::Unread(error) => reading(error, name),
+        LockFault::Unheld => unmade(name),
+        LockFault::Busy => taken(name),
+    }
+}

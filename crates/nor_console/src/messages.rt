@@ -1,0 +1,177 @@
+//! The faults that end a run with exit status 1, and their texts.
+ghost use Rattle.std.specs.Prelude.{◌≡◌, Some};
+ghost use Rattle.nor_console.specs.Messages.{IsReportedAs};
+
+use crate::escapes::Escaped;
+use crate::reasons::{JournalLine, LayoutLine, MapLine, ReasonLine};
+use nor_args::{Reason, UsageFault};
+use nor_layout::LayoutFault;
+use nor_maps::MapFault;
+use nor_session::Refusal;
+use std::alloc::AllocError;
+use std::io::ErrorKind;
+use std::{fmt, io};
+
+/// A failure of a file. The variants are numbered from 1 to 5 in this order, and the message has the number.
+#[derive(Clone, Copy)]
+pub enum FileFault {
+    /// The file is missing, can't be looked up or read, or is a layout of more than 16 MiB.
+    Read = 1,
+    /// The file can't be created, truncated, read before it is truncated, locked, written or synced, or its directory
+    /// can't be synced. For the trace also: a line could not be written.
+    Write,
+    /// The file with the chip's bytes has another length than the chip, or the status file doesn't have two bytes.
+    Length,
+    /// The journal of a change already exists, or a file that would be truncated is a journal.
+    Exists,
+    /// The file has another role in the run, another run has locked it, or the program prints to it.
+    Taken,
+}
+
+impl FileFault {
+    ghost use Rattle.nor_console.specs.Messages.{file_number};
+
+    /// Returns the number of this file fault, which its message contains.
+    pub fn number(self) -> u8
+        ensures { result ≡ file_number self }
+    {
+        self as u8
+    }
+}
+
+/// The fault that ends a run with exit status 1. Its text is printed to standard error. A request for the help or the
+/// version is a fault of the arguments, too. But its text is printed to standard output, and the exit status is 0 if
+/// printing succeeds.
+#[derive(Drop)]
+pub enum Fault<'a> {
+    /// A usage fault and its reason, or a request for the help or the version.
+    Usage {
+        fault: UsageFault,
+        reason: Reason<'a>,
+    },
+    /// The arguments are not UTF-8, so they can't be parsed. This is printed as usage fault 1, as if the parser had
+    /// rejected the arguments.
+    NoText,
+    /// A layout that can't be used.
+    Layout(LayoutFault),
+    /// An FMAP or a flash descriptor that can't be used, or that is missing in the image.
+    Map(MapFault),
+    /// Layout fault 8: the first of the given names that is not the name of a region.
+    NoRegion {
+        name: &'a str,
+    },
+    /// A failure of the file `name`.
+    File {
+        fault: FileFault,
+        name: &'a str,
+    },
+    /// An error of a call to the engine. Before the call: error 15 for an invalid journal, or error 18 if memory ran
+    /// out.
+    Refused(Refusal),
+}
+
+impl Fault<'_> {
+    ghost use Rattle.nor_console.specs.Messages.{IsOfArguments};
+    ghost use Rattle.nor_console.specs.declared.messages.Fault.TheVariants as Faults;
+    ghost use Rattle.nor_args.specs.declared.reasons.Reason.TheVariants as Reasons;
+    ghost use Rattle.nor_args.specs.declared.words.UsageFault.TheVariants as Usage;
+
+    /// Returns the fault of arguments that could not be collected: usage fault 10 if memory ran out, or `NoText` for
+    /// any other error, because the arguments are then not UTF-8.
+    pub fn of_words(error: &io::Error) -> Fault<'static>
+        ensures { IsOfArguments error.now result }
+    {
+        match error.kind() {
+            ErrorKind::OutOfMemory => Fault::out_of_memory(),
+            _ => Fault::NoText,
+        }
+    }
+
+    /// Returns usage fault 10: memory ran out before the arguments were parsed.
+    pub fn out_of_memory() -> Fault<'static>
+        ensures { result ≡ Faults.Usage Usage.Memory Reasons.Unsaid }
+    {
+        Fault::Usage {
+            fault: UsageFault::Memory,
+            reason: Reason::Unsaid,
+        }
+    }
+}
+
+/// Returns the result of a call to the engine, with the call's error as a fault of the run.
+pub fn or_fault<'a, T>(outcome: Result<T, Refusal>) -> Result<T, Fault<'a>>
+    ensures { IsReportedAs outcome result }
+{
+    match outcome {
+        Ok(value) => Ok(value),
+        Err(refusal) => Err(Fault::Refused(refusal)),
+    }
+}
+
+impl From<AllocError> for Fault<'_> {
+    ghost use Rattle.nor_console.specs.declared.messages.Fault.TheVariants.{Refused};
+    ghost use Rattle.nor_request.specs.declared.refusal.Refusal.TheVariants.{Memory};
+
+    ghost from_gives = { λ _ fault. fault ≡ Refused Memory };
+
+    fn from(_: AllocError) -> Self {
+        Fault::Refused(Refusal::Memory)
+    }
+}
+
+// This `Display` is written by hand, because a derived one has no contract.
+impl fmt::Display for Fault<'_> {
+    ghost use Rattle.nor_console.specs.FaultLines.{text_of};
+
+    ghost output = { text_of };
+
+    fn fmt<W: fmt::Write>(&self, f: &mut fmt::Formatter<W>) -> fmt::Result {
+        match self {
+            Fault::Usage { fault, reason } => write!(f, "{}{fault}", ReasonLine(*reason)),
+            Fault::NoText => f.write_str(
+                "error: invalid UTF-8 was detected in one or more arguments\n\nUsage fault 1.",
+            ),
+            Fault::Layout(fault) => {
+                let (number, place) = (fault.number(), Place(fault.line()));
+                write!(f, "{}Layout fault {number}{place}.", LayoutLine(*fault))
+            }
+            Fault::Map(fault) => {
+                let number = fault.number();
+                write!(f, "{}Map fault {number}.", MapLine(*fault))
+            }
+            Fault::NoRegion { name } => {
+                let name = Escaped(name);
+                write!(
+                    f,
+                    "error: the layout has no region '{name}'\nLayout fault 8."
+                )
+            }
+            Fault::File { fault, name } => {
+                let name = Escaped(name);
+                write!(f, "File fault {}: {name}.", fault.number())
+            }
+            Fault::Refused(refusal) => {
+                let number = refusal.number();
+                write!(f, "{}Error {number}: {refusal}.", JournalLine(refusal))
+            }
+        }
+    }
+}
+
+// The part of a message that names the line of a layout fault, ` at line N`. The part is empty if the fault isn't in a
+// single line.
+#[derive(Drop)]
+struct Place(Option<usize>);
+
+impl fmt::Display for Place {
+    ghost use Rattle.nor_console.specs.FaultLines.{place};
+
+    ghost output = { λ shown. Some (place shown.0) };
+
+    fn fmt<W: fmt::Write>(&self, f: &mut fmt::Formatter<W>) -> fmt::Result {
+        match self.0 {
+            Some(line) => write!(f, " at line {line}"),
+            None => Ok(()),
+        }
+    }
+}

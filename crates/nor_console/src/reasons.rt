@@ -1,0 +1,179 @@
+//! The lines that say what is wrong. Each is printed before the numbered line of a fault.
+ghost use Rattle.std.specs.Prelude.{◌≡◌, Some};
+ghost use Rattle.nor_console.specs.ReasonLines.{flaw_text, line_fault_text, region_fault_text};
+
+use crate::escapes::Escaped;
+use nor_args::{Flaw, Reason};
+use nor_journal::JournalFault;
+use nor_layout::{LayoutFault, LineFault, RegionFault};
+use nor_maps::MapFault;
+use nor_session::Refusal;
+use std::fmt;
+
+/// The line with the reason of a usage fault. It is empty if there is no reason.
+#[derive(Drop)]
+pub struct ReasonLine<'a>(pub Reason<'a>);
+
+impl fmt::Display for ReasonLine<'_> {
+    ghost use Rattle.nor_console.specs.ReasonLines.{reason_line};
+
+    ghost output = { λ shown. Some (reason_line shown.0) };
+
+    fn fmt<W: fmt::Write>(&self, f: &mut fmt::Formatter<W>) -> fmt::Result {
+        match self.0 {
+            Reason::Unsaid => Ok(()),
+            Reason::NoProgrammer => f.write_str("error: the option -p is missing\n"),
+            Reason::NoPrefix => f.write_str(
+                "error: the value of -p does not begin with 'dummy:'\n",
+            ),
+            Reason::Setting { setting, flaw } => {
+                let setting = Escaped(setting);
+                writeln!(f, "error: {} in -p: '{setting}'", text_of_flaw(flaw))
+            }
+            Reason::NoChip => f.write_str("error: the value of -p lacks emulate=\n"),
+            Reason::Operations { first, last } => {
+                let (first, last) = (first.as_str(), last.as_str());
+                writeln!(f, "error: {first} and {last} cannot be used together")
+            }
+            Reason::Range(value) => {
+                let value = Escaped(value);
+                writeln!(f, "error: invalid value of --wp-range: '{value}'")
+            }
+            Reason::Progress(value) => {
+                let value = Escaped(value);
+                writeln!(f, "error: invalid value of --progress: '{value}'")
+            }
+            Reason::NoJournal(option) => {
+                writeln!(f, "error: {} needs --journal", option.as_str())
+            }
+            Reason::JournalAndRehearse => {
+                f.write_str("error: --journal and --rehearse cannot be used together\n")
+            }
+            Reason::NoChange(option) => {
+                writeln!(f, "error: {} needs -w, -E or --wp-range", option.as_str())
+            }
+            Reason::NoNames(option) => writeln!(f, "error: {} needs -i", option.as_str()),
+            Reason::NoLayout => f.write_str("error: -i needs -l\n"),
+            Reason::NoRegions(option) => {
+                let option = option.as_str();
+                writeln!(f, "error: {option} and -i need -r, -v, -w or -E")
+            }
+            Reason::NoContent(option) => writeln!(f, "error: {} needs -w or -E", option.as_str()),
+            Reason::NoComparison => f.write_str("error: -N needs -w, -E or --restore\n"),
+            Reason::NoRestore => f.write_str("error: --quick needs --restore\n"),
+            Reason::Stop(part) => {
+                let part = Escaped(part);
+                writeln!(f, "error: invalid number in --rehearse: '{part}'")
+            }
+            Reason::ManyStops => f.write_str("error: more than 64 numbers in --rehearse\n"),
+            Reason::StopAndRehearse => {
+                f.write_str("error: --rehearse and stop= cannot be used together\n")
+            }
+        }
+    }
+}
+
+/// Returns the words that describe a flaw in the printed reason.
+pub fn text_of_flaw(flaw: Flaw) -> &'static str
+    ensures { result.now ≡ flaw_text flaw }
+{
+    match flaw {
+        Flaw::Key => "unknown key",
+        Flaw::Value => "invalid value",
+        Flaw::Twice => "repeated key",
+    }
+}
+
+/// The line that says what is wrong with a layout. It is empty if memory ran out.
+#[derive(Drop)]
+pub struct LayoutLine(pub LayoutFault);
+
+impl fmt::Display for LayoutLine {
+    ghost use Rattle.nor_console.specs.ReasonLines.{layout_line};
+
+    ghost output = { λ shown. Some (layout_line shown.0) };
+
+    fn fmt<W: fmt::Write>(&self, f: &mut fmt::Formatter<W>) -> fmt::Result {
+        match self.0 {
+            LayoutFault::InLine { fault, .. } => writeln!(f, "error: {}", text_of_line(fault)),
+            LayoutFault::TooMany => f.write_str("error: the layout has more than 64 regions\n"),
+            LayoutFault::Memory => Ok(()),
+            LayoutFault::NoRegion => f.write_str("error: a name of -i is no region\n"),
+        }
+    }
+}
+
+fn text_of_line(fault: LineFault) -> &'static str
+    ensures { result.now ≡ line_fault_text fault }
+{
+    match fault {
+        LineFault::Line => "there is no colon, or no space between END and NAME",
+        LineFault::Address => "an address is not 1 to 8 hexadecimal digits",
+        LineFault::Backwards => "the end is below the start",
+        LineFault::Name => "the name is not 1 to 32 visible ASCII characters other than , and :",
+        LineFault::Twice => "an earlier line has this name",
+    }
+}
+
+/// The line that says what is wrong with an FMAP or a flash descriptor. It is empty if memory ran out. In this line the
+/// entries of a flash descriptor are numbered from 0, and the areas of an FMAP from 1.
+#[derive(Drop)]
+pub struct MapLine(pub MapFault);
+
+impl fmt::Display for MapLine {
+    ghost use Rattle.nor_console.specs.ReasonLines.{map_line};
+
+    ghost output = { λ shown. Some (map_line shown.0) };
+
+    fn fmt<W: fmt::Write>(&self, f: &mut fmt::Formatter<W>) -> fmt::Result {
+        match self.0 {
+            MapFault::Missing => {
+                f.write_str(
+                    "error: the image has no FMAP, or does not begin with a flash descriptor\n",
+                )
+            }
+            MapFault::Short => f.write_str("error: the image or its table of regions is cut off\n"),
+            MapFault::Outside { record } => {
+                writeln!(
+                    f,
+                    "error: region {record} of the image does not lie in the image"
+                )
+            }
+            MapFault::Region { fault, .. } => f.write_str(text_of_region(fault)),
+        }
+    }
+}
+
+fn text_of_region(fault: RegionFault) -> &'static str
+    ensures { result.now ≡ region_fault_text fault }
+{
+    match fault {
+        RegionFault::Name => "error: the image has a region without a valid name\n",
+        RegionFault::Twice => "error: the image has two regions with one name\n",
+        RegionFault::TooMany => "error: the image has more than 64 regions\n",
+        RegionFault::Memory => "",
+    }
+}
+
+/// The line that says whether an invalid journal was never sealed or is damaged. For any other error the line is empty.
+#[derive(Drop)]
+pub struct JournalLine<'a>(pub &'a Refusal);
+
+impl fmt::Display for JournalLine<'_> {
+    ghost use Rattle.nor_console.specs.ReasonLines.{journal_line};
+
+    ghost output = { λ shown. Some (journal_line shown.0.now) };
+
+    fn fmt<W: fmt::Write>(&self, f: &mut fmt::Formatter<W>) -> fmt::Result {
+        match self.0 {
+            Refusal::BadJournal(JournalFault::Short) => {
+                f.write_str("error: the journal was never sealed, or was cut off later\n")
+            }
+            Refusal::BadJournal(JournalFault::Magic) => {
+                f.write_str("error: the file is no journal, or is damaged\n")
+            }
+            Refusal::BadJournal(_) => f.write_str("error: the journal is damaged\n"),
+            _ => Ok(()),
+        }
+    }
+}

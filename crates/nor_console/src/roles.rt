@@ -1,0 +1,174 @@
+//! The files that a task names, and the checks of these names: two names must not refer to one file, and the program
+//! must not print to a named file.
+ghost use Rattle.std.specs.Prelude.{◌≡◌, IfErr, IfOk, OnOk, IsSomeAnd, true};
+ghost use Rattle.nor_files.specs.Files.Failure.{Printed};
+ghost use Rattle.nor_console.specs.Roles.{FailsApart, FailsUnprinted, IsUnseenFile, IsUnseenStream};
+ghost use Rattle.nor_console.specs.Tasks.{image_of, journal_of, layout_of, named_by};
+ghost use Rattle.nor_console.specs.Stored.{AreTwo};
+ghost use Rattle.nor_console.specs.declared.messages.Fault.TheVariants as Faults;
+ghost use Rattle.nor_request.specs.declared.refusal.Refusal.TheVariants as Refusals;
+
+use crate::files::{taken, unread};
+use crate::messages::Fault;
+use nor_args::{Change, JournalUse, Regions, Task, Wanted};
+use nor_files::{Store, Stream};
+
+/// The files that a task names, by their roles.
+#[derive(Clone, Copy)]
+pub struct Named<'a> {
+    /// The file of the layout that names the regions.
+    pub layout: Option<&'a str>,
+    /// The file of the image to write, or to compare with the chip.
+    pub wanted: Option<&'a str>,
+    /// The file into which the chip is read.
+    pub output: Option<&'a str>,
+    /// The file of the journal that a change writes, or from which a restore reads.
+    pub journal: Option<&'a str>,
+}
+
+/// Returns the files that this task names.
+pub fn named_by<'a>(task: &Task<'a>) -> Named<'a>
+    ensures { result ≡ named_by task.now }
+{
+    let none = Named {
+        layout: None,
+        wanted: None,
+        output: None,
+        journal: None,
+    };
+    match task {
+        Task::Read { file, regions } => Named {
+            layout: layout_of(*regions),
+            output: Some(*file),
+            ..none
+        },
+        Task::Verify { file, regions } => Named {
+            layout: layout_of(*regions),
+            wanted: Some(*file),
+            ..none
+        },
+        Task::Change(change) => Named {
+            layout: layout_of(change.regions),
+            wanted: image_of(change),
+            journal: journal_of(change),
+            ..none
+        },
+        Task::Restore { journal } => Named {
+            journal: Some(*journal),
+            ..none
+        },
+        _ => none,
+    }
+}
+
+fn layout_of<'a>(regions: Option<Regions<'a>>) -> Option<&'a str>
+    ensures { result ≡ layout_of regions.entry }
+{
+    match regions {
+        Some(Regions { layout, .. }) => Some(layout),
+        None => None,
+    }
+}
+
+// Returns the file name of the image that a change writes, or `None` for an erase or a change of protection.
+fn image_of<'a>(change: &Change<'a>) -> Option<&'a str>
+    ensures { result ≡ image_of change.now.wanted }
+{
+    match change.wanted {
+        Wanted::Write { image } => Some(image),
+        Wanted::Erase | Wanted::Range { .. } => None,
+    }
+}
+
+/// Returns the file name of a change's journal, or `None` if the change is a rehearsal.
+pub fn journal_of<'a>(change: &Change<'a>) -> Option<&'a str>
+    ensures { result ≡ journal_of change.now.journal_use }
+{
+    match &change.journal_use {
+        JournalUse::Journal { file } => Some(*file),
+        JournalUse::Rehearse { .. } => None,
+    }
+}
+
+/// Checks that two names, if both are given, don't refer to the same file.
+///
+/// Returns file fault 5 with the name `later` if both names refer to one file, or file fault 1 with the name that can't
+/// be looked up.
+pub fn apart<'a, R: Store>(
+    rt: &R,
+    earlier: Option<&'a str>,
+    later: Option<&'a str>,
+) -> Result<(), Fault<'a>>
+    ensures ok { OnOk result (AreTwo (R.state rt.now).view.nature earlier.entry later.entry) }
+    ensures err { IfErr result (FailsApart (R.state rt.now).view.nature earlier.entry later.entry) }
+{
+    let (Some(one), Some(other)) = (earlier, later) else {
+        return Ok(());
+    };
+    match rt.is_one_file(one, other) {
+        Ok(false) => Ok(()),
+        Ok(true) => Err(taken(other)),
+        Err(name) => Err(unread(name)),
+    }
+}
+
+/// Checks that the file `name`, if a name is given, isn't a regular file to which the program prints.
+///
+/// Returns file fault 5 if it is such a file, or file fault 1 if the name can't be looked up.
+pub fn unprinted<'a, R: Store>(rt: &R, name: Option<&'a str>) -> Result<(), Fault<'a>>
+    ensures { IfErr result (FailsUnprinted (R.state rt.now).view.nature name.entry) }
+{
+    let Some(named) = name else {
+        return Ok(());
+    };
+    if is_printed(rt, Stream::Output, name)? || is_printed(rt, Stream::Errors, name)? {
+        return Err(taken(named));
+    }
+    Ok(())
+}
+
+/// Returns whether a name is given and is that of a regular file to which `stream` prints.
+///
+/// Returns file fault 1 if the name can't be looked up.
+pub fn is_printed<'a, R: Store>(
+    rt: &R,
+    stream: Stream,
+    name: Option<&'a str>,
+) -> Result<bool, Fault<'a>>
+    ensures printed { IfOk result (λ is_printed. is_printed ≡ true → IsSomeAnd name.entry (λ given.
+        (R.state rt.now).view.nature.fails (Printed given.now) ≡ true)) }
+    ensures err { IfErr result (IsUnseenFile (R.state rt.now).view.nature name.entry) }
+{
+    let Some(name) = name else {
+        return Ok(false);
+    };
+    match rt.is_stream(stream, name) {
+        Ok(is_stream) => Ok(is_stream),
+        Err(name) => Err(unread(name)),
+    }
+}
+
+/// Checks that standard output and standard error can be looked up, so that they can be compared with files.
+///
+/// Returns file fault 1 with the name of a stream that can't be looked up.
+pub fn found_streams<R: Store>(rt: &R) -> Result<(), Fault<'static>>
+    ensures { IfErr result (IsUnseenStream (R.state rt.now).view.nature) }
+{
+    match rt.unseen_stream() {
+        Some(name) => Err(unread(name)),
+        None => Ok(()),
+    }
+}
+
+/// Looks up the file `name`, if a name is given. Call this function before the run opens other files. If the look-up
+/// fails, a later read of this name is file fault 1, even if the name refers to a file by then.
+///
+/// Returns error 18 if memory runs out.
+pub fn look_ahead<'a, R: Store>(rt: &R, name: Option<&'a str>) -> Result<(), Fault<'a>>
+    ensures err { IfErr result (λ fault. fault ≡ Faults.Refused Refusals.Memory) }
+{
+    let Some(name) = name else {
+        return Ok(());
+    };
+    Ok(rt.look_ahead(name)?)
+}

@@ -1,4 +1,0 @@
-use Rattle.nor_lines.proofs.files.make.Goals as goal
-
-pub returns-in-Err-clause-err : goal.returns-in-Err-clause-err
-returns-in-Err-clause-err g c = c.making.ensures (g.R.Store.state c.args.rt.now).view c.in-Err.ensures.unmade

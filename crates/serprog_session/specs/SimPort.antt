@@ -1,0 +1,80 @@
+-- The simulated port, as contracts see it.
+use Rattle.std.specs.Prelude.{◌==◌, ◌||◌, ℕ, true, false, List, [], ◌∷◌, Option, None, Some, replicate, slice_index, if◌then◌else◌}
+use Rattle.std.proofs.Common.{refl, lit<}
+use Rattle.nor_model.specs.Bus.{BusState}
+use Rattle.nor_chip.specs.declared.sim.SimBus.{SimBus}
+use Rattle.nor_serprog.specs.Device.{Device, PortState}
+use Rattle.nor_serprog.specs.Firmware.{Firmware, ProgrammerSettings, nak}
+use Rattle.serprog_session.specs.declared.sim_port.SimPort.{SimPort}
+
+-- The chip of a simulated port, as a simulated bus.
+abbrev pub simulated_chip : SimPort → SimBus
+simulated_chip port = port.chip
+
+-- The greatest number of further calls of the port that can succeed.
+abbrev pub left_of : SimPort → ℕ
+left_of port = port.left
+
+-- The firmware of the simulated programmer: version 1 of the protocol and SPI, without a name or limits. It has the
+-- commands 00h, 01h, 02h, 10h, 12h and 13h, and accepts each type of bus.
+abbrev pub simulated_firmware : Firmware
+simulated_firmware = record {
+  version = 1;
+  commands = 0x07 ∷ 0 ∷ 0x0D ∷ replicate 29 0;
+  name = replicate 16 0;
+  buffer = 0;
+  buses = 8;
+  longest_write = 0;
+  longest_read = 0;
+  takes_buses = λ flags. true;
+  takes_pins = λ enabled. false;
+  takes_select = λ number. false;
+  clock = λ hertz. None;
+  version_fits = lit< tt;
+  commands_len = refl;
+  name_len = refl;
+  buffer_fits = lit< tt;
+  buses_fit = lit< tt;
+  write_fits = lit< tt;
+  read_fits = lit< tt;
+  clock_fits = λ hertz. tt;
+}
+
+-- The reply of the simulated programmer to a frame that begins with `opcode`. This definition is not used for O_SPIOP.
+abbrev pub simulated_reply : (opcode : ℕ) → List ℕ
+simulated_reply opcode =
+    if opcode == 0x00 || opcode == 0x12 then 0x06 ∷ []
+    else if opcode == 0x01 then 0x06 ∷ 1 ∷ 0 ∷ []
+    else if opcode == 0x02 then 0x06 ∷ 0x07 ∷ 0 ∷ 0x0D ∷ replicate 29 0
+    else if opcode == 0x10 then 0x15 ∷ 0x06 ∷ []
+    else nak
+
+-- The type of bus that is selected after `frame`, if the type `before` was selected before it. Only S_BUSTYPE (12h)
+-- selects one.
+abbrev pub bus_type_after : (frame : List ℕ) → (before : Option ℕ) → Option ℕ
+bus_type_after frame before = if slice_index frame 0 == 0x12 then Some (slice_index frame 1) else before
+
+-- The settings of the simulated programmer with this type of bus selected. Its pin drivers are never switched on,
+-- because it has no S_PIN_STATE.
+abbrev pub simulated_settings : (bus_type : Option ℕ) → ProgrammerSettings
+simulated_settings bus_type = record { bus_type = bus_type; pins_on = false }
+
+-- A simulated programmer with the chip of this bus, where `bus_type` is selected and the bytes `pending` are not yet
+-- received. The programmer keeps no part of a frame from one call of the port to the next, so `begun` is empty.
+abbrev pub device_over : BusState → (bus_type : Option ℕ) → (pending : List ℕ) → Device
+device_over bus bus_type pending = record {
+  chip = bus.chip;
+  worn = bus.worn;
+  firmware = simulated_firmware;
+  settings = simulated_settings bus_type;
+  begun = [];
+  pending = pending;
+}
+
+-- A well-behaved port to the simulated programmer with the chip of this bus (`device_over`), with `left` calls left.
+abbrev pub port_over : BusState → (bus_type : Option ℕ) → (pending : List ℕ) → (left : ℕ) → PortState
+port_over bus bus_type pending left = record {
+  device = device_over bus bus_type pending;
+  left = left;
+  honest = true;
+}

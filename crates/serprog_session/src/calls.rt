@@ -1,0 +1,65 @@
+//! The calls `session_over` and `restore_over`: a session and a restore of the chip at a programmer.
+ghost use Rattle.std.specs.Prelude.{◌≡◌, true, IfErr};
+ghost use Rattle.nor_journal.specs.Vault.{IsFresh};
+ghost use Rattle.nor_session.specs.Session.{SendsSaved, SessionReturns, IsSavedCode};
+ghost use Rattle.nor_serprog.specs.Bus.{port_in, sent_of, serprog_state};
+ghost use Rattle.serprog_session.specs.Headline.{ReachesGenuine, KeepsOriginalChip, RefusesUnsent, RestoresOriginalChip};
+ghost use Rattle.serprog_session.specs.Headline.{SessionResults};
+
+use nor_journal::{Journal, Vault};
+use nor_serprog::{Port, SerprogBus};
+use nor_session::{Refusal, Report, Request, restore, session};
+
+/// Runs `session` of nor_session on the chip at a programmer: saves each sector that it will touch to `vault`, and then
+/// makes the chip what `request` asks for. `vault` must be empty and unsealed; `image` is as for `session`.
+///
+/// The port may fail at any call, and inside any exchange. The promises depend on the port:
+///
+/// - On every port, no modifying command is sent before the vault is sealed. An error is one that `session` returns (1
+///   to 14). After an error from 1 to 11 the vault isn't sealed.
+/// - On a well-behaved port whose chip was idle at the start, an exit before the seal leaves the chip's contents and
+///   non-volatile status bits as they were.
+/// - On a well-behaved port to a genuine chip, the journal in a sealed `telling` vault can restore the original chip at
+///   every exit. Success leaves the target bytes and protection bits, with the chip idle and the vault sealed. An error
+///   is the verdict on the request, 11 (the vault failed), or 12 (the port failed). The vault is sealed only if the
+///   request is accepted.
+pub fn session_over<P: Port + Drop, V: Vault>(
+    bus: &mut SerprogBus<P>,
+    vault: &mut V,
+    image: &mut [u8],
+    request: &Request,
+) -> Result<Report, Refusal>
+    requires { IsFresh (V.state vault.old) }
+    ensures keeps { KeepsOriginalChip (P.state (port_in bus.old)) (P.state (port_in bus.new))
+        (sent_of bus.old) (sent_of bus.new) (V.state vault.new) }
+    ensures results { ReachesGenuine (P.state (port_in bus.old)) → SessionResults request.now image.old
+        (P.state (port_in bus.old)) (P.state (port_in bus.new)) (V.state vault.old) (V.state vault.new) result }
+    ensures answers { IfErr result (SessionReturns (V.state vault.old) (V.state vault.new)) }
+{
+    session(bus, vault, image, request)
+}
+
+/// Runs `restore` of nor_session on the chip at a programmer: writes the saved sectors and the protection bits of
+/// `journal` back to the chip, and verifies the sectors that it changed.
+///
+/// The port may fail at any call, and inside any exchange. If it fails, connect again, and run the restore again. The
+/// promises depend on the port and the journal:
+///
+/// - On every port, the modifying commands that are sent fit the journal (`SendsSaved`). None is sent before an error
+///   other than 12, 13 and 14.
+/// - On a well-behaved port to a genuine chip, success leaves the saved bytes and status bits. An error is the verdict
+///   of `restore`, which leaves the chip as it was, or 12 (the port failed).
+/// - If in addition the journal can restore an original chip at the start, it can restore that chip at every exit. Then
+///   success leaves that chip, idle, and the only possible error is 12.
+pub fn restore_over<P: Port + Drop>(
+    bus: &mut SerprogBus<P>,
+    journal: &Journal<'_>,
+) -> Result<Report, Refusal>
+    ensures restores_original { ReachesGenuine (P.state (port_in bus.old)) → RestoresOriginalChip journal.now
+        (P.state (port_in bus.old)) (P.state (port_in bus.new)) result }
+    ensures sends { SendsSaved (IsSavedCode journal.now) 1 journal.now
+        (serprog_state bus.old) (serprog_state bus.new) }
+    ensures refuses { IfErr result (RefusesUnsent (sent_of bus.old) (sent_of bus.new)) }
+{
+    restore(bus, journal)
+}

@@ -1,0 +1,23 @@
+//! Laws (theorems) about what happens between a session and its restores: the journal is read, and the chip may lose
+//! its power.
+ghost use Rattle.std.specs.Prelude.{◌≡◌, ℕ, List};
+ghost use Rattle.nor_model.specs.Chip.{Chip};
+ghost use Rattle.nor_model.specs.Power.{PowerLost};
+ghost use Rattle.nor_journal.specs.Text.{Content, IsContent, text};
+ghost use Rattle.serprog_session.specs.Headline.{CanRestoreChip, CanRestoreChipFrom};
+
+/// If the bytes of a vault can restore the original chip `first` from `chip`, the journal that is read from these bytes
+/// can do so, too. Therefore the promise of `session_over` is the premise of `restore_over`.
+pub fn read_restores_chip()
+    ensures { (bytes : List ℕ) (first chip : Chip) (journal : Content)
+        → CanRestoreChipFrom bytes first chip → IsContent journal → bytes ≡ text journal
+        → CanRestoreChip journal first chip }
+{}
+
+/// If a journal can restore the original chip `first` from a chip, it can still do so after this chip lost its power.
+/// Therefore the programmer may be disconnected from power after a session that was stopped and before its restore, and
+/// between restores.
+pub fn disconnected_restores_chip()
+    ensures { (journal : Content) (first old new : Chip)
+        → CanRestoreChip journal first old → PowerLost old new → CanRestoreChip journal first new }
+{}

@@ -1,0 +1,42 @@
+//! Sessions and restores of a chip at a serial programmer that speaks serprog. The calls run `session` and `restore` of
+//! nor_session. Their promises are stated for the programmer's chip, and for a port that may fail at any call.
+//!
+//! ```rust
+//! use nor_chip::{Config, Delays, SimBus};
+//! use nor_journal::{Journal, MemVault};
+//! use nor_serprog::{Link, Programmer, SerprogBus};
+//! use nor_session::Request;
+//! use serprog_session::{SimPort, restore_over, session_over};
+//!
+//! let idle = Delays { now: 0, each: 0 };
+//! let before = vec![in rt.alloc(); 0xFF; 65536]?;
+//! let chip = SimBus::new(Config::tiny64(), before.clone()?, [0x00, 0x00], idle)?;
+//! let mut link = Link::new(SimPort::new(chip, u64::MAX));
+//! let programmer = Programmer::identify(&mut link, None)?;
+//! assert!(rt; link.port().is_idle());
+//! let mut bus = SerprogBus::new(link, programmer);
+//!
+//! let mut image = before.clone()?;
+//! image[0] = 0x5A;
+//! let wanted = image.clone()?; // `session_over` uses the image up
+//! let mut vault = MemVault::new(rt.alloc());
+//! session_over(&mut bus, &mut vault, &mut image, &Request::write())?;
+//! assert_eq!(rt; bus.port().chip().bytes(), wanted.as_slice());
+//! restore_over(&mut bus, &Journal::read(vault.bytes())?)?;
+//! assert_eq!(rt; bus.port().chip().bytes(), before.as_slice());
+//! ```
+//!
+//! - `calls.rt`: a session and a restore over a `SerprogBus`
+//! - `laws.rt`: laws (theorems) about what happens between a session and its restores
+//! - `sim_port.rt`: a simulated port to a simulated programmer with a simulated chip
+//!
+//! `specs/Headline.antt` has the promises of the two calls.
+#![tactic(auto)]
+
+mod calls;
+mod laws;
+mod sim_port;
+
+pub use calls::{restore_over, session_over};
+pub use laws::{disconnected_restores_chip, read_restores_chip};
+pub use sim_port::{SimFailure, SimPort};

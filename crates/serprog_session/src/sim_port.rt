@@ -1,0 +1,287 @@
+//! A simulated port to a simulated programmer with a simulated chip, all in memory.
+ghost use Rattle.std.specs.Prelude.{◌≡◌, ◌≤◌, ◌+◌, ◌++◌, ◌∷◌, true, false, [], ℕ, List, Option, None, length, slice_index};
+ghost use Rattle.std.specs.Prelude.{OnOk, OnErr};
+ghost use Rattle.nor_serprog.specs.Device.{IsIdle, IsSent, IsCutOff, IsCut, StepsOnce};
+ghost use Rattle.nor_serprog.specs.Firmware.{HaveReplies, frames_of, replies_of, settings_after_all};
+ghost use Rattle.nor_serprog.specs.Frame.{IsFrame, out_in, replies_in};
+ghost use Rattle.nor_serprog.specs.declared.command.Command.{Command};
+ghost use Rattle.serprog_session.specs.SimPort.{simulated_chip, simulated_firmware, simulated_reply, left_of};
+ghost use Rattle.serprog_session.specs.SimPort.{bus_type_after, simulated_settings, device_over, port_over};
+
+use arrayvec::ArrayVec;
+use nor_chip::{Bus, Meter, SimBus};
+use nor_serprog::{Port, frame_len};
+use thiserror::Error;
+
+const ACK: u8 = 0x06;
+
+const NAK: u8 = 0x15;
+
+const O_SPIOP: u8 = 0x13;
+
+// The greatest number of bytes that a transaction may read: the length of a sector. The reply of the programmer has one
+// more byte, ACK, so it has at most `MOST_PENDING` bytes.
+const MOST_READ: usize = 4096;
+
+const MOST_PENDING: usize = 1 + MOST_READ;
+
+// The reply to Q_CMDMAP: ACK, and the map with the commands 00h, 01h, 02h, 10h, 12h and 13h.
+const COMMANDS: [u8; 33] = [
+    ACK, 0x07, 0, 0x0D, 0, 0, 0, 0, 0, 0, 0, 0, 0, 0, 0, 0, 0, 0, 0, 0, 0, 0, 0, 0, 0, 0, 0, 0, 0,
+    0, 0, 0, 0,
+];
+
+/// The reason why a call of a `SimPort` failed: `Cut` for `send`, `Silent` for `receive`.
+#[derive(Clone, Copy, Debug, PartialEq, Eq, Error)]
+pub enum SimFailure {
+    #[error("the simulated port was cut")]
+    Cut,
+    #[error("the simulated programmer is silent")]
+    Silent,
+}
+
+/// A port to a serprog programmer that is simulated in memory, with a simulated chip. The port is well-behaved: it
+/// carries out at most the given number of calls, and then fails.
+///
+/// The programmer carries out an O_SPIOP frame only if one call of `send` sends that frame and nothing else. It replies
+/// to the queries of a handshake (`Programmer::identify`), and accepts any type of bus (S_BUSTYPE). If the port fails
+/// while it sends an O_SPIOP, the chip stops as `SimBus::tear` and `SimBus::lose` specify: the programmer sends as many
+/// bytes of the transaction as `tear` set (none by default, at most all), and the chip loses its power only if `lose`
+/// set that. If the port fails later in an exchange, the chip has carried out the transaction, and the reply is lost.
+///
+/// A call that sends one O_SPIOP frame also fails if a reply is pending, or if the frame requests more than 4,096
+/// bytes. A call that sends other frames also fails if their replies and those that are pending have more than 4,097
+/// bytes in total. A call that receives also fails if it requests more bytes than are pending. After any failure no
+/// call succeeds.
+#[derive(Drop)]
+pub struct SimPort {
+    chip: SimBus,
+    pending: ArrayVec<u8, MOST_PENDING>,
+    // The flags of the last S_BUSTYPE, or `None` if no S_BUSTYPE was sent.
+    bus_type: Option<u8>,
+    left: u64,
+}
+
+impl SimPort {
+    /// Returns a port to a programmer with this chip. At most `left` calls of the port can succeed.
+    pub fn new(chip: SimBus, left: u64) -> SimPort
+        ensures chip { simulated_chip result ≡ chip }
+        ensures state { ⟦<SimPort as Port>⟧.state result ≡ port_over (⟦<SimBus as Bus>⟧.state chip) None [] left }
+    {
+        SimPort {
+            chip,
+            pending: ArrayVec::new(),
+            bus_type: None,
+            left,
+        }
+    }
+
+    /// Returns the chip.
+    pub fn chip(&self) -> &SimBus
+        ensures { result.now ≡ simulated_chip self.now }
+    {
+        &self.chip
+    }
+
+    /// Returns the greatest number of calls that can still succeed.
+    pub fn left(&self) -> u64
+        ensures { result ≡ left_of self.now }
+    {
+        self.left
+    }
+
+    /// Returns whether the programmer has no reply bytes that the host hasn't received.
+    pub fn is_idle(&self) -> bool
+        ensures { result ≡ true → IsIdle (⟦<SimPort as Port>⟧.state self.now).device }
+    {
+        self.pending.is_empty()
+    }
+
+    // Carries out a frame of O_SPIOP with one transaction of the chip. The reply is ACK and the bytes that the chip
+    // returned. If no call is left, a reply is pending, or the frame requests more than 4,096 bytes, stops the chip at
+    // the transaction (`cut`) and returns `Cut`.
+    fn operate(&mut self, frame: &[u8]) -> Result<(), SimFailure>
+        requires { slice_index frame.now 0 ≡ 0x13 }
+        ensures sent { OnOk result (IsSent frame.now (⟦<SimPort as Port>⟧.state self.old)
+            (⟦<SimPort as Port>⟧.state self.new)) }
+        ensures cut_off { OnErr result (IsCutOff frame.now (⟦<SimPort as Port>⟧.state self.old)
+            (⟦<SimPort as Port>⟧.state self.new)) }
+    {
+        let mut reply = [0; MOST_READ];
+        let reply = match reply.get_mut(..reply_len(frame)) {
+            Some(reply) if self.left > 0 && self.pending.is_empty() => reply,
+            _ => {
+                self.left = 0;
+                cut(&mut self.chip, sent_by(frame));
+                return Err(SimFailure::Cut);
+            }
+        };
+        self.left -= 1;
+        transact(&mut self.chip, sent_by(frame), reply);
+        self.pending = acknowledged(reply);
+        Ok(())
+    }
+}
+
+impl Port for SimPort {
+    type Cause = SimFailure;
+
+    ghost state = { λ port. port_over (⟦<SimBus as Bus>⟧.state port.chip) port.bus_type port.pending.items port.left };
+
+    ghost reaches = { λ port honest. record {
+      busy = port.chip.flash.busy_in;
+      kept1 = port.chip.flash.kept1_in;
+      kept2 = port.chip.flash.kept2_in;
+      bytes = port.chip.flash.bytes_in;
+    } };
+
+    fn send(&mut self, bytes: &[u8]) -> Result<(), SimFailure> {
+        if is_operation(bytes) {
+            return self.operate(bytes);
+        }
+        if self.left == 0 {
+            return Err(SimFailure::Cut);
+        }
+        if !reply_to_each(&mut self.pending, &mut self.bus_type, bytes) {
+            self.left = 0;
+            return Err(SimFailure::Cut);
+        }
+        self.left -= 1;
+        Ok(())
+    }
+
+    fn receive(&mut self, bytes: &mut [u8]) -> Result<(), SimFailure> {
+        let len = bytes.len();
+        if self.left == 0 || self.pending.len() < len {
+            self.left = 0;
+            return Err(SimFailure::Silent);
+        }
+        self.left -= 1;
+        let (taken, later) = self.pending.as_slice().split_at(len);
+        bytes.copy_from_slice(taken);
+        let mut rest = ArrayVec::new();
+        let _ = rest.try_extend_from_slice(later);
+        self.pending = rest;
+        Ok(())
+    }
+}
+
+// Returns whether `bytes` are one whole frame of O_SPIOP.
+fn is_operation(bytes: &[u8]) -> bool
+    ensures opcode { result ≡ true → slice_index bytes.now 0 ≡ 0x13 }
+    ensures other { result ≡ false → ¬ (IsFrame bytes.now × (slice_index bytes.now 0 ≡ 0x13)) }
+{
+    bytes.first() == Some(&O_SPIOP) && frame_len(bytes) == Some(bytes.len())
+}
+
+// Returns the bytes that a frame of O_SPIOP sends to the chip.
+fn sent_by(frame: &[u8]) -> &[u8]
+    ensures { result.now ≡ out_in frame.now }
+{
+    frame.get(7..).unwrap_or(&[])
+}
+
+// Returns the number of reply bytes that a frame of O_SPIOP requests.
+fn reply_len(frame: &[u8]) -> usize
+    ensures { result ≡ replies_in frame.now }
+{
+    let header = [byte_at(frame, 4), byte_at(frame, 5), byte_at(frame, 6), 0];
+    u32::from_le_bytes(header) as usize
+}
+
+// Returns the byte with the index `index`, or 0 if `bytes` has no such byte.
+fn byte_at(bytes: &[u8], index: usize) -> u8
+    ensures { result ≡ slice_index bytes.now index }
+{
+    bytes.get(index).copied().unwrap_or(0)
+}
+
+// Returns ACK followed by `bytes`.
+fn acknowledged(bytes: &[u8]) -> ArrayVec<u8, MOST_PENDING>
+    requires { length bytes.now ≤ 4096 }
+    ensures { result.items ≡ 0x06 ∷ bytes.now }
+{
+    let mut reply = ArrayVec::new();
+    let _ = reply.try_push(ACK);
+    let _ = reply.try_extend_from_slice(bytes);
+    reply
+}
+
+// Lets the chip carry out one transaction that sends `out`, and fills `reply`.
+fn transact(chip: &mut SimBus, out: &[u8], reply: &mut [u8])
+    ensures { (bus_type : Option ℕ) (pending pending' : List ℕ) → StepsOnce out.now reply.new
+        (device_over (⟦<SimBus as Bus>⟧.state chip.old) bus_type pending)
+        (device_over (⟦<SimBus as Bus>⟧.state chip.new) bus_type pending') }
+{
+    chip.allow(1);
+    let _ = chip.transfer(out, reply);
+}
+
+// Stops the chip in a transaction that sends `out`. The chip receives as many bytes of it as `SimBus::tear` set, and
+// loses its power if `SimBus::lose` set that.
+fn cut(chip: &mut SimBus, out: &[u8])
+    ensures { (bus_type : Option ℕ) (pending : List ℕ) → IsCut out.now
+        (device_over (⟦<SimBus as Bus>⟧.state chip.old) bus_type pending)
+        (device_over (⟦<SimBus as Bus>⟧.state chip.new) bus_type pending) }
+{
+    chip.allow(0);
+    let _ = chip.transfer(out, &mut []);
+}
+
+// Appends the reply to each of these frames (`reply_to`) to `pending`, and stores the type of bus that they select in
+// `bus_type` (`selected_by`). Ignores bytes after the last whole frame. Returns false if the replies do not fit in
+// `pending`.
+fn reply_to_each(
+    pending: &mut ArrayVec<u8, MOST_PENDING>,
+    bus_type: &mut Option<u8>,
+    frames: &[u8],
+) -> bool
+    ensures replies { (commands : List Command) → frames.now ≡ frames_of commands
+        → HaveReplies simulated_firmware commands → result ≡ true
+        → pending.new.items ≡ pending.old.items ++ replies_of simulated_firmware commands }
+    ensures selects { (commands : List Command) → frames.now ≡ frames_of commands
+        → HaveReplies simulated_firmware commands → result ≡ true → simulated_settings bus_type.new
+        ≡ settings_after_all simulated_firmware commands (simulated_settings bus_type.old) }
+    ensures fits { (commands : List Command) → frames.now ≡ frames_of commands
+        → HaveReplies simulated_firmware commands
+        → length pending.old.items + length (replies_of simulated_firmware commands) ≤ 4097 → result ≡ true }
+{
+    let mut rest = frames;
+    for done in 0..frames.len() {
+        let len = frame_len(rest).unwrap_or(usize::MAX);
+        let Some((frame, later)) = rest.split_at_checked(len) else {
+            return true;
+        };
+        if pending.try_extend_from_slice(reply_to(frame)).is_err() {
+            return false;
+        }
+        *bus_type = selected_by(frame, *bus_type);
+        rest = later;
+    }
+    true
+}
+
+// Returns the type of bus that is selected after `frame`, if the type `before` was selected before it.
+fn selected_by(frame: &[u8], before: Option<u8>) -> Option<u8>
+    ensures { result ≡ bus_type_after frame.now before }
+{
+    if byte_at(frame, 0) == 0x12 {
+        Some(byte_at(frame, 1))
+    } else {
+        before
+    }
+}
+
+// Returns the reply to one frame (serprog protocol, flashrom's Documentation/serprog-protocol.txt). The programmer
+// refuses an O_SPIOP that is sent together with other frames.
+fn reply_to(frame: &[u8]) -> &'static [u8]
+    ensures { result.now ≡ simulated_reply (slice_index frame.now 0) }
+{
+    match byte_at(frame, 0) {
+        0x00 | 0x12 => &[ACK],
+        0x01 => &[ACK, 1, 0],
+        0x02 => &COMMANDS,
+        0x10 => &[NAK, ACK],
+        _ => &[NAK],
+    }
+}
