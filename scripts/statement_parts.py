@@ -102,7 +102,7 @@ NAMES = {
     "IsLeastCode":
         "`IsLeastCode size start len code`: `code` is the least number below 64 whose protection bits are defined (not "
         "SEC with BP 110) and protect exactly the `len` addresses from `start` on.",
-    "Report": "`Report`: the chip that was found, and numbers of sectors, erases, programs and transactions.",
+    "Report": "`Report`: the chip that was found, and counts, which are right (`reported`). A session with nothing to change sent no modifying command (`unsent`).",
     "Refusal": "`Refusal`: the errors of calls.",
     "refusal_number": "`refusal_number refusal`: the number of the error.",
     "RefusalHolds":
