@@ -51,9 +51,9 @@ pub record HasStoppedInRest (journal : Journal) (old new : BusState) : Type 0 wh
 
 -- ---- the comparison after a restore
 
--- true if the sectors that the journal doesn't save are compared after a restore with this outcome: it succeeded, or
--- returned error 14. After errors 12 and 13 nothing more can be sent, and after all other errors the chip was not
--- changed.
+-- True if the sectors that the journal doesn't save are compared after a restore with this outcome: it succeeded, or
+-- returned error 14 (mismatch). They are not compared after error 12 (the bus stopped) or 13 (the chip stays busy and
+-- ignores reads), and not after any other error, because then the chip was not changed.
 abbrev pub is_followed : Result Answer Refusal → Bool
 is_followed (Ok answer) = true
 is_followed (Err (Mismatch address)) = true

@@ -85,7 +85,8 @@ impl fmt::Display for Trouble<'_> {
     }
 }
 
-// The line before that of usage fault 7 if no layout is given. That of `flashnor` names only -l.
+// The line that is printed before the line of usage fault 7 if `-i` is given without a layout. In `flashnor` this line
+// names only `-l`.
 const NO_LAYOUT: &str = "error: -i needs -l, --fmap-file or --ifd-file";
 
 // Prints the line that precedes the line of usage fault 3, and says what is wrong or what to give instead.

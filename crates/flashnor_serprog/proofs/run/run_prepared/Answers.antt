@@ -5,8 +5,8 @@ use Rattle.flashnor_serprog.proofs.run.run_prepared.Goals as goal
 pub returns-in-Ok : goal.returns-in-Ok
 returns-in-Ok g c = record {
   outcome = Ok c.in-Ok.answer;
-  ends = rw c.mark_session.ensures at c.in-Ok.ensures.ends;
-  sends = rw c.mark_session.ensures at c.end_job.ensures.sends;
+  ends = rw c.mark_job.ensures at c.in-Ok.ensures.ends;
+  sends = rw c.mark_job.ensures at c.end_job.ensures.sends;
   few = c.end_well.ensures.few;
   printed = c.end_well.ensures.printed;
 }
@@ -14,8 +14,8 @@ returns-in-Ok g c = record {
 pub returns-in-Err : goal.returns-in-Err
 returns-in-Err g c = record {
   outcome = Err c.in-Err.fault;
-  ends = ends_from _ _ _ _ _ _ _ _ (Err c.in-Err.fault) c.mark_session.ensures c.in-Err.ensures.ends;
-  sends = rw c.mark_session.ensures at c.in-Err.ensures.sends;
+  ends = ends_from _ _ _ _ _ _ _ _ (Err c.in-Err.fault) c.mark_job.ensures c.in-Err.ensures.ends;
+  sends = rw c.mark_job.ensures at c.in-Err.ensures.sends;
   few = omega arith;
   printed = λ zero. absurd (omega (arith, zero));
 }
