@@ -133,8 +133,10 @@ def takes_no_other_option(start):
             (4, "--restore j", "--restore and --backup cannot be used together"),
             (4, "-E --journal j", "-E and --backup cannot be used together"),
             (6, "--journal j", "--journal needs -w, -E or --wp-range"),
-            (7, "-l layout -i first", "-l and -i need -r, -v, -w or -E"), (7, "-i first", "-i needs -l"),
-            (8, "-n", "-n needs -w or -E"), (8, "-N", "-N needs -w, -E or --restore"), (8, "--unlock", "--unlock needs -w or -E"),
+            (7, "-l layout -i first", "-l and -i need -r, -v, -w or -E"),
+            (7, "-i first", "-i needs -l, --fmap-file or --ifd-file"),
+            (8, "-n", "-n needs -w or -E"), (8, "-N", "-N needs -w, -E or --restore"),
+            (8, "--unlock", "--unlock needs -w or -E"),
             (8, "--quick", "--quick needs --restore")):
         bench.expect(*BACKUP, *words.split(), err=[f"error: {why}", f"Usage fault {fault}."])
         bench.check_absent("whole")
