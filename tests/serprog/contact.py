@@ -23,6 +23,13 @@ IDENTIFICATION = 20
 LENGTHS = (1, 2, 3, 5, 9)
 END = 1 << 24
 ADVICE = "h now. Check contacts and supply."
+# The line after the cause, by the job, if the change or the restore was completed, and only the comparison after it
+# stopped. It takes the place of the advice.
+COMPLETED = {
+    "-w": "The change was made, and its sectors were verified. Only the comparison of the whole chip is missing.",
+    "-E": "The change was made, and its sectors were verified. Only the comparison of the whole chip is missing.",
+    "--restore": "The sectors that the journal doesn't save were not compared after the restore. "
+                 "Compare the chip with a backup."}
 
 
 def tiny(words, after, saved=()):
@@ -84,6 +91,9 @@ def try_lost(bench, work, lost):
         else:
             bench.check_file(name, work.journal)
         return got
+    if says_completed(got, work):
+        check("the chip of a completed job is as asked", (chip.data == work.after, bytes(chip.status)),
+              (True, work.new_status))
     if any(it.endswith(UNCHANGED) for it in got.err):
         check("the chip is unchanged", is_as_before, True)
     if not is_as_before:
@@ -95,13 +105,19 @@ def try_lost(bench, work, lost):
     return got
 
 
+def says_completed(got, work):
+    """Returns whether a run says that its job was completed, and that only the comparison after it stopped."""
+    return got.err[2:] == [COMPLETED.get(work.words[0])]
+
+
 def check_cause(got, work, at, seal, byte):
     """Checks the lines of a run whose chip was lost from the transaction `at` on."""
     cause = f"{LOST}{PARTS[work.part].id.hex().upper()}h before, {3 * f'{byte:02X}'}{ADVICE}"
-    if work.words[0] == "--restore":
-        cause += " " + RESTORE
-    elif work.words[0] in ("-w", "-E", "--wp-range"):
-        cause += " " + (UNCHANGED if at <= seal else RESTORE)
+    if not says_completed(got, work):
+        if work.words[0] == "--restore":
+            cause += " " + RESTORE
+        elif work.words[0] in ("-w", "-E", "--wp-range"):
+            cause += " " + (UNCHANGED if at <= seal else RESTORE)
     check("the cause", (got.err[:2], got.out), ([STOPPED, cause], []))
 
 
