@@ -1,4 +1,4 @@
--- A test result that is equal to `any_below`, and a count after one more number passes.
+-- Two lemmas: when a truth value is equal to `any_below n test`, and how `count_below` grows if one more number passes.
 use Rattle.std.proofs.Common.{◌≡◌, ◌<◌, ◌+◌, ◌||◌, ◌∙◌, ℕ, zero, suc, Bool, true, false, ap, sym, arith, inl, inr}
 use Rattle.std.specs.Prelude.{MatchBool, ◌==◌}
 use Rattle.std.proofs.lemmas.Bool.{cases_eq, or_left, ne_eqb, eq-eqb}
@@ -13,8 +13,8 @@ pub any_below-decided : (n : ℕ) (verdict : Bool) (test : ℕ → Bool) (P Q : 
 any_below-decided n true test P Q passes fails some = sym (any_below-some n some.0 test some.1 (passes some.0 some.2))
 any_below-decided n false test P Q passes fails none = sym (any_below-all n test (λ k below. fails k (none k below)))
 
--- Suppose that `k` is below `n` and fails `p`, and that exactly `k` and the numbers that pass `p` pass `q`. Then the
--- count of the numbers below `n` that pass `q` is the count of those that pass `p`, plus 1.
+-- Suppose that `k` is below `n` and fails the test `p`, and that a number passes the test `q` if and only if it is `k`
+-- or passes `p`. Then, among the numbers below `n`, one more passes `q` than `p`.
 pub count_below-insert : (n k : ℕ) (p q : ℕ → Bool) → k < n → p k ≡ false → ((s : ℕ) → q s ≡ ((s == k) || p s)) → count_below n q ≡ count_below n p + 1
 unfolding count_below
 count_below-insert zero k p q below fails inserted = absurd (omega arith)
