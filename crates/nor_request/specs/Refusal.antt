@@ -1,4 +1,4 @@
--- The numbers of errors. Also the errors that a call returns if a probe, an operation or a wait failed.
+-- The numbers of errors, and the error that a call returns if a probe, an operation or a wait failed.
 use Rattle.std.specs.Prelude.{ℕ}
 use Rattle.nor_driver.specs.declared.waits.OperationError.{OperationError}
 use Rattle.nor_driver.specs.declared.waits.OperationError.TheVariants as OperationFails

@@ -11,7 +11,8 @@ use std::error::Error;
 use std::fmt;
 
 /// The reason why a call failed. `number` returns the number of the error, which is different for each variant. A
-/// session checks errors 1 to 10 in the order of their numbers, and returns the first one that applies.
+/// session checks errors 1 to 10 in the order of their numbers, and returns the first one that applies, unless the bus
+/// or the vault fails first.
 #[derive(Clone, Copy, Debug, PartialEq, Eq)]
 pub enum Refusal {
     /// 1: the ID reads `FF FF FF` or `00 00 00`, as it does if nothing drives the bus.
@@ -31,7 +32,7 @@ pub enum Refusal {
     UndefinedProtection,
     /// 8: no value of the protection bits that the datasheets define protects exactly the requested range.
     RangeNotOffered,
-    /// 9: the status registers must be written, but they are locked, because SRP0 or SRP1 is set.
+    /// 9: the status registers must be written, but SRP0 or SRP1 is set, so they count as locked.
     StatusLocked,
     /// 10: a sector that would change contains a protected address, and the request doesn't lift protection. `address`
     /// is the first address of the lowest of these sectors.

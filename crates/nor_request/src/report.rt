@@ -6,7 +6,8 @@ use nor_probe::Found;
 pub struct Report {
     /// The chip that was identified.
     pub found: Found,
-    /// The number of touched sectors.
+    /// The number of touched sectors, in which a byte differed from its target. For a rewrite these are all sectors
+    /// that the journal saves.
     pub touched: u32,
     /// The number of erases that were sent.
     pub erases: u32,
