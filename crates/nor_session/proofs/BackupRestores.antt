@@ -103,7 +103,7 @@ is_backup first bytes chip kept =
       };
     }
 
--- A backup of the known chip `first` can restore it on a bus whose chip is still the same and idle.
+-- A backup of the known chip `first` can restore `first` on a bus whose chip is idle and still the same (`IsSame`).
 pub backup_restorable : (first : Chip) (bytes : List ℕ) (state : BusState) → IsKnown first.config
     → IsBackupOf bytes first → IsSame first state.chip → state.chip.busy ≡ 0 → CanRestoreFrom bytes first state
 backup_restorable first bytes state known backup same idle = record {

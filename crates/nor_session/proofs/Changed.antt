@@ -48,8 +48,8 @@ fits_work changes wanted old new work inside does =
     let most = touched_most changes in let raised = raised_few changes inside in let writes = two_writes changes in
     omega arith
 
--- If the sectors lie on the chip, `count` is the least possible number of erases for them, provided that it is the
--- number of planned erases (`fewest_erases`).
+-- If the sectors lie on the chip, and `count` is the number of planned erases for them (`fewest_erases`), then `count`
+-- is the least possible number of erases for them.
 pub fewest_at : (config : Config) (sectors : ℕ → Bool) (count : ℕ) → ((s : ℕ) → sectors s ≡ true → s < config.size / 4096)
     → count ≡ fewest_erases config.kinds (config.size / 4096) sectors → IsLeastLength config.kinds (config.size / 4096) sectors count
 fewest_at config sectors count below is =

@@ -28,7 +28,8 @@ pub stops : {sector : ℕ} (wanted : List ℕ) {old new : BusState} → sector <
     → CheckErrors (only sector) (byte_of sector wanted) old new Stopped
 stops {sector} wanted below out = rw (sector_count-only sector below) out
 
--- After a read of a sector, `EndsReading` holds for each address in this sector.
+-- After a read of the sector `sector`, the last transaction is a read of the sector that contains the address
+-- `4096 * sector + first` (`EndsReading`), if `first` is below 4,096.
 ends_reading : (sector : ℕ) (old new : BusState) (bytes : List ℕ) (first : ℕ) → first < 4096
     → Answered (names 0x03 (4096 * sector)) old.history new.history bytes
     → EndsReading (4096 * sector + first) new.history
@@ -175,8 +176,8 @@ module _ {t : ℕ → Bool} {w : ℕ → ℕ} {n sent : ℕ} {old mid : BusState
           same = grind (arith, does.same, can_one, wanted_at, has.same, nat_tests);
         }
 
-    -- if the reply for sector `n` first differs from the target at index `first`, `ReadsOther` holds for the address of
-    -- that byte
+    -- if the reply for sector `n` first differs from the target at index `first`, the address of that byte is the first
+    -- one in the sectors of `t` whose byte was read otherwise than its target byte (`ReadsOther`)
     pub checked_other : {new : List Exchange} {first : ℕ}
         → ReadsWhole n (λ reply. IsFirstDifference reply bytes first) mid.history new
         → ReadsOther (addresses_of t) w (4096 * n + first) old.history new

@@ -115,8 +115,8 @@ left_taken request image old new taken journal left (inl kept) =
     can_restore_kept journal old.chip new taken (left_can_restore request image old new journal left) kept
 left_taken request image old new taken journal left (inr over) = search (arith, can_restore_chip, session_over)
 
--- `CanRestoreChip` holds for the journal of a session and the chip `taken` if `taken` was taken up after the session
--- (`IsTakenUp`), or if the journal can restore the original chip from it (`CanRestore`).
+-- `CanRestoreChip` holds for the journal of a session and the chip on the bus `taken` in two cases: a run can start on
+-- `taken` after the session (`IsTakenUp`), or the journal can restore the original chip on `taken` (`CanRestore`).
 left_reached : (request : Request) (image : List ℕ) (old new taken : BusState) (journal : Content) → LeavesJournal request image old new journal
     → IsTakenUp old new taken ⊎ CanRestore journal old.chip taken → CanRestoreChip journal old.chip taken.chip
 left_reached request image old new taken journal left (inl up) = left_taken request image old new taken journal left up
@@ -129,8 +129,8 @@ restored_same journal first old new report can done = search (arith, same_as_ori
 
 -- ---- two sessions, one after the other
 
--- If `IsWithin` holds for the bus `old`, it also holds for a bus whose chip has the same bytes and status bits and is
--- idle.
+-- If `IsWithin` holds for the bus `old`, and the chip on the bus `new` is idle and has the same bytes and status bits,
+-- `IsWithin` holds for `new`.
 idle_again : (p : ℕ → Bool) (first : Chip) (old new : BusState) → IsWithin p first old → IsSame old.chip new.chip → new.chip.busy ≡ 0 → IsWithin p first new
 idle_again p first old new within same idle =
     let fixed = ap fixed_of same.kept ∙ within.fixed in

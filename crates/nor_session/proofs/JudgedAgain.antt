@@ -55,7 +55,7 @@ accepted_named request image chip accepted =
 
 -- ---- the touched sectors
 
--- If no `s` is the least number that passes a test, no number passes the test.
+-- If no number is the least one that passes a test, no number passes the test.
 none_least : (test : ℕ → Bool) → ((s : ℕ) → test s ≡ true → ((t : ℕ) → t < s → test t ≡ false) → ⊥)
     → (n s : ℕ) → s < n → test s ≡ false
 none_least test never zero s below = absurd (omega arith)

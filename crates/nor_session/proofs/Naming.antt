@@ -1,5 +1,5 @@
--- Lemmas about the address that an error of a session or restore names. It follows from the errors of the parts of
--- these calls.
+-- Lemmas about the address that a timeout or a mismatch of a session or restore names. The address is in a sector that
+-- the journal saves or, for a timeout, it may be 0.
 use Rattle.std.proofs.Common.{ℕ, ◌≡◌, ◌≤◌, ◌/◌, ◌∙◌, true, List, arith, inl, inr}
 use Rattle.nor_model.specs.Bus.{BusState}
 use Rattle.nor_journal.specs.Text.{Content, IsContent, text}

@@ -40,8 +40,8 @@ kept_code identity = omega arith
 
 -- ---- a session
 
--- If a journal has the header of this identification, the session's target protection bits are among the bits that the
--- session may write.
+-- If a journal has the header of this identification, the session's target protection bits are a value that the session
+-- may write (`IsWrittenCode`).
 found_written : (what : What) (identity : Identity) (journal : Content) (code : ℕ) → SameHeader (header_found identity) journal
     → IsFoundCode what identity code → IsWrittenCode what journal code
 found_written (WpRange start len) identity journal code same is =

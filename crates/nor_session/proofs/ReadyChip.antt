@@ -1,4 +1,5 @@
--- Lemmas about a genuine chip after a session saved its touched sectors.
+-- Lemmas about the identification and the scan of a session: what they show about the chip, and what their errors mean
+-- on a well-behaved or modelled bus.
 use Rattle.std.proofs.Common.{◌+◌, ◌≡◌, ◌<◌, ◌≤◌, ◌/◌, ◌∙◌, ℕ, true, List, ap, refl, arith, rules, inr}
 use Rattle.std.specs.Prelude.{Option, Err}
 use Rattle.std.proofs.lemmas.Bool.Decides.{nat_tests}
@@ -29,7 +30,7 @@ use Rattle.nor_session.specs.Session.{SessionErrors, HonestErrors}
 use Rattle.nor_scan.proofs.OneVerdict.{first_of}
 use Rattle.nor_session.proofs.Ready.{scanned_most, scanned_few}
 
--- ---- what the identification says about the chip before it
+-- ---- what the identification says about the chip as it was before the identification
 
 pub opening_of : {named : Option ChipName} {identity : Identity} {old mid : BusState} → IsModelled old
     → ReadsIdentity named old mid identity → IsIdentityOf old.chip identity

@@ -51,8 +51,8 @@ pub last_bound : (stops : List ℕ) (n : ℕ) → length stops ≤ n → {allowa
     → allowance ≡ slice_index_or stops n (most_of 4096)
 last_bound stops n past is = is ∙ sym (get_or_past stops n (most_of 4096) past)
 
--- If only the session of a rehearsal set its allowance, the allowances are those that `allowances_of` gives for one
--- call.
+-- If only the allowance for the session of a rehearsal was set, the allowances are those that `allowances_of` gives for
+-- one call.
 pub allowed_first : (stops : List ℕ) {old new : List ℕ} → new ≡ first_allowance stops ∷ old
     → new ≡ allowances_of stops 1 ++ old
 allowed_first [] is = is
@@ -150,12 +150,12 @@ pub record AreStopped (journal : Content) (stops : List ℕ) (old now : BusState
 
 module _ {journal : Content} {stops : List ℕ} {old now : BusState} {n : ℕ} (before : AreStopped journal stops old now n)
     (new : BusState) where
-  -- if `LeavesRestores` holds for the next restore alone, it holds for it and the `n` restores before it
+  -- if `LeavesRestores` holds for the next restore alone, `LeavesRestores` holds for all `n + 1` restores together
   pub leaves_more : {most : ℕ} → n + 1 ≤ most → LeavesRestores journal 1 now new → LeavesRestores journal most old new
   leaves_more fits leaves = restores_then journal n 1 _ old now new fits before.leaves leaves
 
-  -- the allowances that are set after one more restore, which was allowed the next stop or, if the stops are used up,
-  -- `most_of 4096`
+  -- if one more restore was allowed the next stop or, if the stops are used up, `most_of 4096` transactions, the
+  -- allowances are those that `allowances_of` gives for `n + 1` calls
   pub allowed_more : {allowance : ℕ} → allowance ≡ slice_index_or stops n (most_of 4096)
       → new.allowances ≡ allowance ∷ now.allowances → new.allowances ≡ allowances_of stops (n + 1) ++ old.allowances
   allowed_more is by = allowed_then stops n old.allowances is before.allowed by

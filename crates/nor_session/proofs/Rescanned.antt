@@ -37,8 +37,8 @@ AgreeBefore journal i one two = (s k : ℕ) → s < least_after 0 (take i journa
     → one (4096 * s + k) ≡ two (4096 * s + k)
 
 -- Holds after the first `i` saved sectors were read once each. The marks are right for each content that agrees with
--- what was read. On a well-behaved bus with an idle chip of the journal's size, the marks of these sectors are right
--- for the chip: exactly the touched sectors are marked as touched, and exactly the raised sectors as raised.
+-- what was read: among these sectors, exactly the touched ones are marked as touched, and exactly the raised ones as
+-- raised. On a well-behaved bus with an idle chip of the journal's size, the marks are right for the chip's bytes.
 pub record HasRescanned (journal : Content) (i : ℕ) (old new : BusState) (scanned : Scanned) : Type 0 where
   pub marks : AreMarks (least_after 0 (take i journal.saved)) scanned
   pub reads : scanned.reads ≡ i

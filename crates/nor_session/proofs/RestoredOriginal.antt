@@ -1,4 +1,6 @@
--- A restore keeps a chip within the journal and, if it succeeds, leaves the chip that the journal saves.
+-- Let a journal be able to restore the original chip at the start of a restore on a modelled bus. At every exit, the
+-- chip's bytes and non-volatile status bits differ from those of the original chip only where a restore can write them
+-- (`IsWithin`). After success, they are those of the original chip.
 use Rattle.std.proofs.Common.{◌&&◌, ◌≡◌, ◌<◌, ◌+◌, ◌-◌, ◌*◌, ◌/◌, ◌%◌, ◌∙◌, ◌⊎◌, ℕ, Bool, true, false, true≢false, List, ap, sym, refl, arith, inl, inr}
 use Rattle.std.specs.Prelude.{not, ◌≢◌, Option, Some, None, IfSome, IsSomeAnd}
 use Rattle.std.proofs.lemmas.Bool.{cases_Bool, cases_lt, false_from_ne_true, and_left, and_parts, and_from, or_left, or_cases, both_ways, eqb-true}
@@ -38,7 +40,7 @@ use Rattle.nor_session.specs.Restore.{Choice, differing, every_saved, restored, 
 use Rattle.nor_session.proofs.Rescanned.{restored_saved, restored_other}
 use Rattle.nor_session.proofs.RestoredBytes.{touched_byte, touched_saved}
 
--- ---- after calls that only read, the chip is still within the journal (`IsWithin`)
+-- ---- `IsWithin` after calls that only read
 
 steady_or_idle_or_not : (state : BusState) → IsSteadyOrIdle state ⊎ ((state.steady ≡ false) × (state.chip.busy ≢ 0))
 steady_or_idle_or_not state = grind arith
@@ -74,7 +76,7 @@ within_after_reads p first most old new steady honest_reads within =
           search (arith, narrower)
     ]
 
--- ---- after a loss of power, the chip is still within the journal (`IsWithin`)
+-- ---- `IsWithin` after a loss of power
 
 idle_or_works : (state : BusState) → (state.steady ≡ false) ⊎ (state.chip.busy ≡ 0)
     → (state.chip.busy ≡ 0) ⊎ ((state.steady ≡ false) × (state.chip.busy ≢ 0))
@@ -141,9 +143,9 @@ chosen_open journal first touched old a can saved free hit =
     }) in
     and_from _ _ (saved (a / 4096) hit) (ap not shut)
 
--- Let the journal be able to restore the original chip `first` at the start of a restore, and let the chip still be
--- within the journal after the preparation (`mid`). If the changes touch only saved sectors and, with a locked status,
--- no protected sector, the chip is still within the journal after the changes.
+-- Let the journal be able to restore the original chip `first` at the start of a restore, and let `IsWithin` hold after
+-- the preparation (`mid`). If the changes (`MayChange`) touch only saved sectors and, with a locked status, no
+-- protected sector, `IsWithin` holds after the changes.
 pub change_within : (journal : Content) (first : Chip) (touched raised : ℕ → Bool) (wanted : ℕ → ℕ) (old mid new : BusState) → CanRestore journal first old → IsWithin (open_addresses journal first) first mid
     → ((s : ℕ) → touched s ≡ true → is_saved journal s ≡ true) → (is_locked old.chip.kept ≡ true → ¬ SomeProtected touched old.chip)
     → MayChange touched raised wanted mid new → IsWithin (open_addresses journal first) first new

@@ -1,4 +1,5 @@
--- What a session leaves after the seal, and after success.
+-- Proofs for a session, mostly on a modelled bus. At every exit after the seal, the journal in a faithful vault can
+-- undo the session (`CanBeUndone`). After success, the chip has the target bytes and protection bits (`IsDone`).
 use Rattle.std.proofs.Common.{subst, ◌≡◌, ◌<◌, ◌+◌, ◌/◌, ◌∙◌, ℕ, Bool, true, List, ap, sym, arith}
 use mathlib.Core.Path.{fun_ext}
 use Rattle.std.specs.Prelude.{slice_index}
@@ -62,7 +63,7 @@ module _ (request : Request) (image image' : List ℕ) (identity : Identity) (st
       record {
         accepted = of.scan.accepted;
         journal = chip.journal;
-        -- `MayChange` holds from the start of the session to its exit.
+        -- Nothing changed before the seal, so `MayChange` holds from the start of the session to its exit.
         changes = change_then is.honest_reads.nature.steady (same_change unchanged.same of.idle unchanged.worn)
             (change_as (λ s hit. sym (of.touched s) ∙ hit) (λ s hit. sym (of.raised s) ∙ hit)
             (λ a plain hit. of.merged a hit) (leaves.reached honest can));

@@ -57,7 +57,8 @@ sends_most IsCode n most journal old new few sends =
         let sum : most * k ≡ n * k + (most - n) * k = ap (λ (m : ℕ). m * k) split ∙ add-mul n (most - n) k in
         omega (arith, sum)
 
--- If `SendsSaved` holds with the protection bits that `IsCode` allows, it holds with every wider set `IsWider`.
+-- If `SendsSaved` holds with the protection bits that `IsCode` allows, it also holds with `IsWider`, which allows all
+-- of these values and possibly more.
 pub sends_wider : (IsCode IsWider : ℕ → Type 0) (calls : ℕ) (journal : Content) (old new : BusState)
     → ((code : ℕ) → IsCode code → IsWider code) → SendsSaved IsCode calls journal old new
     → SendsSaved IsWider calls journal old new

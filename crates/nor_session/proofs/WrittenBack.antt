@@ -24,7 +24,7 @@ use Rattle.nor_session.proofs.RestoresOriginal.{can_restore_read, restorable}
 
 -- ---- files that are overwritten with another chip
 
--- If a property `P` holds for `x` and for `y`, and `z` is `x` or `y`, it holds for `z`.
+-- If a property `P` holds for `x` and for `y`, and `z` is `x` or `y`, then `P` holds for `z`.
 pub either : (P : ℕ → Type 0) (x y z : ℕ) → (z ≡ x) ⊎ (z ≡ y) → P x → P y → P z
 either P x y z (inl is) one two = rw is one
 either P x y z (inr is) one two = rw is two

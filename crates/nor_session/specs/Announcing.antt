@@ -18,9 +18,9 @@ announcement_of changes touched =
 abbrev pub announcement_of_report : Report → Announcement
 announcement_of_report report = record { touched = report.touched; erases = report.erases }
 
--- `Was` is the property of an announcement that it was made. `Announces` holds for a call with this result if an
--- announcement was made or no modifying command was sent, and if after success the announcement with the report's
--- numbers was made. The definition doesn't say that the announcement came before the first modifying command.
+-- `Was` holds for an announcement if it was made. `Announces` holds for a call with this result if an announcement was
+-- made or no modifying command was sent, and if after success the announcement with the report's numbers was made. The
+-- definition doesn't say that the announcement came before the first modifying command.
 pub record Announces (Was : Announcement → Type 0) (old new : BusState) (result : Result Report Refusal) : Type 0 where
   pub announced_or_unsent : ((announcement : Announcement) × Was announcement) ⊎ (new.sent ≡ old.sent)
   pub as_reported : IfOk result (λ report. Was (announcement_of_report report))

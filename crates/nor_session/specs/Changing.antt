@@ -73,10 +73,11 @@ abbrev pub HasBytes : (sectors : ℕ → Bool) → (wanted : ℕ → ℕ) → Ch
 HasBytes sectors wanted chip = (a : ℕ) → sectors (a / 4096) ≡ true → chip.bytes a ≡ wanted a
 
 -- Holds at every exit of the changes and their check. On every bus the modifying commands that were sent are within the
--- limits `most_sent` (`SendsWithin`). These limit the numbers of erases, page programs and status writes. They also
--- limit the sectors that are targeted and the bytes that a status write has, unless these sectors or bytes occurred
--- before the changes. On a well-behaved bus at most `most_changed` transactions were carried out. If `CanApply` held at
--- the start on such a bus, the chip changed only as `MayChange` allows.
+-- limits `most_sent` (`SendsWithin`). These limit the numbers of erases, page programs and status writes. A sector
+-- outside the limits was targeted only if it had been targeted before the changes, too. A pair of bytes outside the
+-- limits was sent by a status write only if it had been sent before the changes, too. On a well-behaved bus at most
+-- `most_changed` transactions were carried out. If `CanApply` held at the start on such a bus, the chip changed only as
+-- `MayChange` allows.
 abbrev pub LeavesChange : Changes → (wanted : ℕ → ℕ) → (old new : BusState) → Type 0
 LeavesChange changes wanted =
     Leaves (most_changed changes) (most_sent changes) (CanApply changes wanted)

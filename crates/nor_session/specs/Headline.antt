@@ -72,8 +72,9 @@ pub record RestoresOriginal (journal : Content) (old new : BusState) (result : R
   -- the only possible error is a stop
   pub only_stops : (first : Chip) → CanRestore journal first old → IfErr result (λ refusal. refusal ≡ Stopped)
 
--- Holds if no saved sector is protected on the original chip, or its status isn't locked. Every journal of a session
--- has this property, because a session refuses to touch a protected sector unless it can lift the protection.
+-- Holds if no saved sector is protected on the original chip (`first`), or the status of this chip isn't locked. Every
+-- journal of a session on a modelled bus has this property, because a session refuses to touch a protected sector
+-- unless it can lift the protection.
 abbrev pub CanBeRewritten : Content → Chip → Type 0
 CanBeRewritten journal first = is_locked first.kept ≡ true → NoneProtected (is_saved journal) first
 

@@ -24,8 +24,8 @@ pub record LeavesJournal (request : Request) (image : List ℕ) (old new : BusSt
   pub whole : IsContent journal
   pub same : vault.bytes ≡ text journal
 
--- Holds if the chip lost its power between two runs. If the chip was busy, its bus must not be steady: only on such a
--- bus is the operation in progress known (`runs` in `IsWithin`).
+-- Holds if the chip lost its power between two runs. The chip must have been idle, or its bus must not be steady:
+-- `IsWithin` limits an operation in progress only on a bus that isn't steady (`runs`).
 pub record LosesPower (old new : BusState) : Type 0 where
   pub known : (old.steady ≡ false) ⊎ (old.chip.busy ≡ 0)
   pub lost : PowerLost old.chip new.chip

@@ -32,7 +32,8 @@ pub record IsTargetChip (wanted : ℕ → ℕ) (old new : Chip) : Type 0 where
   pub idle : new.busy ≡ 0
   pub latch : new.latch ≡ true → old.latch ≡ true
 
--- Holds if the report is right, and if the erased sectors are those from before and the raised ones.
+-- Holds if the report is right, and exactly the raised sectors were added to the sectors that were ever erased
+-- (`worn`).
 --
 -- The report has the chip type that the chip's replies show, and the chip's status 1. BUSY and WEL in this status are
 -- known only if the chip was idle. The report counts the touched sectors, the erases and the programs. The number of

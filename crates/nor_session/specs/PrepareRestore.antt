@@ -77,9 +77,8 @@ abbrev pub FitsIdentity : Content → Identity → Type 0
 FitsIdentity journal identity =
     (chip : Chip) → chip.kept.two < 128 → IsIdentityOf chip identity → FitsJournal journal chip
 
--- Holds if `shown` is true if and only if the status bits that a restore can't write are the journal's. This is
--- required for each chip that has this identification, and whose non-volatile bits of status 2 are in range (below
--- 128).
+-- Holds if `shown` says whether the status bits that a restore can't write are the journal's. This is required for each
+-- chip that has this identification, and whose non-volatile bits of status 2 are in range (below 128).
 abbrev pub ShowsFixed : Content → Identity → Bool → Type 0
 ShowsFixed journal identity shown = (chip : Chip) → chip.kept.two < 128 → IsIdentityOf chip identity
     → MatchBool shown (FitsStatus journal chip) (¬ FitsStatus journal chip)
@@ -188,13 +187,14 @@ pub record IsShut (journal : Content) (touched : ℕ → Bool) (chip : Chip) : T
   pub locked : is_locked chip.kept ≡ true
   pub needs : NeedsStatusWith journal touched chip
 
--- Holds if changes are returned only if `MayChangeStatus` holds for them and for each chip with this identification.
+-- Holds if an error was returned, or if the returned changes treat the status of each chip with this identification
+-- correctly (`MayChangeStatus`).
 abbrev pub MakesChanges : Content → Identity → (ℕ → Bool) → Result Changes Refusal → Type 0
 MakesChanges journal identity touched judged =
     (chip : Chip) → IsIdentityOf chip identity → IfOk judged (MayChangeStatus journal touched chip)
 
--- Holds if an error is returned only if the status of each chip with this identification is locked, but would have to
--- be written.
+-- Holds if changes were returned, or if the status of each chip with this identification is locked, but would have to
+-- be written (`IsShut`).
 abbrev pub RefusesShut : Content → Identity → (ℕ → Bool) → Result Changes Refusal → Type 0
 RefusesShut journal identity touched judged =
     (chip : Chip) → IsIdentityOf chip identity → OnErr judged (IsShut journal touched chip)

@@ -1,4 +1,5 @@
--- The promises of a rehearsal.
+-- The promises of a rehearsal, which runs a session that may be stopped on purpose, and then undoes it with restores
+-- from its journal.
 use Rattle.std.specs.Prelude.{◌≡◌, ◌≤◌, ◌<◌, ◌+◌, ◌-◌, ◌*◌, ◌/◌, ◌==◌, ◌++◌, ◌⊎◌, max, ℕ, zero, suc, Bool, true, false, List, [], ◌∷◌, Result, IfOk, IfErr, OnErr, drop, length, slice_index, slice_index_or, if◌then◌else◌}
 use Rattle.std.specs.List.{list_any}
 use Rattle.nor_model.specs.Chip.{Chip, IsSame}
@@ -78,7 +79,7 @@ pub record SealFits (request : Request) (allowance : ℕ) (chip : Chip) (seal : 
   pub enough : seal ≡ true → 4 + scanned_sectors request chip.config.size ≤ allowance
   pub below : seal ≡ false → allowance < needed_to_identify chip + scanned_sectors request chip.config.size
 
--- Holds if `restores` restores from a journal of `sectors` sectors can have been run in turn with these stops. Each
+-- Holds if `restores` restores from a journal of `sectors` sectors may have been run in turn with these stops. Each
 -- restore except the last was stopped, so its stop is below the bound `most_of`. The last restore ended, so its stop,
 -- if it had one, is enough for the shortest identification and the scan.
 pub record AreRestores (sectors : ℕ) (stops : List ℕ) (restores : ℕ) : Type 0 where

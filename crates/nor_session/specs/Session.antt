@@ -1,4 +1,4 @@
--- The promises of a session.
+-- The promises of a session, which saves the sectors that it will change in a journal, and then changes the chip.
 use Rattle.std.specs.Prelude.{◌≡◌, ◌∷◌, ◌%◌, ◌≢◌, ◌≤◌, ◌<◌, ◌+◌, ◌*◌, ◌/◌, ◌⊎◌, ℕ, Bool, true, false, List, [], Result, IfOk, IfErr, OnOk, OnErr, Ok, Err, ◌&&◌, if◌then◌else◌, ⊤}
 use Rattle.nor_model.specs.Chip.{Chip, IsSame, kept_in}
 use Rattle.nor_model.specs.Guard.{code_of}

@@ -16,9 +16,10 @@ use nor_scan::{identify, save_whole};
 ///
 /// The journal of a session saves only the sectors that the session will change, and can undo only that session. If a
 /// faulty wire or chip changes another sector, the session's journal doesn't contain the bytes of that sector, but a
-/// backup does. After success on a modelled bus, a `telling` vault holds a journal from which `restore` and `rewrite`
-/// can restore the chip. They can do so at once, and after any changes of bytes and protection bits that these two
-/// calls can write (`backup_restores_any`).
+/// backup does. After success on a modelled bus, a `telling` vault holds a journal from which `restore` can restore the
+/// chip. This is possible at once, and after any changes of bytes and protection bits that a restore can write
+/// (`backup_restores_any`). If no sector of the chip is protected, or the chip's status isn't locked, `rewrite` can
+/// restore the chip from this journal too; otherwise `rewrite` refuses the chip (error 9).
 ///
 /// On any bus no modifying command is sent, and the vault is sealed if and only if the call succeeds. After success on
 /// any bus, the journal of a `telling` vault contains what the bus replied. The report counts 0 touched sectors, erases

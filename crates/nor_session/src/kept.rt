@@ -33,8 +33,8 @@ impl Restorer {
     }
 }
 
-/// The state after the vault was sealed, or the journal was read. In this state a faithful vault holds the journal.
-/// Only a `Kept` changes the chip. A `Kept` can't be dropped, so `finish` must consume it.
+/// The state of a session after its vault was sealed, or of a restore after its journal was read. Only a `Kept` changes
+/// the chip. A `Kept` can't be dropped, so `finish` must consume it.
 pub(crate) struct Kept<'a, B: Bus, S: Source> {
     pub(crate) bus: &'a mut B,
     pub(crate) source: &'a S,

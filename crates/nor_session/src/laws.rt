@@ -17,8 +17,8 @@ ghost use Rattle.nor_session.specs.Restore.{IsRestored};
 ghost use Rattle.nor_session.specs.Session.{CanBeUndone, HoldsBegun};
 ghost use Rattle.nor_session.specs.WrittenOver.{IsWrittenOver};
 
-/// If a journal saves the chip in its present state (`SavesChip`), a restore from it that succeeds on a modelled bus
-/// changes nothing. That is so, for example, after another restore from the same journal.
+/// If a journal saves the chip in its present state (`SavesChip`), a restore from this journal that succeeds on a
+/// modelled bus changes nothing. That is so, for example, after another restore from the same journal.
 pub fn restored_stays()
     ensures { (journal : Content) (first : Chip) (old new : BusState) (report : Report)
         → SavesChip journal first → IsSame first old.chip → IsRestored journal old new report
@@ -33,8 +33,9 @@ pub fn power_lost_restores_original()
         → CanRestore journal first old → LosesPower old new → CanRestore journal first new }
 {}
 
-/// The journal of a session saves no sector that a locked status protects (`CanBeRewritten`). So if that journal can
-/// restore the chip on a modelled bus, the only possible error of `rewrite` is 12, a stop (`RewritesOriginal`).
+/// If a session on a modelled bus sealed a `telling` vault, the journal in this vault saves no sector that a locked
+/// status protects (`CanBeRewritten`). So if that journal can restore the chip on a modelled bus, the only possible
+/// error of `rewrite` is 12, a stop (`RewritesOriginal`).
 pub fn session_can_be_rewritten()
     ensures { (request : Request) (image : List ℕ) (old new : BusState) (journal : Content)
         → LeavesJournal request image old new journal → CanBeRewritten journal old.chip }
@@ -126,9 +127,10 @@ pub fn backup_restores_original()
 {}
 
 /// A backup can restore the chip that it saves, even if bytes changed in sectors that no session touched, for example
-/// because an erase went to a wrong address. The chip on the bus may differ from the saved chip in bytes at any
-/// addresses that a restore can write, and in protection bits that can be written. The other non-volatile status bits
-/// must be the saved ones. An operation in progress is limited as `IsWithin` says.
+/// because an erase went to a wrong address. The saved chip must be known (`IsKnown`). The chip on the bus may differ
+/// from the saved chip in bytes at any addresses that a restore can write, and in protection bits that can be written.
+/// The other non-volatile status bits must be the saved ones. If the bus isn't steady, an operation in progress must
+/// change only what a restore can write (`IsWithin`).
 pub fn backup_restores_any()
     ensures { (backup : Content) (first : Chip) (state : BusState) → IsKnown first.config
         → SavesWholeChip backup first → IsWithin (writable_addresses first) first state

@@ -1,4 +1,5 @@
-//! The call `rehearse`, which runs a session that may be stopped on purpose, and restores from its journal.
+//! The call `rehearse`, which runs a session that may be stopped on purpose, and then undoes it with restores from its
+//! journal.
 ghost use Rattle.std.specs.Prelude.{◌≡◌, ◌≤◌, ◌+◌, ◌∷◌, true, length, drop, IfOk, IfErr, OnOk, OnErr};
 ghost use Rattle.nor_model.specs.Chip.{IsSame};
 ghost use Rattle.nor_driver.specs.OnlyReads.{IsSteadyOrIdle};

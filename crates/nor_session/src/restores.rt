@@ -78,17 +78,18 @@ pub fn restore_announced<B: Bus, F: FnOnce(Announcement) + Drop>(
 }
 
 /// Restores the saved sectors and the protection bits of `journal` as `restore` does, but erases and programs every
-/// saved sector, even if it has its saved bytes already, and then verifies it.
+/// saved sector, even if the sector has its saved bytes already, and then verifies all of them.
 ///
 /// After an erase or a program was interrupted, a memory cell may be left between 0 and 1: it may be read correctly
 /// once and wrongly later. `restore` doesn't write a sector that is read with its saved bytes, so it can leave such a
-/// cell. `rewrite` reads no sector before it writes it. After success on any bus, an erase was sent for each saved
-/// sector, and no erase was sent after the first page program (`thorough`). If a saved sector is protected, the
+/// cell. `rewrite` reads no sector before its erase. After success on any bus, each saved sector was the target of an
+/// erase, and no erase was sent after the first page program (`thorough`). If a saved sector is protected, the
 /// protection is lifted first.
 ///
 /// If a rewrite is stopped, `rewrite` can be run again, or `restore` instead. The errors are those of `restore`, in the
 /// same order. Error 9 (the status is locked, but would have to be written) is also returned if a locked status
-/// protects a saved sector that has its saved bytes. No session saves such a sector.
+/// protects a saved sector that has its saved bytes. The journal of a session on a modelled bus saves no such sector
+/// (`session_can_be_rewritten`), but the journal of a backup may.
 pub fn rewrite<B: Bus>(bus: &mut B, journal: &Journal<'_>) -> Result<Report, Refusal>
     ensures restores_original { IsModelled (B.state bus.old)
         → RewritesOriginal journal.now (B.state bus.old) (B.state bus.new) result }

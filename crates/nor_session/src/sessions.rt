@@ -18,7 +18,8 @@ use nor_model::Bus;
 use nor_request::{Refusal, Report, Request};
 use nor_scan::{identify, judge_identity};
 
-/// Saves each sector that it will touch to `vault`, and then changes the chip as `request` asks.
+/// Saves to `vault` each sector that the session will touch (in which a byte differs from its target), and then changes
+/// the chip as `request` asks.
 ///
 /// `vault` must be empty and unsealed. `image` is the session's only buffer besides fixed arrays. For a write or an
 /// erase `image` must be as long as the chip. For a write it holds the target byte at each included address; its other

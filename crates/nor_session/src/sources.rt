@@ -7,8 +7,8 @@ use nor_apply::Source;
 use nor_geometry::SECTOR_LEN;
 use nor_journal::Journal;
 
-/// The image of a session. After the scan of a write or an erase it has the target byte of each address in a touched
-/// sector.
+/// The image of a session. After the scan of a write or an erase, the image has the target byte of each address in a
+/// touched sector.
 #[derive(Drop)]
 pub struct Image<'a> {
     pub bytes: &'a [u8],
