@@ -1,4 +1,5 @@
-//! An example of a bus of your own. `docs/OWN_BUS.md` explains it.
+//! An example of how to connect flashnor's engine to a programmer of your own, through the traits `Port` and `Bus`.
+//! `docs/OWN_BUS.md` explains the example.
 //!
 //! Without arguments the example simulates a serial programmer and a chip: it reads the chip out into a file, changes
 //! the chip with a journal, and restores it. Then it begins the same change on a second simulated chip, over a bus that
@@ -34,8 +35,8 @@ use played::{PlayedPort, PlayedWires};
 use std::alloc::Global;
 use std::{env, fs};
 
-/// The example's bus over a port. After a poll that shows BUSY it pauses before the next one. It reads IDs, SFDP and
-/// data twice, and stops if the two replies differ.
+/// The example's bus over a port. The bus pauses between polls that show BUSY. It reads IDs, SFDP and data twice, and
+/// stops if the two replies differ.
 type PortBus<'a, P> = Paced<ReadTwice<SerprogBus<P>>, &'a HostRuntime>;
 
 fn main(rt: HostRuntime) -> Result<(), Fault> {
@@ -105,8 +106,8 @@ fn back_up<B: Bus>(rt: &HostRuntime, bus: &mut B) -> Result<(), Fault> {
     Ok(())
 }
 
-// Writes an image to the chip: the contents of `chip.bin` with the first byte changed to 5Ah. The session's journal
-// goes to a new file with the name `journal`.
+// Writes an image to the chip: the contents of `chip.bin` with the first byte changed to 5Ah. The session writes its
+// journal to a new file, whose name is the argument `journal`.
 fn change<B: Bus>(rt: &HostRuntime, bus: &mut B, journal: &str) -> Result<Report, Fault> {
     let mut image = fs::read(rt, "chip.bin")?;
     if let Some(first) = image.first_mut() {
@@ -157,8 +158,8 @@ fn print_counts(rt: &HostRuntime, what: &str, done: &Report) -> Result<(), Fault
     Ok(())
 }
 
-// Begins the change of an erased chip over wires that are cut after 10 transactions, when the session still scans the
-// chip. Prints the error, the number of modifying commands that were sent, and the cause of the error.
+// Begins the change of an erased chip over wires that are cut after 10 transactions, while the session is still
+// scanning the chip. Prints the error, the number of modifying commands that were sent, and the cause of the error.
 fn cut_off(rt: &HostRuntime) -> Result<(), Fault> {
     let mut bus = OwnBus::new(PlayedWires::new(erased_chip(rt.alloc())?, 10));
     let refusal = match change(rt, &mut bus, "second.journal") {

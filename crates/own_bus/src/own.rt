@@ -1,4 +1,5 @@
-//! A bus of your own. It doesn't count as well-behaved (`honest`), so only the clauses for any bus apply to it.
+//! A bus for a programmer that does not speak serprog, over wires that you implement. The bus doesn't count as
+//! well-behaved (`honest`), so only the contract clauses for any bus apply to it.
 ghost use Rattle.std.proofs.lemmas.Bool.{false≢true};
 ghost use Rattle.nor_model.specs.Bus.{unknown_bus};
 
@@ -17,9 +18,9 @@ pub trait Wires {
     fn transact(&mut self, out: &[u8], reply: &mut [u8]) -> Result<(), Self::Cause>;
 }
 
-/// A bus over `wires`. It doesn't count as well-behaved (`honest`), so only the clauses for any bus apply to it. The
-/// field `cause` has the cause of the last transaction that failed, since error 12 contains no cause. The bus adds each
-/// transaction to its history, which only contracts can read.
+/// A bus over `wires`. The bus doesn't count as well-behaved (`honest`), so only the contract clauses for any bus apply
+/// to it. The field `cause` has the cause of the last transaction that failed, since error 12 contains no cause. The
+/// bus adds each transaction to its history, which only contracts can read.
 #[derive(Drop)]
 pub struct OwnBus<W: Wires + Drop> {
     pub wires: W,
