@@ -89,7 +89,7 @@ impl Work for Reading<'_> {
     }
 }
 
-// The work with which the writing of a journal is compared: the SHA-256 digest of all bytes of the journal.
+// The reference for both measurements, which computes the SHA-256 digest of all bytes of a journal.
 #[derive(Drop)]
 struct Digests<'a> {
     bytes: &'a [u8],

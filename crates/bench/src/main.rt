@@ -62,8 +62,8 @@ fn main(rt: HostRuntime) -> Result<ExitCode, Fault> {
     Ok(ExitCode::SUCCESS)
 }
 
-// Does the work of `chip`, `plan`, `journal` and `read` once, untimed, and prints the results. Then prints two lines as
-// `timing` prints them, for fixed times. The gate compares this output with the file `stdout`.
+// Does the work of `chip`, `plan`, `journal` and `read` once, untimed, and prints the results. Then prints two sample
+// lines of a measurement, for times that are fixed. The gate compares this output with the file `stdout`.
 fn answer<R: Print + AllocGlobal>(rt: &R) -> Result<(), Fault> {
     chip::answer(rt)?;
     plan::answer(rt)?;

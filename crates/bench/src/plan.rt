@@ -24,8 +24,8 @@ const BOUNDS: Measurement = Measurement {
     rounds: 10001,
 };
 
-/// Prints the times of `differs` and of `bounds`, each as a ratio to the time of copying the same number of sectors.
-/// Returns a checksum of all results.
+/// Prints the times of `differs` (whether two sectors differ) and of `bounds` (their first and last difference), each
+/// as a ratio to the time of copying the same number of sectors. Returns a checksum of all results.
 pub fn measure<R: Clock + Print + AllocGlobal>(rt: &R) -> Result<u64, Fault> {
     let mut copies = Copies(Sectors::new(rt.alloc())?);
     let mut work = Differs(Sectors::new(rt.alloc())?);
@@ -42,7 +42,8 @@ pub fn answer<R: Print + AllocGlobal>(rt: &R) -> Result<(), Fault> {
     Ok(())
 }
 
-// A sector, its target, and space for a copy of the target. Each has an allocation of its own, as in a real program.
+// The bytes of a sector, its target (the bytes that it should get), and space for a copy of the target. Each has an
+// allocation of its own, as in a real program.
 #[derive(Drop)]
 struct Sectors {
     old: Box<[u8; SECTOR_LEN as usize]>,

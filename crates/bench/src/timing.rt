@@ -1,4 +1,4 @@
-//! Times a piece of work and its reference in turn, and prints their ratio.
+//! Times a piece of work and its reference in turn, and prints the ratio of the two times.
 
 use crate::fault::Fault;
 use nor_chip::SECTOR_LEN;

@@ -17,8 +17,8 @@ pub enum Request {
     Session,
     /// `read`: measure a readout and a verification of a whole chip.
     Read,
-    /// `answers`: do the work of `chip`, `plan`, `journal` and `read` once, untimed, and print the results and two
-    /// lines for fixed times.
+    /// `answers`: do the work of `chip`, `plan`, `journal` and `read` once, untimed, and print the results. Then print
+    /// two sample lines, for times that are fixed.
     Answers,
     /// Any other argument, or more than one: print the usage to standard error, and fail.
     Unknown,
