@@ -10,11 +10,11 @@ use nor_chip::{Bus, Meter};
 use std::alloc::Global;
 
 /// Performs the action on `bus`, and compares the action's result with the expected one. `came` must be empty. If the
-/// fault is `Differs`, it has the actual result.
+/// fault is `Differs`, `came` then has the actual result.
 ///
 /// Returns one of these faults:
 ///
-/// - `Unread` if a value in the line can't be parsed, or breaks a premise of the called function
+/// - `Unread` if the line can't be parsed, or if an argument breaks a premise of the called function
 /// - `Differs` if the result differs from the expected one
 /// - `Stopped` if the bus stops a transaction that it must carry out, `Replied` if it carries out one that it must stop
 /// - `Memory` if memory runs out
@@ -51,7 +51,7 @@ fn call(
 }
 
 // Sends a transaction. `words` has the bytes to send and, after `<`, the bytes that the reply buffer must have after
-// the transaction. `stops` is true if the bus must stop it.
+// the transaction. `stops` is true if the bus must stop the transaction.
 fn exchange(
     alloc: Global,
     bus: &mut Way<'_>,

@@ -1,4 +1,4 @@
-//! Comparisons of results with expected values. The text `came` gets the actual value.
+//! Compares results with the values that a case expects. The string `came` has the actual value.
 
 use crate::fault::Fault;
 use std::fmt::Write;
@@ -12,7 +12,8 @@ pub fn agree(came: &str, wanted: &str) -> Result<(), Fault> {
     }
 }
 
-/// Returns `Differs`, with the actual bytes in hexadecimal in `came`, if `bytes` differs from the expected `wanted`.
+/// If the actual `bytes` differ from the expected bytes `wanted`, appends the actual bytes to `came` in hexadecimal and
+/// returns `Differs`.
 pub fn agree_bytes(came: &mut String, bytes: &[u8], wanted: &[u8]) -> Result<(), Fault> {
     if bytes == wanted {
         return Ok(());

@@ -18,8 +18,8 @@ pub struct Left {
     pub sent: u64,
 }
 
-/// The data with which the checks of a case compare: the chip's configuration, its state after the actions, and the
-/// trace.
+/// The data that the checks of a case compare with the expected values: the chip's configuration, its state after the
+/// actions, and the trace.
 #[derive(Drop)]
 pub struct Answers<'a> {
     config: Config,
@@ -27,7 +27,7 @@ pub struct Answers<'a> {
     trace: Lines<'a>,
     // whether a check of this case compared a line of the trace
     is_traced: bool,
-    // the protectable ranges that no line has checked yet
+    // the protectable ranges that no line `set` has checked yet
     sets: Offered,
 }
 
@@ -43,8 +43,9 @@ impl<'a> Answers<'a> {
         }
     }
 
-    /// Makes the check of a line. `came` must be empty. If the fault is `Differs`, it has the actual value. Returns
-    /// `Unread` if there is no such check or a value can't be parsed or isn't allowed, and `Memory` if memory runs out.
+    /// Makes the check of a line. `came` must be empty. Returns `Differs` if the actual value differs from the expected
+    /// one; `came` then has the actual value. Returns `Unread` if `word` isn't a check, or a value can't be parsed or
+    /// isn't allowed, and `Memory` if memory runs out.
     pub fn check(
         &mut self,
         alloc: Global,
@@ -65,7 +66,7 @@ impl<'a> Answers<'a> {
         }
     }
 
-    // Makes a check that compares texts.
+    // Makes a check whose actual value is compared with the expected one as text.
     fn check_text(
         &self,
         alloc: Global,
@@ -78,7 +79,7 @@ impl<'a> Answers<'a> {
         agree(came, wanted)
     }
 
-    // Writes the actual value of a check that compares texts to `came`.
+    // Appends to `came` the actual value of a check that compares texts.
     fn put(&self, alloc: Global, came: &mut String, word: Word, words: &str) -> Result<(), Fault> {
         let config = &self.config;
         match word {
@@ -116,7 +117,8 @@ impl<'a> Answers<'a> {
         }
     }
 
-    // Checks that the status `words` protects exactly the range `places`.
+    // Checks that the status `words` protects exactly the range `places`. Only the first and the last address of each
+    // sector are compared.
     fn check_guards(&self, came: &mut String, words: &str, places: &str) -> Result<(), Fault> {
         let status = status_of(words)?;
         guards::check(came, &self.config, status, addresses_of(places)?)
@@ -133,9 +135,9 @@ impl<'a> Answers<'a> {
         Err(Fault::Differs)
     }
 
-    // Checks that the range `words` is the next protectable one, that the status `wanted` has the least protection bits
-    // for it, and that these bits protect exactly this range. Only the first and the last address of each sector are
-    // compared.
+    // Checks that the range `words` is the next protectable one, that the status `wanted` has the protection bits with
+    // the least value for this range (`code_for`), and that these bits protect exactly this range. Only the first and
+    // the last address of each sector are compared.
     fn check_set(&mut self, came: &mut String, words: &str, wanted: &str) -> Result<(), Fault> {
         let set = pair_of(words)?;
         let status = status_of(wanted)?;
@@ -162,8 +164,9 @@ fn tell_place(came: &mut String, (at, byte): (usize, u8)) -> Result<(), Fault> {
     Err(Fault::Differs)
 }
 
-// Returns the first address with another byte than the expected one: `inside` from `places.0` up to, but not including,
-// `places.1`, and `outside` elsewhere. Returns that byte, too.
+// Returns the first address whose byte isn't the expected one, and this byte. The expected byte is `inside` at the
+// addresses from `places.0` to `places.1 - 1`, and `outside` at all others. Returns `None` if all bytes are as
+// expected.
 fn unlike(bytes: &[u8], places: (u32, u32), (inside, outside): (u8, u8)) -> Option<(usize, u8)> {
     let (start, end) = (places.0 as usize, places.1 as usize);
     for (at, byte) in bytes.iter().enumerate() {
@@ -183,11 +186,11 @@ fn put_status(came: &mut String, [one, two]: [u8; 2]) -> Result<(), Fault> {
     Ok(write!(came, "{one:02x}{two:02x}")?)
 }
 
-// The SFDP bytes of the chips that `put_made` makes, of which it takes the first ones.
+// The SFDP bytes for `put_made`, which gives its chip the first bytes of this array.
 const SFDP: [u8; 512] = [0xAB; 512];
 
 // Appends `made` to `came` if `Config::new` accepts the size and the number of SFDP bytes in `words`, otherwise `none`.
-// Returns `Unread` if the number is greater than 512.
+// Returns `Unread` if the number of SFDP bytes is greater than 512.
 fn put_made(came: &mut String, words: &str) -> Result<(), Fault> {
     let (size, count) = words.split_once(' ').ok_or(Fault::Unread)?;
     let sfdp = SFDP.get(..count.parse()?).ok_or(Fault::Unread)?;
@@ -195,7 +198,8 @@ fn put_made(came: &mut String, words: &str) -> Result<(), Fault> {
     Ok(came.push_str(if config.is_some() { "made" } else { "none" })?)
 }
 
-// Appends what `SimBus::new` reports for the number of bytes in `words` to `came`: `taken`, or the text of its error.
+// Creates a simulated chip with the number of bytes in `words`. Appends `taken` to `came` if `SimBus::new` accepts this
+// number, otherwise the text of its error.
 fn put_length(alloc: Global, came: &mut String, config: Config, words: &str) -> Result<(), Fault> {
     let bytes = vec![in alloc; 0xFF; words.parse()?]?;
     let delays = Delays { now: 0, each: 0 };

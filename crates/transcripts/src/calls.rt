@@ -82,7 +82,7 @@ fn protect(bus: &mut Way<'_>, came: &mut String, status: u32, code: &str) -> Res
 }
 
 // Returns the erase with this opcode whose block begins at this sector. Returns `Unread` if the opcode isn't 20h, 52h,
-// D8h or C7h, if the sector isn't below 4,096, or if no such erase block begins at it.
+// D8h or C7h, if the sector isn't below 4,096, or if no such erase block begins at the sector.
 fn erase_of(opcode: u32, sector: u32) -> Result<Erase, Fault>
     ensures reachable { IfOk result (λ erase. erase.sector < 4096) }
     ensures aligned { IfOk result (λ erase. is_aligned erase.unit erase.sector ≡ true) }

@@ -1,4 +1,4 @@
-//! Plays a case.
+//! Plays a case: performs its actions on a simulated chip, and then makes its checks.
 
 use crate::actions;
 use crate::answers::{Answers, Left};
@@ -18,8 +18,8 @@ pub struct Case<'a> {
 }
 
 impl<'a> Case<'a> {
-    /// Splits the text of a case into its parts. The text begins with the case's name, whose line has this number. If
-    /// the line `chip` doesn't follow the name, the case has no settings, and fails.
+    /// Splits the text of a case into its parts. The text begins with the case's name, which is in the line `number` of
+    /// the input. If no line `chip` follows the name, the case has no settings, and fails when it is played.
     pub fn of(text: &'a str, number: usize) -> Case<'a> {
         let (name, rest) = text.split_once('\n').unwrap_or((text, ""));
         let (chip, steps) = rest.split_once('\n').unwrap_or((rest, ""));
@@ -31,8 +31,8 @@ impl<'a> Case<'a> {
         }
     }
 
-    /// Plays the case on a chip of its own, and returns the first failure. If that is `Differs`, `came` has the actual
-    /// value. A case fails if it has no line `chip`, or neither an action nor a check.
+    /// Plays the case on a chip of its own, and returns the first failure. If the fault is `Differs`, `came` then has
+    /// the actual value. A case fails if it has no line `chip`, or neither an action nor a check.
     pub fn play(self, alloc: Global, came: &mut String) -> Result<(), LineFault> {
         let setup = match self.setup() {
             Ok(setup) => setup,
@@ -52,8 +52,8 @@ impl<'a> Case<'a> {
     }
 
     // Performs all actions on a new bus. Returns the chip, and the number of transactions that the bus did not stop.
-    // Returns the fault of making the bus, that of the first action that fails, or `Lost` if a line of the trace was
-    // lost.
+    // Otherwise returns the fault that occurred when the bus was created, the fault of the first action that failed, or
+    // `Lost` if a line of the trace was lost.
     fn act(
         self,
         alloc: Global,
@@ -110,7 +110,8 @@ impl<'a> Case<'a> {
     }
 }
 
-// Splits a line into its first word and the text after it.
+// Splits a line into its first word and the text after it. A line that is blank or begins with `#` has the word
+// `Nothing`.
 fn step_of(line: &str) -> (Word, &str) {
     let line = line.trim();
     if line.starts_with('#') {
@@ -120,7 +121,7 @@ fn step_of(line: &str) -> (Word, &str) {
     (Word::of(word), rest)
 }
 
-/// True if each line of the text is empty or begins with `#`.
+/// True if each line of the text is blank, or begins with `#` after any white space.
 pub fn is_blank(text: &str) -> bool {
     for line in text.split('\n') {
         if !matches!(step_of(line).0, Word::Nothing) {
@@ -130,7 +131,7 @@ pub fn is_blank(text: &str) -> bool {
     true
 }
 
-// Returns the outcome, with the number of the line if it is a fault.
+// Returns the outcome. If the outcome is a fault, the line number `line` is added to it.
 fn at(line: usize, outcome: Result<(), Fault>) -> Result<(), LineFault> {
     match outcome {
         Ok(()) => Ok(()),

@@ -24,12 +24,12 @@ fn repeat(bytes: &mut Vec<u8>, piece: &[u8], count: u32) -> Result<(), AllocErro
     Ok(())
 }
 
-/// Parses one byte.
+/// Parses one byte in hexadecimal digits.
 pub fn byte_of(digits: &str) -> Result<u8, Fault> {
     Ok(u8::from_str_radix(digits, 16)?)
 }
 
-/// Parses status 1 and status 2, in this order.
+/// Parses status 1 and status 2, in this order, from four hexadecimal digits.
 pub fn status_of(digits: &str) -> Result<[u8; 2], Fault> {
     Ok(<[u8; 2] as FromHex>::from_hex(digits)?)
 }
@@ -39,7 +39,7 @@ pub fn address_of(digits: &str) -> Result<u32, Fault> {
     Ok(u32::from_str_radix(digits, 16)?)
 }
 
-/// Parses a range such as `7fe000..7ff000`: its first address, and the address after its last one.
+/// Parses a range such as `7fe000..7ff000`. Returns its first address, and the address after its last one.
 pub fn addresses_of(places: &str) -> Result<(u32, u32), Fault> {
     let (start, end) = places.split_once("..").ok_or(Fault::Unread)?;
     Ok((address_of(start)?, address_of(end)?))

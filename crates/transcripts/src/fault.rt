@@ -1,11 +1,11 @@
-//! The faults of a line or a case.
+//! The faults that end a case.
 
 use hex::FromHexError;
 use nor_chip::{Stopped, WrongLength};
 use std::alloc::{AllocError, AllocFailed};
 use std::num::ParseIntError;
 
-/// The reason why a line or a case failed.
+/// The reason why a case failed.
 #[derive(Clone, Copy)]
 pub enum Fault {
     /// The line can't be parsed, or a value in it isn't allowed.
@@ -36,7 +36,7 @@ impl Fault {
     }
 }
 
-/// A fault, and the number of the line where it occurred.
+/// A fault, and the number of the line that is printed with it.
 #[derive(Clone, Copy)]
 pub struct LineFault {
     pub line: usize,

@@ -9,8 +9,8 @@ use nor_chip::{Config, SECTOR_LEN, code_for, protected, unit_protected};
 use std::fmt::Write;
 
 /// Checks that `status` protects exactly the addresses from `start` up to, but not including, `end`. Checks only the
-/// first and the last address of each sector. Returns `Differs` for the first address with another result, which is
-/// then written to `came`.
+/// first and the last address of each sector. If the protection of such an address is wrong, appends `guarded` or
+/// `free` and the address to `came`, and returns `Differs`.
 pub fn check(
     came: &mut String,
     config: &Config,
@@ -52,8 +52,8 @@ pub fn put_unit(came: &mut String, config: &Config, words: &str) -> Result<(), F
     Ok(came.push_str(word(is_protected))?)
 }
 
-/// Appends the least protection bits that protect exactly this range to `came`, as a number, or `none`. `words` has its
-/// first address and its length.
+/// Appends to `came` the least value of the protection bits that protect exactly the range in `words`, in decimal, or
+/// `none` if no such bits exist. `words` has the first address and the length of the range.
 pub fn put_least(came: &mut String, config: &Config, words: &str) -> Result<(), Fault> {
     let (start, len) = pair_of(words)?;
     match code_for(start, len, config.size) {

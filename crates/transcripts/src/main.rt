@@ -16,8 +16,9 @@
 //! - `agree.rt`: comparisons of results with expected values
 //! - `fault.rt`: the faults of a line or a case
 //!
-//! A comparison that fails has the actual value in a text that its caller passes, and not in its fault, since the
-//! prover proves at each exit of a function that all values that own memory are dropped.
+//! If a comparison fails, the actual value is in the string `came`, which the caller passes. The fault doesn't contain
+//! the value, so that a fault owns no memory: the prover must prove at each exit of a function that every value that
+//! owns memory is dropped.
 #![tactic(auto)]
 
 mod actions;
@@ -48,7 +49,7 @@ fn main(rt: HostRuntime) -> io::Result<ExitCode> {
 }
 
 // Plays the cases of a text, and prints each failure. Returns the numbers of cases that passed and failed. Text before
-// the first case counts as a failure, unless each of its lines is empty or begins with `#`.
+// the first case counts as a failure, unless each of its lines is blank or begins with `#`.
 fn play_all(rt: &(impl Print + AllocGlobal), text: &str) -> io::Result<(u64, u64)> {
     let (mut passed, mut failed) = (0_u64, 0_u64);
     let mut number = 1_usize;
@@ -65,7 +66,7 @@ fn play_all(rt: &(impl Print + AllocGlobal), text: &str) -> io::Result<(u64, u64
     Ok((passed, failed))
 }
 
-// Plays a case, and prints its failure. Returns whether it passed.
+// Plays a case, and prints the failure if there is one. Returns whether the case passed.
 fn play(rt: &(impl Print + AllocGlobal), case: Case<'_>) -> io::Result<bool> {
     let mut came = String::new(rt.alloc());
     match case.play(rt.alloc(), &mut came) {
@@ -77,7 +78,7 @@ fn play(rt: &(impl Print + AllocGlobal), case: Case<'_>) -> io::Result<bool> {
     }
 }
 
-// Prints a failure. `came` is printed only for `Differs`, since other faults may leave a part of a text in it.
+// Prints a failure. Prints `came` only for `Differs`, since after another fault `came` may contain a part of a text.
 fn tell(rt: &impl Print, name: &str, failure: LineFault, came: &str) -> io::Result<()> {
     let LineFault { line, fault } = failure;
     let came = match fault {

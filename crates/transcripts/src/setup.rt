@@ -42,7 +42,7 @@ impl Setup {
         })
     }
 
-    /// Constructs the bus in its initial state. Its trace is written to `log`.
+    /// Creates the chip and a bus to it, in their initial state. The bus writes its trace to `log`.
     pub fn bus<'a>(&self, alloc: Global, log: &'a mut Vec<u8>) -> Result<Way<'a>, Fault> {
         let start = self.start;
         let bytes = vec![in alloc; start.fill; self.config.size as usize]?;
@@ -105,7 +105,8 @@ enum Key {
     Low,
 }
 
-// The keys, the greatest value of each, and whether it has hexadecimal digits.
+// Each row has the text of a key, the key, its greatest value, and whether the value is hexadecimal (otherwise
+// decimal).
 const KEYS: [(&str, Key, u64, bool); 11] = [
     ("of", Key::Of, 0xFF, true),
     ("status", Key::Status, 0xFFFF, true),
@@ -120,7 +121,7 @@ const KEYS: [(&str, Key, u64, bool); 11] = [
     ("low", Key::Low, 0xFF, false),
 ];
 
-// Parses a setting. Returns `Unread` if its key is unknown, or its value isn't a number that it can have.
+// Parses a setting, `KEY=VALUE`. Returns `Unread` if the key is unknown, or if the value is no number or too great.
 fn setting_of(setting: &str) -> Result<(Key, u64), Fault> {
     let (name, value) = setting.split_once('=').ok_or(Fault::Unread)?;
     for (known, key, most, is_hexadecimal) in &KEYS {
@@ -134,9 +135,9 @@ fn setting_of(setting: &str) -> Result<(Key, u64), Fault> {
     Err(Fault::Unread)
 }
 
-// Returns the configuration with this name, if there is one. In addition to the emulated chips there are two chips of
-// 128 KiB, so that an erase of 64 KiB is not one of the whole chip. `BLOCKS` has the erases of 32 and 64 KiB, but no
-// block protection. `SECTORS` has block protection, but not these erases.
+// Returns the configuration of the chip with this name, if there is one. In addition to the emulated chips there are
+// two chips of 128 KiB, on which an erase of 64 KiB doesn't erase the whole chip. `BLOCKS` has erases of 32 and 64 KiB,
+// but no block protection. `SECTORS` has block protection, but not these erases.
 fn config_of(name: &str) -> Option<Config> {
     let id = [0xAA, 0x11, 0x22];
     match name {

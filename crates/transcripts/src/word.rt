@@ -1,9 +1,9 @@
-//! The words with which lines begin.
+//! The words with which the lines of a case begin.
 
 /// The first word of a line. `match` on an enum is proved faster than on texts, which are compared one by one.
 #[derive(Clone, Copy)]
 pub enum Word {
-    /// The line is empty or begins with `#`.
+    /// The line is blank, or begins with `#`.
     Nothing,
     /// `> OUT < REPLY`: the bus must carry out the transaction, with this reply.
     Carries,
@@ -11,13 +11,13 @@ pub enum Word {
     Stops,
     /// `allow COUNT`: the number of transactions that the bus carries out from now on.
     Allow,
-    /// `wait ADDRESS = ..`
+    /// `wait ADDRESS = RESULT`: polls until the chip is ready (nor_driver's `wait`).
     Wait,
-    /// `program ADDRESS BYTES = ..`
+    /// `program ADDRESS BYTES = RESULT`: programs bytes of one page (`program_page`).
     Program,
-    /// `erase OPCODE SECTOR = ..`
+    /// `erase OPCODE SECTOR = RESULT`: erases the block that begins at this sector (`erase`).
     Erase,
-    /// `protect STATUS CODE = ..`
+    /// `protect STATUS CODE = RESULT`: writes this status with other protection bits (`write_status`).
     Protect,
     /// `| LINE`: the next line of the trace. A case has all lines of its trace, or none.
     Traced,
@@ -26,8 +26,8 @@ pub enum Word {
     Array,
     /// `guards STATUS = START..END`: this status protects exactly this range.
     Guards,
-    /// `set START LENGTH = STATUS`: the next protectable range, with a status that has the least protection bits for
-    /// it.
+    /// `set START LENGTH = STATUS`: the next protectable range, and a status whose protection bits have the least value
+    /// that protects exactly this range.
     Set,
     /// `status = BYTES`: status 1 and status 2.
     Status,
@@ -37,7 +37,7 @@ pub enum Word {
     Sets,
     /// `unit STATUS START..END = guarded`, or `= free`: whether this status protects some address of the range.
     Unit,
-    /// `least START LENGTH = CODE`, or `= none`: the least protection bits for this range.
+    /// `least START LENGTH = CODE`, or `= none`: the least value of the protection bits that protects this range.
     Least,
     /// `size SIZE SFDP = made`, or `= none`: whether a chip may have this size and this number of SFDP bytes.
     Size,
@@ -70,7 +70,7 @@ const WORDS: [(&str, Word); 18] = [
 ];
 
 impl Word {
-    /// Returns the word of this text, which is empty if the line is empty or begins with `#`.
+    /// Returns the word that `text` is: `Nothing` if it is empty, and `Other` if no line may begin with it.
     pub fn of(text: &str) -> Word {
         if text.is_empty() {
             return Word::Nothing;
@@ -97,7 +97,7 @@ impl Word {
         )
     }
 
-    /// True if the line is neither an action nor empty.
+    /// True if the line must be a check. A line that begins with an unknown word counts as a check, which fails.
     pub fn is_check(self) -> bool {
         !self.is_action() && !matches!(self, Word::Nothing)
     }
