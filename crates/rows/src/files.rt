@@ -77,8 +77,8 @@ impl OnceFile {
             && Journal::read(&self.bytes).is_ok()
     }
 
-    // True if the last call on the file was write number `n`, counted from 0. The file's earlier writes and its bytes
-    // must be those that the file `right` had before this write.
+    // True if the last call on the file was write number `n`, counted from 0, and if the file's earlier writes and its
+    // bytes are those that the file `right` had before this write.
     fn ends_before(&self, right: &OnceFile, n: usize) -> bool {
         let (Some(writes), Some(before)) = (
             right.writes.get(0..n.saturating_add(1)),

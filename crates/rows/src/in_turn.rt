@@ -10,9 +10,9 @@ use nor_session::{Refusal, session};
 use std::alloc::Global;
 use std::process::Abort;
 
-// Runs a second session with the allowance `allowed`, on the chip that the first session left. It writes the image of
-// `row`. Asserts that the session ends or is stopped. Returns the chip and the vault of the second session, and whether
-// it ended.
+// Runs a second session with the allowance `allowed`, on the chip that the first session left. The second session
+// writes the image of `row`. Asserts that this session ends or is stopped. Returns the chip and the vault of the second
+// session, and whether it ended.
 fn write_again(rt: &impl Abort, alloc: Global, bus: SimBus, row: Row, allowed: u64) -> (Cut, bool) {
     let mut bus = bus;
     bus.allow(allowed);
@@ -60,9 +60,9 @@ fn stop_second(rt: &impl Abort, alloc: Global, runs: &Runs, other: Row, n: u64) 
     panic!(rt; "no session after {n} ended")
 }
 
-// The lengths of the second session, after the first was stopped after 23 to 29 transactions, and after it ended with
-// 30. The journal of the first session is sealed after 23. The first session raises a bit of byte 0. The second writes
-// FFh to byte 0 and four bytes from FEh on; all of these are in the first sector.
+// The numbers of transactions of the second session, for each stop of the first session (after 23 to 29 transactions)
+// and for its end (after 30). The journal of the first session is sealed after 23. The first session changes byte 0
+// from 00h to 01h. The second writes FFh to byte 0 and four bytes from FEh on; all of these are in the first sector.
 //
 // The second session sends 23 transactions before its seal. It raises byte 0 with an erase, except if the first session
 // was stopped between its erase and its program: byte 0 is then FFh.
@@ -73,8 +73,9 @@ fn stop_second(rt: &impl Abort, alloc: Global, runs: &Runs, other: Row, n: u64) 
 //   23 + 1 + 2 * 3 + 1. After 28 and 29, and at the end, it is 01h, and has to be raised again.
 const LENGTHS: [u64; 8] = [33, 33, 31, 31, 31, 33, 33, 33];
 
-// The lengths of the second session if each stop loses only a reply. After a stop of the first session, the chip is
-// then as if the session had sent one transaction more.
+// The numbers of transactions of the second session if the bus still sends the whole next transaction at each stop, so
+// that only its reply is lost. After a stop of the first session, the chip is then as if the session had sent one
+// transaction more.
 const LENGTHS_AFTER_A_LOST_REPLY: [u64; 8] = [33, 31, 31, 31, 33, 33, 33, 33];
 
 #[test]

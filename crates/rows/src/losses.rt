@@ -1,4 +1,4 @@
-//! Changes of files in `Memory`, the files in memory for tests, interrupted after each call.
+//! Changes of files in memory (`Memory`) that are interrupted after each call, as by a killed process or a host crash.
 use crate::held::assert_held;
 use nor_files::{Loss, Memory, Store};
 use nor_journal::Vault;

@@ -46,7 +46,7 @@ fn is_of_case(read: Result<Layout, MapFault>, case: &Case) -> bool {
 }
 
 // The first bytes of a descriptor: the signature 0FF0A55Ah, FLMAP0 with the region table at 40h, and FLMAP1 with the
-// masters' section at 60h (up to the 9 series) or 80h (from the 100 series on).
+// masters' section at 60h (chipsets up to the 9 series) or 80h (from the 100 series on).
 const NR_2: &[u8] = &[0x5A, 0xA5, 0xF0, 0x0F, 3, 0, 4, 2, 6, 2, 0x10, 0x12];
 
 const NR_6: &[u8] = &[0x5A, 0xA5, 0xF0, 0x0F, 3, 0, 4, 6, 6, 2, 0x10, 0x15];
@@ -86,7 +86,7 @@ const DESCRIPTORS: &[Case] = &[
         &[],
         Some(MapFault::Outside { record: 1 }),
     ),
-    // The signature is at 0. An entry of 0 is unused, except entry 0.
+    // The signature is at 0. An entry whose four bytes are 0 is unused, except entry 0.
     (
         &[(0, NR_2), (0x40, &[0, 0, 0, 0, 1, 0, 1, 0, 0, 0, 0, 0])],
         0x2000,
@@ -137,8 +137,9 @@ const DESCRIPTORS: &[Case] = &[
         &[],
         Some(MapFault::Outside { record: 15 }),
     ),
-    // Entries whose bytes are FFh are unused. In the next case the signature is at 20h, but must be at 10h or at 0.
+    // All bytes of the region table are FFh, so no entry is used.
     (&[(0x10, SERIES_100)], 0x1_0000, &[], None),
+    // The signature is at 20h, but must be at 10h or at 0.
     (
         &[(0x20, SERIES_100)],
         0x1_0000,
@@ -249,14 +250,14 @@ const FMAPS: &[Case] = &[
         &[],
         Some(MapFault::Outside { record: 2 }),
     ),
-    // Area 2 has no bytes, so it is skipped, and its name, which no region may have, is no fault.
+    // Area 2 has size 0, so it is skipped, and it is no fault that its name contains a blank.
     (
         &[(0x266, &[0, 0, 0, 0, b' '])],
         0x1000,
         &[(b"RO", 0, 0x7FF), (WHOLE, 0x800, 0xFFF)],
         None,
     ),
-    // The header states 65,535 areas in an image of 4 GiB.
+    // The header states 65,535 areas in an image of FFFFFFFFh bytes.
     (
         &[(0x236, &[0xFF, 0xFF]), (0x212, &[0xFF; 4])],
         0x1000,
@@ -274,7 +275,8 @@ fn fmaps(rt: HostRuntime) {
     }
 }
 
-// The bytes that are read may begin with the header of the FMAP, and end after its last area.
+// An FMAP can be read from bytes that contain only the FMAP. If the last of these bytes is missing, the result is
+// `Short`. If the first one is missing, the result is `Missing`.
 #[test]
 fn an_fmap_without_an_image(rt: HostRuntime) {
     let image = image_of(AT_200, &[]);

@@ -40,9 +40,10 @@ fn sent(answer: Result<Report, Refusal>) -> Sent {
     Ok(answer?.transactions)
 }
 
-// Each row has the number of the transaction whose reply is lost, and the result of the verification. Transactions 1 to
-// 5 identify a TINY64, and 6 to 21 read its sixteen sectors. All bytes of the chip and of the image are 00h, but those
-// of a lost reply are FFh. The verification therefore reports the first byte of the sector whose reply was lost.
+// Each row has the number of the transaction whose reply is lost (0 for none), and the result of the verification.
+// Transactions 1 to 5 identify a TINY64, and 6 to 21 read its sixteen sectors. All bytes of the chip and of the image
+// are 00h, but those of a lost reply are FFh. The verification therefore reports the first byte of the sector whose
+// reply was lost.
 const LOST_REPLIES: [(u64, Sent); 4] = [
     (0, Ok(21)),
     (6, Err(Refusal::Mismatch { address: 0 })),
@@ -67,7 +68,7 @@ fn a_reply_that_differs_is_a_mismatch(rt: HostRuntime) {
 }
 
 // The write enable latch (bit 1 of status 1) is set at the start, and no command of a reading call clears it. The
-// report must show it.
+// reports must show that the latch is set.
 #[test]
 fn a_reading_reports_the_status_that_it_found(rt: HostRuntime) {
     let row = Row::ABitRises;

@@ -8,7 +8,7 @@ use nor_journal::Journal;
 use nor_session::{Announcement, Refusal, Report, restore, rewrite, rewrite_announced};
 use std::process::Abort;
 
-// A row, and what a rewrite after its session counts.
+// A row, and the expected numbers of a rewrite after its session.
 #[derive(Clone, Copy)]
 struct Rewritten {
     row: Row,
@@ -16,9 +16,9 @@ struct Rewritten {
     touched: u32,
     // The number of erases, which cover exactly the saved sectors.
     erases: u32,
-    // The number of page programs, one for each page of these sectors that was not all FFh before the session. Then the
-    // number of status writes.
+    // The number of page programs, one for each page of these sectors that was not all FFh before the session.
     programs: u32,
+    // The number of status writes.
     writes: u32,
     // The number of transactions of the identification: seven on a TINY64 and four on a W25Q64FV.
     identified: u32,
@@ -70,7 +70,8 @@ fn run_rewrite(rt: &impl Abort, cut: &mut Cut, allowed: u64) -> Result<Report, R
     rewrite(&mut cut.bus, &journal)
 }
 
-// Undoes a rewrite that was stopped, by another rewrite if `by_rewrite` is true, otherwise by a restore.
+// After a rewrite that was stopped, restores the chip, by another rewrite if `by_rewrite` is true, otherwise by a
+// restore.
 fn undone(rt: &impl Abort, cut: &mut Cut, by_rewrite: bool) {
     let journal = Journal::read(cut.vault.bytes()).expect(rt, "a journal");
     cut.bus.allow(AMPLE);

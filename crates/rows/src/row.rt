@@ -16,7 +16,7 @@ pub struct Start {
     /// If this is `Some`, a stop cuts the chip's power, and this byte determines what is left of an interrupted
     /// operation (`SimBus::lose`). If it is `None`, the chip keeps its power.
     pub fill: Option<u8>,
-    /// The number of bytes of the next transaction that the bus still sends when it stops. `None` sends none.
+    /// The number of bytes of the next transaction that the bus still sends when it stops. With `None` it sends none.
     pub torn: Option<u32>,
 }
 

@@ -72,7 +72,8 @@ pub struct Runs {
     row: Row,
     start: Start,
     before: Vec<u8>,
-    // The number of bytes of the next transaction that the bus still sends at a stop of a restore. `None` sends none.
+    // The number of bytes of the next transaction that the bus still sends at a stop of a restore. With `None` it sends
+    // none.
     torn: Option<u32>,
 }
 

@@ -112,8 +112,8 @@ fn only_differing_sectors_are_read_again(rt: HostRuntime) {
     }
 }
 
-// A read that begins and ends inside a sector. Of its first and its last sector, only the bytes of this read are read
-// again, and only if one of these bytes differs from the image.
+// The read begins and ends inside a sector. For its first and for its last sector, only the bytes that the read covers
+// are compared with the image, and read again if one of them differs.
 #[test]
 fn parts_of_sectors_are_read_again(rt: HostRuntime) {
     let cases: [(&'static [usize], &'static [u8]); 3] = [
@@ -134,9 +134,9 @@ fn parts_of_sectors_are_read_again(rt: HostRuntime) {
     }
 }
 
-// If a second read differs from the first one, the bus stops, and nothing is sent after it. In the first case the first
-// of two second reads differs, and in the second case the other one. In the third case the second read is that of a
-// last sector of which the read covers only one byte.
+// If a second read differs from the first one, the bus stops, and nothing is sent after it. In the first two cases two
+// sectors are read again: the reread of the first one differs in the first case, and that of the second one in the
+// second case. In the third case only the first byte of the last sector is read and reread, and it differs.
 #[test]
 fn a_sector_that_differs_stops_the_bus(rt: HostRuntime) {
     let cases: [(u64, usize, &'static [usize], &'static [u8]); 3] = [
@@ -170,7 +170,7 @@ fn a_sector_that_differs_stops_the_bus(rt: HostRuntime) {
     }
 }
 
-// A read of the ID is repeated as a whole, and so is a read of a sector of which the image contains only the beginning.
+// A read of the ID is repeated as a whole. A read of a sector is, too, if the image ends inside this sector.
 #[test]
 fn other_reads_are_repeated(rt: HostRuntime) {
     let mut lines = Vec::new(rt.alloc());

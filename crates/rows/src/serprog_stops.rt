@@ -33,8 +33,8 @@ fn open(rt: &impl Abort, port: SimPort) -> SerprogBus<SimPort> {
     SerprogBus::new(link, programmer)
 }
 
-// Returns a bus to this chip. After the handshake, `calls` calls of the port succeed, and the next one fails. If it
-// sends a frame, the chip receives only the first `cut` bytes of the frame's transaction.
+// Returns a bus to this chip. After the handshake, `calls` calls of the port succeed, and the next one fails. If the
+// call that fails sends a frame, the chip receives only the first `cut` bytes of the frame's transaction.
 fn bus_to(
     rt: &impl Abort,
     alloc: Global,
@@ -69,8 +69,9 @@ fn handshake(rt: &impl Abort, alloc: Global) -> u64 {
     AMPLE.saturating_sub(bus.port().left())
 }
 
-// Returns how many bytes the simulated bus must send at the stop that has the same effect as a port that fails after
-// `calls` calls: `cut` bytes if the port fails while it sends a transaction, and all bytes if the reply is lost.
+// A port that fails after `calls` calls has the same effect as a stop of the simulated bus that still sends some bytes.
+// Returns the number of these bytes: `cut` if the port fails while it sends a frame, and all bytes if the reply is
+// lost.
 fn torn(calls: u64, cut: u32) -> u32 {
     if calls % CALLS == 0 { cut } else { u32::MAX }
 }
@@ -182,7 +183,7 @@ fn each_call_of_the_port_fails_in_a_restore(rt: HostRuntime) {
     }
 }
 
-// A session whose port has exactly the calls that its transactions take ends.
+// If the port allows exactly the calls that the session's transactions take, the session ends.
 #[test]
 fn a_session_ends_with_its_last_call(rt: HostRuntime) {
     for (row, start, length) in SESSIONS {

@@ -12,7 +12,7 @@ use std::process::Abort;
 use std::time::{Clock, Duration};
 
 // A clock whose time, in microseconds, advances only if the clock is asked to sleep or a test sets it. If `fails` is
-// true, it can't be read.
+// true, the clock can't be read.
 #[derive(Drop)]
 struct Timer<'a> {
     now: &'a Cell<u64>,
@@ -59,8 +59,8 @@ fn always_busy<'a>(
     )
 }
 
-// Each row has a command, the typical time in microseconds of the operation that it begins, and the pause before the
-// third poll after it. The last command begins no operation.
+// Each row has a command, the typical time of the operation that it begins, and the pause before the third poll after
+// the command, both in microseconds. The last command begins no operation.
 const COMMANDS: [(&[u8], u64, u64); 7] = [
     (&[0x02, 0, 0, 0, 0], 700, 100),
     (&[0x01, 0, 0], 10_000, 625),
@@ -119,7 +119,8 @@ fn the_second_poll_comes_after_the_typical_time(rt: HostRuntime) {
     }
 }
 
-// If all 65,536 polls of a wait show BUSY, the pauses add up to at least 400 s and at most 410 s, after each command.
+// After each of the commands: if all 65,536 polls of a wait show BUSY, the pauses add up to at least 400 s and at most
+// 410 s.
 #[test]
 fn a_wait_without_end_takes_400_seconds(rt: HostRuntime) {
     for (command, _, _) in COMMANDS {

@@ -54,8 +54,8 @@ fn spans_make_their_set(rt: HostRuntime) {
     }
 }
 
-// Makes a set of up to 65 single addresses, the first `addresses` even numbers from 2 on in falling order, and of the
-// span `more`. Returns the number of spans of this set, or `None` if `Ranges::of` rejects it.
+// Makes a set from the span `more` and the single addresses 2, 4, .., 2 * `addresses`, in falling order; `addresses` is
+// at most 65. Returns the number of spans of this set, or `None` if `Ranges::of` rejects the spans.
 fn count_of(addresses: u32, more: Span) -> Option<usize> {
     let mut spans = [more; 66];
     for (slot, above) in spans.iter_mut().zip(0..addresses) {

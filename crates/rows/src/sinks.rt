@@ -121,9 +121,9 @@ fn each_call_of_a_writer_is_refused(rt: HostRuntime) {
     assert_broken(&rt, rt.alloc(), (6, 0), told, Some(right));
 }
 
-/// A file in memory that accepts at most `most` bytes per write, and whose writes fail after `writes` more of them. If
-/// `syncs` is true, `sync_all` succeeds and `sync_data` fails, otherwise the reverse. `resized` is true if `set_len`
-/// was called.
+/// A file in memory that accepts at most `most` bytes per write. The next `writes` writes succeed, and each later write
+/// fails. If `syncs` is true, `sync_all` succeeds and `sync_data` fails, otherwise the reverse. `resized` is true if
+/// `set_len` was called.
 #[derive(Drop)]
 struct SmallFile {
     bytes: Vec<u8>,
@@ -206,8 +206,8 @@ const FILES: [(usize, u32, bool, Result<(), VaultFault>, usize); 9] = [
     (usize::MAX, 4, false, Err(VaultFault { kept: 0 }), 4161),
 ];
 
-// Writes the journal of `save` into the file. Returns the result, the length of the file, whether its bytes are the
-// whole journal, and whether the file was resized.
+// Writes the journal of `save` into a vault over `file`. Returns the result of `save`. Then returns for the file its
+// length, whether it contains the whole journal, and whether `set_len` was called.
 fn saved(chip: &Journal<'_>, file: SmallFile) -> (Result<(), VaultFault>, usize, bool, bool) {
     let mut vault = FileVault::new(file);
     let told = save(&mut vault, chip);

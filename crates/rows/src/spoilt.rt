@@ -20,8 +20,8 @@ pub fn most(sectors: u32) -> u64 {
     65_542 + 3 * sectors + 65_538 * (17 * sectors + 2)
 }
 
-/// Returns one fault of each variant of `Spoil`. `n` is the byte, the number of the transaction, or the number of the
-/// bit in it.
+/// Returns one fault of each variant of `Spoil`. `n` is the byte (`Fill`), the number of the transaction (`BusyFrom`
+/// and `Drop`), or the number of the bit (`Low`).
 pub fn lies(n: u8) -> [Spoil; 4] {
     let first = u64::from(n);
     [
@@ -47,8 +47,8 @@ pub struct Lied {
 }
 
 impl Lied {
-    /// Runs the row's session on a bus with this fault. Asserts that it sends at least one transaction and at most its
-    /// bound, and that its vault, if sealed, holds a journal.
+    /// Runs the row's session on a bus with this fault. Asserts that the session sends at least one transaction and at
+    /// most its bound, and that its vault, if sealed, holds a journal.
     pub fn session(rt: &impl Abort, alloc: Global, row: Row, spoil: Spoil) -> Lied {
         let mut bus = spoilt(row.bus(rt, alloc, Start::IDLE), spoil);
         let mut vault = MemVault::new(alloc);

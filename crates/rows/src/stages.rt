@@ -19,8 +19,8 @@ use std::process::Abort;
 /// image is FFh, except for four bytes.
 #[derive(Clone, Copy)]
 pub enum Job {
-    /// A chip that consists of two blocks of 64 KiB. The session erases a sector and a block. It writes the four bytes
-    /// into the two sectors before these.
+    /// A chip that consists of two blocks of 64 KiB. The session erases the last sector of the first block, and the
+    /// whole second block. It writes the four bytes into the two sectors before the erased sector.
     OnTwoBlocks,
     /// A W25Q64FV whose last 128 KiB are protected. The session lifts the protection and sets it again. Two of the four
     /// bytes lie in the first sector of the protected range, and two in the second, which the session erases.
@@ -162,8 +162,8 @@ impl Stage {
         vault.bytes().to_vec(self.alloc).expect(rt, "memory")
     }
 
-    // Returns a bus to the original chip, or for a restore to the chip that the session left. Its allowance is the
-    // bound of a session. The transaction that follows the first `after` transactions fails as `fault` says.
+    // Returns a bus to the original chip, or for a restore to the chip that the session left. The allowance of the bus
+    // is the bound of a session. The transaction that follows the first `after` transactions fails as `fault` says.
     fn bus(&self, rt: &impl Abort, call: Call, fault: Fault, after: Option<u64>) -> OnceBus {
         let bytes = if call == Call::Restore {
             &self.image

@@ -128,8 +128,9 @@ fn each_cut_of_a_session(rt: HostRuntime) {
     }
 }
 
-// The numbers of stops for the row that programs whole pages. Its session sends 57 transactions on an idle chip, with
-// 16 operations.
+// The numbers of stops for `TheRestOfASectorStays`, whose session programs whole pages. On an idle chip the session
+// sends 57 transactions, with 16 operations. On the slow chip it sends 3 + 2 * 16 more polls, 92 transactions in all.
+// On a chip that loses its power it sends 2 * 16 more polls, 89 transactions in all.
 const SESSIONS_OF_PAGES: Stops = Stops {
     kept: 10 * 149,
     lost: 10 * 3 * 89,
@@ -142,8 +143,9 @@ fn each_cut_of_a_session_that_programs_pages(rt: HostRuntime) {
     assert!(rt; stops == SESSIONS_OF_PAGES);
 }
 
-// The numbers of stops for the row with large erases. Its session sends 112 transactions on an idle chip, with three
-// operations, and seals the vault after 71. The first stop is three transactions before the seal.
+// The numbers of stops for `ThirtyTwoSectorsAreErased`. On an idle chip its session sends 112 transactions, with three
+// operations, and seals the vault after 71. The first stop is three transactions before the seal. On a chip that loses
+// its power each operation takes two more polls.
 const SESSIONS_OF_LARGE_ERASES: Stops = Stops {
     kept: 7 * 44,
     lost: 7 * 50,
@@ -157,17 +159,17 @@ fn each_cut_of_a_session_with_large_erases(rt: HostRuntime) {
     assert!(rt; stops == SESSIONS_OF_LARGE_ERASES);
 }
 
-// The numbers of stops for the row that programs a byte below the protected range. The first stop is three transactions
-// before the seal. On an idle chip there are 8 stops. The session has one operation, which takes two more polls on the
-// other chips.
+// The numbers of stops for `AByteBelowTheGuardIsProgrammed`, from three transactions before the seal on. On an idle
+// chip there are 8 stops. On a chip that loses its power there are 10, because the session's only operation takes two
+// more polls.
 const SESSIONS_BELOW_THE_RANGE: Stops = Stops {
     kept: 7 * 8,
     lost: 7 * 2 * 10,
 };
 
-// The numbers of stops for the row that programs a byte in the protected range. The first stop is three transactions
-// before the seal. On an idle chip there are 14 stops. The session has three operations, two of which are status
-// writes. Each operation takes two more polls on the other chips.
+// The numbers of stops for `AGuardedByteIsProgrammed`, from three transactions before the seal on. On an idle chip
+// there are 14 stops. On a chip that loses its power there are 20, because each of the session's three operations (two
+// status writes and a program) takes two more polls.
 const SESSIONS_IN_THE_RANGE: Stops = Stops {
     kept: 7 * 14,
     lost: 7 * 2 * 20,
@@ -236,9 +238,9 @@ fn each_cut_of_a_restore_after_a_part_of_a_page(rt: HostRuntime) {
     assert!(rt; stops == RESTORES_OF_TWO_PAGES);
 }
 
-// The numbers of stopped restores. A restore sends 8 transactions if the sector is as it was. Otherwise it sends 10,
-// and also those of one page program for each page that differs. In addition it sends the polls that still show BUSY at
-// first.
+// The numbers of stopped restores. A restore sends 8 transactions if the sector is as it was. Otherwise it sends 10
+// transactions, and in addition those of one page program for each page that differs. If the chip is still busy at
+// first, the restore also sends the polls that show BUSY.
 const RESTORES_OF_PAGES: Stops = Stops {
     kept: 60_106,
     lost: 127_387,

@@ -1,5 +1,5 @@
-//! Tests with a log that refuses writes or flushes: when does `TraceBus` report a line as lost? By the contract of
-//! `TraceBus`, only this report depends on what the log refuses.
+//! When does `TraceBus` report a line of its trace as lost? In these tests the log refuses writes or flushes. A
+//! transaction succeeds even if its line is lost.
 use crate::held::assert_held;
 use crate::row::{Start, erased};
 use nor_chip::{Bus, Config, Meter, SimBus, TraceBus};

@@ -18,20 +18,21 @@ use crate::runs::Runs;
 const BYTE: u64 = 23 + 3 * 9 + 3 * 13;
 
 // The number of runs if a byte is programmed on a slow chip, where each operation takes two more polls. 26 stops
-// precede the seal, and after three stops the byte is as it was. After the program, one stop leaves two polls that show
-// BUSY to the next identification, one stop leaves one such poll, and three stops leave none. These restores send 16,
-// 15 and 14 transactions.
+// precede the seal, and after three stops the byte is as it was. At the stop after the program command, two polls that
+// show BUSY remain for the restore; at the next stop one such poll remains, and at the last three stops none. These
+// restores send 16, 15 and 14 transactions.
 const SLOW_BYTE: u64 = 26 + 3 * 9 + 17 + 16 + 3 * 15;
 
-// The number of runs if a bit rises. 23 stops precede the seal. After two stops the byte is as it was, and the restore
-// sends 8 transactions. After three stops the byte is FFh, and after three it is 01h. To restore 00h from either value
-// bits only have to fall, so one program is enough, and the restore sends 13 transactions.
+// The number of runs if a bit changes from 0 to 1. 23 stops precede the seal. After two stops the byte is as it was,
+// and the restore sends 8 transactions. After three stops the byte is FFh, and after three it is 01h. To restore 00h
+// from either value bits only have to change from 1 to 0, so one program is enough, and the restore sends 13
+// transactions.
 const BIT: u64 = 23 + 2 * 9 + 6 * 14;
 
-// The number of runs if a bit rises on a slow chip. 26 stops precede the seal, and after two stops the byte is as it
-// was. After the erase, and likewise after the program, one stop leaves two polls that show BUSY to the next
-// identification, one stop leaves one such poll, and three stops leave none. These restores send 17, 16 and 15
-// transactions.
+// The number of runs if a bit changes from 0 to 1 on a slow chip. 26 stops precede the seal, and after two stops the
+// byte is as it was. At the stop after the erase command, two polls that show BUSY remain for the restore; at the next
+// stop one such poll remains, and at the next three stops none. After the program command it is the same. These
+// restores send 17, 16 and 15 transactions.
 const SLOW_BIT: u64 = 26 + 2 * 9 + 2 * (18 + 17 + 3 * 16);
 
 // The number of runs if two pages are programmed. 23 stops precede the seal. After three stops the bytes are as they
@@ -40,9 +41,9 @@ const SLOW_BIT: u64 = 26 + 2 * 9 + 2 * (18 + 17 + 3 * 16);
 const TWO_PAGES: u64 = 23 + 3 * 9 + 6 * 13;
 
 // The number of runs if a sector is erased, and all of its pages except one are programmed again. 8 stops precede the
-// seal. After two stops the sector is as it was, and the restore sends 8 transactions. After the next stops 16, 15, ..
-// 1 pages remain to be programmed, three stops for each number. These restores send 10 transactions, and three for each
-// page.
+// seal. After two stops the sector is as it was, and the restore sends 8 transactions. After the next three stops the
+// restore has to program 16 pages, after three more 15 pages, and so on down to one page. Such a restore sends 10
+// transactions, and three for each page.
 const MOST_OF_A_SECTOR: u64 = 8 + 2 * 9 + 3 * (16 * 11 + 3 * 16 * 17 / 2);
 
 const SMALL: [(Row, Start, u64); 6] = [

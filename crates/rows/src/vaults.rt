@@ -8,9 +8,9 @@ use nor_session::Refusal;
 use std::alloc::Global;
 use std::process::Abort;
 
-// Runs a row's session with a vault that refuses call `nth`, and keeps the first `kept` bytes of its piece. Asserts
-// that the chip is unchanged if the session returns an error, and has the image otherwise. Returns the error, the
-// number of refusals, whether the vault is sealed, and whether it holds a journal.
+// Runs a row's session with a vault that refuses call `nth`, and keeps the first `kept` bytes of this call's piece.
+// Asserts that the chip is unchanged if the session returns an error, and has the image otherwise. Returns the error,
+// the number of refusals, whether the vault is sealed, and whether it holds a journal.
 fn refuse(
     rt: &impl Abort,
     alloc: Global,
