@@ -1,4 +1,5 @@
--- The effect of a call on the chip and its journal, and the contents of other files that it read.
+-- Lemmas about the time after the call to the engine: the result still holds after the chip's files were written, and
+-- the layout and the image that were read had the same contents before the trace was created.
 use Rattle.std.proofs.Common.{◌≡◌, ℕ, List, Option, None, Some, arith, Result, true}
 use Rattle.std.specs.Borrow.{Bor}
 use Rattle.nor_model.specs.Bus.{BusState}
@@ -38,7 +39,8 @@ pub setup_done : (done : Task) (amid : View) (after : FilesState) (programmer : 
     → DoesJob amid after programmer named done old new outcome → new.chip.config ≡ old.chip.config
 setup_done done amid after programmer named old new outcome puts does = grind arith
 
--- The result of a call still holds after the chip's files are written, because the journal's file is none of them.
+-- The result of a call to the engine still holds after the chip's files were written, because the journal's file is
+-- none of them.
 module _ (programmer : Programmer) (s2 s3 : FilesState) (nature : s3.view.nature ≡ s2.view.nature)
     (last : is_lawful s2.view ≡ true → StayApart programmer.image programmer.status s2 s3) where
   kept_in_after : (kept : JournalUse) (vault vault' : VaultState)
@@ -70,7 +72,7 @@ module _ (programmer : Programmer) (s2 s3 : FilesState) (nature : s3.view.nature
   does_after (task.Restore journal) amid named old new outcome puts one other does = does
   does_after _ amid named old new outcome puts one other does = absurd cc
 
--- ---- what was read before the trace was created
+-- ---- the layout and the image, before the trace was created
 
 pub ranges_before : (trace : Option (Bor Text)) (old amid : View) (regions : Option Regions)
     (ranges : Option (List Span)) → AreTwo old.nature trace (layout_of regions) → IsViewBut trace old amid

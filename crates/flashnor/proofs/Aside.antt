@@ -14,7 +14,7 @@ use Rattle.nor_console.specs.Stored.{IsFileFound}
 use Rattle.flashnor.specs.Undone.{NameOne}
 use Rattle.flashnor.proofs.Stays.{known_at_rest}
 
--- ---- what a run reads of a file is what may be left of it
+-- ---- a run reads contents that a host crash may leave
 
 -- If `found` is what a read of at most `len` + 1 bytes returns of a file with the contents `seen`, and `found` has
 -- exactly `len` bytes, then `found` is the whole file.
@@ -43,9 +43,10 @@ aside_of other was (Some all) left len mid new rest may_stay is whole long aside
     let has = new.view.seen other.now in
     (has, inl (may_stay other.now), grind (arith, long all (sym seen) has (may_stay other.now)), inr aside)
 
--- Suppose that `left` may be found of a file in `new`, if the file was as `was` at first. Then some contents `kept` of
--- the right length may be found of it, if the file was as `found` before the restore. Either `left` and `kept` are
--- equal, or both `was` and `left` are `None`.
+-- Suppose that a later run may find the contents `left` of a file that was as `was` at first, and as `found` before a
+-- restore. Then there is a `kept` (contents of `len` bytes, or no file) that a later run may find if the file was as
+-- `found` at first. Either `left` is `kept`, or the file was missing at first and is missing again (`was` and `left`
+-- are `None`).
 pub pick : (one other : Option (Bor Text)) (was found left : Found) (len : ℕ) (mid new : FilesState) → NameOne one other
     → AreAtRest mid → ((name : Name) → new.may_leave name (new.view.seen name)) → IsFileFound mid.view other len found
     → IfSome found (λ all. length all ≡ len) → LeavesAsLong other mid new → MayFind one was left new

@@ -23,8 +23,8 @@ pub two_kept : (nature : Nature) (done : Task) (one : Option (Bor Text)) → Are
     → AreTwo nature one (journal_by done)
 two_kept nature done one two = grind arith
 
--- If each file has one role under the nature `old`, the same holds under an equal nature `new`. Calls keep the nature
--- of the files.
+-- If each file has one role under the nature `old` (the properties of the files that no call changes), the same holds
+-- under an equal nature `new`.
 pub roles_after : {old new : Nature} (job : ChipJob) → new ≡ old → FilesHaveOneRole old job → FilesHaveOneRole new job
 roles_after job same roles = grind arith
 
@@ -41,7 +41,7 @@ pub stays_but : (job : ChipJob) (old new : FilesState) → FilesHaveOneRole old.
     → StayApart job.programmer.trace (made_by job.task) old new → StayBut job.programmer (made_by job.task) old new
 stays_but job old new roles stay = grind arith
 
--- ---- if nothing more may be left, except an empty file for a journal
+-- ---- runs after which a host crash can leave nothing new, except an empty file for a journal
 
 module _ (programmer : Programmer) (old new : FilesState) (image : LeavesNoMoreOf programmer.image old new)
     (status : LeavesNoMoreOf programmer.status old new) where
@@ -65,8 +65,9 @@ keeps_existing job old new file is own stay = grind arith
 
 module _ (old mid new : FilesState) (rest : AreAtRest old) (nature : mid.view.nature ≡ old.view.nature)
     (known : KnownStay old mid) (first : LeaveNoMore old mid) where
-  -- If `MakesNothing` holds from the files `mid`, after the chip's files were locked, to the files `new`, then
-  -- `LeavesOrEmpty` holds from the files `old` at the start to the files `new`.
+  -- Suppose that a host crash after the state `new` can leave of the journal's file only what it could leave in `mid`,
+  -- or an empty file if the file was missing in `mid` (`MakesNothing`). Then the same holds for `old` in place of `mid`
+  -- (`LeavesOrEmpty`). `mid` is the state after the chip's files were locked.
   or_empty : (named : Option (Bor Text)) (file : Bor Text) → named ≡ Some file → MakesNothing named mid new
       → LeavesOrEmpty file.now old new
   or_empty named file is makes left can = grind arith

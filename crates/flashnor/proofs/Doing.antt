@@ -1,5 +1,5 @@
--- The results of the calls that change a chip or read it out, for the request made from a change and for the ranges of
--- the regions.
+-- Lemmas about the results of sessions and of reading a chip out. The request of a session is the one that the job's
+-- change makes, and the included addresses are those of the job's regions.
 use Rattle.std.proofs.Common.{◌≡◌, ◌≤◌, ℕ, List, Option, Result, Ok, Err, IfOk, IsOk, MatchResult, OnErr, arith, false, true}
 use Rattle.std.specs.Borrow.{Bor}
 use Rattle.nor_model.specs.Bus.{BusState}
@@ -51,13 +51,14 @@ stays : (old new : BusState) (refusal : Refusal)
     → IsSame old.chip new.chip
 stays old new refusal errors early = grind arith
 
--- `HasKeptChange` for a session on a modelled bus that is steady or whose chip is idle
+-- After a session on a modelled bus that is steady or whose chip is idle, `HasKeptChange` holds: the chip is as before,
+-- or the vault is sealed and a faithful vault holds a journal that can undo the session.
 module _ (request : Request) (image : List ℕ) (old new : BusState) (vault vault' : VaultState)
     (modelled : IsModelled old) (is : IsChip old.chip) (steady_or_idle : IsSteadyOrIdle old) where
   same : (vault'.sealed ≡ false → OnlyReads 69638 old new) → vault'.sealed ≡ false → IsSame old.chip new.chip
   same only_reads unsealed = (((only_reads unsealed).honest_reads modelled.honest).stays.steady_or_idle steady_or_idle)
 
-  -- `HasKeptChange` for a session with either outcome: an answer, or an error
+  -- `HasKeptChange` holds whether the session returned an answer or an error.
   kept : (vault'.sealed ≡ false → OnlyReads 69638 old new)
       → (vault'.sealed ≡ true → CanBeUndone request image old new vault') → (outcome : Result Answer Refusal)
       → MatchResult outcome (ReportsChange request image old new) (FailsSession request image old new vault vault')
@@ -87,8 +88,8 @@ module _ (request : Request) (image : List ℕ) (old new : BusState) (vault vaul
   })) (λ ok. cc)
   kept_by _ _ always honest model passed = absurd passed
 
--- A session with its journal in a file is a change of a job (`HasMadeChange`), by what `session_in_file` promises. The
--- bus must be modelled, and steady or idle.
+-- If `session_in_file` ran a session on a modelled bus that is steady or whose chip is idle, the result is that of a
+-- change with its journal in a file (`HasMadeChange`).
 pub made_in_file : (request : Request) (image : List ℕ) (file : Bor Text) (before : View) (after : FilesState)
     (old new : BusState) (result : Result (Result Answer Refusal) Fault) → IsModelled old → IsChip old.chip
     → IsSteadyOrIdle old → IfOk result (HasRunInFile request image file.now before after old new)

@@ -1,4 +1,4 @@
--- How a run ends, derived from how its call and its job end.
+-- Lemmas about how a run ends. They follow from how its call to the engine and its job end.
 use Rattle.std.proofs.Common.{◌≡◌, ℕ, Bool, List, Option, Result, Ok, Err, IfOk, arith, false, inl, inr, refl, true}
 use Rattle.nor_request.specs.declared.refusal.Refusal.{Refusal}
 use Rattle.nor_request.specs.declared.refusal.Refusal.TheVariants.{Memory}
@@ -27,7 +27,7 @@ use Rattle.flashnor.specs.Tasks.{writes_back}
 use Rattle.flashnor.specs.declared.streams.Reports.{Reports}
 use Rattle.flashnor.specs.declared.streams.Reports.TheVariants as at
 
--- ---- jobs
+-- ---- how a job ends
 
 starts_memory : (puts : Bool) (view : View) (programmer : Programmer) (fault : Fault) → fault ≡ end.Refused Memory
     → FailsToStart puts view programmer fault
@@ -52,7 +52,7 @@ pub opens_starts : (view : View) (on_chip : ChipJob) (fault : Fault) → FailsTo
     → FailsToStart (writes_back on_chip.task) view on_chip.programmer fault
 opens_starts view on_chip fault fails = starts_open (writes_back on_chip.task) view on_chip.programmer fault fails
 
--- Error 18 (out of memory) is one of the faults that a job may return before its call.
+-- Error 18 (out of memory) is one of the faults that a job may return before its call to the engine.
 pub fails_memory : (view : View) (on_chip : ChipJob) (fault : Fault) → fault ≡ end.Refused Memory
     → FailsJob view on_chip fault
 fails_memory view on_chip fault is =
@@ -64,7 +64,7 @@ module _ (files after : FilesState) (on_chip : ChipJob) (unwritten : Unwritten) 
       → EndsChipJob files after on_chip unwritten returned
   ends_called outcome returned called reported = grind arith
 
-  -- If a job returns a fault from before its call, `EndsChipJob` holds.
+  -- If a job returns a fault that occurred before its call to the engine, `EndsChipJob` holds.
   fails_ends : (fault : Fault) → FailsJob files.view on_chip fault → EndsChipJob files after on_chip unwritten (Err fault)
   fails_ends (end.Refused refusal) fails = inr fails
   fails_ends (end.Usage fault reason) fails = fails
@@ -96,7 +96,7 @@ module _ (files after : FilesState) (on_chip : ChipJob) (unwritten : Unwritten) 
 
 -- ---- where a fault is printed
 
--- `IsPrintedAt` allows standard error for each result.
+-- For each result, a fault may be printed to standard error (`IsPrintedAt`).
 pub printed_at : (nature : Nature) (returned : Result Answer Fault) → IsPrintedAt nature returned at.Errors
 printed_at nature (Ok found) = refl
 printed_at nature (Err fault) = tt
@@ -121,7 +121,7 @@ pub holds_readonly : (on_chip : ChipJob) (result : Result Work Fault) (old new :
     → IfOk result (λ work. HoldsResult on_chip work.unwritten work.answer old new)
 holds_readonly on_chip result old new not_written_back = grind arith
 
--- ---- runs
+-- ---- how a run ends
 
 module _ (files after : FilesState) (words : List Text) where
   module _ (outcome : Result Answer Fault) (unwritten : Unwritten) (to : Reports) (out out' err err' : Option (List ℕ))
@@ -131,7 +131,7 @@ module _ (files after : FilesState) (words : List Text) where
     pub is_status : IsStatus files after words out out' err err' ending
     is_status = grind arith
 
--- If a run had no memory for its arguments, changed no file and printed that fault, `IsStatus` holds.
+-- If memory ran out for a run's arguments, and the run changed no file and printed this fault, `IsStatus` holds.
 pub is_without_memory : (files : FilesState) (words : List Text) (out out' err err' : Option (List ℕ)) (ending : Ending)
     → HasPrinted (Err (end.Usage usage.Memory because.Unsaid)) all_written at.Errors out out' err err' ending
     → IsStatus files files words out out' err err' ending

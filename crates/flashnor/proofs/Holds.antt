@@ -16,7 +16,7 @@ pub missing_durable : {E : Type 0} {name : Name} {there : Bool} {old held new : 
     → IsDurable name None new
 missing_durable = grind arith
 
--- ---- faults
+-- ---- the files that are read, and the faults, in terms of the files at the start
 
 pub found_before : (name : Option (Bor Text)) (len : ℕ) (found : Found) (a b : FilesState)
     → b.view.nature ≡ a.view.nature → KnownStay a b → IsFileFound b.view name len found

@@ -1,4 +1,4 @@
--- The files after a run that changes a chip: at every exit, and after success.
+-- What the files hold after a run that changes a chip: at every exit, and after success.
 use Rattle.std.proofs.Common.{◌≡◌, ◌<◌, ◌∙◌, ℕ, Bool, List, Option, None, Some}
 use Rattle.std.proofs.Common.{Result, Ok, ap, arith, inr, length, refl, sym, true}
 use Rattle.std.specs.Borrow.{Bor}
@@ -43,7 +43,7 @@ use Rattle.flashnor.proofs.Traced.{missing_before, reads_before}
 use Rattle.flashnor.proofs.AfterCall.{buffer_before, kept_after, ranges_before}
 use Rattle.flashnor.proofs.Reopened.{as_long, found_either, opened_many, opened_size}
 
--- ---- the chip's files
+-- ---- the chip's files before they are written
 
 module _ (job : ChipJob) (held : Held) (s0 s1 s2 : FilesState) (bus bus' : BusState)
     (roles : FilesHaveOneRole s0.view.nature job) (read : IsContentOf s0.view job.programmer held.content)
@@ -61,9 +61,9 @@ module _ (job : ChipJob) (held : Held) (s0 s1 s2 : FilesState) (bus bus' : BusSt
   status_many : length held.content.status ≡ 2
   status_many = grind arith
 
-  -- If the contents that were read of a file of the chip are durable (`MakesDurable`), the file is ready to be written
-  -- with as many bytes (`IsReadyIfNamed`). Its name must be apart from the trace's and from that of the file that the
-  -- task creates.
+  -- If the contents that were read of a file of the chip are durable (`MakesDurable`), the file is ready to be
+  -- overwritten with the same number of bytes (`IsReadyIfNamed`). The file's name must be apart from the names of the
+  -- trace and of the file that the task creates.
   ready : (name : Option (Bor Text)) (there : Bool) (had put : List ℕ)
       → AreTwo s0.view.nature name job.programmer.trace → AreTwo s0.view.nature name (made_by job.task)
       → MakesDurable name (was there had) s1 → length had ≡ length put
@@ -81,7 +81,7 @@ module _ (job : ChipJob) (held : Held) (s0 s1 s2 : FilesState) (bus bus' : BusSt
         (status_made s0.view.nature job roles) are_held.status status_many;
   }
 
-  -- ---- what may be left of both files
+  -- ---- what a host crash may leave of both files
 
   module _ (s3 : FilesState) (amid : View) (fills_missing : FillsMissing job.programmer held) (small : bus'.chip.kept.two < 128)
       (but : IsViewBut job.programmer.trace s0.view amid)
@@ -101,8 +101,9 @@ module _ (job : ChipJob) (held : Held) (s0 s1 s2 : FilesState) (bus bus' : BusSt
         as_long job.programmer.status held.status_there _ _ s0 s1 s3 are_held.stay are_held.status status_many
         is_amid.status
 
-    -- A chip that a later run may open is between the old and the new one (`IsWrittenOver`), even if a file that was
-    -- missing at first was moved aside.
+    -- In a chip that a later run may open, each byte is that of the chip before or after the call, and so are the
+    -- non-volatile bits of each status byte (`IsWrittenOver`). This is so even if a file that was missing at first was
+    -- moved aside.
     over : (image status : Found) (later : BusState) → MayFind job.programmer.image read.bytes.found image s3
         → MayFind job.programmer.status read.status.found status s3 → IsOpenedFrom image status bus.chip.config later.chip
         → IsWrittenOver bus.chip bus'.chip later.chip
@@ -146,7 +147,8 @@ module _ (job : ChipJob) (held : Held) (s0 s1 s2 : FilesState) (bus bus' : BusSt
         last_stays file.now (not_that s0.view.nature job.programmer.image file one)
         (not_that s0.view.nature job.programmer.status file other)
 
-    -- a file stays if its name is apart from those of the programmer's files and of the file that the task creates
+    -- A file is as it was if its name is apart from those of the programmer's files and of the file that the task
+    -- creates.
     others_stay : (made : Option (Bor Text)) → StayApart job.programmer.trace made s1 s2 → (name : Text)
         → IsNoFileOf s0.view.nature job.programmer name → IsNot s0.view.nature made name → KeepsFile name s0 s3
     others_stay made stay' name none other = grind arith
@@ -169,7 +171,7 @@ module _ (job : ChipJob) (held : Held) (s0 s1 s2 : FilesState) (bus bus' : BusSt
           rw saves.is at (in_file.durable is),
         )
 
-    -- a session with its journal in a file keeps its promise about the files
+    -- A session with its journal in a file keeps the promise that a change makes about the files (`KeepsChange`).
     keeps_change : {request : Request} {image : List ℕ} {outcome : Result Answer Refusal} (kept : JournalUse)
         → keeps_journal kept ≡ true → StayApart job.programmer.trace (journal_of kept) s1 s2
         → AreTwo s0.view.nature job.programmer.image (journal_of kept)
@@ -217,7 +219,7 @@ module _ (job : ChipJob) (held : Held) (s0 s1 s2 : FilesState) (bus bus' : BusSt
         })
     keeps_files _ named outcome puts stay' one other traced does = absurd cc
 
-    -- ---- what the files hold at the end
+    -- ---- what the files hold after success
 
     module _ (unwritten : Unwritten) (all : unwritten ≡ all_written)
         (put : AreWrittenBack job.programmer bus'.chip unwritten.image unwritten.status s3) where

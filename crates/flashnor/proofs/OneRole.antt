@@ -26,8 +26,8 @@ module _ (nature : Nature) (job : ChipJob) (fault : Fault) where
   pub stream_fails : changes_files job ≡ true → IsUnseenStream nature fault → FailsFileRoles nature job fault
   stream_fails changes unseen = inr (inr (inr (changes, unseen)))
 
--- If the program may print to the file `found` that the job has in `role`, the name of `found` is that of a file of the
--- job to which the program may print (`IsPrintedName`).
+-- If `found` is the name of the job's file in `role`, and the program may print to this file, `IsPrintedName` holds for
+-- the name.
 pub printed_name : (nature : Nature) (job : ChipJob) (role : Role) (found : Option (Bor Text))
     → found ≡ file_with_role job role → IsSomeAnd found (λ given. nature.fails (Printed given.now) ≡ true)
     → IfSome found (λ name. IsPrintedName nature job name.now)

@@ -49,7 +49,7 @@ pub printed_nowhere : (fault : Fault) (unwritten : Unwritten) (out err : Option 
     → HasPrinted (Err fault) unwritten at.Nowhere out out err err ending
 printed_nowhere fault unwritten out err ending never ends = grind arith
 
--- ---- standard output
+-- ---- the message that standard output could not be written
 
 pub output_line : (fault : Fault) → IsLostOutput fault → line_of fault ≡ Some line_of_output
 output_line (end.File file.Write of) is = grind arith

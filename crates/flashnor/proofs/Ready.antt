@@ -1,4 +1,4 @@
--- A ready bus to the emulated chip is modelled, and an identification that succeeds on it finds that chip.
+-- A ready bus (`IsReady`) to the emulated chip is modelled, and an identification that succeeds on it finds that chip.
 use Rattle.std.proofs.Common.{◌≡◌, ℕ, Option, None, Ok, arith, inr, is_none, sym, true}
 use Rattle.nor_model.specs.Bus.{Allows, BusState}
 use Rattle.nor_model.specs.Chip.{IsSame}
@@ -18,7 +18,7 @@ use Rattle.flashnor.specs.Found.{IsEmulatedFound, emulated_part}
 use Rattle.flashnor.specs.Readings.{FindRefuses}
 use Rattle.flashnor.proofs.Shown.{known_with, shown_with}
 
--- ---- the bus
+-- ---- a ready bus
 
 pub modelled_ready : (programmer : Programmer) (bus : BusState) → IsReady programmer bus → IsModelled bus
 modelled_ready programmer bus ready = grind (arith, known_with)
@@ -54,7 +54,7 @@ pub opens_held : (programmer : Programmer) (content : Content) (allowed : ℕ) (
     → Allows allowed (record first { steady = is_none programmer.power }) last → OpensChip programmer content last
 opens_held programmer content allowed first last held allowance allows = grind arith
 
--- ---- identification before a restore
+-- ---- the identification that checks the name before a restore
 
 pub same_after_reads : (most : ℕ) (old new : BusState) → OnlyReads most old new → old.honest ≡ true → IsSteadyOrIdle old
     → IsSame old.chip new.chip

@@ -1,4 +1,4 @@
--- The chip that a later run opens, from any contents of its files that a host crash may leave.
+-- The chip that a later run opens from its files, for all contents of these files that a host crash may leave.
 use Rattle.std.proofs.Common.{◌≡◌, ℕ, Bool, List, Option, ◌⊎◌, IfSome, arith, false, length}
 use Rattle.std.proofs.Common.{slice_index, unwrap_or}
 use Rattle.std.specs.Borrow.{Bor}
@@ -21,7 +21,7 @@ module _ {programmer : Programmer} {files : FilesState} (first : Opened programm
   pub opened_many : length first.content.bytes.items ≡ first.bus.chip.config.size
   opened_many = grind (arith, opened_size, length-replicate)
 
--- ---- what is opened from the files that may be left
+-- ---- what a later run opens
 
 -- Holds if each byte of `has` is the byte of `had` or of `bytes` at the same position.
 abbrev pub IsEither : (had bytes has : List ℕ) → Type 0

@@ -1,4 +1,4 @@
--- What is read for a task before its call.
+-- Reading the files of a task before the call to the engine: which faults may occur, and that no file changes.
 use Rattle.std.proofs.Common.{ap, arith, inl, inr}
 use Rattle.nor_files.specs.Files.{AreUntouched, FilesState, KeepsFile, Name, View}
 use Rattle.nor_args.specs.declared.job.Task.{Task}
@@ -21,7 +21,7 @@ journal_fails : (view : View) (name : Text) (fault : Fault) → IsSharingFault v
     → FailsToRestore view name fault
 journal_fails view name fault fails = grind arith
 
--- a fault of reading the files of a task is a fault of the task
+-- A fault of reading the files of a task is a fault that the task may have before its call (`FailsTask`).
 pub task_fails : (view : View) (done : Task) (fault : Fault) → FailsSources view done fault → FailsTask view done fault
 task_fails view (task.Read file regions) fault fails = inl fails
 task_fails view (task.Verify file regions) fault fails = fails

@@ -18,7 +18,7 @@ abbrev pub StayApart : (one other : Option (Bor Text)) → (old new : FilesState
 StayApart one other old new = (any : Name) → IsNot old.view.nature one any → IsNot old.view.nature other any
     → KeepsFile any old new
 
--- ---- what is known of a file stays known
+-- ---- a known file (`IsKnownFile`) stays known
 
 pub known_at_rest : {files : FilesState} → AreAtRest files → (name : Name) → IsKnownFile name files.view
 known_at_rest rest name = grind arith

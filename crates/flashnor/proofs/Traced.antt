@@ -1,4 +1,5 @@
--- The call of a job after its trace was created, in terms of the files before the trace was created.
+-- What a job reads, creates and returns as a fault after its trace was created, in terms of the files before the trace
+-- was created.
 use Rattle.std.proofs.Common.{◌≡◌, ◌∙◌, ℕ, Option, None, Some, IsSomeAnd, ap, arith, inl, inr, subst, sym, true}
 use Rattle.std.specs.Borrow.{Bor}
 use Rattle.nor_files.specs.Calls.{LeavesOrEmpty, ReadsFile}
@@ -37,13 +38,16 @@ pub missing_before : (trace : Option (Bor Text)) (file : Bor Text) (old amid : V
     → IsViewBut trace old amid → IsMissing (Some file) amid → IsMissing (Some file) old
 missing_before trace file old amid not but gone = grind arith
 
--- A file that was kept before a call may be left by that call as `MakesNothing` says of the call alone.
+-- Suppose that a file is as it was from `old` to `mid`, and that a host crash in `new` can leave of it only what it
+-- could leave in `mid`, or an empty file if it was missing (`LeavesOrEmpty`). Then the same holds with `old` in place
+-- of `mid`.
 makes_nothing_later : (file : Text) (old mid new : FilesState) → mid.view.nature ≡ old.view.nature
     → KeepsFile file old mid → (IsKnownFile file mid.view → LeavesOrEmpty file mid new) → IsKnownFile file old.view
     → LeavesOrEmpty file old new
 makes_nothing_later file old mid new nature keeps made known = grind arith
 
--- If each file is as it was whose name is apart from the trace's, so is a journal whose name is apart from the trace's.
+-- Suppose that each file whose name is apart from the trace's is as it was. Then a host crash leaves nothing new of a
+-- journal whose name is apart from the trace's (`MakesNothing`).
 pub unmade_traced : (trace journal : Option (Bor Text)) (old new : FilesState)
     → (is_lawful old.view ≡ true → (name : Name) → IsNot old.view.nature trace name → KeepsFile name old new)
     → AreTwo old.view.nature trace journal → MakesNothing journal old new
@@ -51,7 +55,7 @@ unmade_traced trace None old new others two = tt
 unmade_traced trace (Some file) old new others two = λ known left can.
     inl ((others known.lawful file.now (not_that old.view.nature trace file two)).leaves left can)
 
--- The trace was created, and then the files of the task were read.
+-- The trace was created between `old` and `traced`, and the files of the task were read between `traced` and `read`.
 module _ (trace : Option (Bor Text)) (old traced read : FilesState) (nature : traced.view.nature ≡ old.view.nature)
     (others : is_lawful old.view ≡ true → (name : Name) → IsNot old.view.nature trace name → KeepsFile name old traced)
     (same : AreUntouched traced read) where
@@ -83,7 +87,7 @@ module _ (trace : Option (Bor Text)) (old traced read : FilesState) (nature : tr
         stays_on (keeps_read is name traced)
         (later (lawful_after nature_read is) name (subst (λ (n : Nature). IsNot n made name) (sym nature_read) other))
 
--- ---- faults
+-- ---- faults, in terms of the files at the start
 
 trace_before : (trace : Option (Bor Text)) (fault : Fault) (old mid : View) → mid.nature ≡ old.nature
     → IsSomeAnd trace (λ name. IsMaking mid name.now fault) → IsSomeAnd trace (λ name. IsMaking old name.now fault)

@@ -66,7 +66,7 @@ same_with chip (Some number) one other a b =
     let bare = same_parts {one = record one { unique = zeros }} {other = record other { unique = zeros }} a.0 b.0 in
     λ i. record (bare i) { unique = (a.1 ∙ sym b.1) i }
 
--- ---- names
+-- ---- programmers that name the same files
 
 -- Suppose that two programmers name the same file, or that neither names one. If a later run may find the contents
 -- `left` under the name `other`, it may also find them under the name `one` (`MayFind`).
@@ -80,13 +80,13 @@ less_of : (one other : Option (Bor Text)) (was left : Found) (old new : FilesSta
     → LeavesNoMoreOf other old new → MayFind one was left new → MayFind one was left old
 less_of one other was left old new same less can = grind arith
 
--- ---- the task
+-- ---- the task of a run that restores
 
 restores : (file : Text) (done : Task) → Restores file done
     → (journal : Bor Text) × (done ≡ task.Restore journal) × (journal.now ≡ file)
 restores file done is = grind arith
 
--- ---- the journal
+-- ---- the journal that is read is the one in the file
 
 same_journal : (journal other : Journal) (n : ℕ) → IsContent journal → IsContent other
     → Some (text other) ≡ option_map (take n) (Some (text journal)) → other ≡ journal
@@ -94,7 +94,7 @@ same_journal journal other n sound is reads =
     (one_text other journal (drop n (text journal)) [] is sound
     (cc (take-append-drop n (text journal), append-nil (text journal)))).0
 
--- ---- one run
+-- ---- one run that restores from the journal
 
 module _ (programmer : Programmer) (file : Text) (start : FilesState) (first : Opened programmer start)
     (other : Programmer) (same : HaveOneChip programmer other) where
@@ -130,7 +130,7 @@ module _ (programmer : Programmer) (file : Text) (start : FilesState) (first : O
         same_journal restorable.journal journal 16793662 restorable.sound is (reads (known_at_rest rest file)
         ∙ ap (option_map (take 16793662)) (restorable.left (mid.view.seen file) (may_stay file)))
 
-    -- The chip `found` that a run opens from the files `mid`.
+    -- `found` is the chip that the run opens from the files `mid`.
     module _ (found : Opened other mid) where
       one_setup : found.bus.chip.config ≡ first.bus.chip.config
       one_setup =
@@ -208,7 +208,8 @@ module _ (programmer : Programmer) (file : Text) (start : FilesState) (first : O
           (λ a. grind (arith, kept_image.3, setup, is.bytes a, first_byte)) (grind (arith, kept_status.3, is.kept, first_kept))
           is.idle
 
-    -- `IsRestorableFrom` still holds for the files that a restore leaves, at any exit.
+    -- At every exit of a restore, the journal can still restore the original chip from the files that the restore
+    -- leaves (`IsRestorableFrom`).
     restorable_at_exit : (new : FilesState) → ((name : Name) → new.may_leave name (new.view.seen name))
         → KeepsRestorable other file mid new → IsRestorableFrom file first new
     restorable_at_exit new may_stay' (inl none) =
@@ -220,7 +221,7 @@ module _ (programmer : Programmer) (file : Text) (start : FilesState) (first : O
       back = can_later new may_stay' kept;
     }
 
-  -- ---- at the end
+  -- ---- after a restore that succeeded
 
   -- If the chip's files durably hold the original chip, each later run opens that chip.
   module _ (chip : Chip) (new : FilesState) (lawful : is_lawful new.view ≡ true) (is : IsSame first.bus.chip chip)
@@ -258,7 +259,7 @@ module _ (programmer : Programmer) (file : Text) (start : FilesState) (first : O
           kept = grind (arith, s, first_kept, kept_in-status_of chip small, is.kept, from'.kept);
         }
 
--- ---- runs
+-- ---- the theorem about runs that follow one another
 
 module _ (programmer : Programmer) (file : Text) (start : FilesState) (first : Opened programmer start) (on_chip : ChipJob)
     (old mid new : FilesState) (may_stay : (name : Name) → mid.may_leave name (mid.view.seen name))

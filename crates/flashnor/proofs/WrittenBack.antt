@@ -29,7 +29,7 @@ PutsBack name there bytes failed old new = record {
   amid : (had : List ℕ) → IsReadyIfNamed name there had bytes old → LeavesAmid name there had bytes new;
 }
 
--- ---- the other file stays
+-- ---- a write to one file of the chip leaves the other
 
 -- A write to the file `other` keeps two promises about the file `one`: `MakesDurable` and `LeavesAmid`.
 other_write_keeps : (there : Bool) (had bytes : List ℕ) (a b c : FilesState) (one other : Option (Bor Text))
@@ -39,7 +39,7 @@ other_write_keeps : (there : Bool) (had bytes : List ℕ) (a b c : FilesState) (
     × (LeavesAmid one there had bytes b → LeavesAmid one there had bytes c)
 other_write_keeps there had bytes a b c one other two same others ready = grind arith
 
--- ---- the names that are returned
+-- ---- the names of files that could not be written
 
 pub reported : (name failed : Option (Bor Text)) (view : View)
     → IfSome failed (λ is. (name ≡ Some is) × Happens view (Unwritten is.now)) → IsReportedOf name failed view
@@ -50,7 +50,7 @@ pub reported_before : (name failed : Option (Bor Text)) (old mid : View) → mid
     → IsReportedOf name failed old
 reported_before name failed old mid same is = grind arith
 
--- ---- both files
+-- ---- both files of the chip
 
 module _ {programmer : Programmer} {image_there status_there : Bool} {had bits : List ℕ} {chip : Chip}
     {bytes flags : List ℕ} {image status : Option (Bor Text)} {a b c : FilesState} (are : AreChipBytes chip bytes)

@@ -61,8 +61,8 @@ pub record IsSafe (old opened : BusState) (vault : VaultState) : Type 0 where
 -- Holds for a session, with its journal in a vault, at every exit. The result is an answer that `ReportsChange` allows,
 -- after which the vault is sealed, or an error that `FailsSession` allows. If the vault isn't sealed, the chip is as
 -- before. If it is sealed, the chip changed only as `CanBeUndone` says, and a faithful vault holds the journal that can
--- undo the session. `over`: the new chip is written over the old chip's files, and this may be interrupted. `IsSafe`
--- holds for each chip that may be left.
+-- undo the session. `over`: if the chip's files are then overwritten with the new chip, and this is interrupted,
+-- `IsSafe` holds for each chip that may be left.
 pub record HasKeptChange (request : Request) (image : List ℕ) (old new : BusState) (vault vault' : VaultState)
     (outcome : Result Answer Refusal) : Type 0 where
   pub returned : MatchResult outcome (ReportsChange request image old new)
@@ -74,8 +74,8 @@ pub record HasKeptChange (request : Request) (image : List ℕ) (old new : BusSt
 
 -- ---- rehearsals
 
--- Holds for the result of a rehearsal with these stops. `chip` is the chip, and `vault` is the vault as it was at the
--- end.
+-- Holds for the result of a rehearsal with these stops. `chip` is the chip before the rehearsal, and `vault` the vault
+-- after it.
 pub record IsRehearsed (request : Request) (image stops : List ℕ) (chip : Chip)
     (vault : VaultState) (rehearsal : Rehearsal) : Type 0 where
   pub counts : IsRehearsal (length stops) vault rehearsal
@@ -117,8 +117,8 @@ IsKeptIn (uses.Journal file) vault vault' files =
     is_lawful files.view ≡ true → IsKeptFile file.now vault' files
 IsKeptIn (uses.Rehearse stops) vault vault' files = vault.telling ≡ true
 
--- Holds for the result of a change (`HasKeptChange`) or of a rehearsal (`HasRehearsed`). `vault` is its vault before
--- it, and `vault'` its vault after it.
+-- Holds for the result of a change (`HasKeptChange`) or of a rehearsal (`HasRehearsed`). `vault` is the vault before
+-- the change or rehearsal, and `vault'` the vault after it.
 abbrev pub HasDone : Request → List ℕ → JournalUse → (old new : BusState) → (vault vault' : VaultState)
     → Result Answer Refusal → Type 0
 HasDone request image (uses.Journal file) old new vault vault' outcome =
@@ -177,7 +177,7 @@ pub record Passes (named : Option ChipName) (old new : BusState) : Type 0 where
 -- succeeded, the chip is that original chip.
 pub record HasRestoredNamed (journal : Journal) (named : Option ChipName) (old new : BusState)
     (outcome : Result Answer Refusal) : Type 0 where
-  -- The bus after the identification that checks the name, or before the restore if no name is given.
+  -- the bus after the identification that checks the name or, if no name is given, the bus before the restore
   pub found : BusState
   pub only_reads : OnlyReads most_probe old found
   pub same : IsSame old.chip found.chip

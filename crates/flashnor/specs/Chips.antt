@@ -33,8 +33,8 @@ abbrev pub allowance_of : Programmer → ℕ
 allowance_of programmer = unwrap_or programmer.stop 18446744073709551615
 
 -- Holds for a well-behaved (`honest`) bus to the emulated chip, which is idle. No modifying command was sent yet. The
--- bus carries out the number of transactions that `stop=` gives (`allowance_of`). It is steady if and only if `power=`
--- is not given.
+-- bus carries out the number of transactions that `stop=` gives (`allowance_of`). It is steady (a stop doesn't cut the
+-- chip's power) if and only if `power=` is not given.
 pub record IsReady (programmer : Programmer) (bus : BusState) : Type 0 where
   pub config : IsConfigWith programmer.chip programmer.unique bus.chip.config
   pub idle : bus.chip.busy ≡ 0
@@ -76,7 +76,7 @@ pub record HoldsFiles (programmer : Programmer) (content : Content) (bus : BusSt
 
 -- Holds for a simulated bus that is ready and whose chip has these contents (`OpensChip`). After each operation the
 -- chip is busy for the number of polls that `busy=` gives, or none without it. If `power=` is given, a stop cuts the
--- chip's power, and an interrupted erase or program leaves bytes of that value.
+-- chip's power, and an erase or program that this interrupts leaves bytes with the value of `power=`.
 pub record StartsBus (programmer : Programmer) (content : Content) (bus : SimBus) : Type 0 where
   pub opens : OpensChip programmer content (sim_state bus)
   pub pace : pace_of bus ≡ unwrap_or programmer.busy 0

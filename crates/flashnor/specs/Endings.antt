@@ -20,28 +20,30 @@ use Rattle.flashnor.specs.declared.printing.Ending.{Ending}
 use Rattle.flashnor.specs.declared.streams.Reports.{Reports}
 use Rattle.flashnor.specs.declared.streams.Reports.TheVariants as at
 
--- the value that says that every file was written
+-- the value of `Unwritten` that names no file: every file was written, and neither trace nor journal was lost
 abbrev pub all_written : Unwritten
 all_written = record { image = None; status = None; trace = None; journal = None }
 
--- the line of standard output if the answer could not be printed, followed by those of files that could not be written
+-- The lines that report what could not be written: the line of standard output, if the answer or the help could not be
+-- printed, followed by the lines of the files.
 abbrev pub lines_after : (is_printed : Bool) → Unwritten → List ℕ
 lines_after is_printed unwritten = line_if_lost is_printed ++ lines_of_unwritten unwritten
 
--- the lines of a run's faults: that of its fault, or that of standard output if the answer could not be printed,
--- followed by those of files that could not be written; `None` if the fault's line isn't known
+-- The lines that report the faults of a run. For a run with a fault these are the fault's line and the lines of files
+-- that could not be written, or `None` if the fault's line isn't known. For any other run see `lines_after`.
 abbrev pub lines_printed : Result Answer Fault → (is_printed : Bool) → Unwritten → Option (List ℕ)
 lines_printed (Ok found) is_printed unwritten = Some (lines_after is_printed unwritten)
 lines_printed (Err fault) is_printed unwritten = option_append (line_of fault) (Some (lines_of_unwritten unwritten))
 
--- where the lines of a run's faults are printed: where `to` says if the run has a fault, otherwise to standard error
+-- Where the lines of a run's faults are printed: if the run has a fault, where `to` says, and otherwise to standard
+-- error.
 abbrev pub stream_for : Result Answer Fault → (to : Reports) → Reports
 stream_for (Ok found) to = at.Errors
 stream_for (Err fault) to = to
 
--- The end of a run that has an answer or help; `is_printed` says whether that was printed. The status is 0 if it was
--- printed and every file was written, and otherwise 1. If the lines of `lines_after` were printed (`reported`), they
--- were appended to standard error. If all was printed and every file was written, standard error is as it was.
+-- Holds for the end of a run that has an answer or help; `is_printed` says whether that was printed. The status is 0 if
+-- it was printed and every file was written, and otherwise 1. If the lines of `lines_after` were printed (`reported`),
+-- they were appended to standard error. If all was printed and every file was written, standard error is as it was.
 pub record EndsWell (is_printed : Bool) (unwritten : Unwritten) (err err' : Option (List ℕ))
     (ending : Ending) : Type 0 where
   pub few : ending.status ≤ 1
@@ -50,17 +52,18 @@ pub record EndsWell (is_printed : Bool) (unwritten : Unwritten) (err err' : Opti
   pub reported : ending.reported ≡ true → Appends err err' (lines_after is_printed unwritten)
   pub silent : is_printed ≡ true → unwritten ≡ all_written → err' ≡ err
 
--- The end of a run with a fault. The status is 1, and no answer or help was printed. If the line of the fault and those
--- of files that could not be written were printed (`reported`), they were appended to standard error. Nothing is
--- claimed about these lines if the fault's line isn't known (`line_of`).
+-- Holds for the end of a run with a fault. The status is 1, and no answer or help was printed. If the line of the fault
+-- and those of files that could not be written were printed (`reported`), they were appended to the stream whose
+-- contents are `err` before and `err'` after. Nothing is claimed about these lines if the fault's line isn't known
+-- (`line_of`).
 pub record EndsBadly (fault : Fault) (unwritten : Unwritten) (err err' : Option (List ℕ))
     (ending : Ending) : Type 0 where
   pub status : ending.status ≡ 1
   pub printed : ending.printed ≡ false
   pub reported : ending.reported ≡ true → IfSome (lines_printed (Err fault) false unwritten) (Appends err err')
 
--- The output of a run with this result to standard output and standard error, and its exit status. `to` says where a
--- fault is printed.
+-- Holds for what a run with this result prints to standard output and standard error, and for its exit status. `to`
+-- says where a fault is printed.
 pub record HasPrinted (outcome : Result Answer Fault) (unwritten : Unwritten) (to : Reports)
     (out out' err err' : Option (List ℕ)) (ending : Ending) : Type 0 where
   -- the status is 0 or 1, and 0 if and only if the answer or the help was printed and every file was written
@@ -72,25 +75,24 @@ pub record HasPrinted (outcome : Result Answer Fault) (unwritten : Unwritten) (t
   pub printed : ending.printed ≡ true → PrintsAnswer outcome out out'
   pub reported : ending.reported ≡ true → IfSome (lines_printed outcome ending.printed unwritten)
       (AppendsTo (stream_for outcome to) out out' err err')
-  -- A run without an answer or help prints nothing to standard output, unless `to` says so, and then nothing to standard
-  -- error. If `to` is `Nowhere`, it prints nothing. A run that printed an answer or help and wrote every file prints
-  -- nothing to standard error.
+  -- A run without an answer or help prints only to the stream that `to` selects, or nothing if `to` is `Nowhere`. A run
+  -- that printed an answer or help and wrote every file prints nothing to standard error.
   pub no_output : (IsAnswered outcome → ⊥) → (to ≡ at.Output → ⊥) → out' ≡ out
   pub no_errors : (IsAnswered outcome → ⊥) → (to ≡ at.Errors → ⊥) → err' ≡ err
   pub silent : IsAnswered outcome → ending.printed ≡ true → unwritten ≡ all_written → err' ≡ err
 
--- Holds if the run ended with an `Ending` for which `IsEnding` holds, and which has this exit status.
+-- Holds if the run ended with this exit status, and with an `Ending` for which `IsEnding` holds.
 abbrev pub EndsWith : (Ending → Type 0) → ℕ → Type 0
 EndsWith IsEnding status = (ending : Ending) × IsEnding ending × (status ≡ ending.status)
 
--- The end of a run whose arguments could not be collected.
+-- Holds for the end of a run to which the system could not provide the arguments.
 pub record IsUnread (error : Error) (out out' err err' : Option (List ℕ)) (ending : Ending) : Type 0 where
   pub fault : Fault
   pub of_words : IsOfArguments error fault
   pub prints : HasPrinted (Err fault) all_written at.Errors out out' err err' ending
 
--- The end of a run that could not keep the descriptors of the standard streams in use. The run has the fault of a file
--- that can't be read, and its status is 1.
+-- Holds for the end of a run that could not open a directory to occupy the descriptors of closed standard streams. The
+-- run has file fault 1 (a file can't be read), and its status is 1.
 pub record IsWithoutStreams (out out' err err' : Option (List ℕ)) (ending : Ending) : Type 0 where
   pub name : Bor Text
   pub prints : HasPrinted (Err (end.File file.Read name)) all_written at.Errors out out' err err' ending

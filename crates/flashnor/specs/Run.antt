@@ -1,4 +1,5 @@
--- The results of a run: its call, its faults, the files that it leaves, and its exit status.
+-- The results of a run: its call to the engine (the crates that read or change a chip), its faults, the files that it
+-- leaves, and its exit status.
 use Rattle.std.specs.Prelude.{◌≡◌, ◌≤◌, ◌⊎◌, ℕ, Bool, true, false, List, Option, None, Some, Result, Ok, Err, ⊤}
 use Rattle.std.specs.Prelude.{IsSomeAnd, OnSome}
 use Rattle.std.specs.Borrow.{Bor}
@@ -57,10 +58,10 @@ use Rattle.flashnor.specs.declared.printing.Ending.{Ending}
 use Rattle.flashnor.specs.declared.streams.Reports.{Reports}
 use Rattle.flashnor.specs.declared.streams.Reports.TheVariants as at
 
--- ---- calls
+-- ---- calls to the engine
 
--- Describes the result of a change or rehearsal, with the ranges of the regions and with the session's buffer
--- (`IsBufferOf`).
+-- Holds for the result of a change or rehearsal. `ranges` has the addresses of the change's regions, or is `None` for
+-- the whole chip. `image` is the session's buffer (`IsBufferOf`).
 pub record ChangesChip (view : View) (after : FilesState) (chip : Emulated) (named : Option ChipName)
     (change : Change) (old new : BusState) (outcome : Result Answer Refusal) : Type 0 where
   pub ranges : Option (List Span)
@@ -69,15 +70,15 @@ pub record ChangesChip (view : View) (after : FilesState) (chip : Emulated) (nam
   pub buffer : IsBufferOf view chip change.wanted image
   pub changed : HasMadeChange (request_for change named ranges) image change.journal_use old new view after outcome
 
--- Describes the result of reading the chip out into the file, in the ranges of the regions if there are any.
+-- Holds for the result of reading the chip out into the file. If regions are given, only their addresses are read out.
 pub record DoesRead (view after : View) (named : Option ChipName) (file : Text) (regions : Option Regions)
     (old new : BusState) (outcome : Result Answer Refusal) : Type 0 where
   pub ranges : Option (List Span)
   pub included : AreRangesOf view regions ranges
   pub read : HasReadOut named file ranges old new after outcome
 
--- Describes the result of comparing the chip with the image in the file, in the ranges of the regions if there are any.
--- At most one byte more of the image is read than the largest chip has.
+-- Holds for the result of comparing the chip with the image in the file. If regions are given, only their addresses are
+-- compared. At most one byte more of the image is read than the largest chip has.
 pub record DoesVerify (view : View) (named : Option ChipName) (file : Text) (regions : Option Regions)
     (old new : BusState) (outcome : Result Answer Refusal) : Type 0 where
   pub ranges : Option (List Span)
@@ -86,7 +87,7 @@ pub record DoesVerify (view : View) (named : Option ChipName) (file : Text) (reg
   pub read : IsRead view file 16777217 image
   pub verified : HasVerified named ranges image old new outcome
 
--- Describes the result of a restore from the valid journal in the file. At most one byte more of the file is read than
+-- Holds for the result of a restore from the valid journal in the file. At most one byte more of the file is read than
 -- the longest journal has.
 pub record DoesRestore (view : View) (named : Option ChipName) (file : Text) (old new : BusState)
     (outcome : Result Answer Refusal) : Type 0 where
@@ -95,7 +96,8 @@ pub record DoesRestore (view : View) (named : Option ChipName) (file : Text) (ol
   pub read : IsRead view file 16793662 (text journal)
   pub restored : HasRestoredNamed journal named old new outcome
 
--- the result of the call for a task, on a bus to the emulated chip
+-- Holds for the result of the call that a task makes to the engine, on a bus to the emulated chip. `old` and `new` are
+-- the bus before and after the call.
 abbrev pub DoesJob : View → FilesState → Programmer → Option ChipName → Task → (old new : BusState)
     → Result Answer Refusal → Type 0
 DoesJob view after programmer named task.Probe old new outcome =
@@ -114,33 +116,33 @@ DoesJob view after programmer named (task.Change change) old new outcome =
 DoesJob view after programmer named (task.Restore journal) old new outcome =
     DoesRestore view named journal.now old new outcome
 
--- Holds if `unwritten` names as image or status file at most the programmer's own, and only a file for which a failure
--- to write is possible (`Happens`). If the task does not write the chip back, `unwritten` names neither.
+-- Holds if each image or status file that `unwritten` names is the programmer's own, and writing it may fail
+-- (`Happens`). If the task does not write the chip back (`false`), `unwritten` must name neither.
 abbrev pub AreReported : Bool → Programmer → Unwritten → View → Type 0
 AreReported true programmer unwritten view =
     IsReportedOf programmer.image unwritten.image view × IsReportedOf programmer.status unwritten.status view
 AreReported false programmer unwritten view = (unwritten.image ≡ None) × (unwritten.status ≡ None)
 
--- Holds for the view after the trace was created, if one is named: each known file whose name is apart from the trace's
--- is as before.
+-- Holds if `amid` differs from `old` at most in the trace, if one is named: each known file (`IsKnownFile`) whose name
+-- is apart from the trace's is the same in both views. `amid` is used for the files after the trace was created.
 pub record IsViewBut (trace : Option (Bor Text)) (old amid : View) : Type 0 where
   pub nature : amid.nature ≡ old.nature
   pub stays : (name : Name) → IsNot old.nature trace name → IsKnownFile name old
       → (amid.out name ≡ old.out name) × (amid.seen name ≡ old.seen name)
 
--- Holds if the call had this outcome, with the layout, the image and the journal of the task as a read shows them after
--- the trace was created (`amid`).
+-- Holds if the call had this outcome. The layout, the image and the journal of the task are those that a read shows
+-- after the trace was created (`amid`).
 abbrev pub DoesTraced : (files after : FilesState) → ChipJob → (old new : BusState) → Result Answer Refusal → Type 0
 DoesTraced files after job old new outcome = (amid : View) × IsViewBut job.programmer.trace files.view amid
     × DoesJob amid after job.programmer job.named job.task old new outcome
 
--- Holds if the chip with these contents was made, and the call on it had this outcome.
+-- Holds if a simulated chip with these contents was made, and the call on its bus had this outcome.
 abbrev pub DoesStarted : (files after : FilesState) → ChipJob → Content → (new : BusState) → Result Answer Refusal
     → Type 0
 DoesStarted files after job content new outcome = (bus : SimBus) × StartsBus job.programmer content bus
     × DoesTraced files after job (sim_state bus) new outcome
 
--- Holds if the call was made, and the roles that need different files have them. The bus was started as the programmer
+-- Holds if the call was made, and the roles that need different files have them. The bus was started as `programmer`
 -- says, to the chip that the programmer's files hold. `left`: if the files were at rest and the task writes the chip
 -- back, each named file of the chip was written or is named in `unwritten`. `traced`: the only trace that may have lost
 -- a line is the programmer's. `kept`: the only journal that may have been lost is the one that the task created.
@@ -160,9 +162,10 @@ pub record IsCalled (files after : FilesState) (job : ChipJob) (unwritten : Unwr
   pub traced : OnSome unwritten.trace (unwritten.trace ≡ job.programmer.trace)
   pub kept : IsReportedOf (journal_by job.task) unwritten.journal files.view
 
--- ---- faults from before the call
+-- ---- faults that occur before the call
 
--- Holds for the faults of making the buffer of a session: of reading the image to write, or out of memory for an erase.
+-- Holds for the faults of making the buffer of a session. For a write these are the faults of reading the image, and
+-- for an erase error 18 (out of memory). For a protection range there are none.
 abbrev pub FailsToReadImage : View → Wanted → Fault → Type 0
 FailsToReadImage view (wanted.Write image) fault = IsReadingFault view image.now 16777217 fault
 FailsToReadImage view wanted.Erase fault = fault ≡ end.Refused Memory
@@ -179,7 +182,7 @@ FailsToRestore view name (end.Refused (BadJournal fault)) =
     (bytes : List ℕ) × IsRead view name 16793662 bytes × HasFault bytes fault
 FailsToRestore view name fault = IsSharingFault view name 16793662 fault
 
--- Holds for the faults of a task before its call.
+-- Holds for the faults of a task that occur before its call to the engine.
 abbrev pub FailsTask : View → Task → Fault → Type 0
 FailsTask view (task.Read file regions) fault =
     FailsToInclude view regions fault ⊎ IsMaking view file.now fault
@@ -198,14 +201,14 @@ FailsToStart true view programmer fault = FailsToHold view programmer fault
 FailsToStart false view programmer fault = FailsToOpen view programmer fault
 
 -- Holds for the faults of creating the trace, if one is named, of comparing the job's files after that, and of the task
--- before its call.
+-- before its call to the engine.
 abbrev pub FailsTraced : View → ChipJob → Fault → Type 0
 FailsTraced view on_chip fault = IsSomeAnd on_chip.programmer.trace (λ name. IsMaking view name.now fault)
     ⊎ (FailsFileRoles view.nature on_chip fault
     ⊎ ((amid : View) × IsViewBut on_chip.programmer.trace view amid × FailsTask amid on_chip.task fault))
 
--- Holds for the faults of a job that occur before its call: those of comparing its files, of reading, locking and
--- syncing the chip's files, of the trace, and of its task.
+-- Holds for the faults of a job that occur before its call to the engine: those of comparing its files, of reading,
+-- locking and syncing the chip's files, of the trace, and of its task.
 abbrev pub FailsJob : View → ChipJob → Fault → Type 0
 FailsJob view on_chip fault = FailsFileRoles view.nature on_chip fault
     ⊎ (FailsToStart (writes_back on_chip.task) view on_chip.programmer fault
@@ -243,7 +246,8 @@ pub record HoldsTarget (programmer : Programmer) (named : Option ChipName) (chan
     (found : Answer) (old new : FilesState) : Type 0 where
   pub first : Opened programmer old
   pub last : BusState
-  -- the chip of `last` is the target chip, for the ranges of the regions and the session's buffer
+  -- `last.chip` is the target chip. `ranges` has the addresses of the change's regions, and `image` is the session's
+  -- buffer.
   pub ranges : Option (List Span)
   pub included : AreRangesOf old.view change.regions ranges
   pub image : List ℕ
@@ -262,9 +266,10 @@ pub record HoldsRestored (programmer : Programmer) (file : Text) (found : Answer
   pub journal : Journal
   pub sound : IsContent journal
   pub read : IsRead old.view file 16793662 (text journal)
-  -- `probed` is the bus after the identification for the name, if one is given; its chip is as before. After that, the
-  -- restore made the chip what the journal saves. If the journal could restore an original chip from the opened one,
-  -- the chip of `last` is that original chip.
+  -- If a name is given, the chip is identified first. `probed` is the bus after that, or the opened bus if no name is
+  -- given; its chip is the same as the opened one. The restore then made the saved sectors and the non-volatile status
+  -- bits those of the journal. If the journal could restore an original chip from the opened chip, `last.chip` is that
+  -- original chip.
   pub probed : BusState
   pub same : IsSame opened.bus.chip probed.chip
   pub target : ReportsRestore journal probed last found
@@ -273,13 +278,14 @@ pub record HoldsRestored (programmer : Programmer) (file : Text) (found : Answer
   pub held : AreWrittenBack programmer last.chip None None new
   pub stays : KeepsFile file old new
 
--- The result of a change in the files, if its journal is in a file. Nothing is claimed for a rehearsal.
+-- Holds if the files hold the result of a change whose journal is in a file. Nothing is claimed for a rehearsal.
 abbrev pub HoldsChange : Programmer → Option ChipName → Change → JournalUse → Answer → (old new : FilesState) → Type 0
 HoldsChange programmer named change (uses.Journal file) found old new =
     HoldsTarget programmer named change file.now found old new
 HoldsChange programmer named change (uses.Rehearse stops) found old new = ⊤
 
--- The result of the task in the files. Nothing is claimed for a task that changes no chip, or for a rehearsal.
+-- Holds if the files hold the result of the task. Nothing is claimed for a task that changes no chip, or for a
+-- rehearsal.
 abbrev pub HoldsTask : Programmer → Option ChipName → Task → Answer → (old new : FilesState) → Type 0
 HoldsTask programmer named (task.Change change) found old new =
     HoldsChange programmer named change change.journal_use found old new
@@ -294,17 +300,18 @@ HoldsResult job unwritten (Ok found) old new = unwritten ≡ all_written
     → HoldsTask job.programmer job.named job.task found old new
 HoldsResult job unwritten (Err fault) old new = ⊤
 
--- ---- runs
+-- ---- how jobs and runs end
 
--- Holds if a job on a chip ends with the result of its call, or with a fault from before the call.
+-- Holds if a job on a chip ends with the result of its call to the engine, or with a fault that occurred before the
+-- call.
 abbrev pub EndsChipJob : (files after : FilesState) → ChipJob → Unwritten → Result Answer Fault → Type 0
 EndsChipJob files after on_chip unwritten (Ok found) = IsCalled files after on_chip unwritten (Ok found)
 EndsChipJob files after on_chip unwritten (Err (end.Refused refusal)) =
     IsCalled files after on_chip unwritten (Err refusal) ⊎ FailsJob files.view on_chip (end.Refused refusal)
 EndsChipJob files after on_chip unwritten (Err fault) = FailsJob files.view on_chip fault
 
--- Holds if the result is one of this job. Listing the chips has their list as its only result, and changes no file. For
--- a job on a chip, what is promised about the files requires that they were at rest at the start.
+-- Holds if this job may have this result. The only result of listing the chips is their list, and no file is changed.
+-- For a job on a chip, what is promised about the files requires that they were at rest at the start.
 abbrev pub AnswersJob : (files after : FilesState) → Job → Unwritten → Result Answer Fault → Type 0
 AnswersJob files after job.List unwritten (Ok answer.Chips) = (unwritten ≡ all_written) × AllStay files after
 AnswersJob files after job.List unwritten _ = ⊥
@@ -312,9 +319,9 @@ AnswersJob files after (job.Chip on_chip) unwritten outcome = EndsChipJob files 
     × (AreAtRest files → KeepsFiles on_chip.programmer on_chip.task files after)
     × (AreAtRest files → HoldsResult on_chip unwritten outcome files after)
 
--- Holds if the arguments lead to this result. A usage fault, or the request for help, is one that the arguments may
--- have (`AreWrong`) with its reason, and no file is changed. Every other result is that of the job given by the
--- arguments, with the names of the files that could not be written.
+-- Holds if the arguments lead to this result. If it is a usage fault or the request for help, a run with these
+-- arguments may report it with its reason (`AreWrong`), and no file is changed. Every other result is that of the job
+-- given by the arguments, with the names of the files that could not be written.
 abbrev pub AnswersArguments : (files after : FilesState) → List Text → Result Answer Fault → Unwritten → Type 0
 AnswersArguments files after words (Err (end.Usage fault reason)) unwritten =
     AreWrong words (record { fault = fault; reason = reason }) × (unwritten ≡ all_written) × AllStay files after
@@ -328,20 +335,22 @@ abbrev pub RunSucceeds : (files after : FilesState) → List Text → (out out' 
 RunSucceeds files after words out out' = IsAmong kind.DisplayHelp (refusals_of words)
     ⊎ ((found : Answer) × AnswersArguments files after words (Ok found) all_written × Prints (AreLines found) out out')
 
--- Holds if the fault of a run, if there is one, may be printed there.
+-- Holds if the last argument says where the fault of a run with this result may be printed (`IsReportedTo`). Without a
+-- fault, it must be standard error.
 abbrev pub IsPrintedAt : Nature → Result Answer Fault → Reports → Type 0
 IsPrintedAt nature (Ok found) to = to ≡ at.Errors
 IsPrintedAt nature (Err fault) to = IsReportedTo nature fault to
 
--- Describes how a run ended, and what the streams hold before and after, if known. The status is 0 or 1. The status is
--- 1 if the arguments ask neither for a job nor for help, and 0 only if the run succeeds. `to` says where a fault is
--- printed.
+-- Holds for the end of a run, with the contents of standard output and standard error before and after it, as far as
+-- they are known. The status is 0 or 1. It is 1 if the arguments ask neither for a job nor for help, and 0 only if the
+-- run succeeds (`RunSucceeds`).
 pub record IsStatus (files after : FilesState) (words : List Text) (out out' err err' : Option (List ℕ))
     (ending : Ending) : Type 0 where
   pub few : ending.status ≤ 1
   pub refused : IsRefusedArguments words → ending.status ≡ 1
   pub succeeds : ending.status ≡ 0 → RunSucceeds files after words out out'
-  -- the result of the run, and what was printed about it
+  -- `outcome` is the result of the run, and `unwritten` names the files that could not be written. A fault is printed
+  -- where `to` says. `prints` states what was printed, and how the status depends on it.
   pub outcome : Result Answer Fault
   pub unwritten : Unwritten
   pub answers : AnswersArguments files after words outcome unwritten

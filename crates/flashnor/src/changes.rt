@@ -1,4 +1,5 @@
-//! The jobs that change a chip: sessions and restores; and rehearsals of sessions.
+//! The jobs that change a chip: changes (a write, an erase or a protection range), which run as sessions with a
+//! journal, and restores. Also rehearsals of changes.
 ghost use Rattle.std.specs.Prelude.{◌≡◌, ◌≤◌, ◌⊎◌, true, IfOk, IfErr, OnErr, length};
 ghost use Rattle.nor_files.specs.Files.{Name, KeepsFile, View, is_lawful};
 ghost use Rattle.nor_driver.specs.OnlyReads.{IsSteadyOrIdle};
@@ -27,8 +28,8 @@ use std::alloc::{AllocError, Global};
 /// Changes the chip, with the journal in a new file, or rehearses the change on `bus`, with the journal in memory.
 /// `sources` has what the change reads from its files.
 ///
-/// Returns the result of the call to the engine, or the fault that occurred before it: of the journal's file, or error
-/// 18 if memory runs out.
+/// Returns the result of the session or rehearsal, or the fault that occurred before it: a fault of creating the
+/// journal's file, or error 18 if memory runs out.
 #[tactic(auto, using(crate::proofs::Doing::does_change))]
 pub fn change_chip<'a, R: Store, B: Meter>(
     rt: &mut R,
@@ -58,8 +59,8 @@ pub fn change_chip<'a, R: Store, B: Meter>(
     change_with(rt, bus, &mut image, &request, &change.journal_use)
 }
 
-// Returns the buffer of a session: for an erase FFh for each byte of the chip, otherwise the given bytes, which are the
-// image of a write, or nothing for a protection range. The error is that memory ran out for an erase.
+// Returns the buffer of a session. For an erase this is FFh for each byte of the chip. Otherwise it is the given bytes:
+// the image of a write, or no bytes for a protection range. Returns an error only for an erase, if memory runs out.
 fn buffer_of(
     alloc: Global,
     chip: Emulated,
@@ -104,7 +105,8 @@ fn change_with<'a, R: Store, B: Meter>(
     }
 }
 
-// Rehearses the session of a request with the given stops, and with its journal in `vault`.
+// Rehearses the session of a request with its journal in `vault`. The first of `stops` is the number of transactions
+// that the session may send, and each further stop is that of one restore.
 fn rehearse_change<B: Meter>(
     bus: &mut B,
     vault: &mut MemVault,
@@ -124,7 +126,7 @@ fn rehearse_change<B: Meter>(
 
 /// Restores the chip from the bytes of a journal. If `named` is given, the chip must have that name.
 ///
-/// Returns the result of the restore, or error 15 if the bytes are no journal, before the chip is used.
+/// Returns the result of the restore. If the bytes are no valid journal, returns error 15 before it uses the chip.
 pub fn restore_chip<'a, B: Bus>(
     bus: &mut B,
     named: Option<ChipName>,

@@ -31,9 +31,9 @@ pub fn existing_journal<'a, R: Store>(rt: &R, task: &Task<'a>) -> Option<&'a str
 
 /// Returns the first fault of a session whose journal exists.
 ///
-/// The trace is first compared with the other files of the job. Then everything that a session reads before it creates
-/// its journal is read, and the trace is created or opened. The first fault of these steps is returned, or file fault 4
-/// with the journal's name if there is none.
+/// Checks first that the trace's file is none of the other files of the job. Then reads everything that a session reads
+/// before it creates its journal, and creates or opens the trace. Returns the first fault of these steps, or file fault
+/// 4 with the journal's name if there is none.
 ///
 /// The trace is the only file that is created, and only if the store reports that its name and the name of each other
 /// file of the job refer to different files. `Disk` does not truncate the trace, since nothing is written to it.

@@ -1,4 +1,5 @@
-//! Locks and reads the chip's files in a run that changes the chip, and writes them back at the end of the run.
+//! For a run that changes the chip: locks and reads the chip's files at the start, and writes the chip back to them at
+//! the end.
 ghost use Rattle.std.specs.Prelude.{◌≡◌, ◌+◌, true, false, List, ℕ, None, Some, IfErr, IfOk, IfSome, IsSomeAnd, OnErr};
 ghost use Rattle.std.specs.Prelude.{OnOk, option_map, vec_len};
 ghost use Rattle.nor_files.specs.Calls.{LeaveNoMore};
@@ -31,13 +32,13 @@ pub struct Held {
 /// Locks the chip's files against other runs, reads them and syncs them. If an image is missing or not named, all bytes
 /// are FFh. If a status file is missing or not named, both status bytes are 0.
 ///
-/// If the files obey the contract of `Store` and none is open for a vault or a log (`AreAtRest`), the contents that
-/// were read are durable: a host crash leaves them.
+/// If the files obey the contract of `Store` and none is open as a journal, an output or a trace (`AreAtRest`), the
+/// contents that were read are durable: a host crash leaves them.
 ///
 /// Returns one of these faults:
 ///
-/// - file fault 1 if a file can't be read, or reading may block without end, or the store finds no file of that name
-///   after it was locked
+/// - file fault 1 if a file can't be read, if reading may block without end, or if the store finds no file of a name
+///   that it has locked
 /// - file fault 2 if a file can't be opened for overwriting, locked or synced, or its directory can't be synced; on a
 ///   `Disk` also if the file was removed or replaced after it was locked, since a sync then fails
 /// - file fault 3 if the image has another length than the chip, or the status file does not have two bytes
@@ -136,7 +137,8 @@ pub struct Unwritten<'a> {
     pub journal: Option<&'a str>,
 }
 
-/// Returns the name of the journal that the task created, if the file of that name no longer holds the journal.
+/// Returns the name of the journal that the task created and sealed, if the file of that name no longer holds the
+/// journal.
 pub fn lost_journal<'a, R: Store>(rt: &R, task: &Task<'a>) -> Option<&'a str>
     ensures { IsReportedOf (journal_by task.now) result (R.state rt.now).view }
 {

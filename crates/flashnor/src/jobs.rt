@@ -23,7 +23,8 @@ use nor_files::Store;
 use nor_jobs::{Sources, find_chip, read_sources, report_size};
 use std::io::{BufWriter, Write};
 
-/// A call that was made: the bus after it, its result, and the trace's name if the trace lost a line.
+/// A call to the engine that was made: the bus after the call, the result, and the trace's name if the trace lost a
+/// line.
 #[derive(Drop)]
 pub struct Called<'a> {
     pub bus: SimBus,
@@ -32,8 +33,8 @@ pub struct Called<'a> {
 }
 
 impl<'a> Called<'a> {
-    // Ends a trace: writes the rest of its buffer, and returns the call with the bus. If a line could not be written to
-    // the trace, during the call or now, `lost` is the trace's name, which is `name`.
+    // Ends the trace of a call: writes the rest of the trace's buffer, and returns the call with the bus. If a line
+    // could not be written to the trace, during the call or now, `lost` is the trace's name (`name`).
     fn of_traced<L: Write + Drop>(
         mut traced: TraceBus<SimBus, L>,
         name: Option<&'a str>,
@@ -51,9 +52,9 @@ impl<'a> Called<'a> {
     }
 }
 
-/// Performs the job's task on the chip with these contents, with a trace if one is requested. Creates the trace and
-/// reads the files that the task needs before the chip is made. Returns a fault if one occurred before the call to the
-/// engine.
+/// Performs the job's task on a simulated chip with these contents, with a trace if one is requested. Before it makes
+/// the chip, it creates or opens the trace, and then reads the files that the task needs. Returns a fault if one
+/// occurred before the call to the engine.
 pub fn call_on<'a, R: Store>(
     rt: &mut R,
     content: Content,
@@ -79,8 +80,8 @@ pub fn call_on<'a, R: Store>(
     call(rt, bus, log, job, sources)
 }
 
-// Creates the trace's file, if a trace is requested. Then compares the job's files again, since before the trace
-// existed a link to it may have had no target.
+// Creates or opens the trace's file, if a trace is requested. Then checks again that no file has two roles: another
+// name of the job may be a link to the trace, which had no target until the trace was created.
 fn open_trace<'a, R: Store>(
     rt: &mut R,
     job: &ChipJob<'a>,
@@ -134,8 +135,8 @@ fn call<'a, R: Store, L: Write + Drop>(
     Ok(Called::of_traced(traced, job.programmer.trace, outcome))
 }
 
-// Performs the job's task on its chip, with what was read for it. Returns a fault if one occurred before the call to
-// the engine.
+// Performs the job's task on its chip. `sources` has what was read from the task's files. Returns a fault if one
+// occurred before the call to the engine.
 fn do_task<'a, R: Store, B: Meter>(
     rt: &mut R,
     bus: &mut B,

@@ -1,4 +1,5 @@
-//! A law about runs that follow one another, each of which a kill or a host crash may interrupt anywhere.
+//! A theorem about runs that follow one another, each of which a kill or a host crash may interrupt anywhere. It is the
+//! contract of a function that does nothing.
 ghost use Rattle.std.specs.Prelude.{◌≡◌, Ok, Result};
 ghost use Rattle.nor_args.specs.Text.{Text};
 ghost use Rattle.nor_args.specs.declared.job.ChipJob.{ChipJob};
@@ -30,7 +31,7 @@ use nor_files::Store;
 /// these at every exit (`KeepsOriginalFiles`):
 ///
 /// - files from which the journal can restore the original chip
-/// - files that open to the original chip
+/// - files from which a later run opens the original chip
 /// - files of the chip of which a host crash can leave only what it could leave before
 pub fn runs_restore_original<R: Store>()
     ensures restorable { (programmer : Programmer) (file : Text) (start old mid new : R)

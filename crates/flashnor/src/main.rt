@@ -11,14 +11,14 @@
 //! - `roles.rt`: checks that no file that a job writes has a second role (except an image that is both the chip's and
 //!   the one to write)
 //! - `streams.rt`: checks that the program prints to no file of a job
-//! - `holding.rt`: opens, locks, reads and syncs the chip's files if the job writes them, and writes them back
+//! - `holding.rt`: locks, reads and syncs the chip's files if the job writes them, and writes the chip back to them
 //! - `chips.rt`: reads the chip's files, and makes the simulated bus
 //! - `changes.rt`: the jobs that change a chip, and rehearsals; `nor_jobs` and `nor_console` have the other jobs
-//! - `laws.rt`: the law about a change and the restores that follow it
+//! - `laws.rt`: a theorem about a change and the restores that follow it
 //! - `printing.rt`: prints the end of a run, and chooses the exit status
 //!
-//! The crates `nor_jobs` and `nor_console` have the code that this program shares with `flashnor_serprog`: what both do,
-//! print and read.
+//! The crates `nor_jobs` and `nor_console` have the code that this program shares with `flashnor_serprog`: the jobs
+//! that both perform, what both print, and how both read files.
 #![tactic(auto)]
 
 mod changes;

@@ -18,16 +18,16 @@ pub struct Ending {
     pub status: u8,
     /// True if the answer or the help was printed.
     pub printed: bool,
-    /// True if each of these messages was printed: that of the fault, if there is one; that of standard output, if the
-    /// answer or the help could not be printed; and that of each file that could not be written.
+    /// True if each of these messages was printed: the message of the fault, if there is one; the message that standard
+    /// output could not be written, if this is so; and the message of each file that could not be written.
     pub reported: bool,
 }
 
 /// Prints the result of a run. An answer or the help is printed to `output`, and a message for each file that could not
 /// be written to `errors`. A fault, with the messages of such files, is printed where `to` says.
 ///
-/// If the answer or the help can't be printed, prints file fault 2 of standard output to `errors`, and the status is 1.
-/// Any other message that can't be printed is lost.
+/// If the answer or the help can't be printed, prints file fault 2 with the name of standard output to `errors`, and
+/// the status is 1. Any other message that can't be printed is lost.
 #[tactic(auto, using(crate::proofs::Printed::printed_well, crate::proofs::Printed::printed_badly))]
 pub fn print_end<O: Write, E: Write>(
     output: &mut O,
@@ -76,9 +76,9 @@ fn end_badly<W: Write>(errors: &mut W, fault: &Fault<'_>, unwritten: Unwritten<'
     }
 }
 
-// Prints the message of standard output, if the answer or the help could not be printed, and a message for each file
-// that could not be written. The status is 0 if the answer or the help was printed and all files were written, and
-// otherwise 1.
+// Prints that standard output could not be written, if the answer or the help could not be printed. Prints a message
+// for each file that could not be written. The status is 0 if the answer or the help was printed and all files were
+// written, and otherwise 1.
 #[tactic(auto, using(nor_console::proofs::Printed::appends_then))]
 fn end_well<W: Write>(errors: &mut W, printed: bool, unwritten: Unwritten<'_>) -> Ending
     ensures { EndsWell printed unwritten.entry (W.contents errors.old) (W.contents errors.new) result }

@@ -36,15 +36,15 @@ pub fn has_own_trace<'a, R: Store>(rt: &R, job: &ChipJob<'a>) -> Result<(), Faul
     check_pair(rt, job, Role::Trace, Role::Journal)
 }
 
-/// Checks that no file has two roles in a job, except roles that may share a file. For each pair of other roles whose
-/// files the job names, the store must report that the two names refer to different files.
+/// Checks that no file has two roles in a job, except roles that may share a file. For any other two roles, if the job
+/// names a file for both, the store must report that the two names refer to different files.
 ///
 /// Two roles may share a file only if the job writes the file in neither role, or if the roles are the chip's image and
 /// the image to write. The journal of a restore counts as written.
 ///
-/// Returns file fault 5 if two roles share a file that they may not share. The fault has the name of the later role, in
-/// this order: image, status, trace, layout, image to write or compare, output, journal. Returns file fault 1 if a name
-/// can't be looked up.
+/// Returns file fault 5 if two roles share a file that they may not share. The fault names the file of the later role,
+/// in this order: image, status, trace, layout, image to write or compare, output, journal. Returns file fault 1 if a
+/// name can't be looked up.
 pub fn have_one_role<'a, R: Store>(rt: &R, job: &ChipJob<'a>) -> Result<(), Fault<'a>>
     ensures ok { OnOk result (FilesHaveOneRole (R.state rt.now).view.nature job.now) }
     ensures err { IfErr result (FailsFileRoles (R.state rt.now).view.nature job.now) }
@@ -102,8 +102,8 @@ pub fn file_with_role<'a>(job: &ChipJob<'a>, role: Role) -> Option<&'a str>
     }
 }
 
-// Checks that the files of two roles which need different files are different, if the job names both. If the two roles
-// share one file, the fault names the file of the later role.
+// Checks that the two roles, which need different files, have different files, if the job names a file for both. If
+// they share one file, the fault names the file of the later role.
 #[tactic(auto, using(crate::proofs::OneRole::pair_fails))]
 fn check_pair<'a, R: Store>(
     rt: &R,

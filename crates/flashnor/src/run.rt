@@ -32,6 +32,9 @@ use std::rt::Files;
 /// Performs the job given by the program's arguments, prints results to `output` and faults to `errors`, and returns
 /// the exit status: 0, or 1 after any fault or if not all results could be printed.
 ///
+/// If standard error prints to a file of the job, the fault that reports this is printed to `output`. If standard
+/// output prints to a file of the job too, that fault isn't printed.
+///
 /// The first of the arguments is the program's name, which is skipped. If the system could not provide the arguments,
 /// `given` is an error, which is printed as a fault too.
 pub fn run_words<R: Files + AllocGlobal, O: Write, E: Write>(
@@ -54,8 +57,9 @@ where
     ending.status
 }
 
-/// Ends a run that could not keep the descriptors of the standard streams in use. Opens no file, prints file fault 1,
-/// and returns the exit status, which is 1.
+/// Ends a run that could not open a directory to occupy the descriptors of closed standard streams (`keep_streams`). If
+/// the run continued, a file that it opens could get such a descriptor. Opens no file, prints file fault 1 with the
+/// name of the directory, and returns the exit status, which is 1.
 pub fn end_without_streams<O: Write, E: Write>(output: &mut O, errors: &mut E) -> u8
     ensures { EndsWith (IsWithoutStreams (O.contents output.old) (O.contents output.new)
         (E.contents errors.old) (E.contents errors.new)) result }
@@ -81,7 +85,7 @@ fn run_given<R: Store, O: Write, E: Write>(
     }
 }
 
-// Ends a run that made no call to the engine: prints `fault`.
+// Ends a run that made no call to the engine, the crates that read or change a chip: prints `fault`.
 fn end_before<O: Write, E: Write>(fault: Fault<'_>, output: &mut O, errors: &mut E) -> Ending
     ensures { HasPrinted (Err fault.entry) all_written to.Errors (O.contents output.old) (O.contents output.new)
         (E.contents errors.old) (E.contents errors.new) result }
@@ -91,7 +95,7 @@ fn end_before<O: Write, E: Write>(fault: Fault<'_>, output: &mut O, errors: &mut
 }
 
 /// Performs the job given by `words`, the arguments without the program's name, over any store of files. Prints the
-/// result and the faults, and returns the exit status and what was printed.
+/// result and the faults. Returns the exit status, and whether the result and the faults could be printed.
 #[tactic(auto, using(crate::proofs::Ended::is_status))]
 pub fn run_over<R: Store, O: Write, E: Write>(
     rt: &mut R,
@@ -102,14 +106,15 @@ pub fn run_over<R: Store, O: Write, E: Write>(
     ensures { IsStatus (R.state rt.old) (R.state rt.new) (map string_bytes words.now)
         (O.contents output.old) (O.contents output.new) (E.contents errors.old) (E.contents errors.new) result }
 {
-    // The call does nothing at run time. A law is checked only in a program that calls it.
+    // `runs_restore_original` is a theorem: a function with only a contract, which does nothing at run time. The prover
+    // checks its contract only in a program that calls it.
     runs_restore_original::<R>();
     let (work, to) = run(rt, words);
     let Work { answer, unwritten } = work;
     print_end(output, errors, answer, unwritten, to)
 }
 
-// The result of a run's work, and the names of the files that could not be written.
+// The result of a run's work, and the names of the files that were not written or were lost.
 #[derive(Drop)]
 struct Work<'a> {
     answer: Result<Answer, Fault<'a>>,
@@ -149,8 +154,8 @@ fn run<'a, R: Store>(rt: &mut R, words: &'a [String]) -> (Work<'a>, Reports)
     }
 }
 
-// Performs a job on a chip, unless the program prints to one of the job's files. Returns its result, and where a fault
-// is printed.
+// Performs a job on a chip, unless standard output or standard error prints to one of the job's files. Returns the
+// job's result, and where a fault is printed.
 #[tactic(auto, using(crate::proofs::Ended::failed_ends, crate::proofs::Ended::failed_holds, crate::proofs::Ended::printed_at, crate::proofs::Ended::printed_there, crate::proofs::Before::keeps_still))]
 fn run_on_chip<'a, R: Store>(rt: &mut R, job: &ChipJob<'a>) -> (Work<'a>, Reports)
     ensures ends { EndsChipJob (R.state rt.old) (R.state rt.new) job.now result.0.unwritten result.0.answer }
@@ -169,8 +174,8 @@ fn run_on_chip<'a, R: Store>(rt: &mut R, job: &ChipJob<'a>) -> (Work<'a>, Report
     }
 }
 
-// Performs the job's task on its chip, and writes the chip back if the task changes it. Returns a fault if one occurred
-// before the call to the engine.
+// Performs the job's task on its chip. If the task is a restore, or a change that isn't a rehearsal, writes the chip
+// back to its files. Returns a fault if one occurred before the call to the engine.
 #[tactic(auto, using(crate::proofs::Ended::holds_readonly))]
 fn work_on_chip<'a, R: Store>(rt: &mut R, job: &ChipJob<'a>) -> Result<Work<'a>, Fault<'a>>
     ensures ok { IfOk result (λ work.
@@ -193,7 +198,7 @@ fn work_on_chip<'a, R: Store>(rt: &mut R, job: &ChipJob<'a>) -> Result<Work<'a>,
     }
 }
 
-// Reads the chip's files, and performs a task that does not write them back.
+// Reads the chip's files, and performs a task after which the chip is not written back to these files.
 fn look_at_files<'a, R: Store>(rt: &mut R, job: &ChipJob<'a>) -> Result<Work<'a>, Fault<'a>>
     requires only_reads { writes_back job.now.task ≡ false }
     requires roles { FilesHaveOneRole (R.state rt.old).view.nature job.now }

@@ -1,4 +1,5 @@
-//! Checks that the program prints to no file of a job. If it does, chooses where the fault is printed.
+//! Checks that neither standard output nor standard error prints to a file of a job. If one does, chooses where the
+//! fault is printed.
 ghost use Rattle.std.specs.Prelude.{◌≡◌, IfErr, IfOk, IfSome};
 ghost use Rattle.flashnor.specs.Roles.{FailsFileRoles, IsPrintedName, changes_files};
 ghost use Rattle.flashnor.specs.Streams.{IsReportedTo};
@@ -40,9 +41,8 @@ const ROLES: [Role; 7] = [
 
 /// Checks that the program prints to no regular file that the job names, even if the job only reads that file.
 ///
-/// Returns file fault 5 with the name of such a file. If standard output prints to files of the job, this is the one
-/// among them whose role comes first in `Role`. If standard output prints to none of them, it is the one whose role
-/// comes first among those that standard error prints to.
+/// Returns file fault 5 with the name of such a file: the first in the order of `Role` that standard output prints to
+/// or, if there is none, the first that standard error prints to.
 ///
 /// Returns file fault 1 with a name that can't be looked up. If the job may change or create a file, also returns file
 /// fault 1 with the name of a standard stream that can't be looked up.
@@ -71,7 +71,7 @@ pub fn are_unprinted<'a, R: Store>(rt: &R, job: &ChipJob<'a>) -> Result<(), Stre
 
 // Returns the name of the job's file that standard output prints to, and the name of the one that standard error prints
 // to. If there are several such files for a stream, the one with the first role is returned; if there is none, `None`.
-// Returns file fault 1 if a stream or a name can't be looked up.
+// Returns file fault 1 if a name can't be looked up or, for a job that may change or create a file, if a stream can't.
 #[tactic(auto, using(crate::proofs::OneRole::stream_fails))]
 fn files_printed<'a, R: Store>(
     rt: &R,
