@@ -1,4 +1,5 @@
--- The probe of an identification, from its result.
+-- Lemmas about an identification with a given result: which result its call of `probe` had, and which promises this
+-- call kept.
 use Rattle.std.proofs.Common.{◌≡◌, IfErr, IfOk, Option, Result, Ok, Err, refl, true}
 use Rattle.nor_model.specs.Bus.{BusState}
 use Rattle.nor_probe.specs.Found.{ProbeAlways, ProbeHonest}
@@ -20,12 +21,12 @@ probed_failed : (probed : Result Found ProbeFault) (refusal : Refusal) → IsPro
 probed_failed (Ok found) refusal is = absurd (cc is)
 probed_failed (Err fault) refusal is = (fault, refl, cc is)
 
--- what the probe of an identification promised that found a chip
+-- The promises of a probe that found `chip`.
 pub record HasFound (named : Option ChipName) (old new : BusState) (chip : Found) : Type 0 where
   pub always : ProbeAlways named old new (Ok chip)
   pub honest : old.honest ≡ true → ProbeHonest named old new (Ok chip)
 
--- what the probe of an identification promised that returned an error
+-- The promises of a probe whose fault is reported as the error `refusal`.
 pub record HasFailed (named : Option ChipName) (old new : BusState) (refusal : Refusal) : Type 0 where
   pub fault : ProbeFault
   pub is : refusal ≡ of_probe fault
@@ -48,7 +49,7 @@ module _ (named : Option ChipName) (old new : BusState) where
         honest = rw failed.1 at is.honest;
       }
 
-  -- ---- the result of an identification, as the result or the fault of a run
+  -- ---- an error of the identification is the fault of the run
 
   pub found_first : (outcome : Result Found Refusal) (result : Result Found Fault) → HasIdentified named old new outcome
       → IsReportedAs outcome result → IfOk result (λ found. HasIdentified named old new (Ok found))

@@ -13,18 +13,21 @@ use Rattle.nor_console.specs.Readings.{AnswersCall}
 use Rattle.nor_console.specs.Sessions.{ReportsDone}
 use Rattle.nor_console.specs.declared.answers.Answer.{Answer}
 
--- the sectors that a restore rewrites: if it is quick those that differ, otherwise every saved one
+-- The choice of the sectors that a restore writes: the saved sectors that differ if the restore is quick, and otherwise
+-- every saved sector.
 abbrev pub choice_of : (quick : Bool) → Choice
 choice_of true = differing
 choice_of false = every_saved
 
--- the headline of `restore` (if quick), or that of `rewrite`
+-- The main promise of `restore` (if `quick`) or of `rewrite`, for each chip that the journal can restore at the start:
+-- at every exit the journal can still restore this chip, and a restore that succeeds has restored it.
 abbrev pub RestoresBy : (quick : Bool) → Journal → (old new : BusState) → Result Report Refusal → Type 0
 RestoresBy true journal old new result = RestoresOriginal journal old new result
 RestoresBy false journal old new result = RewritesOriginal journal old new result
 
--- A restore ended or returned an error. It kept all promises of `restore` (if quick), or those of `rewrite`: then after
--- success an erase was sent for each saved sector, and none after the first page program (`thorough`).
+-- Holds after a restore that succeeded or returned an error. It kept all promises of `restore` (if `quick`) or of
+-- `rewrite`. After success of `rewrite`, each saved sector was the target of an erase, and no erase followed the first
+-- page program (`thorough`).
 pub record HasRunRestore (quick : Bool) (journal : Journal) (old new : BusState)
     (outcome : Result Answer Refusal) : Type 0 where
   pub result : Result Report Refusal

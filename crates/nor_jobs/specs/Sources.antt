@@ -1,4 +1,4 @@
--- The contents of the files that a job reads before its call.
+-- The contents of the files that a job reads before its call to the engine.
 use Rattle.std.specs.Prelude.{◌≡◌, ◌⊎◌, [], ℕ, List, Option, ⊤}
 use Rattle.nor_files.specs.Files.{View}
 use Rattle.nor_layout.specs.declared.ranges.Span.{Span}
@@ -11,14 +11,15 @@ use Rattle.nor_console.specs.Requests.{AreRangesOf, FailsToInclude}
 use Rattle.nor_console.specs.Stored.{IsRead}
 use Rattle.nor_console.specs.declared.messages.Fault.{Fault}
 
--- the bytes of the image that a change writes, of which at most one byte more is read than the largest chip has; no
--- bytes if the change writes no image
+-- Holds if `bytes` are those that were read of the image that a change writes. At most one byte more is read than the
+-- largest chip has. For an erase or a protection range, `bytes` must be empty.
 abbrev pub IsImage : View → Wanted → List ℕ → Type 0
 IsImage view (wanted.Write image) bytes = IsRead view image.now 16777217 bytes
 IsImage view _ bytes = bytes ≡ []
 
--- Holds if `ranges` are those of the job's regions, and `bytes` those of its image or of the journal that it restores
--- from, for a job that has them. At most one byte more is read than the largest chip or the longest journal has.
+-- Holds if `ranges` are the addresses of the job's regions, and `bytes` are those of its image or of the journal that
+-- it restores from, as far as the job has them. At most one byte more is read than the largest chip or the longest
+-- journal has.
 abbrev pub AreSources : View → Task → Option (List Span) → List ℕ → Type 0
 AreSources view (task.Read file regions) ranges bytes = AreRangesOf view regions ranges
 AreSources view (task.Verify file regions) ranges bytes =
@@ -28,12 +29,12 @@ AreSources view (task.Change change) ranges bytes =
 AreSources view (task.Restore journal) ranges bytes = IsRead view journal.now 16793662 bytes
 AreSources view _ ranges bytes = ⊤
 
--- the faults of reading the image of a change
+-- Holds for the faults of reading the image that a change writes.
 abbrev pub FailsImage : View → Wanted → Fault → Type 0
 FailsImage view (wanted.Write image) fault = IsReadingFault view image.now 16777217 fault
 FailsImage view _ fault = ⊥
 
--- the faults of the files that a task reads
+-- Holds for the faults of reading the files that a task needs: its layout, image or journal.
 abbrev pub FailsSources : View → Task → Fault → Type 0
 FailsSources view (task.Read file regions) fault = FailsToInclude view regions fault
 FailsSources view (task.Verify file regions) fault =

@@ -35,7 +35,8 @@ pub fn find<B: Bus>(bus: &mut B, named: Option<ChipName>) -> Result<Found, Refus
     Ok(probe(bus, named)?)
 }
 
-/// Identifies the chip before a call that does more. An error of the identification is the fault of the run.
+/// Identifies the chip, as `find` does, before the job makes a further call to the engine. An error of `find` is
+/// returned as the fault of the run.
 pub fn find_first<'a, B: Bus>(bus: &mut B, named: Option<ChipName>) -> Result<Found, Fault<'a>>
     ensures ok { IfOk result (λ found. HasIdentified named (B.state bus.old) (B.state bus.new) (Ok found)) }
     ensures err { IfErr result (FailsToFind named (B.state bus.old) (B.state bus.new)) }
@@ -43,8 +44,8 @@ pub fn find_first<'a, B: Bus>(bus: &mut B, named: Option<ChipName>) -> Result<Fo
     or_fault(find(bus, named))
 }
 
-/// If `named` is given, identifies the chip and checks that it has that name. If not, sends nothing. Returns the errors
-/// of `find`.
+/// Identifies the chip and checks that it has the name `named`, if a name is given. Without a name, sends nothing.
+/// Returns the errors of `find`.
 pub fn check_name<B: Bus>(bus: &mut B, named: Option<ChipName>) -> Result<(), Refusal>
     ensures ok { OnOk result (IsNamedFirst named (B.state bus.old) (B.state bus.new)) }
     ensures err { IfErr result (λ refusal. HasIdentified named (B.state bus.old) (B.state bus.new) (Err refusal)) }

@@ -1,12 +1,13 @@
-//! The jobs of both programs over any bus, as far as they are the same: what a job reads before its call to the engine,
-//! and the calls that identify and restore a chip.
+//! The code for jobs that `flashnor` and `flashnor-serprog` share, over any bus: it reads the files that a job needs
+//! before its call to the engine (the crates that read or change a chip), and makes the calls that identify or restore
+//! a chip.
 //!
 //! - `arguments.rt`: the arguments that follow the program's name
 //! - `sources.rt`: the layout, image or journal of a job
 //! - `finding.rt`: identifies the chip
 //! - `restoring.rt`: restores from a journal
 //!
-//! nor_console has the calls that read, verify or change a chip, with their files.
+//! `nor_console` has the calls that read, verify or change a chip, and that read or create the files for these calls.
 #![tactic(auto)]
 
 mod arguments;

@@ -7,11 +7,11 @@ use nor_journal::Journal;
 use nor_model::Bus;
 use nor_session::{Announcement, restore_announced, rewrite_announced};
 
-/// Restores the chip from a journal: erases and programs every saved sector, whatever it reads, or if the restore is
-/// `quick` each one that differs.
+/// Restores the chip from a journal. If `quick` is true, reads the saved sectors and writes only those that differ
+/// (`restore`). Otherwise erases and programs every saved sector, without reading it before (`rewrite`).
 ///
-/// `announce` is described at `restore_announced`, and must accept every announcement. Returns an error of `restore` or
-/// `rewrite`.
+/// `announce` receives the numbers of touched sectors and of erases before the first change (see `restore_announced`).
+/// It must accept every announcement. Returns an error of `restore` or `rewrite`.
 pub fn run_restore<B: Bus, F: FnOnce(Announcement) + Drop>(
     bus: &mut B,
     journal: &Journal<'_>,
@@ -28,7 +28,7 @@ pub fn run_restore<B: Bus, F: FnOnce(Announcement) + Drop>(
     }
 }
 
-// Reads the saved sectors, and erases and programs those that differ.
+// Reads the saved sectors, and writes only those that differ. A sector is erased only if some bit must go from 0 to 1.
 fn restore_differing<B: Bus, F: FnOnce(Announcement) + Drop>(
     bus: &mut B,
     journal: &Journal<'_>,
@@ -41,7 +41,7 @@ fn restore_differing<B: Bus, F: FnOnce(Announcement) + Drop>(
     Ok(Answer::Done(report))
 }
 
-// Erases and programs every saved sector.
+// Erases and programs every saved sector, without reading it before.
 fn restore_all<B: Bus, F: FnOnce(Announcement) + Drop>(
     bus: &mut B,
     journal: &Journal<'_>,

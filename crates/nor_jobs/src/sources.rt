@@ -19,7 +19,8 @@ pub struct Sources {
 }
 
 /// Reads the files that a task needs: the layout, then the image or the journal. Each file is as it was. A journal is
-/// locked against runs that would write it, and not checked.
+/// locked against other runs that would change it (`Store::share`). Whether its bytes are a valid journal isn't checked
+/// here.
 ///
 /// Returns the faults of `read_included`, `read_file` and `read_journal`.
 pub fn read_sources<'a, R: Store>(rt: &mut R, task: &Task<'a>) -> Result<Sources, Fault<'a>>
@@ -66,7 +67,7 @@ fn read_for_change<'a, R: Store>(rt: &R, change: &Change<'a>) -> Result<Sources,
     Ok(Sources { included, bytes })
 }
 
-// Reads the image that a change writes. Returns no bytes if it writes none.
+// Reads the image that a change writes. Returns no bytes for an erase or a protection range.
 fn read_image<'a, R: Store>(rt: &R, wanted: Wanted<'a>) -> Result<Vec<u8>, Fault<'a>>
     ensures ok { IfOk result (λ bytes. IsImage (R.state rt.now).view wanted.entry bytes.items) }
     ensures err { IfErr result (FailsImage (R.state rt.now).view wanted.entry) }
