@@ -21,8 +21,9 @@ whole_alike one other s (Some b) same whole = record {
   same = λ i below. whole.same i below ∙ sym (same i below);
 }
 
--- `HasPutSectors` stays true if the bytes `one` are replaced by bytes that are the same in each saved sector, or
--- `saved` by an equal set. It also stays true if the bound `n` is replaced by a higher bound.
+-- `HasPutSectors` says that the writer was given a header and the records of exactly the sectors in `saved`, which are
+-- below the bound `n`. It stays true if the bytes `one` are replaced by bytes that are the same in each saved sector,
+-- `saved` by an equal set, or `n` by a higher bound.
 pub put_alike : {V : Type 0} {state : V → VaultState} {writer : Writer V} {head : Content} {one other : ℕ → ℕ}
     {saved more : ℕ → Bool} {n m : ℕ}
     → ((s i : ℕ) → saved s ≡ true → i < 4096 → other (4096 * s + i) ≡ one (4096 * s + i))
@@ -75,7 +76,8 @@ module _ {V : Type 0} {state : V → VaultState} {old new : Writer V} {size n : 
       put_alike (λ s i is below. refl) (λ s. refl) above
       (was.put head sized (put_alike (λ s i is. absurd (true≢false (sym is))) (λ s. refl) (omega arith) put))
 
-  -- On a well-behaved bus with an idle chip of this size, these records have the chip's bytes.
+  -- If the journal had only its header at the start, and the bus is well-behaved with an idle chip of this size, the
+  -- journal now has the records of exactly the sectors in `saved`, with the chip's bytes.
   pub kept_on : {head : Content} {other : ℕ → ℕ} {m : ℕ} → n ≤ m → IsOpen size bus → head.size ≡ size
       → HasPutSectors state old head other none 0 → HasPutSectors state new head bus.chip.bytes saved m
   kept_on above known sized put =

@@ -1,5 +1,5 @@
 -- Lemmas about the header and records that a writer was given for a chip's journal, and about the prefix of the journal
--- that a `telling` vault has after an error.
+-- that a faithful vault (`telling`) has after an error.
 use Rattle.std.proofs.Common.{◌≡◌, ◌∙◌, ℕ, true, ◌*◌, ◌/◌, ◌%◌, ◌<◌, List, [], refl, ap, sym, arith, ◌≤◌, ◌+◌}
 use Rattle.std.proofs.Common.{◌&&◌, Bool, length, subst}
 use mathlib.Core.Path.{fun_ext}
@@ -37,15 +37,15 @@ use Rattle.nor_journal.specs.Saved.{IsJournalPrefix}
 use Rattle.nor_plan.specs.Content.{is_touched, is_raised}
 use Rattle.nor_request.specs.Request.{wanted}
 
--- ---- a scan
+-- ---- what a scan has written to the journal
 
--- The bytes of a `telling` vault are a prefix of the bytes that the writer was given.
+-- The bytes of a faithful vault (`telling`) are a prefix of the bytes that the writer was given.
 put_begins : {V : Type 0} {state : V → VaultState} {writer : Writer V} {c : Content} → HasWritten state writer c
     → (vault_seen state writer).telling ≡ true → StartsWith (front c) (vault_seen state writer).bytes
 put_begins {c = c} written faithful = rw (written.put.held faithful) (take_all (length (front c)) (front c) (omega arith))
 
--- If the sectors below `n` are marked correctly, and the records so far are those of the marked sectors, the records
--- are those of the touched sectors below `n`.
+-- If the sectors below `n` are marked correctly, and the writer was given the records of the marked sectors, these are
+-- the records of the touched sectors below `n`.
 module _ {V : Type 0} {state : V → VaultState} {writer : Writer V} {head : Content} {chip target_bytes : ℕ → ℕ} {n : ℕ}
     {scanned : Scanned} (right : AreRight target_bytes chip (sectors_below n) scanned)
     (kept : HasPutSectors state writer head chip (has scanned.touched) n) where
@@ -55,8 +55,8 @@ module _ {V : Type 0} {state : V → VaultState} {writer : Writer V} {head : Con
   pub kept_below : {total : ℕ} → n ≤ total → HasKeptBelow state writer head chip (is_touched chip target_bytes) total
   kept_below inside = record { bound = n; inside = inside; kept = kept_touched }
 
--- After an error between two records, the vault has the header and complete records, which are a prefix of the whole
--- journal.
+-- After an error between two records, a faithful vault (`telling`) has the header and complete records, which are a
+-- prefix of the whole journal.
 pub cut_between : {V : Type 0} {state : V → VaultState} {writer : Writer V} {head : Content} {chip : ℕ → ℕ}
     {touched : ℕ → Bool} (size : ℕ) → head.size ≡ size → HasKeptBelow state writer head chip touched (size / 4096)
     → HoldsCut (vault_seen state writer) head chip touched (size / 4096)
@@ -65,9 +65,9 @@ cut_between {head = head} {chip = chip} {touched = touched} size sized below = �
     rw (← sized) (begins_whole head chip touched kept.content below.bound _ kept.same kept.saves kept.next
     (rw sized inside) (put_begins kept.written faithful))
 
--- After a refusal within the record of the touched sector `n`, a `telling` vault holds a prefix of the following bytes:
--- the header, the earlier records and this record. These bytes are a prefix of the whole journal, so the vault's bytes
--- are a prefix of the journal, too.
+-- After a refusal within the record of the touched sector `n`, a faithful vault (`telling`) holds a prefix of the
+-- following bytes: the header, the earlier records and this record. These bytes are a prefix of the whole journal, so
+-- the vault's bytes are a prefix of the journal, too.
 pub cut_in_record : {V : Type 0} {state : V → VaultState} {writer : Writer V} {head : Content} {chip : ℕ → ℕ} {n : ℕ}
     {bytes : List ℕ} (vault : VaultState) (touched : ℕ → Bool) (size : ℕ)
     (kept : HasPutSectors state writer head chip (λ s. nat_lt s n && touched s) n) → head.size ≡ size
@@ -167,7 +167,9 @@ pub from_head : {V : Type 0} {state : V → VaultState} {writer : Writer V} {ide
     → promise (header_of chip)
 from_head puts promised chip is shows = promised (is_open is shows) (header_of chip) (sym is.config.size) (puts chip is shows)
 
--- An error of the check after the scan is the verdict on the request, under the premises of `JudgesChip`.
+-- An error of the check after the scan is the verdict on the request, the lowest error that applies. The premises are
+-- those of `JudgesChip`: the bus is well-behaved, its chip is idle and has this identification, and none of the errors
+-- 1 to 8 applies.
 pub judged_errors : {request : Request} {identity : Identity} {image image' : List ℕ} {old new : BusState}
     {scanned : Scanned} (code : ℕ) (refusal : Refusal) → Scans request identity.found.size image image' old new scanned
     → IsScanRefusal refusal
@@ -181,7 +183,8 @@ judged_errors code _ scans is judges = absurd is
 
 -- ---- an incomplete journal, after an error
 
--- After a refusal within the header, `SaveCuts` holds, since a prefix of the header is a prefix of the chip's journal.
+-- After a refusal within the header, `SaveCuts` holds: if the bus was well-behaved, and its chip was idle and had this
+-- identification, a faithful vault holds a prefix of the chip's journal. It holds a prefix of the header here.
 pub cut_in_head : (request : Request) (image : List ℕ) (seen vault : VaultState) {identity : Identity} {status : List ℕ}
     {old : BusState} → (old.honest ≡ true → IsChip old.chip) → status ≡ kept_read identity
     → IsContent (head_read identity status) → HoldsPrefix seen (front (head_read identity status)) → seen ≡ vault
@@ -198,8 +201,9 @@ cut_in_head request image seen vault reaches read content holds same =
 
 module _ {V : Type 0} {state : V → VaultState} {first : Writer V} {identity : Identity} {old : BusState}
     (request : Request) (image : List ℕ) (vault : VaultState) (puts : PutsHead state first identity old) where
-  -- After an error within the scan, `SaveCuts` holds. It follows from `HoldsCut`, which the scan ensures for each
-  -- header.
+  -- After an error within the scan, `SaveCuts` holds: if the bus was well-behaved, and its chip was idle and had this
+  -- identification, a faithful vault holds a prefix of the chip's journal. This follows from `HoldsCut`, which the scan
+  -- ensures for each header.
   pub cut_in_scan : (seen : VaultState) → FromHead state first identity.found.size old (λ head.
       HoldsCut seen head old.chip.bytes (is_touched old.chip.bytes (wanted_at request image identity.found.size
       old.chip.bytes)) (identity.found.size / 4096)) → seen ≡ vault → SaveCuts request identity image old vault
@@ -207,8 +211,9 @@ module _ {V : Type 0} {state : V → VaultState} {first : Writer V} {identity : 
       begins_touched request image seen.bytes chip
       (rw (same_bytes is shows, is.config.size) at (from_head puts promised chip is shows faithful)))
 
-  -- After an error of the scan other than 11, `SaveBegins` holds. It follows from `HasKeptBelow`, which the scan
-  -- ensures for each header.
+  -- After an error of the scan other than 11, `SaveBegins` holds: if the bus was well-behaved, and its chip was idle
+  -- and had this identification, a faithful vault holds the header and complete records of the chip's journal. This
+  -- follows from `HasKeptBelow`, which the scan ensures for each header.
   pub begins_scan : {last : Writer V} {refusal : Refusal} → FromHead state first identity.found.size old (λ head.
       refusal ≢ Vault → HasKeptBelow state last head old.chip.bytes (is_touched old.chip.bytes (wanted_at request image
       identity.found.size old.chip.bytes)) (identity.found.size / 4096)) → vault_seen state last ≡ vault

@@ -258,7 +258,7 @@ module _ {request : Request} {image : List ℕ} {chip : Chip} {code : ℕ} {touc
         free = passes.free;
       }
 
--- ---- one verdict
+-- ---- an accepted request has no error as its verdict
 
 pub accepted_only : (request : Request) (image : List ℕ) (chip : Chip) (refusal : Refusal)
     → IsAccepted request image chip → IsVerdict request image chip refusal → ⊥

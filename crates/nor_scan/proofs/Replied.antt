@@ -1,4 +1,5 @@
--- Lemmas about the replies to the identification and to the scan.
+-- Lemmas about the replies to the identification and to the scan. `bytes_read` has the bytes that were last read at
+-- each address.
 use Rattle.std.proofs.Common.{◌≡◌, ◌≢◌, ◌<◌, ◌+◌, ◌*◌, ◌/◌, ◌%◌, ◌∙◌, ℕ, List, length, slice_index, refl, sym, ap, arith}
 use Rattle.nor_model.specs.Exchange.{Exchange}
 use Rattle.nor_model.specs.History.{Continues, KeepsReplies, Answered, begins_with, names}
@@ -15,7 +16,7 @@ use Rattle.nor_driver.specs.ReadBack.{bytes_read}
 use Rattle.nor_driver.proofs.ReadBack.{names_other}
 use Rattle.nor_scan.specs.Replied.{IsIdentifiedBy}
 
--- ---- sectors
+-- ---- reads of sectors
 
 module _ (n : ℕ) {old new : List Exchange} {bytes : List ℕ}
     (answered : Answered (names 0x03 (4096 * n)) old new bytes) where

@@ -1,4 +1,5 @@
--- The loop of a scan: the marks, the reads and the image after the sectors below a bound.
+-- Lemmas about the loop of a scan: which sectors are marked, which were read, and what the image contains after the
+-- sectors below a bound were scanned.
 use Rattle.std.proofs.Common.{◌≡◌, ◌≢◌, ◌<◌, ◌≤◌, ◌+◌, ◌-◌, ◌*◌, ◌/◌, ◌%◌, ◌&&◌, ◌||◌, ◌∙◌, ℕ, Bool, true, false, List}
 use Rattle.std.proofs.Common.{Option, take, drop, length, slice_index, refl, ap, sym, subst, arith, inl, inr}
 use Rattle.std.specs.Prelude.{if◌then◌else◌, ◌==◌, nat_lt}
@@ -60,7 +61,7 @@ pub record HasScanned (request : Request) (size n : ℕ) (image image' : List �
       → slice_index image' a ≡ wanted_at request image size old.chip.bytes a
   pub rest : (a : ℕ) → 4096 * n ≤ a → slice_index image' a ≡ slice_index image a
 
--- ---- marks
+-- ---- marking a sector as touched or raised
 
 -- `seen` says whether sector `s` was seen, and `old` whether `s` was seen and passes a test. Suppose that sector `n` is
 -- seen now, too, and that it passes the test if and only if `verdict` is true. Then `more` says whether `s` was seen,
@@ -98,8 +99,8 @@ counted n plan old new false is below are marked =
     λ s low. sym (rw is at (marked.touched s)) in
     omega (arith, are.count, count_below-same 4096 (has old.touched) (has new.touched) same)
 
--- Let `n` be below 4,096, and let `AreMarks` hold for `n`. If sector `n` is marked by a plan that is raised only if it
--- is touched, `AreMarks` holds for `n + 1`.
+-- Let `n` be below 4,096, let `AreMarks` hold for `n`, and let a plan for sector `n` say that it is raised only if it
+-- also says that it is touched. After this sector is marked, `AreMarks` holds for `n + 1`.
 pub marks_more : (n : ℕ) (plan : SectorPlan) (old new : Scanned) → n < 4096
     → (plan.raised ≡ true → plan.touched ≡ true) → AreMarks n old → HasMarked n plan old new → AreMarks (n + 1) new
 marks_more n plan old new below needed are marked = record {
@@ -108,7 +109,7 @@ marks_more n plan old new below needed are marked = record {
   count = marked.count ∙ counted n plan old new plan.touched refl below are marked;
 }
 
--- If sector `n` is marked by a plan that is touched, exactly this sector is added to the touched sectors.
+-- If `plan` says that sector `n` is touched, marking it adds exactly sector `n` to the touched sectors.
 pub marked_more : (n : ℕ) (plan : SectorPlan) (old new : Scanned) → plan.touched ≡ true → HasMarked n plan old new
     → HasOneMore (has old.touched) n (has new.touched)
 marked_more n plan old new touched marked = record {
@@ -116,12 +117,12 @@ marked_more n plan old new touched marked = record {
   others = λ s other. rw (marked.touched s, touched, ne_eqb s n other);
 }
 
--- If sector `n` is marked by a plan that isn't touched, the set of touched sectors doesn't change.
+-- If `plan` says that sector `n` isn't touched, marking it doesn't change the set of touched sectors.
 pub marked_none : (n : ℕ) (plan : SectorPlan) (old new : Scanned) → plan.touched ≡ false → HasMarked n plan old new
     → (s : ℕ) → has new.touched s ≡ has old.touched s
 marked_none n plan old new untouched marked s = rw untouched at (marked.touched s)
 
--- ---- from sector to sector
+-- ---- the loop, from sector to sector
 
 -- Holds if the request is a write or an erase, and sector `n` is on a chip of this size (at most 16 MiB). `verdict`
 -- says whether this sector has an included address.

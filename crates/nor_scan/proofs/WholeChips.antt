@@ -1,5 +1,5 @@
--- Lemmas about saving a whole chip: the loop over its sectors, and the prefix of the journal that a `telling` vault has
--- after an error.
+-- Lemmas about saving a whole chip: the loop over its sectors, and the prefix of the journal that a faithful vault
+-- (`telling`) has after an error.
 use Rattle.std.proofs.Common.{◌≡◌, ◌≤◌, ◌+◌, ◌*◌, ◌/◌, ◌&&◌, ℕ, Bool, true, List, length, refl, subst, arith}
 use mathlib.Core.Path.{fun_ext}
 use Rattle.std.specs.Prelude.{nat_lt}
@@ -24,7 +24,7 @@ use Rattle.nor_scan.specs.SavedWhole.{BeginsWholeChip}
 use Rattle.nor_scan.proofs.Begun.{put_alike}
 use Rattle.nor_scan.proofs.Cuts.{head_read, head_same, same_bytes as chip_bytes, PutsHead, FromHead, from_head}
 
--- ---- the loop
+-- ---- the loop over the sectors
 
 -- The set of the sectors below `n + 1` is that of the sectors below `n` with `n` added.
 pub one_below : (n : ℕ) → HasOneMore (sectors_below n) n (sectors_below (n + 1))
@@ -73,8 +73,8 @@ cut_whole : {head : Content} {chip : ℕ → ℕ} {bytes : List ℕ} (total : �
 cut_whole {head = head} {chip = chip} {bytes = bytes} total =
     subst (λ (set : ℕ → Bool). IsJournalPrefix head chip set bytes) (all_below total)
 
--- After an error within the header, `BeginsWholeChip` holds, since a prefix of the header is a prefix of the chip's
--- journal.
+-- After an error within the header, `BeginsWholeChip` holds: if the bus was well-behaved, and its chip was idle and had
+-- this identification, a faithful vault holds a prefix of the chip's journal. It holds a prefix of the header here.
 pub whole_in_head : (seen vault : VaultState) {identity : Identity} {status : List ℕ} {old : BusState}
     → (old.honest ≡ true → IsChip old.chip) → status ≡ kept_read identity
     → IsContent (head_read identity status) → HoldsPrefix seen (front (head_read identity status)) → seen ≡ vault
@@ -90,8 +90,9 @@ whole_in_head seen vault reaches read content holds same = rw (← same) (λ fai
 
 module _ {V : Type 0} {state : V → VaultState} {first : Writer V} {identity : Identity} {old : BusState}
     (puts : PutsHead state first identity old) where
-  -- After an error within the sectors, `BeginsWholeChip` holds. It follows from `HoldsCut`, which the loop ensures for
-  -- each header.
+  -- After an error within the sectors, `BeginsWholeChip` holds: if the bus was well-behaved, and its chip was idle and
+  -- had this identification, a faithful vault holds a prefix of the chip's journal. This follows from `HoldsCut`, which
+  -- the loop ensures for each header.
   pub whole_in_sectors : (seen vault : VaultState) → FromHead state first identity.found.size old (λ head.
       HoldsCut seen head old.chip.bytes (sectors_below (identity.found.size / 4096)) (identity.found.size / 4096))
       → seen ≡ vault → BeginsWholeChip identity old vault

@@ -41,15 +41,15 @@ pub record IsJournalOf (head : Content) (sectors : ℕ → Bool) (bytes : List �
   pub head_same : SameHeader head content
   pub saved : (s : ℕ) → is_saved content s ≡ sectors s
 
--- Holds if the vault has the encoding of a journal, or isn't sealed, or isn't `telling`. `save` promises this on every
--- bus.
+-- Holds if the vault isn't sealed, isn't faithful (`telling`), or has the encoding of a journal. `save` promises this
+-- on every bus.
 abbrev pub HoldsJournal : VaultState → Type 0
 HoldsJournal vault = vault.sealed ≡ true → vault.telling ≡ true → IsJournal vault.bytes
 
 -- Holds if the result of a `save` that succeeded is right for this chip. The marked sectors are those that the request
 -- touches and raises on the chip, and the image has the target bytes of the touched sectors. If `IdentityAccepts` holds
--- with `code`, then `ScanAccepts` holds with `saved.unlock`. A `telling` vault has a journal of the chip that saves
--- exactly the touched sectors.
+-- with `code`, then `ScanAccepts` holds with `saved.unlock`. A faithful vault (`telling`) has a journal of the chip
+-- that saves exactly the touched sectors.
 pub record HasSavedChip (request : Request) (code : ℕ) (image image' : List ℕ)
     (chip : Chip) (vault : VaultState) (saved : SavedScan) : Type 0 where
   pub touched : (s : ℕ) → has saved.scanned.touched s ≡ is_touched chip.bytes (wanted request image chip) s
@@ -98,7 +98,7 @@ pub record HasWholeRecords (head : Content) (old : ℕ → ℕ) (touched : ℕ �
   pub saves : Saves old (λ s. nat_lt s bound && touched s) content
   pub is : bytes ≡ front content
 
--- Holds if a `telling` vault has what it may have after any error of `save`, even after 11. If the bus was
+-- Holds if a faithful vault (`telling`) has what it may have after any error of `save`, even after 11. If the bus was
 -- well-behaved, and its chip was idle and had this identification, the vault has a prefix of the journal of exactly the
 -- chip's touched sectors.
 abbrev pub SaveCuts : Request → Identity → List ℕ → BusState → VaultState → Type 0
@@ -106,9 +106,9 @@ SaveCuts request identity image old vault = vault.telling ≡ true
     → (chip : Chip) → IsIdentityOf chip identity → HasIdleChip chip old
     → IsJournalPrefix (header_of chip) chip.bytes (is_touched chip.bytes (wanted request image chip)) vault.bytes
 
--- Holds if a `telling` vault has what it may have after an error of `save` other than 11. If the bus was well-behaved,
--- and its chip was idle and had this identification, the vault has the header of the chip's journal, followed by the
--- records of the touched sectors below some bound.
+-- Holds if a faithful vault (`telling`) has what it may have after an error of `save` other than 11. If the bus was
+-- well-behaved, and its chip was idle and had this identification, the vault has the header of the chip's journal,
+-- followed by the records of the touched sectors below some bound.
 abbrev pub SaveBegins : Request → Identity → List ℕ → BusState → VaultState → Refusal → Type 0
 SaveBegins request identity image old vault refusal = refusal ≢ Vault → vault.telling ≡ true
     → (chip : Chip) → IsIdentityOf chip identity → HasIdleChip chip old

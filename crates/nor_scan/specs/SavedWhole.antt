@@ -11,15 +11,15 @@ use Rattle.nor_scan.specs.declared.identity.Identity.{Identity}
 use Rattle.nor_scan.specs.Saving.{IsIdentityOf, HasIdleChip, header_of}
 use Rattle.nor_scan.specs.Scanning.{sectors_below}
 
--- Holds if a `telling` vault has a journal of every sector of the chip on the bus. The premises are that the bus is
--- well-behaved, and that its chip is idle and has this identification.
+-- Holds if a faithful vault (`telling`) has a journal of every sector of the chip on the bus. The premises are that the
+-- bus is well-behaved, and that its chip is idle and has this identification.
 abbrev pub HasWholeChip : Identity → BusState → VaultState → Type 0
 HasWholeChip identity old vault = vault.telling ≡ true
     → (chip : Chip) → IsIdentityOf chip identity → HasIdleChip chip old
     → JournalSaves (header_of chip) chip.bytes (sectors_below (chip.config.size / 4096)) vault.bytes
 
--- Holds if a `telling` vault has a prefix of the journal of every sector of the chip on the bus. The premises are that
--- the bus is well-behaved, and that its chip is idle and has this identification.
+-- Holds if a faithful vault (`telling`) has a prefix of the journal of every sector of the chip on the bus. The
+-- premises are that the bus is well-behaved, and that its chip is idle and has this identification.
 abbrev pub BeginsWholeChip : Identity → BusState → VaultState → Type 0
 BeginsWholeChip identity old vault = vault.telling ≡ true
     → (chip : Chip) → IsIdentityOf chip identity → HasIdleChip chip old

@@ -1,4 +1,5 @@
--- Definitions about a chip with its identification, about a request, and about the header of the chip's journal.
+-- Definitions for a chip and its identification, for a request and its touched sectors, and for the header of the
+-- chip's journal.
 use Rattle.std.specs.Prelude.{◌≡◌, ◌≢◌, ◌<◌, ◌*◌, ◌/◌, ◌&&◌, ℕ, Bool, true, false, Some, [], ◌∷◌, ◌%◌, List}
 use Rattle.nor_model.specs.Chip.{Chip, IsSame}
 use Rattle.nor_model.specs.Bus.{BusState}

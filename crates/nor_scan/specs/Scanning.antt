@@ -1,4 +1,5 @@
--- The effect of scans: which sectors are touched and raised, and what is written to the journal.
+-- The effect of a scan: which sectors are touched (must change) and raised (need an erase), and what is written to the
+-- journal.
 use Rattle.std.specs.Prelude.{◌≡◌, ◌<◌, ◌≤◌, ◌+◌, ◌*◌, ◌/◌, ◌==◌, ◌&&◌, ◌||◌, ℕ, Bool, true, false, nat_lt, Result, Err, List, slice_index, if◌then◌else◌, ⊤}
 use Rattle.nor_model.specs.History.{Answered, names}
 use Rattle.nor_model.specs.Bus.{BusState}
@@ -51,8 +52,8 @@ pub record AreMarks (n : ℕ) (scanned : Scanned) : Type 0 where
   pub inside : (s : ℕ) → has scanned.raised s ≡ true → has scanned.touched s ≡ true
   pub count : scanned.count ≡ sector_count (has scanned.touched)
 
--- Holds if the sectors in `seen` are marked correctly. A sector is marked as touched if and only if some byte differs
--- from the target, and as raised if and only if some bit must go from 0 to 1. No other sector is marked.
+-- Holds if the sectors in `seen` are marked correctly: as touched if and only if some byte differs from the target, and
+-- as raised if and only if some bit must go from 0 to 1. No sector outside `seen` is marked.
 pub record AreRight (wanted content : ℕ → ℕ) (seen : ℕ → Bool) (scanned : Scanned) : Type 0 where
   pub touched : (s : ℕ) → has scanned.touched s ≡ (seen s && is_touched content wanted s)
   pub raised : (s : ℕ) → has scanned.raised s ≡ (seen s && is_raised content wanted s)
@@ -121,8 +122,8 @@ abbrev pub ScanPuts : {T : Type 0} → Result T Refusal → (old new : VaultStat
 ScanPuts (Err Vault) old new = Refused old new
 ScanPuts _ old new = Accepted old new
 
--- Holds if a `telling` vault has a prefix of the journal with this header that saves exactly the touched sectors below
--- `total`, with the bytes that these sectors have in `old`.
+-- Holds if a faithful vault (`telling`) has a prefix of the journal with this header that saves exactly the touched
+-- sectors below `total`, with the bytes that these sectors have in `old`.
 abbrev pub HoldsCut : VaultState → (head : Content) → (old : ℕ → ℕ) → (touched : ℕ → Bool) → (total : ℕ) → Type 0
 HoldsCut vault head old touched total = vault.telling ≡ true
     → IsJournalPrefix head old (λ s. nat_lt s total && touched s) vault.bytes

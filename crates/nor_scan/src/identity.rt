@@ -5,7 +5,7 @@ ghost use Rattle.nor_model.specs.Size.{is_chip_size};
 use nor_model::Status;
 use nor_probe::Found;
 
-/// The result of the identification: the chip that was found with its status 1, status 2, and the unique ID.
+/// The result of the identification: the chip that was found (with its status 1), its status 2 and its unique ID.
 #[derive(Clone, Copy)]
 pub struct Identity {
     pub found: Found,

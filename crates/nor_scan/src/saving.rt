@@ -29,20 +29,21 @@ pub struct SavedScan {
 /// `vault` must be empty and unsealed; for a write or an erase `image` must be as long as the chip that was found.
 /// `code` is the result of `judge_identity`.
 ///
-/// No modifying command is sent. After success on any bus, a `telling` vault holds a journal of exactly the sectors in
-/// `scanned.touched`. Its header is the one that `identity` gives, and each record has the bytes of the last reply to a
-/// read of its sector. If the bus is well-behaved, and its chip is idle and is the one that `identity` describes, these
-/// sectors are the ones that the request touches on this chip. In that case success also sets the image's touched
-/// sectors to the target bytes.
+/// No modifying command is sent. After success on any bus, a faithful vault (`telling`: it holds what it accepted)
+/// holds a journal of exactly the sectors in `scanned.touched`. Its header is the one that `identity` gives, and each
+/// record has the bytes of the last reply to a read of its sector. If the bus is well-behaved, and its chip is idle and
+/// is the one that `identity` describes, these sectors are the ones that the request touches on this chip. In that case
+/// success also sets the image's touched sectors to the target bytes.
 ///
 /// Returns error 9 (the status registers must be written and are locked), 10 (a touched sector is protected, and the
-/// request doesn't unlock), 11 (the vault failed) or 12 (the bus stopped). Error 9 or 10 is the verdict on the request
-/// if the bus is well-behaved, its chip is idle and is the one that `identity` describes, and none of the errors 1 to 8
-/// applies. If the chip has the requested name or none is requested, `judge_identity` has checked the last condition.
+/// request doesn't unlock), 11 (the vault failed) or 12 (the bus stopped). Error 9 or 10 is the lowest error that
+/// applies to the request if the bus is well-behaved, its chip is idle and is the one that `identity` describes, and
+/// none of the errors 1 to 8 applies. If the chip has the requested name or none is requested, `judge_identity` has
+/// checked the last condition.
 ///
-/// After an error the vault is unsealed. If the vault is `telling`, the bus is well-behaved, and its chip is idle and
-/// is the one that `identity` describes, the vault holds a prefix of the chip's journal. After an error other than 11
-/// that prefix ends after the header or a complete record.
+/// After an error the vault is unsealed. If the vault is faithful, the bus is well-behaved, and its chip is idle and is
+/// the one that `identity` describes, the vault holds a prefix of the chip's journal. After an error other than 11 that
+/// prefix ends after the header or a complete record.
 pub fn save<B: Bus, V: Vault>(
     bus: &mut B,
     vault: &mut V,

@@ -45,8 +45,8 @@ impl Scanned {
         }
     }
 
-    /// Records the plan of `sector`, and counts one read. `sector` and `reads` must be below 4,096, and `count` must be
-    /// at most `reads`.
+    /// Records whether `sector` is touched and raised, as `plan` says, and counts one read. `sector` and `reads` must
+    /// be below 4,096, and `count` must be at most `reads`.
     pub fn mark(&mut self, sector: u32, plan: SectorPlan)
         requires reachable { sector < 4096 }
         requires room { self.old.count ≤ self.old.reads }
