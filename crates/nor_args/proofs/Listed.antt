@@ -1,4 +1,4 @@
--- The list of stops, read piece by piece.
+-- Lemmas about the stops in the value of `--rehearse`, which are parsed one after the other.
 use Rattle.std.proofs.Common.{◌≡◌, ℕ, ◌+◌, ◌<◌, ◌≤◌, ◌&&◌, List, [], ◌∷◌, ◌++◌, Option, Some}
 use Rattle.std.proofs.Common.{None, length, drop, get_or, cond, arith, nat_le}
 use Rattle.std.specs.Prelude.{filter_map}

@@ -1,4 +1,4 @@
--- The result of parsing the value of an option.
+-- Lemmas about the parsed value of an option that may be missing.
 use Rattle.std.proofs.Common.{◌≡◌, false, Option, None, arith, option_map}
 use Rattle.std.specs.Prelude.{option_and_then}
 use Rattle.std.specs.Borrow.{Bor}
@@ -11,7 +11,8 @@ use Rattle.nor_args.specs.declared.programmer.Programmer.{Programmer}
 abbrev text_at : Option (Bor Text) → Option Text
 text_at = option_map (λ t. t.now)
 
--- Holds if `found` is the programmer that the value describes, or `None` if the value describes none.
+-- Holds if `found` is the programmer that the value describes. If there is no value, or if the value describes no
+-- programmer, `found` must be `None`.
 abbrev pub Means : Option Text → Option Programmer → Type 0
 Means text found = MatchOption found (passes_test is_programmer_text text ≡ false)
     (λ programmer. IsSomeAnd text (λ t. IsProgrammer t programmer))

@@ -54,8 +54,8 @@ parsed : (text : Option Text) (stops : Option (List ℕ)) (stopped : Bool)
     → option_and_then stops_of text ≡ stops → is_some stops ≡ true
 parsed text stops stopped sound some same = grind arith
 
--- If `Sound` holds, the options have a target of a change and `--journal` is missing, the value of `--rehearse` can be
--- parsed.
+-- Let `Sound` hold, and let the options have a target of a change. If `--journal` is missing, then `--rehearse` is
+-- given and its value can be parsed.
 pub stops-kept : (given : Texts) (wanted : Wanted) (stops : Option (List ℕ)) → Sound given
     → IsWantedByArguments given wanted → option_and_then stops_of given.rehearse ≡ stops
     → given.journal ≡ None → is_some stops ≡ true

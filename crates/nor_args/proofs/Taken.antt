@@ -1,4 +1,5 @@
--- What follows from the result of parsing the arguments with the options of flashnor or of a program for hardware.
+-- Lemmas about a parse of the arguments by `clap`. A success yields the rows that the specification of `clap` defines,
+-- and a failure is a usage fault that the arguments may have.
 use Rattle.std.proofs.Common.{◌≡◌, [], true, List, Ok, Err, inl, inr, refl}
 use Rattle.clap.specs.Words.{App, FailsBy, HasMatchesOf, fault_of, found_of, is_simple, is_simple_and_free, matches_of}
 use Rattle.clap.specs.Words.{rows_of}
@@ -33,7 +34,8 @@ pub hardware_options_are_simple : (program : Text) → is_simple (hardware_optio
 unfolding clap_on_literals
 hardware_options_are_simple program = refl
 
--- Let a parse with the options `own` succeed. The specification of `clap` then lists no error for these arguments. The
+-- Let `clap` parse `words` with the options `own`, and let `m` be the resulting matches. If `own` is simple and free
+-- (`is_simple_and_free`), the specification of `clap` lists no error for `words`. If `own` is simple (`is_simple`), the
 -- matches `m` have exactly the rows that `matches_of` defines for `own` and `words`.
 module _ (app own : App) (same : app ≡ own) (words : List Text) (m : ArgMatches) where
   pub none-refused : is_simple_and_free own ≡ true → (is_simple_and_free app ≡ true → FailsBy (fault_of app words) (Ok m))

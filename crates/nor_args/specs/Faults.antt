@@ -10,7 +10,7 @@ use Rattle.nor_args.specs.Stops.{stops_of}
 use Rattle.nor_args.specs.declared.words.UsageFault.{UsageFault}
 use Rattle.nor_args.specs.declared.words.UsageFault.TheVariants as why
 
--- whether the options have a fault, and this fault
+-- one of the usage faults, and before it a truth value: whether the options have this fault
 abbrev pub Case : Type 0
 Case = Bool × UsageFault
 

@@ -123,7 +123,7 @@ hardware_given_in rows = record (given_in rows) {
 abbrev pub hardware_given_by : (program : Text) → List Text → Texts
 hardware_given_by program words = hardware_given_in (matches_of (hardware_options program) words)
 
--- the options in `given` of the type `Given`, which the code uses, with each text as its bytes
+-- the options in `given`, a value of the code's type `Given`, with each text as its bytes
 abbrev pub texts_of : Given → Texts
 texts_of given = record {
   programmer = option_map (λ text. text.now) given.programmer;

@@ -16,11 +16,11 @@ valued id = record (new_rule id) { action = Some Set; value_names = 1 }
 abbrev pub flag : Text → Rule
 flag id = record (new_rule id) { action = Some SetTrue }
 
--- the same option, written as `-` and the given letter
+-- the option `rule`, written as `-` and the given letter
 abbrev pub by_letter : Text → Rule → Rule
 by_letter letter rule = record rule { short = slice_get letter 0 }
 
--- the same option, with its ID as a long name after `--`
+-- the option `rule`, with its ID as a long name after `--`
 abbrev pub by_name : Rule → Rule
 by_name rule = record rule { long = Some rule.id }
 
@@ -146,7 +146,7 @@ hardware_options program =
 
 -- ---- the tables in src/options.rt and src/options/hardware.rt
 
--- the option with the name and the letter of a row, before it is set whether the option takes a value
+-- the option with the name and the letter of a row; whether the option takes a value is not yet set
 abbrev pub named : Choice → Rule
 named choice = record (new_rule choice.name.now) {
   short = choice.letter;
@@ -164,7 +164,8 @@ chosen choice = record (named choice) {
 abbrev pub with_choice : App → Choice → App
 with_choice app choice = with_rule app (chosen choice)
 
--- the command with the option of this row and its long name appended, if a program for hardware has this option
+-- the command with the option of this row and its long name appended, or the command itself if a program for hardware
+-- lacks this option
 abbrev pub with_hardware_choice : App → Choice → App
 with_hardware_choice app choice =
     if is_for_hardware choice.name.now then with_rule app (by_name (chosen choice)) else app

@@ -58,7 +58,7 @@ settings_of text = pieces_of (drop 6 text)
 abbrev pub value_in : List Text → Text → Option Text
 value_in settings key = option_map value_of (find (has_key key) settings)
 
--- the value of the key in `text`, the value of `-p`, or `None` if `text` lacks the key
+-- the value that `text` gives to `key`, or `None` if `text` lacks the key; `text` is the value of `-p`
 abbrev pub said : (text key : Text) → Option Text
 said text = value_in (settings_of text)
 

@@ -151,7 +151,7 @@ names_reason (Some layout) (Some names) = because.NoRegions layout
 names_reason (Some layout) None = because.NoNames layout
 names_reason None names = because.NoLayout
 
--- the reason of fault 7: more than one layout is given, or something is missing
+-- the reason of fault 7: more than one layout is given, or a layout, `-i` or an operation on regions is missing
 abbrev pub regions_reason : Texts → Reason
 regions_reason given =
     if has_two_layouts given then operations_reason (first_layout given) (last_layout given)

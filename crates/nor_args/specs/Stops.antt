@@ -1,4 +1,4 @@
--- The value of `--rehearse`.
+-- The value of `--rehearse`: the numbers of transactions after which a rehearsal stops its session and its restores.
 use Rattle.std.specs.Prelude.{◌&&◌, ℕ, List, Option, Some, None, length, filter_map, nat_le, if◌then◌else◌}
 use Rattle.std.specs.List.{list_all}
 use Rattle.nor_args.specs.Text.{Text, pieces_of, reads}

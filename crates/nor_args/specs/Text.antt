@@ -6,7 +6,7 @@ use Rattle.std.specs.List.{slice_split, before_first, after_first}
 abbrev pub Text : Type 0
 Text = List ℕ
 
--- the parts into which its commas divide the text
+-- the parts of the text between its commas
 abbrev pub pieces_of : Text → List Text
 pieces_of = slice_split (λ byte. byte == 44)
 

@@ -30,8 +30,8 @@ mod faults;
 mod flags;
 mod reasons;
 
-// A correct value of `-p`, without a `stop=`. The options of a program for hardware are checked with this value in
-// place of their own.
+// A correct value of `-p`, without a `stop=`. The other options of a program for hardware are checked as if this were
+// the value of its `-p`.
 const ANY_CHIP: &str = "dummy:emulate=TINY64";
 
 /// The options in the arguments. An option that takes a value has that value, or `None` if it isn't given. A flag is
@@ -151,8 +151,8 @@ impl<'a> Given<'a> {
     /// Returns the job of a program for hardware. With `--check-journal` the job has the file name of the journal.
     /// Otherwise it has the value of `-p`, and the operation or the first of the faults 4 to 9 that the options have.
     ///
-    /// With `--check-journal`, returns the first of the faults 4 to 9 if the options have one. Returns fault 2 if `-p`
-    /// and `--check-journal` are missing. The options must not include `-L`.
+    /// With `--check-journal`, returns the first of the faults 4 to 9 if the options have one. Returns fault 2 if both
+    /// `-p` and `--check-journal` are missing. The options must not include `-L`.
     pub fn hardware_job(self) -> Result<HardwareJob<'a>, WrongArguments<'a>>
         requires { self.list ≡ false }
         ensures { MatchResult result (IsHardwareAsked (texts_of self.entry)) (IsWrongForHardware (texts_of self.entry)) }

@@ -52,8 +52,8 @@ pub struct ProgrammerJob<'a> {
 pub struct Operation<'a> {
     /// `-c NAME`: the name that the chip must have.
     pub named: Option<ChipName>,
-    /// True without `-N`: after a write, an erase or a restore, the program also compares the sectors that this
-    /// operation did not change.
+    /// True without `-N`: after a restore, and after a write or an erase without `-n`, the program also compares the
+    /// sectors that the operation did not change.
     pub verifies_all: bool,
     /// True with `--quick`: a restore rewrites only the saved sectors that differ.
     pub is_quick: bool,
@@ -72,9 +72,10 @@ pub struct Operation<'a> {
 /// How a program for hardware shows the progress of its job.
 #[derive(Clone, Copy)]
 pub enum ProgressMode {
-    /// `auto`, also without `--progress`: progress is shown if standard error is a terminal.
+    /// `auto`, also without `--progress`: progress is shown only if standard error is a character device. On a terminal
+    /// it is one line that is rewritten, on any other character device it is lines below each other.
     Auto,
-    /// `plain`: one line is printed per step, even if standard error isn't a terminal.
+    /// `plain`: progress is shown as lines below each other, even if standard error is a file or a pipe.
     Plain,
     /// `none`: no progress is shown.
     Hidden,

@@ -103,9 +103,8 @@ pub enum Reason<'a> {
     Setting { setting: &'a str, flaw: Flaw },
     /// 3: no setting of `-p` has a flaw, but `emulate=` is missing.
     NoChip,
-    /// 4: the first and the last of the given operations. They are in the order of the help, except that `--flash-name`
-    /// follows `--flash-size`. 7: the first and the last of the given layouts, in the order `-l`, `--fmap-file`,
-    /// `--ifd-file`.
+    /// 4: the first and the last of the given operations, in the order of the help except that `--flash-name` follows
+    /// `--flash-size`. 7: the first and the last of the given layouts, in the order `-l`, `--fmap-file`, `--ifd-file`.
     Operations { first: OptionName, last: OptionName },
     /// 5: this value of `--wp-range` isn't a start and a length.
     Range(&'a str),

@@ -19,10 +19,10 @@ use thiserror::Error;
 /// arguments.
 #[derive(Debug, Drop, Error)]
 pub enum UsageFault {
-    /// 1: `clap` rejects the arguments, or they ask for the help, or in a program for hardware for the version. The
-    /// error has the text to print.
+    /// 1: `clap` rejects the arguments, or they ask for the help. In a program for hardware also: they ask for the
+    /// version. The error has the text to print.
     Words(WordsError),
-    /// 2: `-p` and `-L` are missing, or for a program for hardware `-p` and `--check-journal`.
+    /// 2: both `-p` and `-L` are missing. For a program for hardware: both `-p` and `--check-journal` are missing.
     NoProgrammer,
     /// 3: the value of `-p` doesn't describe a programmer.
     Programmer,
@@ -135,13 +135,13 @@ pub fn explained_request_of<'a>(
 }
 
 /// Returns the job that the arguments of a program for hardware ask for. `words` has the arguments that follow the
-/// program's name. The options are those of flashnor except `-L` and `--rehearse`, and those that only programs for
-/// hardware have. The value of `-p` isn't parsed.
+/// program's name. The options are those that only programs for hardware have, and those of flashnor except `-L` and
+/// `--rehearse`. The value of `-p` isn't parsed.
 ///
 /// Returns one of these usage faults with its reason:
 ///
-/// - fault 1 if `clap` rejects the arguments
-/// - fault 2 if `-p` and `--check-journal` are missing
+/// - fault 1 if `clap` rejects the arguments, or if they ask for the help or the version
+/// - fault 2 if both `-p` and `--check-journal` are missing
 /// - the first of the faults 4 to 8 that the options have, if `--check-journal` is given; without `--check-journal`
 ///   such a fault is part of the job (`ProgrammerJob::operation`)
 /// - fault 10, out of memory, which may be returned for any arguments

@@ -4,7 +4,8 @@ ghost use Rattle.nor_args.specs.Options.{chosen, own_rules};
 
 use crate::options::Choice;
 
-// The rows are in the order of the help, which prints them after the options that these programs share with flashnor.
+// The options that only programs for hardware have, except `-R`, in the order of the help. The help prints them after
+// the options that these programs share with flashnor.
 static HARDWARE_CHOICES: [Choice; 9] = [
     Choice {
         letter: None,
