@@ -104,8 +104,8 @@ fn request_for(
     Ok((request, spans))
 }
 
-// Draws an image: the chip's bytes, some of which are changed. Some images have other bytes everywhere, and one image
-// in 25 also has another length.
+// Draws an image: the chip's bytes, usually with changes. In some images all bytes are replaced, and one image in 25
+// has another length than the chip.
 fn image_for(alloc: Global, dice: &mut Dice, chip: &Chip) -> Result<Vec<u8>, Fault> {
     let mut image = chip.bytes.to_vec(alloc)?;
     contents::alter(dice, image.as_mut_slice());

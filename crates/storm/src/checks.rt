@@ -110,7 +110,7 @@ pub fn check_report(chip: &Chip, work: Work, report: &Report) -> Result<(), Faul
     ])
 }
 
-/// Checks that `found` describes `chip`, with status 1 as the chip shows it after the first wait.
+/// Checks that `found` describes `chip`, with status 1 as the first poll that shows BUSY clear returns it.
 pub fn check_found(chip: &Chip, found: &Found) -> Result<(), Fault> {
     let config = &chip.config;
     let named = found.name == verdicts::name_of(config);

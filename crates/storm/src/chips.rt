@@ -95,7 +95,7 @@ pub fn row(dice: &mut Dice) -> Option<Part> {
     Some(dice.pick(*first, others))
 }
 
-/// Returns the configuration of the emulated chip with this ID, or `None` if the table has no row with it.
+/// Returns the configuration of the emulated chip with this ID, or `None` if no row of the table has this ID.
 pub fn listed(id: [u8; 3]) -> Option<Config> {
     let part = part_of(id)?;
     Some(Config::emulated(part.id, part.size, part.kinds, part.scheme))

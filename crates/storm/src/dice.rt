@@ -27,9 +27,9 @@ impl Dice {
         below(&mut self.words, n)
     }
 
-    /// Draws the number of bytes of its transaction that a stop still sends. Two stops in three send none, and the
-    /// result is `None`. For the others the number is from 0 to 6, from 0 to 260 (the length of a full page program),
-    /// or all bytes.
+    /// Draws how many bytes of the interrupted transaction are still sent at a stop. At two stops in three none are
+    /// sent, and the result is `None`. For the other stops the number is from 0 to 6, from 0 to 260 (the length of a
+    /// full page program), or `u32::MAX` for all bytes.
     pub fn cut(&mut self) -> Option<u32> {
         match below(&mut self.cuts, 12) {
             0 | 1 => Some(below(&mut self.cuts, 7)),

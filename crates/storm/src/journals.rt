@@ -1,4 +1,4 @@
-//! The bytes that a session must write to its vault, computed by simple rules from the chip and its target.
+//! The journal that a session must write to its vault, computed by simple rules from the chip and the session's target.
 
 use crate::cases::Case;
 use crate::chips::Chip;
@@ -69,8 +69,8 @@ pub fn check_put(vault: &MemVault, begun: &[u8], sealed: bool) -> Result<(), Fau
     ])
 }
 
-/// Checks the vault of a session that was refused after its whole scan: it must hold the journal without the end mark
-/// and the digest.
+/// Checks the vault of a session that was refused after its whole scan. The vault must hold the journal without the end
+/// mark and the digest.
 pub fn check_refused(
     alloc: Global,
     case: &Case,

@@ -107,7 +107,8 @@ fn check_session(call: Call<'_>, ran: &Ran) -> Result<(), Fault> {
 
 /// Restores from the journal of a session, with a stop, on the chip that the previous call left. Checks that the
 /// restore succeeds if and only if the stop is after all its transactions, that it sends exactly the transactions
-/// before the stop, and that afterwards the chip equals the model. After a success it must be the original chip.
+/// before the stop, and that afterwards the chip equals the model. After a success, the chip must have the bytes and
+/// non-volatile status bits of the original chip.
 pub fn restore(
     alloc: Global,
     accepted: Accepted<'_>,

@@ -239,8 +239,8 @@ enum Lie {
 type Faulty = HighBus<SpoiltBus<SimBus>>;
 
 // Draws a fault of the bus. About three of four faults that clear a bit are replaced by a fault that sets the same bit
-// in the replies to one opcode. Half of the time this opcode is 35h (status 2). The replacement draws no random number,
-// so the other faults of each seed don't change.
+// in the replies to one opcode. Half of the time this opcode is 35h (status 2). The replacement depends only on `count`
+// and draws no random number.
 fn lie_for(dice: &mut Dice, count: u64) -> Lie {
     let opcodes = [0x35, 0x05, 0x35, 0x9F, 0x35, 0x03, 0x35, 0x4B];
     let high = usize::try_from(count / 4 % 8)

@@ -81,8 +81,8 @@ impl Model {
         }
     }
 
-    /// Returns a fault unless the chip on the bus has the bytes, the non-volatile status bits, BUSY and the latch of
-    /// the model.
+    /// Returns a fault unless the chip on the bus has the bytes, the non-volatile status bits, BUSY and the write
+    /// enable latch of the model.
     pub fn check(&self, bus: &SimBus) -> Result<(), Fault> {
         let now = bus.status();
         let shown = now[0] & 0b0000_0011;
@@ -256,7 +256,7 @@ fn sent_by(line: &str) -> &str {
     }
 }
 
-// Returns the byte at a position, counted from 0, of the bytes whose hexadecimal digits are `sent`.
+// Returns the byte at the position `place`, counted from 0, in `sent`, which has two hexadecimal digits for each byte.
 fn byte_at(sent: &str, place: usize) -> u8 {
     let from = place.saturating_mul(2);
     let digits = sent.get(from..from.saturating_add(2)).unwrap_or("");

@@ -137,8 +137,9 @@ pub fn put(shown: &mut Shown, at: usize, piece: &[u8]) {
     }
 }
 
-/// Returns the size and the erase types that the bytes describe, or the first of the eight faults. `size` is the size
-/// of the chip that returns the bytes, which takes the table's address modulo this size.
+/// Returns the size and the erase types that the bytes describe, or the first of the eight faults of `SfdpFault` that
+/// the bytes have. `size` is the size of the chip that returns the bytes. The chip takes the table's address modulo
+/// this size.
 pub fn read(shown: &Shown, size: u32) -> Result<Told, SfdpFault> {
     if shown[..4] != [0x53, 0x46, 0x44, 0x50] {
         return Err(SfdpFault::Signature);

@@ -205,8 +205,8 @@ fn first_difference(case: &Case) -> Option<Refusal> {
 }
 
 /// Checks the result of a successful call on a faulty bus. `known` has the chip that the replies described to the
-/// reference implementation, and a protection or a copy must be that of this chip. The reports of copies and
-/// verifications, and the results of probes, are not checked.
+/// reference implementation. A report on protection must describe this chip, and a copy must have its bytes. The
+/// reports of copies and verifications, and the results of probes, are not checked.
 pub fn check_known(alloc: Global, known: &Case, told: &Told) -> Result<(), Fault> {
     match told {
         Told::Found | Told::Comparison(_) => Ok(()),
@@ -245,7 +245,8 @@ fn copy_of(alloc: Global, case: &Case) -> Result<Vec<u8>, Fault> {
 }
 
 // Checks the report on protection: the protected range, whether the status is locked, and the chip's size. An empty
-// range must be reported with address 0 and length 0. If the protection bits are undefined, no range must be reported.
+// range must be reported with address 0 and length 0. If the protection bits are undefined, the report must lack a
+// range.
 fn check_protection(case: &Case, told: Protection) -> Result<(), Fault> {
     let code = guards::code_of(case.chip.status);
     let size = case.chip.config.size;
@@ -264,8 +265,9 @@ fn check_protection(case: &Case, told: Protection) -> Result<(), Fault> {
     ])
 }
 
-// Checks the report of a readout or a verification. It must describe the chip (`check_found`), and count no changes.
-// Its transactions must be those of the probe, and one read for each sector that contains an included address.
+// Checks the report of a readout or a verification. The report must describe the chip (`check_found`), and count no
+// changes. Its number of transactions must be that of the probe plus one for each sector that contains an included
+// address.
 fn check_report(case: &Case, report: &Report) -> Result<(), Fault> {
     checks::check_found(&case.chip, &report.found)?;
     let idle = report.touched == 0 && report.erases == 0 && report.programs == 0;
@@ -285,9 +287,9 @@ struct Copied {
     sent: Vec<u8>,
 }
 
-// Checks a readout into a vault that refuses one of its calls. If the readout must return an error even into a vault
-// that refuses nothing, it must return the same error here. Otherwise it must return error 19 with the number of bytes
-// in the vault, including those that the vault kept of the refused piece.
+// Checks a readout into a vault that refuses one of the calls that it receives. The readout must return error 19 with
+// the number of bytes in the vault, including those that the vault kept of the refused piece. The only other error that
+// it may return is the one that it must return into a vault that refuses nothing.
 fn check_refused_copy(alloc: Global, dice: &mut Dice, case: &Case) -> Result<(), Fault> {
     let nth = u64::from(dice.below(case.chip.sectors() / 16)).saturating_add(1);
     let kept = dice.pick(0, &[1, 4095, 65_535]);

@@ -16,7 +16,7 @@ use std::alloc::Global;
 struct Plan {
     // The numbers of transactions after which the session, the first restore and the second restore stop.
     stops: [u64; 3],
-    // The number of bytes of its transaction that each stop still sends, or `None` if it sends none.
+    // How many bytes of the interrupted transaction are still sent at each stop, or `None` if none are sent.
     cut: Option<u32>,
     // The fill byte, if the chip loses its power at each stop, or `None` if it keeps its power.
     fill: Option<u8>,
@@ -120,8 +120,8 @@ fn check_ran(alloc: Global, accepted: Accepted<'_>, plan: Plan, ran: &Ran) -> Re
     check_restores(alloc, accepted, plan, rehearsal.restores, &ran.sent)
 }
 
-// Checks that the rehearsal ran as many restores, and sent the same transactions, as the session and the restores that
-// are called one by one.
+// Calls the session and the restores one by one. Checks that the rehearsal ran the same number of restores, and that
+// its trace `sent` equals the traces of these calls.
 fn check_restores(
     alloc: Global,
     accepted: Accepted<'_>,

@@ -98,7 +98,8 @@ fn lines_of(alloc: Global, whole: Whole<'_>) -> Result<Lines, Fault> {
 }
 
 // Checks the restore without a stop, with a stop, and on a faulty bus. Without a stop it must send `lines`, and with a
-// stop only the lines before the stop. On a faulty bus it must agree with the reference implementation there.
+// stop only the lines before the stop. On a faulty bus it must agree with the reference implementation on a bus with
+// the same fault.
 fn check_lines(alloc: Global, dice: &mut Dice, whole: Whole<'_>, lines: &str) -> Result<(), Fault> {
     check_unstopped(alloc, whole, lines)?;
     check_stopped(alloc, dice, whole, lines)?;

@@ -103,8 +103,8 @@ fn check_refusal(
     traces::check_lines(ran.lines()?, first, "a refused session that was stopped")
 }
 
-/// Draws the number of transactions after which a session stops, at most the number that it sends without a stop. Three
-/// times in four the number is high enough that the session seals its vault before the stop.
+/// Draws the number of transactions after which a session stops, at most the number that it sends without a stop. At
+/// least three times in four the number is so high that the session seals its vault before the stop.
 pub fn stop_for(dice: &mut Dice, case: &Case, wanted: &Wanted) -> u64 {
     let whole = lengths::session(case, wanted.work(&case.chip));
     if dice.hits(1, 4) {
@@ -175,8 +175,8 @@ fn is_gentle(old: &[u8], new: &[u8], now: &[u8]) -> bool {
 }
 
 // Runs up to four restores with stops until one succeeds. If none does, runs a last one without a stop, which must
-// succeed. At each stop the chip loses its power if the session's stop `first` has a fill byte. Returns the sum of
-// `cuts` and the numbers of stops of these restores inside a transaction.
+// succeed. At each stop the chip loses its power if the session's stop `first` has a fill byte. Returns `cuts`, to
+// which the stops of these restores that were inside a transaction are added.
 fn give_back(
     alloc: Global,
     dice: &mut Dice,
@@ -199,7 +199,7 @@ fn give_back(
     Ok(cuts)
 }
 
-// Draws the stop of a restore. It has the same fill byte as `first`, the stop of the session.
+// Draws the stop of a restore. The stop has the fill byte of `first`, the stop of the session.
 fn next_stop(dice: &mut Dice, accepted: Accepted<'_>, first: Stop) -> Stop {
     let (case, wanted) = (accepted.case, accepted.wanted);
     let most = lengths::session(case, wanted.work(&case.chip));

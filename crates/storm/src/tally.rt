@@ -4,8 +4,8 @@ use crate::model::Stop;
 use nor_session::Refusal;
 use std::fmt;
 
-/// Returns the number that each count which `is_sufficient` checks must reach in a run of `cases` cases. This is 5 if
-/// `cases` is 500 or more, otherwise 0.
+/// Returns the least value that `Tally::is_sufficient` accepts for a count after `cases` cases: 5 if `cases` is 500 or
+/// more, otherwise 0.
 pub fn least(cases: u64) -> u64 {
     if cases < 500 { 0 } else { 5 }
 }
@@ -13,8 +13,8 @@ pub fn least(cases: u64) -> u64 {
 /// The numbers of cases of each kind, and of stops inside a transaction.
 #[derive(Clone, Copy)]
 pub struct Tally {
-    /// The number of accepted sessions. Each was also run with a random stop, and then restored if it had sealed its
-    /// vault.
+    /// The number of accepted sessions. Each of them was run once more with a random stop. If the stopped session had
+    /// sealed its vault, restores followed.
     pub accepted: u64,
     /// The numbers of refused sessions. The index is the number of the error.
     pub refused: [u64; 21],
@@ -53,8 +53,9 @@ impl Cuts {
         losses: 0,
     };
 
-    /// Returns the counts after a session with this stop. If the session was stopped inside a transaction, `sessions`
-    /// is one higher, and so is `losses` if the stop has a fill byte.
+    /// Returns these counts with the stop of a session added. A stop inside a transaction adds one to `sessions`, and
+    /// also one to `losses` if the chip lost its power at the stop. If the session succeeded before its stop (`ended`),
+    /// nothing is added.
     pub fn with_session(self, stop: Stop, ended: bool) -> Cuts {
         let more = u64::from(!ended && stop.cut.is_some());
         Cuts {
@@ -63,8 +64,9 @@ impl Cuts {
         }
     }
 
-    /// Returns the counts after a restore with this stop. If the restore was stopped inside a transaction, `restores`
-    /// is one higher, and so is `losses` if the stop has a fill byte.
+    /// Returns these counts with the stop of a restore added. A stop inside a transaction adds one to `restores`, and
+    /// also one to `losses` if the chip lost its power at the stop. If the restore succeeded before its stop (`ended`),
+    /// nothing is added.
     pub fn with_restore(self, stop: Stop, ended: bool) -> Cuts {
         let more = u64::from(!ended && stop.cut.is_some());
         Cuts {

@@ -1,5 +1,5 @@
-//! The reference implementation of sessions, restores and reading calls over a bus that may be faulty. It knows the
-//! chip only by the replies of that bus.
+//! The reference implementation of sessions, restores and reading calls over a bus that may be faulty. This
+//! implementation knows the chip only by the replies of that bus.
 
 use crate::cases::Case;
 use crate::chips::{self, Chip};
@@ -335,8 +335,8 @@ fn unread(alloc: Global, config: Config, status: Status) -> Result<Chip, Fault> 
     })
 }
 
-// Returns the case with the chip that the replies describe. Its included addresses are only in the field `included`,
-// since the reference implementation doesn't use those of the request.
+// Returns the case with `chip`, the chip that the replies describe, in place of its own. The included addresses are
+// only in the field `included` of the new case, since the reference implementation doesn't use those of the request.
 fn asked_of(alloc: Global, case: &Case, chip: Chip) -> Result<Case, Fault> {
     Ok(Case {
         chip,

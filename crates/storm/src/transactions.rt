@@ -41,7 +41,7 @@ pub fn session(alloc: Global, case: &Case, wanted: &Wanted) -> Result<Lines, Fau
 
 // Appends steps 1 to 3 of a session. Step 3 reads the sectors below `below` that hold an included address, and is left
 // out for a protection range. During step 3 the session writes each touched sector to the vault as soon as it has read
-// the sector. After step 3 it seals the vault, if the request is accepted. Neither adds a line.
+// the sector. After step 3 the session seals the vault, if the request is accepted. The vault's calls add no line.
 fn save(lines: &mut Lines, case: &Case, below: u32) {
     find(lines, &case.chip);
     identify(lines);
@@ -197,8 +197,8 @@ pub fn prepare(lines: &mut Lines, chip: &Chip, wanted: &Wanted) {
     }
 }
 
-/// Appends step 7: sets the protection bits of the target, if they differ. If step 4 was sent, they are 0 before this
-/// step.
+/// Appends step 7: sets the protection bits of the target, unless the chip already has them. If step 4 was sent, the
+/// chip's protection bits are 0 before this step.
 pub fn protect(lines: &mut Lines, chip: &Chip, wanted: &Wanted) {
     let code = match wanted.first_guarded(chip) {
         Some(_) => 0,
