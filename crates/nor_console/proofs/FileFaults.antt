@@ -1,4 +1,4 @@
--- If a file can't be read, the resulting fault is one that the contracts of `read_file` and `read_journal` allow.
+-- If a file can't be read, the resulting fault is one that the contracts of the functions that read files allow.
 use Rattle.std.proofs.Common.{ℕ, arith}
 use Rattle.nor_args.specs.Text.{Text}
 use Rattle.nor_files.specs.Files.{View}

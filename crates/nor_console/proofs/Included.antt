@@ -1,4 +1,4 @@
--- Why no addresses are included: a fault of the layout's text, or an unknown name.
+-- Lemmas about the fault if no addresses are included: the layout's text has a fault, or a name is unknown.
 use Rattle.std.proofs.Common.{◌≡◌, ℕ, ◌+◌, Bool, true, List, [], ◌∷◌, None, Some, Result, Ok, Err, arith, find, not, refl}
 use Rattle.std.specs.List.{list_all}
 use Rattle.std.specs.Prelude.{⊤}
@@ -54,7 +54,7 @@ all_pass : (test : List ℕ → Bool) (xs : List (List ℕ)) → find (λ x. not
 all_pass test [] none = refl
 all_pass test (x ∷ xs) none = grind (arith, all_pass test xs)
 
--- If none of the names is unknown, each name is that of a region.
+-- If `first_unknown` finds no unknown name among `names`, each name belongs to a region.
 pub all_known : (regions : List Region) (names : List ℕ) → first_unknown regions names ≡ None
     → are_known regions names ≡ true
 all_known regions names none = all_pass (is_region_named regions) (names_of names) none

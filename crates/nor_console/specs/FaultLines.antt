@@ -25,8 +25,9 @@ abbrev pub file_text : FileFault → Text → List ℕ
 file_text fault name =
     concat (codes "File fault " ∷ decimal (file_number fault) ∷ codes ": " ∷ escaped name ∷ codes "." ∷ [])
 
--- the text of a fault: the line that says what is wrong, if there is such a line, and then the numbered text. It is
--- `None` if the fault or the help is one of the argument parser, because nothing is stated about the parser's texts.
+-- The text of a fault: the line that says what is wrong, if there is such a line, and then the numbered text. The
+-- result is `None` for an error, a help or a version of the argument parser, because nothing is stated about the
+-- parser's texts.
 abbrev pub text_of : Fault → Option (List ℕ)
 text_of (end.Usage fault reason) = option_append (Some (reason_line reason)) (usage_text fault)
 text_of end.NoText = Some (codes "error: invalid UTF-8 was detected in one or more arguments\n\nUsage fault 1.")

@@ -1,4 +1,6 @@
--- The faults of files. A definition with a `View` also states that the files allow the failure that causes the fault.
+-- The faults of files. A definition with a `View`, which describes the files, also states that these files may have the
+-- failure that causes the fault. A file is known (`IsKnownFile`) if the files obey their contract and no vault or log
+-- in the file is borrowed.
 use Rattle.std.specs.Prelude.{◌≡◌, ◌≢◌, ◌<◌, ◌+◌, ◌⊎◌, ℕ, List, None, length}
 use Rattle.nor_request.specs.declared.refusal.Refusal.TheVariants.{Memory}
 use Rattle.nor_args.specs.Text.{Text}
@@ -18,8 +20,9 @@ IsUnreadFault name (end.Refused refusal) = refusal ≡ Memory
 IsUnreadFault name (end.File file.Read of) = of.now ≡ name
 IsUnreadFault name _ = ⊥
 
--- Holds if the program reports this `LockFault` of a file of this name as `fault`: `Unread` as error 18 or file fault
--- 1, `Unheld` as file fault 2, `Busy` as file fault 5.
+-- Holds if the program reports this `LockFault` of a file of this name as `fault`: `Unread` (the file can't be opened
+-- or read) as error 18 or file fault 1, `Unheld` (it can't be overwritten or locked) as file fault 2, and `Busy`
+-- (another process has locked it) as file fault 5.
 abbrev pub IsNotLocked : LockFault → Text → Fault → Type 0
 IsNotLocked (why.Unread error) name fault = IsUnreadFault name fault
 IsNotLocked why.Unheld name (end.File file.Write of) = of.now ≡ name
@@ -27,8 +30,8 @@ IsNotLocked why.Busy name (end.File file.Taken of) = of.now ≡ name
 IsNotLocked _ name _ = ⊥
 
 -- Holds if reading at most `most` bytes of the named file may fail with this fault: error 18 (out of memory), or file
--- fault 1 with this name. For file fault 1, the file must be missing, may fail to be read, or isn't known
--- (`IsKnownFile`).
+-- fault 1 with this name. File fault 1 is possible only if the file is missing, if reading it may fail, or if the file
+-- isn't known (`IsKnownFile`).
 abbrev pub IsReadingFault : View → Text → ℕ → Fault → Type 0
 IsReadingFault view name most (end.Refused refusal) = refusal ≡ Memory
 IsReadingFault view name most (end.File file.Read of) =

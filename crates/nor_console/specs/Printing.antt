@@ -13,8 +13,8 @@ use Rattle.nor_console.specs.declared.messages.Fault.TheVariants as end
 abbrev pub Prints : (List ℕ → Type 0) → (old new : Option (List ℕ)) → Type 0
 Prints IsText old new = (text : List ℕ) × IsText text × Appends old new text
 
--- Holds if this result of a run is an answer, or the arguments asked for help. A fault of writing the chip's files back
--- isn't part of this result.
+-- Holds if this result of a run is an answer, or if the arguments asked for help. The result doesn't include faults
+-- that occur when the chip's files are written back.
 abbrev pub IsAnswered : Result Answer Fault → Type 0
 IsAnswered (Ok found) = ⊤
 IsAnswered (Err (end.Usage (usage.Words error) reason)) = kind_of error ≡ kind.DisplayHelp

@@ -66,7 +66,8 @@ pub record HasReadInto (named : Option ChipName) (ranges : Option (List Span)) (
   pub returned : AnswersCall ReportsReadOut result outcome
 
 -- Holds if the job called `read_out` with a fresh vault and returned the call's report or error. If the files obey
--- their contract, the vault is then faithful (`telling`), and the file has exactly the vault's bytes.
+-- their contract, the vault is then faithful (`telling`: it holds exactly the bytes that it accepted), and the file has
+-- exactly the vault's bytes.
 pub record HasReadOut (named : Option ChipName) (file : Text) (ranges : Option (List Span)) (old new : BusState)
     (after : View) (outcome : Result Answer Refusal) : Type 0 where
   pub empty : VaultState

@@ -77,7 +77,7 @@ pub record IsNoLayout (text : List ℕ) (fault : LayoutFault) : Type 0 where
   pub none : (regions : List Region) → ¬ IsLayout text regions
   pub first : layout_says text ≡ Err fault
 
--- the first of the comma-separated `names` that none of the regions has, or `None` if there is none
+-- the first of the comma-separated `names` that none of the regions has, or `None` if each name belongs to a region
 abbrev pub first_unknown : List Region → (names : List ℕ) → Option (List ℕ)
 first_unknown regions names = find (λ name. not (is_region_named regions name)) (names_of names)
 
@@ -104,8 +104,8 @@ LacksLayout form.Descriptor text (end.Map fault) =
     ReadsTable (descriptor_says (length text) text) (AsksInDescriptor (length text) text) (Err fault)
 LacksLayout form text fault = ⊥
 
--- Holds if no regions are included because of this fault: parsing the text as a layout failed, or a name is that of no
--- region.
+-- Holds if no regions are included because of this fault: parsing the text as a layout failed, or a name doesn't belong
+-- to any region.
 abbrev pub IncludesNone : LayoutForm → (text names : List ℕ) → Fault → Type 0
 IncludesNone form text names (end.NoRegion name) = IsUnknown form text names name.now
 IncludesNone form text names fault = LacksLayout form text fault

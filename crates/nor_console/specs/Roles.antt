@@ -38,7 +38,8 @@ FailsApart nature earlier later fault = IsShared nature earlier later fault
 abbrev pub FailsUnprinted : Nature → Option (Bor Text) → Fault → Type 0
 FailsUnprinted nature name fault = IsPrintedTo nature name fault ⊎ IsUnseenFile nature name fault
 
--- Holds for file fault 1 with the name of standard output or standard error in `/dev/fd`, if looking it up may fail.
+-- Holds for file fault 1 with the name of standard output or standard error in `/dev/fd`, if looking up this name may
+-- fail.
 abbrev pub IsUnseenStream : Nature → Fault → Type 0
 IsUnseenStream nature (end.File file.Read of) = IsStreamName of.now × (nature.fails (Unread of.now) ≡ true)
 IsUnseenStream nature _ = ⊥

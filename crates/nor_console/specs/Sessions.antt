@@ -1,5 +1,5 @@
--- The results of the jobs that run a session or a backup and write its journal into a file. They include all promises
--- of the engine for the call.
+-- The results of a session or a backup whose journal is written into a file: what the contract of `session` or `backup`
+-- states, the answer of the job, and the contents of the file.
 use Rattle.std.specs.Prelude.{◌≡◌, ℕ, true, List, Option, None, Result}
 use Rattle.nor_model.specs.Bus.{BusState}
 use Rattle.nor_files.specs.Files.{FilesState, IsKnownFile, View, is_lawful}
@@ -37,7 +37,8 @@ pub record HasRunSession (request : Request) (image : List ℕ) (old new : BusSt
   pub returned : AnswersCall ReportsDone result outcome
 
 -- Holds if the job's outcome is the report or the error of a call of `session_announced` or `restore_announced`, and if
--- `Announces` holds for that call: it made an announcement for which `Was` holds, or it sent no modifying command.
+-- `Announces` holds for that call: the call made an announcement for which `Was` holds or sent no modifying command,
+-- and if it succeeded, `Was` holds for the announcement with the report's numbers.
 pub record HasAnnounced (Was : Announcement → Type 0) (old new : BusState)
     (outcome : Result Answer Refusal) : Type 0 where
   pub result : Result Report Refusal

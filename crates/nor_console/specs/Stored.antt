@@ -7,8 +7,8 @@ use Rattle.nor_files.specs.Files.Failure.{Unwritten}
 use Rattle.nor_journal.specs.Vault.{VaultState}
 use Rattle.nor_args.specs.Text.{Text}
 
--- Holds if some call on these files may encounter this failure. This is the same before and after any call, because the
--- nature of the files never changes.
+-- Holds if some call on these files may encounter this failure. No call changes which failures are possible: they are
+-- part of the files' `nature`, which stays the same.
 abbrev pub Happens : View → Failure → Type 0
 Happens view failure = view.nature.fails failure ≡ true
 
@@ -86,8 +86,8 @@ abbrev pub MakesNothing : Option (Bor Text) → (old new : FilesState) → Type 
 MakesNothing None old new = ⊤
 MakesNothing (Some name) old new = IsKnownFile name.now old.view → LeavesOrEmpty name.now old new
 
--- Holds if the vault is faithful (`telling`), the file has exactly the vault's bytes, and these bytes are durable if
--- the vault is sealed.
+-- Holds if the vault is faithful (`telling`: it holds exactly the bytes that it accepted), the file has exactly the
+-- vault's bytes, and these bytes are durable if the vault is sealed.
 pub record IsKeptFile (name : Text) (vault : VaultState) (files : FilesState) : Type 0 where
   pub telling : vault.telling ≡ true
   pub seen : files.view.seen name ≡ Some vault.bytes

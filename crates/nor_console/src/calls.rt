@@ -1,5 +1,5 @@
-//! The calls to the engine that both programs make. Each function opens the files that its call needs, and turns the
-//! call's result into an answer.
+//! The calls to the engine that flashnor and flashnor-serprog both make. Each function opens the files that its call
+//! needs, and turns the call's result into an answer.
 ghost use Rattle.std.specs.Prelude.{◌≡◌, IfErr, IfOk, OnErr, false, option_copied, replicate, true};
 ghost use Rattle.nor_files.specs.Calls.{BorrowsNone};
 ghost use Rattle.nor_files.specs.Files.{OthersStay, is_lawful};
@@ -41,8 +41,8 @@ pub fn list_ranges<B: Bus>(bus: &mut B, named: Option<ChipName>) -> Outcome
 /// Reads the chip into the file `file`, which is created or truncated. The file gets the chip's bytes at the included
 /// addresses, and FFh at all other addresses. If `included` is `None`, the whole chip is included.
 ///
-/// The outer error is a fault of `empty`, which occurs before the first transaction. The inner error is an error of
-/// `read_out`; the file may then hold only a prefix of the copy.
+/// The outer error is a fault of `empty`, which creates or truncates the file before the first transaction. The inner
+/// error is an error of `read_out`; the file may then hold only a prefix of the copy.
 pub fn read_to_file<'a, R: Store, B: Bus>(
     rt: &mut R,
     bus: &mut B,
@@ -104,8 +104,8 @@ pub fn erased(alloc: Global, size: u32) -> Result<Vec<u8>, AllocError>
 /// Runs the session that `request` asks for, and writes its journal into the file `file`, which must not exist.
 ///
 /// `image` is described at `session`, and `announce` at `session_announced`. `announce` must accept every announcement.
-/// The outer error is a fault of `make`, which occurs before the first transaction. The inner error is an error of
-/// `session`.
+/// The outer error is a fault of `make`, which creates the file before the first transaction. The inner error is an
+/// error of `session`.
 pub fn session_in_file<'a, R: Store, B: Bus, F: FnOnce(Announcement) + Drop>(
     rt: &mut R,
     bus: &mut B,
@@ -155,8 +155,8 @@ fn run_session<B: Bus, V: Vault, F: FnOnce(Announcement) + Drop>(
 /// Saves the whole chip in a journal in the file `file`, which must not exist. If `named` is given, the chip must have
 /// this name.
 ///
-/// The outer error is a fault of `make`, which occurs before the first transaction. The inner error is an error of
-/// `backup`; the file may then hold only a prefix of the journal.
+/// The outer error is a fault of `make`, which creates the file before the first transaction. The inner error is an
+/// error of `backup`; the file may then hold only a prefix of the journal.
 pub fn backup_in_file<'a, R: Store, B: Bus>(
     rt: &mut R,
     bus: &mut B,

@@ -64,8 +64,8 @@ pub fn unread(name: &str) -> Fault<'_>
     Fault::File { fault, name }
 }
 
-/// Creates the file `name` or truncates it, and returns a vault that writes to it. If the file is a journal, `Disk`
-/// doesn't truncate it, and returns file fault 4. `making` lists the other faults.
+/// Creates the file `name` or truncates it, and returns a vault that writes to it. If `rt` is a `Disk` (the real files)
+/// and the file is a journal, the file isn't truncated, and the fault is file fault 4. `making` lists the other faults.
 pub fn empty<'a, R: Store>(rt: &mut R, name: &'a str) -> Result<R::Filed, Fault<'a>>
     ensures nature { (R.state rt.new).view.nature ≡ (R.state rt.old).view.nature }
     ensures fresh { IfOk result (λ vault. IsFresh (R.Filed.state vault)) }
@@ -81,8 +81,8 @@ pub fn empty<'a, R: Store>(rt: &mut R, name: &'a str) -> Result<R::Filed, Fault<
     }
 }
 
-/// Creates the file `name`, and returns a vault that writes to it. If the file exists, `Disk` leaves it as it is, and
-/// returns file fault 4. `making` lists the other faults.
+/// Creates the file `name`, and returns a vault that writes to it. If `rt` is a `Disk` (the real files) and the file
+/// exists, it is left as it is, and the fault is file fault 4. `making` lists the other faults.
 pub fn make<'a, R: Store>(rt: &mut R, name: &'a str) -> Result<R::Filed, Fault<'a>>
     ensures nature { (R.state rt.new).view.nature ≡ (R.state rt.old).view.nature }
     ensures fresh { IfOk result (λ vault. IsFresh (R.Filed.state vault)) }
@@ -102,9 +102,9 @@ pub fn make<'a, R: Store>(rt: &mut R, name: &'a str) -> Result<R::Filed, Fault<'
     }
 }
 
-/// Creates the file `name` or truncates it, and returns a buffered writer to it. If the file is a journal, `Disk`
-/// doesn't truncate it, and returns file fault 4. `making` lists the other faults. Error 18 may also occur after the
-/// file was created or truncated.
+/// Creates the file `name` or truncates it, and returns a buffered writer to it. If `rt` is a `Disk` (the real files)
+/// and the file is a journal, the file isn't truncated, and the fault is file fault 4. `making` lists the other faults.
+/// Error 18 may also occur after the file was created or truncated.
 pub fn create_log<'a, R: Store>(rt: &mut R, name: &'a str) -> Result<BufWriter<R::Log>, Fault<'a>>
     ensures nature { (R.state rt.new).view.nature ≡ (R.state rt.old).view.nature }
     ensures others { is_lawful (R.state rt.old).view ≡ true
@@ -120,7 +120,7 @@ pub fn create_log<'a, R: Store>(rt: &mut R, name: &'a str) -> Result<BufWriter<R
 
 /// Returns the fault of a file that can't be created or truncated:
 ///
-/// - file fault 4 if the file exists and must be new, or is a journal, which `Disk` never truncates
+/// - file fault 4 if the file exists and must be new, or if it is a journal, which the store `Disk` never truncates
 /// - file fault 5 if another process has locked the file
 /// - error 18 if memory ran out (`CreateFault::Memory`)
 /// - file fault 2 for any other reason

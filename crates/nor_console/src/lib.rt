@@ -1,7 +1,7 @@
 //! Prints the results and the faults of jobs, reads and creates the files of jobs, and makes their calls to the engine.
 //!
-//! The programs flashnor and flashnor-serprog use this crate, so each printed line and each number of a fault is the
-//! same in both.
+//! The programs flashnor and flashnor-serprog use this crate for the answers and faults that they have in common, so
+//! that these are printed alike.
 //!
 //! - `answers.rt`: the result of a job
 //! - `calls.rt`: the calls to the engine that both programs make, with their files

@@ -22,7 +22,7 @@ pub enum FileFault {
     Write,
     /// The file with the chip's bytes has another length than the chip, or the status file doesn't have two bytes.
     Length,
-    /// The journal of a change already exists, or a file that would be truncated is a journal.
+    /// The file of a new journal already exists, or a file that would be truncated is a journal.
     Exists,
     /// The file has another role in the run, another run has locked it, or the program prints to it.
     Taken,
@@ -65,8 +65,8 @@ pub enum Fault<'a> {
         fault: FileFault,
         name: &'a str,
     },
-    /// An error of a call to the engine. Before the call: error 15 for an invalid journal, or error 18 if memory ran
-    /// out.
+    /// An error with a number of the engine. A call to the engine returned it, or the program itself detected it, such
+    /// as error 15 for an invalid journal or error 18 if memory ran out.
     Refused(Refusal),
 }
 

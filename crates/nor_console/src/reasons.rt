@@ -1,4 +1,5 @@
-//! The lines that say what is wrong. Each is printed before the numbered line of a fault.
+//! The lines that say what is wrong, such as `error: the option -p is missing`. Each of these lines is printed before
+//! the numbered line of its fault.
 ghost use Rattle.std.specs.Prelude.{◌≡◌, Some};
 ghost use Rattle.nor_console.specs.ReasonLines.{flaw_text, line_fault_text, region_fault_text};
 
@@ -10,7 +11,7 @@ use nor_maps::MapFault;
 use nor_session::Refusal;
 use std::fmt;
 
-/// The line with the reason of a usage fault. It is empty if there is no reason.
+/// The line with the reason of a usage fault, or no text if there is no reason.
 #[derive(Drop)]
 pub struct ReasonLine<'a>(pub Reason<'a>);
 
@@ -84,7 +85,7 @@ pub fn text_of_flaw(flaw: Flaw) -> &'static str
     }
 }
 
-/// The line that says what is wrong with a layout. It is empty if memory ran out.
+/// The line that says what is wrong with a layout, or no text if memory ran out.
 #[derive(Drop)]
 pub struct LayoutLine(pub LayoutFault);
 
@@ -115,7 +116,7 @@ fn text_of_line(fault: LineFault) -> &'static str
     }
 }
 
-/// The line that says what is wrong with an FMAP or a flash descriptor. It is empty if memory ran out. In this line the
+/// The line that says what is wrong with an FMAP or a flash descriptor, or no text if memory ran out. In this line the
 /// entries of a flash descriptor are numbered from 0, and the areas of an FMAP from 1.
 #[derive(Drop)]
 pub struct MapLine(pub MapFault);
@@ -155,7 +156,7 @@ fn text_of_region(fault: RegionFault) -> &'static str
     }
 }
 
-/// The line that says whether an invalid journal was never sealed or is damaged. For any other error the line is empty.
+/// The line that says whether an invalid journal was never sealed or is damaged, or no text for any other error.
 #[derive(Drop)]
 pub struct JournalLine<'a>(pub &'a Refusal);
 

@@ -114,7 +114,7 @@ pub fn apart<'a, R: Store>(
 
 /// Checks that the file `name`, if a name is given, isn't a regular file to which the program prints.
 ///
-/// Returns file fault 5 if it is such a file, or file fault 1 if the name can't be looked up.
+/// Returns file fault 5 if the program prints to this file, or file fault 1 if the name can't be looked up.
 pub fn unprinted<'a, R: Store>(rt: &R, name: Option<&'a str>) -> Result<(), Fault<'a>>
     ensures { IfErr result (FailsUnprinted (R.state rt.now).view.nature name.entry) }
 {

@@ -23,8 +23,8 @@ pub struct Streams<F> {
 /// Opens a directory three times, so that the descriptors 0, 1 and 2 are in use. Call this function before any other
 /// file is opened.
 ///
-/// Each of these descriptors that was closed then refers to the directory, and printing to it fails. Without this call,
-/// the next opened file would get that descriptor, and printed lines would overwrite its first bytes.
+/// A descriptor that was closed then refers to the directory, and printing to it fails. Without this call, the next
+/// opened file would get this descriptor, and printed lines would overwrite the first bytes of that file.
 ///
 /// Returns an error if the directory can't be opened.
 pub fn keep_streams<R: Files>(files: &R) -> io::Result<Streams<R::File>> {
@@ -35,8 +35,8 @@ pub fn keep_streams<R: Files>(files: &R) -> io::Result<Streams<R::File>> {
     })
 }
 
-/// Returns a writer that sends each line of up to `LINE_BYTES` bytes in one write, so that it isn't mixed with lines of
-/// other programs. If memory for the writer's buffer is lacking, a line is sent in pieces.
+/// Returns a writer that sends each line of up to `LINE_BYTES` bytes in one write, so that the line isn't mixed with
+/// lines of other programs. If memory for the writer's buffer is lacking, a line is sent in pieces.
 pub fn by_line<W: Write + Copy + Drop>(alloc: Global, stream: W) -> LineWriter<W> {
     match LineWriter::with_capacity(alloc, LINE_BYTES, stream) {
         Ok(writer) => writer,

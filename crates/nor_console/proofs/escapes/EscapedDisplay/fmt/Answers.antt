@@ -29,7 +29,8 @@ loop-character-preserved g c =
           ),
     )
 
--- After the loop no character is left, so the whole escaped text was written. This is claimed for a plain formatter.
+-- After the loop no character is left, so the whole escaped text was written. This is claimed only for a plain
+-- formatter, which formats as `{}` does.
 pub returns-clause-writes : goal.returns-clause-writes
 returns-clause-writes g c = λ plain _.
     let so_far = c.loop-character.invariant.1 plain in
