@@ -44,8 +44,8 @@ least_found size code start len start' len' (Some other) least none there is_lea
       | inr (inr above) ↦ absurd (least.least code above is_least.defined there)
     ]
 
--- If the protected range isn't empty, the first address that `start_of` (`src/guard.rt`) returns is the one that
--- `IsSelectedRange` states.
+-- If the protected range isn't empty, two formulas for its first address agree: that of `start_of` (`src/guard.rt`) and
+-- that of `IsSelectedRange`.
 pub starts : (size len : ℕ) (complement bottom : Bool) → 0 < len
     → (if not (beq bottom complement) || len == 0 then 0 else size - len)
     ≡ (if complement then (if bottom then size - len else 0) else (if bottom then 0 else size - len))

@@ -1,4 +1,6 @@
--- `KeepsNature` holds for several successive transactions together if it holds for each of them.
+-- `KeepsNature` says that transactions don't change whether a bus is well-behaved, steady or unlimited, and that its
+-- history continues. If `KeepsNature` holds for each of several successive transactions, it holds for all of them
+-- together.
 use Rattle.std.proofs.Common.{◌≡◌, ◌∙◌, ◌∷◌, refl}
 use Rattle.nor_model.specs.Exchange.{Exchange}
 use Rattle.nor_model.specs.Bus.{BusState, SameNature, KeepsNature}

@@ -27,8 +27,8 @@ last_for-at at (byte ∷ sent) a zero small last here =
 last_for-at at (byte ∷ sent) a (suc i) small last here =
     rw (last_for-at (at + 1) sent a i (omega arith) (omega arith) (omega arith)) refl
 
--- If the bytes of `sent` stay inside the page, a program ANDs each byte that they cover with the byte sent for it.
--- Every other byte is as it was.
+-- If a program at the address `at` doesn't reach past the end of its page, it ANDs each byte of the chip from `at` to
+-- `at + length sent - 1` with the byte of `sent` for this address. Every other byte is as it was.
 pub byte_after-program : (chip : Chip) (at : ℕ) (sent : List ℕ) (a : ℕ) → at % 256 + length sent ≤ 256
     → byte_after chip (Program at) sent a
     ≡ (if nat_le at a && nat_lt a (at + length sent) then bit_and (chip.bytes a) (slice_index sent (a - at))

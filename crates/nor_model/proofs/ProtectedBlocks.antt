@@ -10,8 +10,8 @@ use Rattle.nor_model.specs.Units.{LieAtAnEnd}
 use Rattle.nor_model.proofs.Sizes.{sized_bounds}
 use Rattle.nor_model.proofs.ProtectedAddresses.{ends_at, protected_by-end, protected_by-past, at_borders}
 
--- If the addresses for which `test` is true are at one end of the chip, so are the protected addresses, whether the
--- chip has block protection (`scheme`) or not.
+-- If the addresses for which `test` is true are at one end of the chip, so are those for which `scheme && test` is
+-- true. `scheme` says whether the chip has block protection.
 with_scheme : (scheme : Bool) (size : ℕ) (test : ℕ → Bool) → LieAtAnEnd size test
     → LieAtAnEnd size (λ a. scheme && test a)
 with_scheme true size test ends = ends

@@ -1,4 +1,4 @@
--- The effect of one transaction on the list `Sent`.
+-- The effect of one transaction on `Sent`, the list of the transactions that may modify a chip.
 use Rattle.std.proofs.Common.{◌≡◌, ◌∙◌, ◌∷◌, ℕ, Bool, true, false, true≢false, List, [], refl, sym, ap, subst, inl, inr, arith}
 use Rattle.std.specs.Prelude.{◌==◌, if◌then◌else◌}
 use Rattle.std.proofs.Math.Bool.{or-false}
@@ -35,8 +35,8 @@ quiet_is opcode quiet P p3 p4 p5 p35 p4b p5a p9f =
 in_none : (s : ℕ) → is_in_targeted none_targeted s ≡ false
 in_none s = grind (arith, nat_tests)
 
--- If the definitions `bare_targeted` and `addressed_targeted` are empty for `opcode`, a transaction that begins with
--- `opcode` targets no sector.
+-- If `bare_targeted` and `addressed_targeted` return no sectors for `opcode`, a transaction that begins with `opcode`
+-- targets no sector.
 targets_none : (opcode : ℕ) (rest : List ℕ) → bare_targeted opcode ≡ none_targeted
     → ((sector : ℕ) → addressed_targeted opcode sector ≡ none_targeted) → (s : ℕ) → targets (opcode ∷ rest) s ≡ false
 targets_none opcode [] bare at s = rw bare (in_none s)
@@ -51,8 +51,8 @@ writes_none opcode (x ∷ []) other one two = refl
 writes_none opcode (x ∷ y ∷ []) other one two = rw other refl
 writes_none opcode (x ∷ y ∷ z ∷ rest) other one two = refl
 
--- A transaction leaves the list `Sent` and all its properties as they were if its opcode is quiet, isn't a modifying
--- opcode, and targets no sector.
+-- If the opcode of a transaction is quiet, isn't a modifying opcode and targets no sector, the transaction leaves the
+-- list `Sent` and all its properties as they were.
 silent : (opcode : ℕ) (rest : List ℕ) (old : Sent) → bare_targeted opcode ≡ none_targeted
     → ((sector : ℕ) → addressed_targeted opcode sector ≡ none_targeted) → is_quiet_opcode opcode ≡ true
     → is_changing_opcode opcode ≡ false → (opcode == 0x01) ≡ false → (opcode == 0x02) ≡ false

@@ -6,8 +6,8 @@ use Rattle.std.proofs.Math.ListN.{get_or-eq_default}
 use Rattle.std.proofs.lemmas.Bool.{cases_lt}
 use Rattle.std.specs.Prelude.{slice_index}
 
--- If `at + done` is `from` modulo `n`, then `at + i` is `from + (i - done)` modulo `n`. The premises are that `i` is at
--- least `done`, and that `from + (i - done)` is below `n`.
+-- Let `(at + done) % n` be `from`, and let `i` be at least `done`. If `from + (i - done)` is below `n`, then
+-- `(at + i) % n` is `from + (i - done)`.
 pub run_on : (at done i from n : ℕ) → (at + done) % n ≡ from → done ≤ i → from + (i - done) < n
     → (at + i) % n ≡ from + (i - done)
 run_on at done i from n place later small =

@@ -10,6 +10,6 @@ use Rattle.nor_model.specs.declared.config.Config.{Config}
 pub alike : (one other : Bool) → (one ≡ true → other ≡ true) → (other ≡ true → one ≡ true) → one ≡ other
 alike = same_tests
 
--- the size of each configuration satisfies `IsInBlocks`
+-- the size of each configuration is a multiple of 64 KiB from 64 KiB to 16 MiB (`IsInBlocks`)
 pub sized_bounds : (config : Config) → IsInBlocks config.size
 sized_bounds config = is_chip_size-in_blocks config.size config.sized

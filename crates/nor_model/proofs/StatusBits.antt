@@ -22,8 +22,8 @@ written_lt old sent =
 pub wel_set : (n : ℕ) → (bit_and n 2 == 2) ≡ (n / 2 % 2 == 1)
 wel_set n = let bit = and_pow n 1 in grind (arith, nat_tests)
 
--- The protection bits of the status bytes `one` and `two` as a number. Its highest bit is bit 6 of `two`, and its low
--- five bits are bits 6 to 2 of `one`.
+-- `Status::code` computes a number from the status bytes `one` and `two`. The highest bit of this number is bit 6 of
+-- `two`, and its low five bits are bits 6 to 2 of `one`.
 pub code_bits : (one two : ℕ) → bit_or (bit_and two 64 / 2) (bit_and one 124 / 4) ≡ 32 * (two / 64 % 2) + one / 4 % 32
 code_bits one two =
     let low : bit_and one 124 / 4 ≡ one / 4 % 32 = omega (arith, and_high one 5 2) in
@@ -38,8 +38,8 @@ fixed_one n small = omega (arith, and_pow n 7)
 pub fixed_two : (n : ℕ) → bit_and n 63 ≡ n % 64
 fixed_two n = and_mask n 6
 
--- Computes the status bytes that combine the bits that flashnor never changes (`fixed`) with the protection bits
--- `code`: status 1 (`coded_one`) and status 2 (`coded_two`).
+-- Combining the bits that flashnor never changes (`fixed`) with the shifted protection bits `code` by OR gives the sum
+-- that the contract of `Status::with_code` states, for status 1 (`coded_one`) and for status 2 (`coded_two`).
 pub coded_one : (fixed code : ℕ) → code < 64
     → bit_or (128 * fixed) (bit_and (code * 4 % 256) 124) ≡ 128 * fixed + 4 * (code % 32)
 coded_one fixed code small =

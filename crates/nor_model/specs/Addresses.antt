@@ -1,4 +1,4 @@
--- The addresses of decoded commands.
+-- The addresses that a decoded command may have on a chip of a given size.
 use Rattle.std.specs.Prelude.{◌≡◌, ◌<◌, ◌≤◌, ◌+◌, ◌%◌, ℕ, ⊤}
 use Rattle.nor_model.specs.declared.command.Command.{Command}
 use Rattle.nor_model.specs.declared.command.Command.TheVariants.{Program, Erase, ReadData, ReadSfdp}

@@ -62,9 +62,9 @@ pub record IsHonestFor (out : List ℕ) (replies : ℕ) (bus : BusState) : Type 
   pub fits : (bus.unlimited ≡ true) ⊎ ((length out ≤ 260) × (replies ≤ 4096))
 
 -- The effect of a transaction on what every bus records. The transaction is added to the history, with its reply or as
--- one at which the bus stopped. `out` is added to `sent`, unless it is empty or begins with a quiet opcode. The
--- allowances stay as they were. If the transaction is a poll that received at least one reply byte, `polled_ready`
--- follows the last of these bytes; otherwise it stays as it was.
+-- one at which the bus stopped. `out` is added to `sent`, unless it is empty or begins with a quiet opcode (a read, or
+-- write disable). The allowances stay as they were. If the transaction is a poll that received at least one reply byte,
+-- `polled_ready` says whether the last of these bytes shows that the chip is ready; otherwise it stays as it was.
 pub record Records (out answer : List ℕ) (outcome : Result Unit Stopped) (old new : BusState) : Type 0 where
   pub history : new.history ≡ exchange_of out answer outcome ∷ old.history
   pub sent : new.sent ≡ with_sent out old.sent
@@ -73,9 +73,10 @@ pub record Records (out answer : List ℕ) (outcome : Result Unit Stopped) (old 
   pub stopped : OnErr outcome (new.polled_ready ≡ old.polled_ready)
 
 -- The effect of a stop. The first `count` bytes of the transaction were sent: none, some or all. Some reply bytes,
--- `read`, may have been read and are lost; the definition also allows more of them than were asked for. The chip made
--- the step for which these bytes ask, which took it to `reached`, and then lost its power or kept it. The sectors that
--- this step erased are recorded as erased. On a steady bus no byte was sent and the chip is as it was.
+-- `read`, may have been read and are lost; the definition also allows more of them than were asked for. The chip
+-- treated the bytes sent as a whole transaction, which took it to `reached`, and then lost its power or kept it. The
+-- sectors that this transaction erased are recorded as erased. On a steady bus no byte was sent and the chip is as it
+-- was.
 pub record AtStop (out : List ℕ) (old new : BusState) : Type 0 where
   pub count : ℕ
   pub read : List ℕ

@@ -20,7 +20,7 @@ abbrev pub exchange_of : (out answer : List ℕ) → Result Unit Stopped → Exc
 exchange_of out answer (Ok done) = replied out answer
 exchange_of out answer (Err stop) = stopped out
 
--- the history `earlier` with an event added; an allowance adds no transaction
+-- the history `earlier` with an event added: a reply or a stop adds a transaction, and an allowance adds nothing
 abbrev pub exchanges_with : Event → List Exchange → List Exchange
 exchanges_with (event.Replied out reply) earlier = replied out.now reply.now ∷ earlier
 exchanges_with (event.Stopped out) earlier = stopped out.now ∷ earlier
@@ -58,8 +58,9 @@ abbrev pub names : (opcode address : ℕ) → (out : List ℕ) → Bool
 names opcode address (first ∷ x ∷ y ∷ z ∷ rest) = first == opcode && 65536 * x + 256 * y + z == address
 names opcode address _ = false
 
--- Holds if, for each test `is` that is false for every transaction that satisfies `may`, the last reply is the same in
--- both histories. The last reply is the one to the last transaction that satisfies `is`.
+-- Holds if `old` and `new` have the same last reply to a transaction that satisfies `is`, for each test `is` that is
+-- false whenever `may` is true. For example, if `may` is the test for 9Fh, the last reply to a poll is the same in both
+-- histories.
 pub record KeepsReplies (may : List ℕ → Bool) (old new : List Exchange) : Type 0 where
   pub same : (is : List ℕ → Bool) → ((out : List ℕ) → may out ≡ true → is out ≡ false)
       → last_reply is new ≡ last_reply is old

@@ -20,7 +20,7 @@ pub record HasParts (with_id : List ℕ) (with_size : ℕ) (with_kinds : Kinds) 
   pub sfdp : config.sfdp ≡ with_sfdp ++ replicate (256 - length with_sfdp) 255
 
 -- Holds for the configuration of an emulated chip with the given ID, size, erase types and block protection. Its SFDP
--- bytes describe this size and all erase types.
+-- bytes describe this size and all erase types. Its unique ID is zero.
 abbrev pub IsEmulatedWith : (with_id : List ℕ) → (with_size : ℕ) → Kinds → (with_scheme : Bool) → Config → Type 0
 IsEmulatedWith with_id with_size with_kinds with_scheme =
     HasParts with_id with_size with_kinds with_scheme (sfdp_with (8 * with_size - 1))

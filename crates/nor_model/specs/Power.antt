@@ -54,9 +54,9 @@ abbrev pub kept_before : Chip → KeptBits
 kept_before chip = elim chip.running [ StatusWrite one two ↦ record { one = one; two = two } | _ ↦ chip.kept ]
 
 -- The effect of a power failure on a simulated chip, which is then idle with a clear write enable latch. If the chip
--- was busy, each byte on which its operation worked is `fill`. A status write in progress is undone if `fill` is even,
--- and completed if it is odd. If the chip was idle or its operation is unknown, bytes and non-volatile bits are as they
--- were.
+-- was busy with a known operation, each byte on which the operation worked is `fill`. A status write in progress is
+-- undone if `fill` is even, and completed if it is odd. If the chip was idle or its operation is unknown, bytes and
+-- non-volatile bits are as they were.
 pub record PowerLostWith (fill : ℕ) (old new : Chip) : Type 0 where
   pub config : new.config ≡ old.config
   pub latch : new.latch ≡ false

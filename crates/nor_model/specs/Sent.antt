@@ -82,7 +82,7 @@ is_unknown_to_model out = not (begins_quiet out || is_change out)
 -- ---- the list of transactions that may modify a chip
 
 -- The bytes of each transaction that the bus was asked to send, the last one first. Transactions that send nothing or
--- begin with a quiet opcode are left out.
+-- begin with a quiet opcode (a read, or write disable) are left out.
 abbrev pub Sent : Type 0
 Sent = List (List ℕ)
 

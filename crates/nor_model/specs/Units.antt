@@ -1,5 +1,5 @@
--- Tests of addresses that hold in one range at one end of a chip. An example is the test whether an address is
--- protected.
+-- Tests (functions from addresses to Booleans) that are true in one range at one end of a chip. An example is the test
+-- whether an address is protected.
 use Rattle.std.specs.Prelude.{◌≡◌, ◌<◌, ◌≤◌, ◌+◌, ◌%◌, ◌⊎◌, ℕ, Bool, true, nat_lt, nat_le}
 
 -- Holds if `test` is true for some address from `start` to `start + len - 1`.

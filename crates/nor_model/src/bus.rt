@@ -6,7 +6,8 @@ ghost use Rattle.nor_model.specs.Bus.{BusState, IsHonestFor, SameNature, Stops, 
 use std::fmt;
 
 /// The error of a transaction that failed, for example because the connection or the power of the bus failed, or
-/// because the allowance was used up. The chip may have carried out all of the transaction, a part of it, or nothing.
+/// because the number of transactions that `Meter::allow` had set was used up. The chip may have carried out all of the
+/// transaction, a part of it, or nothing.
 #[derive(Clone, Copy, Debug, PartialEq, Eq)]
 pub struct Stopped;
 
@@ -32,7 +33,7 @@ impl std::error::Error for Stopped {}
 /// A faulty bus, which isn't well-behaved, may do anything that the clauses `nature` and `records` allow, because these
 /// clauses hold for every bus. `nature` says that a transaction doesn't change whether a bus is well-behaved, steady or
 /// unlimited; `allow` doesn't change this either. `records` says that the bus records each transaction with its reply,
-/// and that `polled_ready` follows the replies to polls.
+/// and in `polled_ready` whether the last poll that received a reply showed that the chip is ready.
 pub trait Bus {
     ghost state: { Self → BusState };
 

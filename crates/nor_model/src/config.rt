@@ -5,9 +5,9 @@ ghost use Rattle.nor_model.specs.Sfdp.{sfdp_with};
 
 use nor_geometry::is_chip_size;
 
-/// The SFDP bytes of `TINY64`, from address 0 on: the header, one parameter header, and double words 1 to 9 of the
-/// basic flash parameter table (JESD216). The other emulated chips have the same bytes, except for the size in double
-/// word 2. These bytes were made for this project; a real Winbond chip has others.
+/// The SFDP bytes of the emulated chip `TINY64`, from address 0 on: the header, one parameter header, and double words
+/// 1 to 9 of the basic flash parameter table (JESD216). The other emulated chips have the same bytes, except for the
+/// size in double word 2. These bytes were made for this project; a real Winbond chip has others.
 pub const TINY64_SFDP: [u8; 52] = [
     0x53, 0x46, 0x44, 0x50, 0x00, 0x01, 0x00, 0xFF, // signature, revision 1.0, one header
     0x00, 0x00, 0x01, 0x09, 0x10, 0x00, 0x00, 0xFF, // basic table, nine double words, at 10h

@@ -24,21 +24,21 @@ struct AddressRange {
     len: u32,
 }
 
-// Returns whether TB is set. Then the selected range is at the start of the chip, otherwise at the end.
+// Returns whether TB is set. If TB is set, the selected range is at the start of the chip, otherwise at the end.
 fn is_bottom(code: u8) -> bool
     ensures { result ≡ is_bottom code }
 {
     code / 8 % 2 == 1
 }
 
-// Returns whether SEC is set. Then BP 001 to 101 select 4 to 32 KiB, otherwise a fraction of the chip.
+// Returns whether SEC is set. If SEC is set, BP 001 to 101 select 4 to 32 KiB, otherwise a fraction of the chip.
 fn is_sector(code: u8) -> bool
     ensures { result ≡ names_sectors code }
 {
     code / 16 % 2 == 1
 }
 
-// Returns whether CMP is set. Then a code that is defined protects the addresses outside the selected range.
+// Returns whether CMP is set. If CMP is set, a defined code protects the addresses outside the selected range.
 fn is_complement(code: u8) -> bool
     ensures { result ≡ is_complement code }
 {

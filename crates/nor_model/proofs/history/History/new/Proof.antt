@@ -1,4 +1,5 @@
--- The proof, from the laws of `Logic`, that `History::new` returns a history with no transaction and no allowance.
+-- The proof, from the laws of the separation logic (`Logic`), that `History::new` returns a history with no transaction
+-- and no allowance.
 use Rattle.std.proofs.Common.{[], ◌∷◌, refl}
 use seplogic.Ra.Ura.{Ura}
 use mir.Syntax.{Fn}
