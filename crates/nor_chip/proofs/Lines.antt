@@ -4,7 +4,7 @@ use Rattle.std.specs.Io.KnownBytes.{Appends}
 use Rattle.std.proofs.KnownBytes.{Appends-nil, Appends-trans}
 use Rattle.hex.specs.Hex.{encode_with, encode_lower}
 
--- the digits of `xs ++ ys` are the digits of `xs` followed by those of `ys`
+-- the hexadecimal digits of `xs ++ ys` are the digits of `xs` followed by those of `ys`
 encode_with-append : (t xs ys : List ℕ) → encode_with t (xs ++ ys) ≡ encode_with t xs ++ encode_with t ys
 unfolding encode_with
 encode_with-append t [] ys = refl

@@ -16,9 +16,9 @@ pub record ClearsFrom (from done : ℕ) (sent old new : List ℕ) : Type 0 where
   pub below : (a : ℕ) → a < from → slice_index new a ≡ slice_index old a
   pub above : (a : ℕ) → from + done ≤ a → slice_index new a ≡ slice_index old a
 
--- Holds if `sent` is divided as the function `program` divides it. `skipped` is the number of bytes before the last
--- 256, which have no effect. `front` has the bytes after these, up to the end of the page. `back` has the remaining
--- bytes, which go to the start of the page.
+-- Holds if `sent` is divided as the function `program` (`src/sim/cells.rt`) divides it. Only the last 256 bytes have an
+-- effect, and `skipped` is the number of bytes before these. `front` has the bytes from there up to the end of the
+-- page. `back` has the remaining bytes, which go to the start of the page.
 pub record IsParted (at : ℕ) (sent : List ℕ) (skipped : ℕ) (front back : List ℕ) : Type 0 where
   pub skips : skipped ≡ length sent - 256
   pub front_len : length front ≡ min (length sent - skipped) (256 - (at + skipped) % 256)

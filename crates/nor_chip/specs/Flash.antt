@@ -38,8 +38,8 @@ pub record CutsOff (fill : ℕ) (old new : Chip) : Type 0 where
       → new.bytes a ≡ (if is_known_running old.running && is_in_work old.running a then fill else old.bytes a)
   pub kept : new.kept ≡ (if fill % 2 == 0 then kept_before old else old.kept)
 
--- Holds if `each` (the number of polls that show BUSY after an operation) is as it was, and `busy` is equal to it if
--- the command is an operation.
+-- Holds if `each` (the number of polls that show BUSY after an operation) is as it was, and `busy` is equal to `each`
+-- if the command is an operation.
 pub record Paces (command : Command) (old new : Flash) : Type 0 where
   pub each : new.each ≡ old.each
   pub busy : is_operation command ≡ true → new.busy ≡ old.each

@@ -47,9 +47,9 @@ abbrev pub TornTo : (torn : Option ℕ) → (out : List ℕ) → (old new : Chip
 TornTo None out old new = new ≡ old
 TornTo (Some count) out old new = Step old (take count out) [] new
 
--- `old` is the chip after the bytes of a stopped transaction that were sent, and before any power failure. `new` is the
--- chip after the stop. `fill` is the value that `lose` set: with `None` the chip kept its power, with `Some fill` it
--- lost its power with this fill byte.
+-- The effect of a stop on the chip after the first bytes of the transaction were sent, from the state `old` to `new`.
+-- `fill` is the value that `lose` set: with `None` the chip kept its power, with `Some fill` it lost its power with
+-- this fill byte.
 abbrev pub LostTo : (fill : Option ℕ) → (old new : Chip) → Type 0
 LostTo None old new = new ≡ old
 LostTo (Some fill) old new = PowerLostWith fill old new
@@ -62,8 +62,8 @@ pub record KeepsBus (old new : SimBus) : Type 0 where
   pub left : new.left ≡ old.left
   pub history : new.history ≡ old.history
 
--- Holds if `new` has the sectors that are recorded as erased after a stop. With `None` these are the sectors of `old`.
--- With `Some count` they also include those that the first `count` bytes of the transaction erased.
+-- Holds if `new` has the sectors that are recorded as erased after a stop. If `torn` is `None`, these are the sectors
+-- of `old`. If it is `Some count`, they also include those that the first `count` bytes of the transaction erased.
 abbrev pub WornTo : (torn : Option ℕ) → (out : List ℕ) → Chip → (old new : ℕ → Bool) → Type 0
 WornTo None out chip old new = (s : ℕ) → new s ≡ old s
 WornTo (Some count) out chip old new = (s : ℕ) → new s ≡ (old s || wears (done_of chip (take count out) 0) s)

@@ -13,7 +13,7 @@ traced_by traced = traced.bus
 abbrev pub log_of : {B L : Type 0} → TraceBus B L → L
 log_of traced = traced.log
 
--- true if a line was lost, because it could not be written completely, or a flush failed
+-- true if some line could not be written completely, or a flush failed
 abbrev pub has_lost : {B L : Type 0} → TraceBus B L → Bool
 has_lost traced = traced.lost
 

@@ -16,7 +16,7 @@
 //!
 //! - `sim.rt`: the simulated bus
 //! - `sim/flash.rt`: the modelled chip in memory
-//! - `sim/cells.rt`: reads, programs and fills of plain slices
+//! - `sim/cells.rt`: reads, programs and fills byte slices
 //! - `trace.rt`: a bus that logs each transaction that succeeds
 //! - `spoilt.rt`: a faulty bus, for tests
 #![tactic(auto)]

@@ -34,8 +34,8 @@ impl fmt::Display for WrongLength {
 
 impl std::error::Error for WrongLength {}
 
-/// A well-behaved bus (`honest`) to a chip that is simulated in memory. The last call of `allow` sets the number of
-/// transactions that the bus carries out. It stops at each later transaction.
+/// A well-behaved bus (`honest`) to a chip that is simulated in memory. The bus carries out the number of transactions
+/// that the last call of `allow` set, and stops at each later one.
 #[derive(Drop)]
 pub struct SimBus {
     flash: Flash,
@@ -56,8 +56,8 @@ impl SimBus {
 
     /// Returns a bus to a chip with the configuration `config`, the contents `bytes` and the two bytes `status`, status
     /// 1 first. BUSY (bit 0 of status 1) and SUS (bit 7 of status 2) are ignored. The first `delays.now` polls show
-    /// BUSY, unless the chip loses its power at a stop before that. The operation in progress at the start is unknown.
-    /// The bus carries out no transaction before `allow` is called.
+    /// BUSY, unless the chip loses its power before. The operation in progress at the start is unknown. The bus carries
+    /// out no transaction before `allow` is called.
     ///
     /// Returns `WrongLength` if the length of `bytes` differs from the chip's size.
     pub fn new(
@@ -121,8 +121,8 @@ impl SimBus {
 
     /// Sets how many bytes of a transaction are sent before the bus stops at it. With `Some(count)`, the first `count`
     /// bytes are sent (all bytes, if there are fewer). The chip treats them as a whole transaction, and no reply is
-    /// read. With `None`, as after `new`, no byte is sent. In both cases the chip then loses its power if `lose` was
-    /// called with `Some`.
+    /// read. With `None`, as after `new`, no byte is sent. In both cases the chip then loses its power if `lose` is set
+    /// to `Some`.
     pub fn tear(&mut self, count: Option<u32>)
         ensures state { ⟦<SimBus as Bus>⟧.state self.new
             ≡ record (⟦<SimBus as Bus>⟧.state self.old) { steady = is_none (fill_of self.old) && is_none count } }
@@ -140,7 +140,7 @@ impl SimBus {
         self.flash.status().bytes()
     }
 
-    // Sends the first bytes of the transaction at which the bus stops, if `tear` was called with `Some`.
+    // Sends the first bytes of the transaction at which the bus stops, if `tear` is set to `Some`.
     fn tear_off(&mut self, out: &[u8])
         ensures torn { TornTo (torn_of self.old) out.now (chip_of self.old.flash) (chip_of self.new.flash) }
         ensures worn { WornTo (torn_of self.old) out.now (chip_of self.old.flash)
@@ -154,8 +154,8 @@ impl SimBus {
         }
     }
 
-    // Performs a stop. Sends the first bytes of the transaction if `tear` was called with `Some`. Then makes the chip
-    // lose its power if `lose` was called with `Some`.
+    // Performs a stop. Sends the first bytes of the transaction if `tear` is set to `Some`. Then makes the chip lose
+    // its power if `lose` is set to `Some`.
     fn cut(&mut self, out: &[u8])
         ensures at_stop { AtStop out.now (sim_state self.old) (sim_state self.new) }
         ensures torn_off { TearsOff (torn_of self.old) (fill_of self.old) out.now

@@ -1,10 +1,10 @@
-//! Reads, programs and fills of plain slices.
+//! Reads, programs and fills byte slices, such as the contents of a simulated chip.
 ghost use Rattle.std.specs.Prelude.{◌≡◌, ℕ, ◌+◌, ◌*◌, ◌/◌, ◌%◌, ◌<◌, ◌≤◌, length, slice_index, slice_index_or, bit_and};
 ghost use Rattle.nor_chip.specs.Cells.{HasPageProgrammed, IsFilled};
 
 use nor_geometry::PAGE_LEN;
 
-// ANDs the bytes of `sent` into `bytes`, from index `from` on. They must not reach past the end of `bytes`.
+// ANDs the bytes of `sent` into `bytes`, from index `from` on. `sent` must not reach past the end of `bytes`.
 fn clear_bits(bytes: &mut [u8], from: usize, sent: &[u8])
     requires { from + length sent.now ≤ length bytes.old }
     ensures inside { (i : ℕ) → i < length sent.now
@@ -41,8 +41,8 @@ pub(crate) fn fill(bytes: &mut [u8], start: usize, len: usize, byte: u8)
     bytes[start..start + len].fill(byte);
 }
 
-// Fills `reply` with bytes read from index `at` on, which must be an index of `bytes`. After the last byte, the read
-// continues at index 0.
+// Fills `reply` with the items of `bytes` from index `at` on. `at` must be below the length of `bytes`. After the last
+// item, the read continues at index 0.
 pub(crate) fn read_round(bytes: &[u8], at: usize, reply: &mut [u8])
     requires { at < length bytes.now }
     ensures { (i : ℕ) → i < length reply.new
@@ -58,7 +58,7 @@ pub(crate) fn read_round(bytes: &[u8], at: usize, reply: &mut [u8])
     }
 }
 
-// Fills `reply` with bytes read from index `at` on. Past the end of `bytes` every byte reads as FFh.
+// Fills `reply` with the items of `bytes` from index `at` on. Past the end of `bytes` every byte reads as FFh.
 pub(crate) fn read_padded(bytes: &[u8], at: usize, reply: &mut [u8])
     ensures { (i : ℕ) → i < length reply.new → slice_index reply.new i ≡ slice_index_or bytes.now (at + i) 255 }
 {
