@@ -1,4 +1,5 @@
--- The spans of all pages have the properties that `AreSpans` states.
+-- The list `spans_of` satisfies `AreSpans`: it has one span for each page that differs, in ascending order, from the
+-- first to the last differing byte of the page.
 use Rattle.std.proofs.Common.{ℕ, zero, suc, ◌≡◌, ◌<◌, ◌≤◌, ◌+◌, ◌-◌, ◌*◌, ◌/◌, min, Bool, true, cond, List, [], ◌∷◌, All, Option, Some, None, filter, length, get_or, refl, sym, ap, ◌∙◌, inl, inr, arith}
 use Rattle.std.specs.Prelude.{AllPairs, is_some, count_by}
 use Rattle.std.specs.List.{cons_option, list_any, range_with_len}
@@ -28,12 +29,12 @@ length-cons_option None spans = omega arith
 length-cons_option (Some s) spans = omega arith
 
 module _ (old target : List ℕ) where
-  -- the span is one of `old` and `target`, and lies on the page `page` or a later one
+  -- holds if `s` is the span of a page of `old` and `target`, and this page is the page `page` or a later one
   abbrev SpanFrom : ℕ → PageSpan → Type 0
   SpanFrom page s = IsSpan old target s × (page ≤ s.first / 256)
 
-  -- Holds if `spans` are the spans of all pages that have a difference among the `count` pages from `page` on, one per
-  -- page, in ascending order.
+  -- Holds if `spans` has one span for each of the `count` pages from `page` on in which `old` and `target` differ, in
+  -- ascending order.
   record ArePageSpans (page count : ℕ) (spans : List PageSpan) : Type 0 where
     each : All (SpanFrom page) spans
     complete : (k : ℕ) → page ≤ k / 256 → k / 256 < page + count → DifferAt old target k → spanned_by spans k ≡ true

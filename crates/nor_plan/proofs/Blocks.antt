@@ -1,4 +1,5 @@
--- The differences of a block of bytes. Vector code combines them with OR, so that one test covers the whole block.
+-- Vector code compares two slices 32 bytes at a time: it computes the XOR of the bytes and combines the results with
+-- OR. If the combined result is 0, the slices agree in all bytes compared.
 use Rattle.std.proofs.Common.{ℕ, zero, suc, ◌≡◌, ◌≢◌, ◌<◌, ◌≤◌, ◌+◌, ◌-◌, bit_or, bit_xor, List, [], ◌∷◌, length, replicate, get_or, sym, ◌∙◌, ap, not, nat_eq, inl, inr, arith}
 use lib.Bits.{xor_self, xor_assoc, xor_zero_l, xor_zero_r, or_zero_l}
 use lib.Lanes.{chunk, zip2, fold_l}
@@ -45,7 +46,7 @@ some_lane P start (x ∷ xs) front lane some =
     (λ i within other. lane (suc i) (omega arith) other) some
 
 module _ (a b : List ℕ) where
-  -- the XOR of the 32 bytes from `at` on in `a` with those in `b` shows in which bytes `a` and `b` differ
+  -- the XOR of the 32 bytes from `at` on in `a` with those in `b` shows whether `a` and `b` differ in these bytes
   -- (`ShowsDifferences`)
   pub ShowsDifferences-xor : (at : ℕ) → at + 32 ≤ length a → at + 32 ≤ length b
       → ShowsDifferences a b at 32 (zip2 bit_xor (chunk at 32 a) (chunk at 32 b))
@@ -69,8 +70,8 @@ module _ (a b : List ℕ) where
         some = λ i lane other. (at + i, omega arith, λ same. other (bits i lane ∙ rw (same, xor_self)));
       }
 
-  -- a vector of 32 zero lanes, with which `changes_256` and `blocks_differ` begin, shows the differences of an empty
-  -- range of bytes
+  -- a vector of 32 zero lanes, with which `changes_256` and `blocks_differ` begin, satisfies `ShowsDifferences` for an
+  -- empty range of bytes
   pub ShowsDifferences-zeros : (at : ℕ) → ShowsDifferences a b at 0 (replicate 32 0)
   ShowsDifferences-zeros at = record {
     long = length-replicate {A = ℕ} 32 0;
@@ -78,8 +79,8 @@ module _ (a b : List ℕ) where
     some = λ i lane other. absurd (other (get_or-replicate {A = ℕ} 32 i 0 0 lane));
   }
 
-  -- If two vectors show the differences of two adjacent ranges of bytes, the OR of the vectors shows the differences of
-  -- both ranges together.
+  -- Suppose that the vectors `xs` and `ys` show whether `a` and `b` differ in two adjacent ranges of bytes
+  -- (`ShowsDifferences`). Then the OR of `xs` and `ys` shows whether `a` and `b` differ in the two ranges together.
   pub ShowsDifferences-or : {at m from n count : ℕ} {xs ys : List ℕ} → from ≡ at + m → count ≡ m + n
       → ShowsDifferences a b at m xs → ShowsDifferences a b from n ys → ShowsDifferences a b at count (zip2 bit_or xs ys)
   ShowsDifferences-or {at} {m} {from} {n} {count} {xs} {ys} next sum first second =
@@ -102,14 +103,15 @@ module _ (a b : List ℕ) where
         ];
       }
 
-  -- If the vector `xs` shows the differences of a range of bytes, and the OR of its lanes is 0, no byte of the range
-  -- differs.
+  -- If the vector `xs` shows whether `a` and `b` differ in a range of bytes (`ShowsDifferences`), and the OR of its
+  -- lanes is 0, no byte of the range differs.
   pub ShowsDifferences-none : (at count : ℕ) (xs : List ℕ) → ShowsDifferences a b at count xs → fold_l bit_or 0 xs ≡ 0
       → AgreeWithin a b at (at + count)
   ShowsDifferences-none at count xs shows none = shows.none (λ i lane. omega (arith, none, lane_le 0 xs i))
 
-  -- Suppose that `xs` shows the differences of the first `count` bytes, and `end` is at most `count`. If the OR of the
-  -- lanes of `xs` isn't 0, some byte of the slices differs. If the OR is 0, none of the first `end` bytes differs.
+  -- Suppose that `xs` shows whether `a` and `b` differ in the first `count` bytes (`ShowsDifferences`), and that `end`
+  -- is at most `count`. If the OR of the lanes of `xs` isn't 0, some byte of the slices differs. If the OR is 0, none
+  -- of the first `end` bytes differs.
   pub ShowsDifferences-tested : (count end : ℕ) (xs : List ℕ) → ShowsDifferences a b 0 count xs → end ≤ count
       → MatchBool (not (nat_eq (fold_l bit_or 0 xs) 0)) (SomeDiffer a b) (AgreeWithin a b 0 end)
   ShowsDifferences-tested count end xs shows within =

@@ -38,7 +38,7 @@ list_any-kept p f test (k ∷ ks) = elim (cases_Bool (test k)) [
 ]
 
 module _ (whole : Bool) (kinds : Kinds) (total : ℕ) (set : ℕ → Bool) (can : IsPlannable whole total set) where
-  -- if `unit` is the largest fit erase block of the sector `q` (`IsLargest`), the chip has the erase type of `unit`
+  -- if `unit` is the largest erase block that may be used for the sector `q` (`IsLargest`), the chip has its erase type
   largest_offered : (q : ℕ) (unit : EraseBlock) → IsLargest whole kinds set q unit → is_offered kinds unit ≡ true
   largest_offered q Sector largest = refl
   largest_offered q Block32 largest = (and_parts _ _ largest.2).0
@@ -62,7 +62,7 @@ module _ (whole : Bool) (kinds : Kinds) (total : ℕ) (set : ℕ → Bool) (can 
       largest_within q (begins_in whole kinds set q begins) unit (planned_block-largest whole kinds set q) s
       (omega arith) (omega arith)
 
-  -- each planned erase satisfies `IsErase`: the chip has its erase block, which is aligned and ends on the chip
+  -- each planned erase satisfies `IsErase`: the chip has its erase type, and its block is aligned and ends on the chip
   planned_IsErase : (q : ℕ) → begins_block whole kinds set q ≡ true → IsErase kinds total (erase_at whole kinds set q)
   planned_IsErase q begins = record {
     offered = largest_offered q _ (planned_block-largest whole kinds set q);

@@ -1,5 +1,5 @@
--- No list of erases that covers the set is shorter than the list of planned erases. The planned erases begin at
--- different sectors, and at each of these sectors a covering list has an erase that begins there.
+-- No list of erases that covers the set is shorter than the list of planned erases. The reason is that the planned
+-- erases begin at different sectors, and that each covering list has an erase that begins at each of these sectors.
 use Rattle.std.proofs.Common.{ℕ, ◌≡◌, ◌<◌, ◌≤◌, ◌+◌, ◌-◌, ◌%◌, ◌&&◌, Bool, true, false, cond, nat_eq, List, length, map, filter, get_or, refl, sym, ap, ◌∙◌, arith}
 use Rattle.std.specs.List.{range_with_len, list_any, IsDistinct}
 use Rattle.std.proofs.lemmas.Cmp.{nat_eq_equiv}
@@ -38,8 +38,8 @@ abbrev sector : Erase → ℕ
 sector erase = erase.sector
 
 module _ (whole : Bool) (kinds : Kinds) (total : ℕ) (set : ℕ → Bool) (can : IsPlannable whole total set) where
-  -- If the chip has the erase block `unit`, and the aligned block that contains the sector `q` lies in the set, the
-  -- block is fit (`is_fit`).
+  -- If the chip has the erase type of `unit`, and the aligned block of this kind that contains the sector `q` lies in
+  -- the set, then this block may be used for `q` (`is_fit`).
   within_fit : (unit : EraseBlock) (q : ℕ) → is_offered kinds unit ≡ true
       → ((s : ℕ) → first_of unit q ≤ s → s < first_of unit q + sectors_in total unit → set s ≡ true)
       → is_fit whole kinds set q unit ≡ true

@@ -15,8 +15,8 @@ use Rattle.std.proofs.lemmas.Simd.{tops_compared, mask_l-lt, mask_l-mod, bit_mas
 abbrev pub compared : (ℕ → ℕ → Bool) → List ℕ → List ℕ → ℕ
 compared t xs ys = mask_l (map (top 7) (zip2 (λ a b. cond (t a b) (2 ^ 8 - 1) 0) xs ys)) % 2 ^ 64
 
--- The mask of two vectors of 32 lanes is the mask of `test` (`IsMask`), if comparing the two lanes at each position `i`
--- with `t` returns `test i`.
+-- Suppose that `t`, applied to the two lanes at position `i`, returns `test i`, for each `i` below 32. Then bit `i` of
+-- the mask `compared` is set if and only if `test i` is true (`IsMask`).
 pub compared-IsMask : (t : ℕ → ℕ → Bool) (xs ys : List ℕ) → length xs ≡ 32 → length ys ≡ 32 → (test : ℕ → Bool)
     → ((i : ℕ) → i < 32 → t (get_or xs i 0) (get_or ys i 0) ≡ test i) → IsMask (compared t xs ys) test
 compared-IsMask t xs ys long same test compares =

@@ -14,8 +14,8 @@ pub has-small : (set : SectorSet) → length set.words ≡ 64 → LiesBelow set 
 has-small set long s member =
     let small : ¬ (4096 ≤ s) = λ past. both_ways _ (none_past set long s past) member in omega arith
 
--- if all numbers that pass `test` are below `end`, the count of those below `end + more` equals the count of those
--- below `end`
+-- Let `count n` be the number of numbers below `n` that pass `test`. If all numbers that pass `test` are below `end`,
+-- then `count (end + more)` equals `count end`.
 count_past : (test : ℕ → Bool) (count : ℕ → ℕ) (end more : ℕ) → IsCount test count → ((s : ℕ) → test s ≡ true → s < end)
     → count (end + more) ≡ count end
 count_past test count end zero is below = let same : end + zero ≡ end = omega arith in ap count same
@@ -25,8 +25,8 @@ count_past test count end (suc more) is below =
     let fails = false_from_ne_true (test place) (λ passes. let inside = below place passes in omega arith) in
     ap count next ∙ is.goes (end + more) ∙ rw fails (omega (arith, count_past test count end more is below))
 
--- If all sectors of the set are below `end`, the length of the list of its sectors is the count of its sectors below
--- `end`.
+-- Let `count n` be the number of sectors of the set that are below `n`. If all sectors of the set are below `end`, the
+-- list of these sectors has `count end` items.
 length-members-counted : (set : SectorSet) → length set.words ≡ 64 → (count : ℕ → ℕ) (from most end : ℕ) → from ≡ 0
     → most ≡ 4096 → IsCount (has set) count → LiesBelow set end → length (members_from set from) ≡ count end
 unfolding members_from

@@ -7,16 +7,16 @@ use Rattle.nor_driver.specs.declared.units.Erase.{Erase}
 use Rattle.nor_driver.specs.declared.units.EraseBlock.{EraseBlock}
 use Rattle.nor_driver.specs.declared.units.EraseBlock.TheVariants.{Sector, Block32, Block64, Chip}
 
--- True if a chip with the erase types `kinds` has this erase block. `has_block` tests the same for a configuration.
--- This test takes `kinds`, because a probe returns the erase types of a chip but not its configuration.
+-- True if a chip with the erase types `kinds` can erase blocks of this kind. `has_block` tests the same for a
+-- configuration. This test takes `kinds`, because a probe returns the erase types of a chip but not its configuration.
 abbrev pub is_offered : Kinds → EraseBlock → Bool
 is_offered kinds Sector = true
 is_offered kinds Block32 = kinds.k32
 is_offered kinds Block64 = kinds.k64
 is_offered kinds Chip = true
 
--- Holds if a chip with the erase types `kinds` and `total` sectors can carry out `erase`. For this, it must have the
--- erase block, and the block must be aligned and end on the chip.
+-- Holds if a chip with the erase types `kinds` and `total` sectors can carry out `erase`. For this, the chip must be
+-- able to erase blocks of this kind, and the block must be aligned and end on the chip.
 pub record IsErase (kinds : Kinds) (total : ℕ) (erase : Erase) : Type 0 where
   pub offered : is_offered kinds erase.unit ≡ true
   pub aligned : is_aligned erase.unit erase.sector ≡ true

@@ -39,8 +39,9 @@ unfoldable pub planned_from : Bool → Kinds → (ℕ → Bool) → ℕ → List
 planned_from whole kinds set from =
     map (erase_at whole kinds set) (filter (begins_block whole kinds set) (range_with_len from (4096 - from)))
 
--- Holds if `head` is the first planned erase that begins at or after the sector `from`, paired with a sector at or
--- after which the remaining ones begin. If no planned erase begins at or after `from`, `head` is `None`.
+-- Holds if `head` is the first planned erase that begins at or after the sector `from`, paired with a second sector
+-- number. The remaining erases are the planned ones that begin at or after this second sector. If no planned erase
+-- begins at or after `from`, `head` is `None`.
 abbrev pub HeadsPlanned : Bool → Kinds → (ℕ → Bool) → ℕ → Option (Erase × ℕ) → Type 0
 HeadsPlanned whole kinds set from head =
     MatchOption head (planned_from whole kinds set from ≡ [])
@@ -50,13 +51,13 @@ HeadsPlanned whole kinds set from head =
 abbrev pub planned : Kinds → ℕ → (ℕ → Bool) → List Erase
 planned kinds total set = planned_from (holds_run set 0 total) kinds set 0
 
--- The number of erases planned for `set`. `fewest_is_least` proves that it is the least number of erases that cover the
--- set, if the set lies on a chip of at most 4,096 sectors.
+-- The number of erases planned for `set`. `fewest_is_least` proves that it is the least number of erases that together
+-- erase exactly the sectors of the set, if the set lies on a chip of at most 4,096 sectors.
 abbrev pub fewest_erases : Kinds → ℕ → (ℕ → Bool) → ℕ
 fewest_erases kinds total set = length (planned kinds total set)
 
--- Holds if `count` is the least number of erases that cover `set`: some list of this length covers it, and no shorter
--- list does.
+-- Holds if `count` is the least number of erases that together erase exactly the sectors of `set` (`Covers`): some list
+-- of this length does so, and no shorter list does.
 pub record IsLeastLength (kinds : Kinds) (total : ℕ) (set : ℕ → Bool) (count : ℕ) : Type 0 where
   pub some : List Erase
   pub covers : Covers kinds total some set

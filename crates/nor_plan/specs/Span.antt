@@ -41,8 +41,8 @@ spans_from old target page = spans_in old target page (page_count old - page)
 abbrev pub spans_of : (old target : List ℕ) → List PageSpan
 spans_of old target = spans_from old target 0
 
--- Holds if `head` is the first span on the page `page` or a later one, paired with the number of a page on or after
--- which the remaining spans lie. If these pages have no span, `head` is `None`.
+-- Holds if `head` is the first span on the page `page` or a later one, paired with a second page number. The remaining
+-- spans are those on this second page or later ones. If no span is on the page `page` or a later one, `head` is `None`.
 abbrev pub HeadsSpans : (old target : List ℕ) → ℕ → Option (PageSpan × ℕ) → Type 0
 HeadsSpans old target page head =
     MatchOption head (spans_from old target page ≡ [])

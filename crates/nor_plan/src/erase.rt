@@ -27,7 +27,8 @@ pub use iter::Erases;
 /// aligned 64 KiB block whose sectors are all in the set. In the rest of the set, if the chip has 52h, one 52h erases
 /// each aligned 32 KiB block whose sectors are all in the set. A 20h erases each other sector of the set.
 ///
-/// All sectors of `set` must lie on the chip. No shorter list of erases that the chip has erases exactly these sectors.
+/// All sectors of `set` must lie on the chip. No shorter list of erases that the chip supports erases exactly these
+/// sectors.
 pub fn erases(set: &SectorSet, kinds: Kinds, size: u32) -> Erases
     requires { LiesBelow set.now (size / 4096) }
     ensures covers { Covers kinds (size / 4096) (erases_left result) (has set.now) }
@@ -51,8 +52,8 @@ pub fn fewest_is_least()
         → IsLeastLength kinds total set (fewest_erases kinds total set) }
 {}
 
-/// Returns the first planned erase that begins at or after the sector `from`, together with the sector at or after
-/// which the remaining planned erases begin. Returns `None` if no planned erase begins at or after `from`.
+/// Returns the first planned erase that begins at or after the sector `from`, together with the sector from which to
+/// search for the next planned erase. Returns `None` if no planned erase begins at or after `from`.
 fn next_erase(set: &SectorSet, kinds: Kinds, whole: bool, from: u32) -> Option<(Erase, u32)>
     ensures { HeadsPlanned whole kinds (has set.now) from result }
 {

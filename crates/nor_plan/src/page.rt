@@ -33,8 +33,8 @@ pub fn spans<'a>(old: &'a [u8], target: &'a [u8]) -> Spans<'a>
     Spans::new(old, target)
 }
 
-/// Returns the first span on the page `page` or a later one, together with the number of the page after that span.
-/// Returns `None` if the page `page` and all later pages have no span.
+/// Returns the first span on the page `page` or a later one, together with the number of the page after the one with
+/// this span. Returns `None` if the page `page` and all later pages have no span.
 #[tactic(auto, using(crate::proofs::PageSpans::page_steps))]
 fn next_span(old: &[u8], target: &[u8], page: usize) -> Option<(PageSpan, usize)>
     requires { length old.now ≡ length target.now }
