@@ -52,8 +52,10 @@ no_poll opcode differs [] is = refl
 no_poll opcode differs (first ∷ []) is = rw (eqb-true first opcode is) differs
 no_poll opcode differs (first ∷ x ∷ rest) is = refl
 
--- Let a chip be found after polls, a read of the ID and, if the ID has no row, reads of the SFDP. Then the chip found
--- is what the bus replied.
+-- Let `polled`, `read` and `new` be the histories after the polls of a probe, after its read of the ID, and after its
+-- reads of the SFDP, if any. Suppose that `found` has the status 1 of the last poll and the ID that was read. If the ID
+-- has a row in the table, or the SFDP replies describe the type of `found`, then `found` is what the bus replied
+-- (`IsFoundBy`).
 pub found_by : {polled read new : List Exchange} (found : Found) → last_reply is_poll polled ≡ found.status1 ∷ []
     → Answered (begins_with 0x9F) polled read found.id → KeepsReplies (begins_with 0x5A) read new
     → (part_with_id found.id ≡ None → IsTypeBySfdp new (part_in found)) → IsFoundBy new found
@@ -64,8 +66,8 @@ found_by found status answered keeps by_sfdp = record {
   by_sfdp = by_sfdp;
 }
 
--- Let a chip found be what the bus replied. It still is after transactions that leave the last replies to 9Fh and to
--- polls as they were.
+-- If a chip found is what the bus replied (`IsFoundBy`), this stays so after later transactions that leave the last
+-- replies to 9Fh and to polls as they were.
 pub found_later : {old new : List Exchange} {found : Found} → Continues old new
     → last_reply (begins_with 0x9F) new ≡ last_reply (begins_with 0x9F) old → last_reply is_poll new ≡ last_reply is_poll old
     → IsFoundBy old found → IsFoundBy new found

@@ -1,4 +1,4 @@
--- A lemma about the SFDP that was read.
+-- If the SFDP bytes that a probe read are those of the chip, they describe the same geometry as the chip's SFDP.
 use Rattle.std.proofs.Common.{◌≡◌, refl}
 use Rattle.nor_model.specs.declared.config.Config.{Config}
 use Rattle.nor_probe.specs.declared.probes.Parameters.{Parameters}
@@ -6,8 +6,8 @@ use Rattle.nor_probe.specs.Sfdp.{sfdp_says}
 use Rattle.nor_probe.specs.Known.{chip_says}
 use Rattle.nor_probe.specs.Steps.{AreParameters}
 
--- If the parts that were read are those of the chip's SFDP (`AreParameters`), they describe what the chip's SFDP
--- describes.
+-- If `parameters` has the parts of the chip's SFDP (`AreParameters`), these bytes describe the geometry that the chip's
+-- SFDP describes, or are refused for the same fault.
 pub parameters_say : (config : Config) (parameters : Parameters) → AreParameters config parameters
     → chip_says config ≡ sfdp_says parameters.header parameters.first parameters.table
 unfolding chip_says

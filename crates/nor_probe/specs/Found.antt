@@ -50,8 +50,9 @@ reads_of of_id = if is_no_chip of_id then 1 else reads_by (part_with_id of_id)
 abbrev pub needed : Chip → ℕ
 needed chip = chip.busy + 1 + reads_of (id_of chip.config)
 
--- Holds for each chip that a probe finds, on every bus. The chip has a size that a chip may have. It has a row in the
--- table, or was identified by SFDP. Its ID isn't one that is read if nothing drives the bus.
+-- Holds for each chip that a probe finds, on every bus. The chip found has a size from 64 KiB to 16 MiB that is a power
+-- of two. It has a row in the table, or was identified by its SFDP. Its ID is neither `FF FF FF` nor `00 00 00`, which
+-- are read if nothing drives the bus.
 pub record IsPart (found : Found) : Type 0 where
   pub driven : is_no_chip found.id ≡ false
   pub origin : (part_with_id found.id ≡ Some (part_in found))
@@ -71,9 +72,10 @@ pub record IsCounted (old : BusState) (probed : Probed) : Type 0 where
   pub sent : old.honest ≡ true → probed.transactions ≡ needed old.chip
 
 -- Holds after a probe on a well-behaved bus (`honest`) that found a chip. The chip found is what the chip on the bus
--- shows about itself, that chip is idle, and the status is its status 1. Its bytes, non-volatile status bits and erased
--- sectors are unchanged. The write enable latch is unchanged if the chip was idle, and otherwise clear. The probe sent
--- exactly the transactions that the chip needs.
+-- shows about itself (`shown_as`), and `found.status1` is the status 1 of this chip after the probe. The chip on the
+-- bus is idle, and its bytes, non-volatile status bits and erased sectors are unchanged. Its write enable latch is
+-- unchanged if the chip was idle before, and otherwise clear. The probe sent exactly the transactions that the chip
+-- needs.
 pub record Finds (old new : BusState) (found : Found) : Type 0 where
   pub rested : Rested old new
   pub part : shown_as old.chip.config ≡ Ok (part_in found)

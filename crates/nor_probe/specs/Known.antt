@@ -36,7 +36,8 @@ abbrev pub sfdp_part : (with_id : List ℕ) → Geometry → Part
 sfdp_part with_id geometry =
     record { name = Sfdp; id = with_id; size = geometry.size; kinds = geometry.kinds; scheme = false }
 
--- the type of a chip with this ID that its SFDP describes, or the fault that its SFDP isn't accepted
+-- the type of a chip with this ID that its SFDP describes, or `UnknownChip` with the fault for which the SFDP is
+-- refused
 abbrev pub part_by_sfdp : (with_id : List ℕ) → Result Geometry SfdpFault → Result Part ProbeFault
 part_by_sfdp with_id (Ok geometry) = Ok (sfdp_part with_id geometry)
 part_by_sfdp with_id (Err fault) = Err (UnknownChip fault)
@@ -68,8 +69,8 @@ pub record IsGenuine (config : Config) : Type 0 where
   pub described : part_with_id (id_of config) ≡ None
       → (geometry : Geometry) → chip_says config ≡ Ok geometry → HasGeometry geometry config
 
--- Holds for the configuration of a known chip. The chip is genuine, its ID isn't one that is read if nothing drives the
--- bus, and it has a row in the table, or its SFDP is accepted.
+-- Holds for the configuration of a known chip. The chip is genuine, and its ID isn't one that is read if nothing drives
+-- the bus. The ID has a row in the table, or the chip's SFDP is accepted.
 pub record IsKnown (config : Config) : Type 0 where
   pub genuine : IsGenuine config
   pub shown : IsOk (shown_as config)

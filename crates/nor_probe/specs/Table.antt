@@ -47,7 +47,8 @@ name_of text = name_or (if bytes_eq text (codes "SFDP") then Sfdp else Other) (p
 abbrev pub tiny64 : Part
 tiny64 = record { name = Sfdp; id = 0xFE ∷ 0x10 ∷ 0x10 ∷ []; size = 65536; kinds = all_kinds; scheme = false }
 
--- the type of the emulated chip with this value of `emulate=`: TINY64, or a chip of the table
+-- the type of the emulated chip with this value of `emulate=` (TINY64, or a chip of the table), or `None` for any other
+-- value
 abbrev pub emulated_named : (text : List ℕ) → Option Part
 emulated_named text = if bytes_eq text (codes "TINY64") then Some tiny64 else part_with_name text
 

@@ -4,7 +4,7 @@
 //! - `table.rt`: the names of chips, the table of the chips that are known by their ID, and the emulated chips
 //! - `sfdp.rt`: decodes SFDP bytes into the size and the erase types of a chip
 //! - `probes.rt`: finds the chip on a bus, over nor_driver
-//! - `laws.rt`: laws on known chips: the emulated chips are known, and a known chip may have any unique ID
+//! - `laws.rt`: a theorem: the emulated chips are known, and a known chip may have any unique ID
 //!
 //! ```rust
 //! use nor_chip::{Config, Delays, Meter, SimBus};

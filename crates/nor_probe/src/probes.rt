@@ -71,8 +71,8 @@ pub struct Probed {
 /// or was identified by the SFDP that the bus replied.
 ///
 /// On a well-behaved bus (`honest`), the returned chip is what the chip on the bus shows about itself. That chip is
-/// idle, and its bytes and non-volatile status bits are unchanged. On a modelled bus, the returned ID, size, erase
-/// types and block protection are those of the chip's configuration.
+/// idle, and its bytes and non-volatile status bits are unchanged. On a modelled bus (well-behaved, with a genuine
+/// chip: `IsModelled`), the returned ID, size, erase types and block protection are those of the chip's configuration.
 ///
 /// Returns `NoChip`, `UnknownChip` or `OtherName`, checked in this order. Returns `Stopped` if the bus stopped, and
 /// `Timeout` if 65,536 polls showed BUSY, which doesn't occur on a well-behaved bus. Nothing is sent after a stop or a
