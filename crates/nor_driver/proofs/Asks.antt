@@ -1,4 +1,4 @@
--- A chip decodes each prefix of the bytes of an operation's command as the same command as all of these bytes, or as
+-- If a chip receives only the first bytes of an operation's command, it decodes them as the whole command or as
 -- `Ignored`.
 use Rattle.std.proofs.Common.{◌≡◌, ◌<◌, ◌≤◌, ◌∙◌, ◌⊎◌, ℕ, zero, suc, true, false, List, length, [], ◌∷◌, take, refl, sym, arith, inl, inr}
 use Rattle.std.proofs.Math.Seq.{take-nil}
@@ -12,8 +12,8 @@ use Rattle.nor_driver.specs.declared.units.EraseBlock.TheVariants as Units
 use Rattle.nor_driver.specs.Operations.{is_operation_or_none, IsCommandAt, AsksForOperation}
 use Rattle.nor_driver.proofs.Erasing.{erase_bytes}
 
--- The first `count` bytes of `out`, with `replies` reply bytes, are decoded as the same command as all bytes of `out`
--- without reply bytes, or as `Ignored`.
+-- Holds if a chip decodes the first `count` bytes of `out`, with `replies` reply bytes, as `Ignored` or as the command
+-- of all bytes of `out` without reply bytes.
 abbrev AsksAlike : Config → List ℕ → (count replies : ℕ) → Type 0
 AsksAlike config out count replies = (command_of config (take count out) replies ≡ Ignored)
     ⊎ (command_of config (take count out) replies ≡ command_of config out 0)

@@ -62,8 +62,9 @@ pub idle-takes : (chip : Chip) (out : List ℕ) → AsksForOperation out → is_
     → chip.busy ≡ 0
 idle-takes chip out asks is = grind (arith, asks.whole chip.config, nat_tests)
 
--- The effect of a command that begins an operation. Bytes, non-volatile bits and erased sectors are already as after
--- `command`, and the operation is in progress. The chip will show BUSY for any number of polls, or not at all.
+-- The effect of a command that begins an operation. Bytes, non-volatile bits and the record of erased sectors are
+-- already as after `command`, and the operation is in progress. The chip will show BUSY for any number of polls, or not
+-- at all.
 pub record HasBegun (command : Command) (sent : List ℕ) (old new : BusState) : Type 0 where
   pub config : new.chip.config ≡ old.chip.config
   pub bytes : (a : ℕ) → new.chip.bytes a ≡ byte_after old.chip command sent a

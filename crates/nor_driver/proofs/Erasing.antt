@@ -88,8 +88,8 @@ erased_where : (chip : Chip) (has : Bool) (start start' len len' : ℕ) → star
     ≡ cond (is_idle chip && has && not (is_block_protected chip start' len')) (Commands.Erase start' len') Commands.Ignored
 erased_where chip has start start' len len' same long = grind (arith, and-false)
 
--- Suppose that `4096 * sector` is on the chip and is a multiple of `len`. Then it stays the same if it is taken modulo
--- the chip's size and rounded down to a multiple of `len`.
+-- Suppose that `4096 * sector` is on the chip and is a multiple of `len`. Then this address stays the same if it is
+-- taken modulo the chip's size and rounded down to a multiple of `len`.
 unit_start : (config : Config) (x y z sector len : ℕ) → 65536 * x + 256 * y + z ≡ 4096 * sector
     → 4096 * sector < config.size → 4096 * sector / len * len ≡ 4096 * sector
     → address_of config x y z / len * len ≡ 4096 * sector

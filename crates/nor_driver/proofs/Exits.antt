@@ -35,8 +35,8 @@ module _ (out : List ℕ) (asks : AsksForOperation out) (old : BusState) where
       → LeavesOperation (command_operation out) old new
   leaves_by stirs falls reached ignored = assumption
 
-  -- If the chip carried out no operation for the command, so that `KeepsChip` holds, `LeavesOperation` follows from
-  -- `Stirs` and `Falls`.
+  -- If the chip carried out no operation for the command (`KeepsChip`), then `Stirs` and the bound on the number of
+  -- transactions (`Falls`) imply `LeavesOperation`.
   not_begun : (new : BusState) → Stirs (limits_of out) old new
       → (old.honest ≡ true → Falls most_operation old new) → (old.honest ≡ true → KeepsChip old new)
       → LeavesOperation (command_operation out) old new

@@ -54,8 +54,8 @@ pub sends_then : (first second all : Limits) (old mid new : BusState) → ArePar
 sends_then first second all old mid new parts before after =
     grind (arith, before.targeted, after.targeted, before.written, after.written, parts.sectors, parts.sectors', parts.status, parts.status')
 
--- if `SendsWithin` holds from `old` to `mid`, and no transaction that may modify a chip is sent from `mid` to `new`, it
--- also holds from `old` to `new`
+-- if `SendsWithin` holds from `old` to `mid`, and no transaction that may modify a chip is sent from `mid` to `new`,
+-- then `SendsWithin` also holds from `old` to `new`
 pub sends_same : (limits : Limits) (old mid new : BusState) → new.sent ≡ mid.sent → SendsWithin limits old mid
     → SendsWithin limits old new
 sends_same limits old mid new same sends = grind (arith, sends.targeted, sends.written)
@@ -123,8 +123,8 @@ sends_one out old new known sends = record {
   unknown = grind (arith, or-false, sends.sent.unknown);
 }
 
--- The list that a transaction with the bytes `out` adds to the list `sent`. It contains `out`, or nothing if `out` is
--- empty or begins with a quiet opcode.
+-- The list that a transaction with the bytes `out` adds to the list `sent`. The added list contains `out`, or nothing
+-- if `out` is empty or begins with a quiet opcode (of a read, or 04h).
 added_by : (out : List ℕ) → Sent
 added_by out = if begins_quiet out then [] else out ∷ []
 
@@ -143,7 +143,7 @@ exactly_one out old new sends = record {
       sends.sent.status_writes;
 }
 
--- ---- an operation, which sends a write enable (it targets no sector) and then a command
+-- ---- an operation: a write enable, which targets no sector, and then a command
 
 pub in_none : (s : ℕ) → is_in_targeted none_targeted s ≡ true → ⊥
 in_none s is = grind (arith, nat_tests)
@@ -169,8 +169,8 @@ command_exactly out old ready new enables sends =
     exactly_then (omega arith) (omega arith) (omega arith) (exactly_one (6 ∷ []) old ready enables)
     (exactly_one out ready new sends)
 
--- if a transaction with a modifying opcode was sent before another transaction, it still counts as sent after that
--- transaction
+-- if some transaction sent before `out` begins with a modifying opcode, this is still recorded after `out`
+-- (`is_stirred`)
 pub still_stirred : (out : List ℕ) (old new : BusState) → is_stirred old.sent ≡ true → Sends out old new
     → is_stirred new.sent ≡ true
 still_stirred out old new is sends = grind (arith, sends.sent.stirred)

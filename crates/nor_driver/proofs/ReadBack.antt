@@ -22,7 +22,7 @@ pub adds_none : (history : List Exchange) → AddsSectorReads history history
 adds_none history = record { later = []; is = refl; each = All-nil IsSectorRead }
 
 -- Sector `n` is read with the reply `bytes`, after the history `earlier`. If `a` lies in sector `n`, the last reply to
--- a read of the sector of `a` is `bytes`. Otherwise it is the same as in `earlier`.
+-- a read of the sector of `a` is `bytes`. Otherwise that reply is the same as in `earlier`.
 module _ {n : ℕ} (out bytes : List ℕ) (reads : names 0x03 (4096 * n) out ≡ true)
     (earlier : List Exchange) (a : ℕ) where
   pub read_other : a / 4096 ≢ n → sector_read (replied out bytes ∷ earlier) a ≡ sector_read earlier a
@@ -42,8 +42,8 @@ by_test : (passes : Bool) (reply : Option (List ℕ)) (rest more : List ℕ)
 by_test true reply rest more long same = refl
 by_test false reply rest more long same = same long
 
--- `front` has later transactions than `old`. If the last reply in `front` to a transaction that satisfies `is` has
--- 4,096 bytes, that reply is also the last one in the whole history `front ++ old`.
+-- `front` lists the transactions after those of `old`. If the last reply in `front` to a transaction that satisfies
+-- `is` has 4,096 bytes, that reply is also the last one in the whole history `front ++ old`.
 last_in_front : (is : List ℕ → Bool) (front old : List Exchange) → length (last_reply is front) ≡ 4096
     → last_reply is (front ++ old) ≡ last_reply is front
 last_in_front is [] old long = absurd (omega arith)

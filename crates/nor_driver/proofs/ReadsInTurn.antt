@@ -1,4 +1,4 @@
--- Successive calls that only read, at every exit of the last one.
+-- The effect of successive calls that only read, at every exit of the last call.
 use Rattle.std.proofs.Common.{◌≤◌, ◌+◌, ℕ, arith}
 use Rattle.nor_model.specs.Bus.{BusState}
 use Rattle.nor_model.proofs.Nature.{nature_refl, nature_then}
@@ -7,8 +7,8 @@ use Rattle.nor_driver.proofs.Readings.{honest_reads_then, honest_reads_more}
 pub use Rattle.nor_driver.proofs.Cuts.{same_then}
 use Rattle.nor_driver.proofs.Cuts.{unchanged_none, unchanged_stays}
 
--- if two successive calls satisfy `OnlyReads` with the bounds `m` and `n`, both together satisfy it with the bound `m +
--- n`
+-- if two successive calls satisfy `OnlyReads` with the bounds `m` and `n`, both together satisfy `OnlyReads` with the
+-- bound `m + n`
 pub only_reads_then : (m n : ℕ) (old mid new : BusState) → OnlyReads m old mid → OnlyReads n mid new → OnlyReads (m + n) old new
 only_reads_then m n old mid new first second =
     let nature = nature_then old mid new second.nature first.nature in
@@ -19,12 +19,12 @@ only_reads_then m n old mid new first second =
 pub only_reads_none : (state : BusState) → OnlyReads 0 state state
 only_reads_none state = search (nature_refl state, unchanged_stays state state (unchanged_none state), arith)
 
--- if a call satisfies `OnlyReads` with the bound `m`, it satisfies it with each greater bound `n`
+-- if a call satisfies `OnlyReads` with the bound `m`, it also satisfies `OnlyReads` with each greater bound `n`
 pub only_reads_more : (m n : ℕ) (old new : BusState) → m ≤ n → OnlyReads m old new → OnlyReads n old new
 only_reads_more m n old new fits only_reads = search (honest_reads_more old new m n fits, only_reads.honest_reads)
 
--- if two successive calls satisfy `OnlyReads` with the bounds `m` and `n`, both together satisfy it with each bound of
--- at least `m + n`
+-- if two successive calls satisfy `OnlyReads` with the bounds `m` and `n`, both together satisfy `OnlyReads` with each
+-- bound of at least `m + n`
 pub only_reads_within : {m n : ℕ} (most : ℕ) {old mid new : BusState} → m + n ≤ most → OnlyReads m old mid → OnlyReads n mid new
     → OnlyReads most old new
 only_reads_within {m} {n} most {old} {mid} {new} fits first second =

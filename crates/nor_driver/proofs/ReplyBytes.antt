@@ -32,8 +32,8 @@ reads_sfdp old new x y z at len answer named long replies = record {
       (λ i below. replies.replied honest i below ∙ rw (idle, named) refl);
 }
 
--- When a sector that lies on the chip is read from its start, byte `i` of the reply is the chip's byte at `4096 *
--- sector + i`.
+-- The chip takes addresses modulo its size. If a sector that lies on the chip is read from its start, byte `i` of the
+-- reply is still that of the address `4096 * sector + i`.
 address_in_sector : (size at sector i : ℕ) → at ≡ 4096 * sector → 4096 * (sector + 1) ≤ size → i < 4096
     → (at % size + i) % size ≡ 4096 * sector + i
 address_in_sector size at sector i names inside small =

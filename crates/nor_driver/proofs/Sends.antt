@@ -8,8 +8,9 @@ use Rattle.nor_model.specs.Bus.{BusState, SameNature, KeepsNature, Records}
 use Rattle.nor_model.proofs.Nature.{nature_by}
 use Rattle.nor_model.proofs.RecordedSent.{records_sent}
 
--- The effect of one transaction on every bus. It satisfies `KeepsNature`, and the list `sent` changed as `RecordsSent`
--- says: `out` was added to this list, unless `out` is empty or begins with a quiet opcode.
+-- The effect of one transaction on every bus. The transaction satisfies `KeepsNature`, and the list `sent` changed as
+-- `RecordsSent` says: `out` was added to this list, unless `out` is empty or begins with a quiet opcode (of a read, or
+-- 04h).
 pub record Sends (out : List ℕ) (old new : BusState) : Type 0 where
   pub nature : KeepsNature old new
   pub sent : RecordsSent out old.sent new.sent

@@ -23,13 +23,13 @@ pub no_operation : (command : Command) (sent answer : List ℕ) (old new : BusSt
     → Does command sent old.chip answer new.chip → Wore command old new → Unchanged old new
 no_operation command sent answer old new is does wore = grind (arith, wore, or-false)
 
--- ---- the two ways in which a stop may leave the chip: as it was, or without power
+-- ---- a stop that left the chip as it was, and a stop on a bus that isn't steady
 
 pub record IsAsBefore (old new : BusState) : Type 0 where
   pub chip : new.chip ≡ old.chip
   pub worn : (s : ℕ) → new.worn s ≡ old.worn s
 
--- A stop left the chip and the record of erased sectors as they were, or the bus isn't steady.
+-- After a stop, the chip and the record of erased sectors are as they were, or the bus isn't steady.
 pub still_or_torn : (out : List ℕ) (old new : BusState) → AtStop out old new
     → IsAsBefore old new ⊎ ((old.steady ≡ false) × AtStop out old new)
 still_or_torn out old new stop = elim (cases_Bool old.steady) [
@@ -50,7 +50,7 @@ lost_stays old new unsteady lost worn = grind (arith, lost.bytes, worn)
 -- ---- a stop at which some bytes of the transaction may have been sent
 
 -- The state `old`, but with the chip as it is after the bytes that were sent before the stop, and before a possible
--- power failure. The erased sectors are those of `new`.
+-- power failure. The record of erased sectors is that of `new`.
 abbrev pub reached : (out : List ℕ) (old new : BusState) → AtStop out old new → BusState
 reached out old new cut = record old { chip = cut.reached; worn = new.worn }
 
@@ -82,7 +82,7 @@ enable_stays old new stops = elim (still_or_torn _ old new stops.at_stop) [
   | inr cut ↦ none_begun (6 ∷ []) old new cut.0 cut.1 (enable_part old.chip cut.1.count (length cut.1.read))
 ]
 
--- ---- a stop at a transaction that begins with a quiet opcode
+-- ---- a stop at a transaction that begins with a quiet opcode (of a read, or 04h)
 
 -- true if the command begins no operation and does not set the write enable latch
 abbrev pub is_quiet : Command → Bool

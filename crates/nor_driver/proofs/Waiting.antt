@@ -1,4 +1,4 @@
--- Successive polls.
+-- The effect of one poll, and of successive polls.
 use Rattle.std.proofs.Common.{◌≡◌, ◌<◌, ◌+◌, ◌%◌, ℕ, true, List, [], ◌∷◌, length, slice_index, refl, subst, arith}
 use Rattle.std.proofs.lemmas.List.{ext_get_or}
 use Rattle.nor_model.specs.History.{Answered, EndsBusy, replied}
@@ -10,12 +10,13 @@ use Rattle.nor_driver.specs.Waits.{Polls}
 use Rattle.nor_driver.proofs.Readings.{honest_reads_by}
 use Rattle.nor_driver.proofs.ReadsInTurn.{only_reads_then, only_reads_more}
 
--- a list that has one byte is equal to the list of its byte 0
+-- a list `bytes` of length 1 is `slice_index bytes 0 ∷ []`
 pub one_byte : (bytes : List ℕ) → length bytes ≡ 1 → bytes ≡ slice_index bytes 0 ∷ []
 one_byte bytes one = ext_get_or 0 bytes (slice_index bytes 0 ∷ []) one
     (λ i below. let first : i ≡ 0 = omega (arith, one, below) in rw first refl)
 
--- If the last transaction of `new` has a reply of one byte, this reply is the list of its byte 0.
+-- If the last transaction of `new` received the reply `answer`, which has one byte, this reply is `slice_index answer 0
+-- ∷ []`.
 pub replied_byte : (out answer : List ℕ) (old new : List Exchange) → length answer ≡ 1
     → new ≡ replied out answer ∷ old → new ≡ replied out (slice_index answer 0 ∷ []) ∷ old
 replied_byte out answer old new one is =

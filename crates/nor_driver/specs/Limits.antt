@@ -59,9 +59,9 @@ pub record SendsWithin (limits : Limits) (old new : BusState) : Type 0 where
   pub status_writes : status_writes_of new.sent ≤ status_writes_of old.sent + limits.status_writes
   pub unknown : has_unknown new.sent ≡ has_unknown old.sent
 
--- Holds if, since the state `old`, the bus was asked to send exactly these numbers of transactions. `erases` of them
--- begin with the opcode of an erase, `programs` with that of a page program, and `status_writes` with that of a status
--- write. `later` lists all transactions that were sent since `old` and may modify a chip, the last one first.
+-- Holds if, since the state `old`, the bus was asked to send exactly the given numbers of erases, page programs and
+-- status writes. They are counted by their opcodes. `later` lists all transactions that were sent since `old` and may
+-- modify a chip, the last one first.
 pub record SendsExactly (erases programs status_writes : ℕ) (old new : BusState) : Type 0 where
   pub later : Sent
   pub added : new.sent ≡ later ++ old.sent
@@ -69,8 +69,9 @@ pub record SendsExactly (erases programs status_writes : ℕ) (old new : BusStat
   pub programmed : programs_of new.sent ≡ programs_of old.sent + programs
   pub wrote_status : status_writes_of new.sent ≡ status_writes_of old.sent + status_writes
 
--- Holds at every exit of a call that needs at most `most` transactions. `KeepsNature` holds on every bus. On a
--- well-behaved bus, at most `most` transactions were carried out.
+-- Holds at every exit of a call that needs at most `most` transactions. On every bus `KeepsNature` holds: the history
+-- continues the earlier one, and no allowance was set. On a well-behaved bus, at most `most` transactions were carried
+-- out.
 pub record Spends (most : ℕ) (old new : BusState) : Type 0 where
   pub nature : KeepsNature old new
   pub falls : old.honest ≡ true → Falls most old new

@@ -5,14 +5,14 @@ use Rattle.nor_model.specs.Power.{is_in_work, KeptCut}
 use Rattle.nor_model.specs.History.{EndsStopped}
 use Rattle.nor_model.specs.Bus.{BusState, KeepsNature}
 
--- Holds if the bus is steady or its chip is idle. On a well-behaved bus, a stop then can't interrupt an operation that
--- began before the call.
+-- Holds if the bus is steady (a stop sends nothing and keeps the chip's power) or its chip is idle. On a well-behaved
+-- bus, a stop then can't interrupt an operation that began before the call.
 abbrev pub IsSteadyOrIdle : BusState → Type 0
 IsSteadyOrIdle state = (state.steady ≡ true) ⊎ (state.chip.busy ≡ 0)
 
 -- The effect, on a well-behaved bus, of a call that neither began nor interrupted an operation. Bytes, non-volatile
--- bits, erased sectors and the operation in progress are as they were. The number of polls that will still show BUSY
--- did not grow.
+-- bits, the operation in progress and the record of erased sectors are as they were. The number of polls that will
+-- still show BUSY did not grow.
 pub record Unchanged (old new : BusState) : Type 0 where
   pub same : IsSame old.chip new.chip
   pub running : new.chip.running ≡ old.chip.running
@@ -21,9 +21,9 @@ pub record Unchanged (old new : BusState) : Type 0 where
 
 -- The effect, on a well-behaved bus and at every exit, of a call that began no operation. If `IsSteadyOrIdle` held
 -- before the call, bytes and non-volatile bits are as they were. Otherwise a stop may have interrupted the operation in
--- progress. The bytes on which that operation works may then have any value, and the non-volatile bits are as `KeptCut`
--- states. Erased sectors are as they were. A chip that is still busy executes the same operation, and the number of
--- polls that will still show BUSY did not grow.
+-- progress. The bytes on which that operation works may then have any value, and the non-volatile bits are as a power
+-- failure may leave them (`KeptCut`). The record of erased sectors is as it was. A chip that is still busy executes the
+-- same operation, and the number of polls that will still show BUSY did not grow.
 pub record KeepsChip (old new : BusState) : Type 0 where
   pub config : new.chip.config ≡ old.chip.config
   pub steady_or_idle : IsSteadyOrIdle old → IsSame old.chip new.chip

@@ -50,8 +50,8 @@ ChangesOnly steady addresses wanted old new =
     (a : ℕ) → (new a ≡ old a) ⊎ ((addresses a ≡ true) × (steady ≡ true → new a ≡ wanted a))
 
 -- The effect, on a well-behaved bus, of an operation that the chip ignored and whose wait succeeded. Configuration,
--- bytes, non-volatile bits and erased sectors are as they were. The write enable latch is set if the chip was idle
--- before the operation, and clear if the chip was busy.
+-- bytes, non-volatile bits and the record of erased sectors are as they were. The write enable latch is set if the chip
+-- was idle before the operation, and clear if the chip was busy.
 pub record HasIgnored (old new : BusState) : Type 0 where
   pub same : IsSame old.chip new.chip
   pub worn : (s : ℕ) → new.worn s ≡ old.worn s
@@ -95,7 +95,7 @@ pub record HasEnded (content : ℕ → ℕ) (bits : KeptBits) (erased : ℕ → 
   pub latch : new.chip.latch ≡ false
 
 -- The effect, on a well-behaved bus, of an operation that an idle chip carried out and that has ended. Bytes,
--- non-volatile bits and erased sectors are as after `command`, and the write enable latch is clear.
+-- non-volatile bits and the record of erased sectors are as after `command`, and the write enable latch is clear.
 abbrev pub HasOperated : Command → (sent : List ℕ) → (old new : BusState) → Type 0
 HasOperated command sent old =
     HasEnded (byte_after old.chip command sent) (kept_after old.chip command) (λ s. old.worn s || wears command s) old
@@ -110,17 +110,19 @@ pub record ChipOperation : Type 1 where
   pub may : (old new : BusState) → Type 0
   pub has : (old new : BusState) → Type 0
 
--- The effect of `operation` at every exit. `Leaves` holds with at most 65,538 transactions. The bus has been asked to
--- send at least one transaction that begins with a modifying opcode, in this call or before it. On a well-behaved bus
--- whose chip ignores the operation, `KeepsChip` holds.
+-- The effect of `operation` at every exit. `Leaves` holds: what was sent is within the operation's limits, and on a
+-- well-behaved bus at most 65,538 transactions were carried out. The bus has been asked to send at least one
+-- transaction that begins with a modifying opcode, in this call or before it. On a well-behaved bus whose chip ignores
+-- the operation, `KeepsChip` holds.
 pub record LeavesOperation (operation : ChipOperation) (old new : BusState) : Type 0 where
   pub leaves : Leaves most_operation operation.limits operation.can operation.may old new
   pub stirred : is_stirred new.sent ≡ true
   pub ignored : old.honest ≡ true → operation.ignores old.chip → KeepsChip old new
 
--- The effect of `operation` if it succeeded with `sent` transactions. On every bus `EndsWaiting` holds, and
--- `SendsExactly` holds for the numbers of the operation's limits. On a well-behaved bus `has` holds if the chip can
--- carry the operation out, and `HasIgnored` holds if the chip ignores it.
+-- The effect of `operation` if it succeeded with `sent` transactions. On every bus the last poll showed that the chip
+-- is ready (`EndsWaiting`). The numbers of erases, page programs and status writes that were sent are exactly those of
+-- the operation's limits (`SendsExactly`). On a well-behaved bus `has` holds if the chip can carry the operation out,
+-- and `HasIgnored` holds if the chip ignores it.
 pub record Operates (operation : ChipOperation) (old new : BusState) (sent : ℕ) : Type 0 where
   pub ends : EndsWaiting old new sent
   pub sends : SendsExactly operation.limits.erases operation.limits.programs operation.limits.status_writes old new

@@ -36,8 +36,8 @@ abbrev pub is_in_page : (at a : ℕ) → Bool
 is_in_page at a = a / 256 == at / 256
 
 -- The effect, on a well-behaved bus and at every exit, of a program that the chip can carry out. Bytes outside the
--- page, non-volatile bits and erased sectors are as they were. On a steady bus each byte in the page is as it was or as
--- programmed; on any other bus it may have any value. A chip that is still busy executes this program.
+-- page, non-volatile bits and the record of erased sectors are as they were. On a steady bus each byte in the page is
+-- as it was or as programmed; on any other bus it may have any value. A chip that is still busy executes this program.
 pub record MayProgram (at : ℕ) (sent : List ℕ) (old new : BusState) : Type 0 where
   pub config : new.chip.config ≡ old.chip.config
   pub bytes : ChangesOnly old.steady (is_in_page at) (programmed at sent old.chip.bytes) old.chip.bytes new.chip.bytes
@@ -46,8 +46,8 @@ pub record MayProgram (at : ℕ) (sent : List ℕ) (old new : BusState) : Type 0
   pub worn : (s : ℕ) → new.worn s ≡ old.worn s
 
 -- The effect, on a well-behaved bus, of a program that the chip carried out and that has ended. The bytes are as
--- programmed, and the write enable latch is clear. All other bytes, the non-volatile bits and the erased sectors are as
--- they were.
+-- programmed, and the write enable latch is clear. All other bytes, the non-volatile bits and the record of erased
+-- sectors are as they were.
 abbrev pub HasProgrammed : (at : ℕ) → (sent : List ℕ) → (old new : BusState) → Type 0
 HasProgrammed at sent old = HasEnded (programmed at sent old.chip.bytes) old.chip.kept old.worn old
 

@@ -4,8 +4,8 @@ use Rattle.std.specs.List.{All}
 use Rattle.nor_model.specs.Exchange.{Exchange}
 use Rattle.nor_model.specs.History.{Continues, last_reply, names}
 
--- The reply to the last read (03h) from the start of the sector in which the address `a` lies. It is empty if there was
--- no such read, or if the bus stopped at the last one.
+-- The reply to the last read (03h) from the start of the sector in which the address `a` lies. This reply is empty if
+-- there was no such read, or if the bus stopped at the last one.
 abbrev pub sector_read : List Exchange → (a : ℕ) → List ℕ
 sector_read history a = last_reply (names 0x03 (4096 * (a / 4096))) history
 
@@ -57,14 +57,14 @@ pub record ReadsOther (addresses : ℕ → Bool) (target : ℕ → ℕ) (address
   pub differs : bytes_read reads.later address ≢ target address
   pub before : (a : ℕ) → a < address → addresses a ≡ true → IsReadAs (target a) reads.later a
 
--- Holds if the history `new` continues `old` and ends with reads of sectors for which `ReadsBack` holds. The bytes read
--- at `addresses` are those of `target`.
+-- Holds if the history `new` continues `old` and ends with reads of sectors (`ReadsBack`). In the last reply to a read
+-- of each sector, the bytes at `addresses` are those of `target`.
 abbrev pub EndsReadBack : (addresses : ℕ → Bool) → (target : ℕ → ℕ) → (old new : List Exchange) → Type 0
 EndsReadBack addresses target old new =
     (before : List Exchange) × Continues old before × ReadsBack addresses target before new
 
--- Holds if the history `new` continues `old` and ends with reads of sectors for which `ReadsOther` holds. `address` is
--- the lowest of `addresses` at which the byte read isn't that of `target`.
+-- Holds if the history `new` continues `old` and ends with reads of sectors (`ReadsOther`). `address` is the lowest of
+-- `addresses` at which the last reply to a read of the sector doesn't have the byte of `target`.
 abbrev pub EndsReadOther : (addresses : ℕ → Bool) → (target : ℕ → ℕ) → (address : ℕ) → (old new : List Exchange)
     → Type 0
 EndsReadOther addresses target address old new =

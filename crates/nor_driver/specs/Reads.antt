@@ -21,8 +21,8 @@ changes_nothing ReadUnique = true
 changes_nothing Ignored = true
 changes_nothing _ = false
 
--- Holds if the bytes `out` ask every chip only for a read other than a poll, or for nothing. `out` begins with a quiet
--- opcode or is empty, and every well-behaved bus accepts its length.
+-- Holds if the bytes `out` ask every chip only for a read other than a poll, or for nothing. `out` is empty or begins
+-- with a quiet opcode (of a read, or 04h), and every well-behaved bus accepts its length.
 pub record IsReading (out : List ℕ) : Type 0 where
   pub short : length out ≤ 260
   pub quiet : begins_quiet out ≡ true
@@ -37,7 +37,7 @@ pub record HasRead (old new : BusState) : Type 0 where
   pub count : old.left ≡ new.left + 1
 
 -- Holds if the bus sent `out`, which only reads, and received `reply`. On every bus this transaction was added to the
--- history. On a well-behaved bus it left the chip as it was, and `reply` is the chip's reply.
+-- history. On a well-behaved bus the transaction left the chip as it was, and `reply` is the chip's reply.
 pub record Replies (out : List ℕ) (old new : BusState) (reply : List ℕ) : Type 0 where
   pub history : new.history ≡ replied out reply ∷ old.history
   pub read : old.honest ≡ true → HasRead old new

@@ -5,8 +5,9 @@ use Rattle.nor_driver.specs.OnlyReads.{Rested}
 use Rattle.nor_driver.specs.Ready.{StaysReady}
 
 -- Holds after `reads` successive reads that succeeded, if none of them was a poll that showed BUSY. On every bus, no
--- transaction that may modify a chip was sent, and `KeepsNature` and `StaysReady` hold. On a well-behaved bus, `Rested`
--- holds for the chip, and exactly `reads` fewer transactions are left.
+-- transaction that may modify a chip was sent, no allowance was set (`KeepsNature`), and `polled_ready` is still true
+-- if it was true before (`StaysReady`). On a well-behaved bus, the reads changed nothing of the chip except `busy` and
+-- the write enable latch (`Rested`), and exactly `reads` fewer transactions are left.
 pub record HasOnlyRead (reads : ℕ) (old new : BusState) : Type 0 where
   pub nature : KeepsNature old new
   pub same_sent : new.sent ≡ old.sent

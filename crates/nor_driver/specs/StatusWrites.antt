@@ -1,5 +1,5 @@
--- The effect of a status write. It sends the protection bits of `code`, and takes the bits that flashnor never changes
--- from `status`.
+-- The effect of a status write. The write sends the protection bits `code`, and takes the bits that flashnor never
+-- changes from `status`.
 use Rattle.std.specs.Prelude.{◌≡◌, ◌≢◌, ◌+◌, ◌*◌, ◌/◌, ◌%◌, ◌==◌, ◌&&◌, ◌⊎◌, ℕ, Bool, false, not}
 use Rattle.nor_model.specs.declared.running.Running.TheVariants as Runs
 use Rattle.nor_model.specs.declared.status.Status.{Status}
@@ -45,9 +45,9 @@ pub record CanWriteStatus (status : Status) (chip : Chip) : Type 0 where
 abbrev pub takes_status : Chip → Bool
 takes_status chip = is_idle chip && not (is_locked chip.kept)
 
--- The effect, on a well-behaved bus and at every exit, of a status write that the chip can carry out. Bytes and erased
--- sectors are as they were. Either all non-volatile bits are as they were, or only the protection bits changed, to
--- `code`. A chip that is still busy executes this status write.
+-- The effect, on a well-behaved bus and at every exit, of a status write that the chip can carry out. Bytes and the
+-- record of erased sectors are as they were. Either all non-volatile bits are as they were, or only the protection bits
+-- changed, to `code`. A chip that is still busy executes this status write.
 pub record MayWriteStatus (code : ℕ) (old new : BusState) : Type 0 where
   pub config : new.chip.config ≡ old.chip.config
   pub bytes : (a : ℕ) → new.chip.bytes a ≡ old.chip.bytes a
@@ -56,8 +56,8 @@ pub record MayWriteStatus (code : ℕ) (old new : BusState) : Type 0 where
   pub worn : (s : ℕ) → new.worn s ≡ old.worn s
 
 -- The effect, on a well-behaved bus, of a status write that the chip carried out and that has ended. The protection
--- bits are those of `code`, and the write enable latch is clear. The other non-volatile bits, the bytes and the erased
--- sectors are as they were.
+-- bits are those of `code`, and the write enable latch is clear. The other non-volatile bits, the bytes and the record
+-- of erased sectors are as they were.
 abbrev pub HasWrittenStatus : (code : ℕ) → (old new : BusState) → Type 0
 HasWrittenStatus code old = HasEnded old.chip.bytes (with_code code old.chip.kept) old.worn old
 

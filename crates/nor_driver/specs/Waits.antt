@@ -19,7 +19,7 @@ pub record HasPolled (old new : BusState) (status : ℕ) : Type 0 where
   pub latch : new.chip.latch ≡ (if old.chip.busy == 1 then false else old.chip.latch)
   pub count : old.left ≡ new.left + 1
 
--- Holds if a poll succeeded and received `status`. On a well-behaved bus, `HasPolled` states its effect.
+-- Holds if a poll succeeded and received `status`. On a well-behaved bus, `HasPolled` states the effect of the poll.
 pub record Polls (old new : BusState) (status : ℕ) : Type 0 where
   pub history : new.history ≡ replied (0x05 ∷ []) (status ∷ []) ∷ old.history
   pub done : old.honest ≡ true → HasPolled old new status
@@ -29,9 +29,8 @@ pub record Polls (old new : BusState) (status : ℕ) : Type 0 where
 abbrev pub latch_when_idle : Chip → Bool
 latch_when_idle chip = if chip.busy == 0 then chip.latch else false
 
--- The effect, on a well-behaved bus, of a wait that succeeded. It made one more poll than `busy` said before the wait:
--- `busy` polls that showed BUSY, and a last one that showed that the chip is idle. `status1` is status 1 of the chip
--- after the wait.
+-- The effect, on a well-behaved bus, of a wait that succeeded. The wait made `old.chip.busy + 1` polls: each of them
+-- showed BUSY, except the last one. `status1` is status 1 of the chip after the wait.
 pub record HasWaited (old new : BusState) (waited : Waited) : Type 0 where
   pub rested : Rested old new
   pub idle : new.chip.busy ≡ 0
@@ -40,9 +39,9 @@ pub record HasWaited (old new : BusState) (waited : Waited) : Type 0 where
   pub polls : waited.polls ≡ old.chip.busy + 1
   pub count : old.left ≡ new.left + waited.polls
 
--- Holds if a wait succeeded. On every bus its last poll received `status1`, which shows that the chip is ready, and it
--- made from 1 to 65,536 polls. For each test that is false for every poll, the last reply to a transaction that passes
--- the test is as before (`keeps_other_replies`). The definition doesn't say that only polls were sent. On a
+-- Holds if a wait succeeded. On every bus the wait made from 1 to 65,536 polls, and the last one received `status1`,
+-- which shows that the chip is ready. For each test that is false for every poll, the last reply to a transaction that
+-- passes the test is as before (`keeps_other_replies`). The definition doesn't say that only polls were sent. On a
 -- well-behaved bus, `HasWaited` states the effect of the wait.
 pub record Waits (old new : BusState) (waited : Waited) : Type 0 where
   pub keeps_other_replies : KeepsReplies is_poll old.history new.history
@@ -58,8 +57,8 @@ abbrev pub NamesTimeout : ℕ → OperationError → Type 0
 NamesTimeout at Stopped = ⊤
 NamesTimeout at (Timeout address) = address ≡ at
 
--- The last transaction in `history` is the one that caused the error. `Stopped`: the bus stopped at this transaction.
--- `Timeout`: this transaction was a poll that showed BUSY.
+-- Holds if the last transaction in `history` is the one that caused the error. `Stopped`: the bus stopped at this
+-- transaction. `Timeout`: this transaction was a poll that showed BUSY.
 abbrev pub EndsAt : OperationError → List Exchange → Type 0
 EndsAt Stopped history = EndsStopped history
 EndsAt (Timeout address) history = EndsBusy history
@@ -73,7 +72,7 @@ pub record OperationFails (needed : ℕ) (old new : BusState) (error : Operation
   pub ran_out : old.honest ≡ true → RanOut needed old new
 
 -- Holds if a wait returned `error`. On every bus, if the error is a timeout, it contains the address `at`. On a
--- well-behaved bus the error is `Stopped`, and fewer transactions were left than the `busy + 1` that the wait needed.
+-- well-behaved bus the error is `Stopped`: the wait needed `busy + 1` transactions, and fewer were left.
 pub record WaitFails (at : ℕ) (old new : BusState) (error : OperationError) : Type 0 where
   pub names : NamesTimeout at error
   pub fails : OperationFails 65536 old new error

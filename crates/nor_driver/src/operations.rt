@@ -24,8 +24,8 @@ const WRITE_ENABLE: u8 = 0x06;
 /// Programs `bytes` from `address` on (02h), and waits until the chip is ready. Returns the number of transactions.
 ///
 /// `bytes` must not be empty and must lie in one page of 256 bytes, and `address` must fit in three bytes. On a
-/// well-behaved bus whose chip has the address, the chip ignores the program if it is busy or protects `address`. The
-/// function succeeds even if the chip ignores the program, unless the bus stops.
+/// well-behaved bus whose chip has the address, the chip ignores the program if it is busy or protects `address`. Even
+/// then the function succeeds, unless the bus stops.
 ///
 /// Returns `Stopped` if the bus stopped, and `Timeout` with `address` after 65,536 polls that showed BUSY. On a
 /// well-behaved bus there is no timeout. (W25Q64FV datasheet, Page Program.)
@@ -46,7 +46,7 @@ pub fn program_page<B: Bus>(bus: &mut B, address: u32, bytes: &[u8]) -> Result<u
 ///
 /// `erase.sector` must be below 4,096, and the block must be aligned (`Erase::is_aligned`). On a well-behaved bus whose
 /// chip contains the block, the chip ignores the erase if it is busy, lacks this erase type or protects an address of
-/// the block. The function succeeds even if the chip ignores the erase, unless the bus stops.
+/// the block. Even then the function succeeds, unless the bus stops.
 ///
 /// Returns `Stopped` if the bus stopped, and `Timeout` with the block's first address after 65,536 polls that showed
 /// BUSY. On a well-behaved bus there is no timeout. (W25Q64FV datasheet, erase instructions.)
@@ -72,8 +72,8 @@ pub fn erase<B: Bus>(bus: &mut B, erase: Erase) -> Result<u32, OperationError>
 /// protection bits sent are those of `code`, which must be below 64. All other non-volatile bits are sent as in
 /// `status`, and BUSY, WEL and SUS are sent as 0.
 ///
-/// On a well-behaved bus, a chip that is busy or has SRP0 or SRP1 set ignores the status write. The function succeeds
-/// even if the chip ignores the write, unless the bus stops.
+/// On a well-behaved bus, a chip that is busy or has SRP0 or SRP1 set ignores the status write. Even then the function
+/// succeeds, unless the bus stops.
 ///
 /// Returns `Stopped` if the bus stopped, and `Timeout` with address 0 after 65,536 polls that showed BUSY. On a
 /// well-behaved bus there is no timeout. (W25Q64FV datasheet, Write Status Register.)
@@ -88,8 +88,9 @@ pub fn write_status<B: Bus>(bus: &mut B, status: Status, code: u8) -> Result<u32
     operation(bus, &[WRITE_STATUS, one, two], 0)
 }
 
-// Sends a write enable and then `command`, which must satisfy `AsksForOperation`, and waits until the chip is ready.
-// Returns the number of transactions. If the wait times out, the error contains `address`.
+// Sends a write enable and then `command`, and waits until the chip is ready. `command` must ask for an operation or
+// for nothing (`AsksForOperation`). Returns the number of transactions. If the wait times out, the error contains
+// `address`.
 fn operation<B: Bus>(bus: &mut B, command: &[u8], address: u32) -> Result<u32, OperationError>
     requires { AsksForOperation command.now }
     ensures leaves { LeavesOperation (command_operation command.now) (B.state bus.old) (B.state bus.new) }

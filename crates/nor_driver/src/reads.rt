@@ -94,8 +94,8 @@ pub fn read_sector<B: Bus>(bus: &mut B, sector: u32, bytes: &mut [u8]) -> Result
     read(bus, &[READ_DATA, high, middle, low], bytes)
 }
 
-// Performs one transaction that sends `out` and fills `reply`. `out` must satisfy `IsReading`, and `reply` must have at
-// most 4,096 bytes.
+// Performs one transaction that sends `out` and fills `reply`. `out` must ask only for a read other than a poll
+// (`IsReading`), and `reply` must have at most 4,096 bytes.
 fn read<B: Bus>(bus: &mut B, out: &[u8], reply: &mut [u8]) -> Result<(), Stopped>
     requires reading { IsReading out.now }
     requires short { length reply.old ≤ 4096 }
