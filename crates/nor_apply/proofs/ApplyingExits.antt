@@ -42,7 +42,7 @@ abbrev pub and_more : Numbers → (erases programs : ℕ) → Numbers
 and_more n erases programs =
     record { erases = n.erases + erases; programs = n.programs + programs; status_writes = n.status_writes }
 
--- `SoFar` after the first part of `apply`: if an unlock was requested, the protection bits were cleared.
+-- Holds after the first part of `apply` (`SoFar`): if an unlock was requested, the protection bits were cleared.
 abbrev pub Lifted : Changes → (ℕ → ℕ) → (old now : BusState) → Tally → Type 0
 Lifted changes wanted old now tally =
     SoFar changes wanted old.chip.bytes old.worn (code_once changes) (lifting changes) 0 most_operation old now tally
@@ -65,8 +65,8 @@ lifted changes {old} {new} wanted leaves does =
     code_written nothing 0 new (λ lifts can. can.writable (rw lifts refl)) leaves does (grind arith) (omega arith)
     (omega arith) (omega arith)
 
--- `SoFar` after the first two parts of `apply`: if an unlock was requested, the protection bits were cleared. The
--- raised sectors were erased.
+-- Holds after the first two parts of `apply` (`SoFar`): if an unlock was requested, the protection bits were cleared,
+-- and then the raised sectors were erased.
 abbrev pub Erased : Changes → (ℕ → ℕ) → (erases : ℕ) → (old now : BusState) → Tally → Type 0
 Erased changes wanted erases old now tally =
     SoFar changes wanted (once_erased (raised_in changes) old.chip.bytes) (λ s. old.worn s || raised_in changes s)
@@ -107,8 +107,8 @@ module _ {changes : Changes} {wanted : ℕ → ℕ} {old mid new : BusState} {do
       let is = so.intermediate honest can in
       intermediate_changed is (does.done (honest_now so.ran honest) (can_erase_all can is)))
 
--- `SoFar` after the first three parts of `apply`: if an unlock was requested, the protection bits were cleared. The
--- raised sectors were erased, and the touched sectors were programmed.
+-- Holds after the first three parts of `apply` (`SoFar`): if an unlock was requested, the protection bits were cleared.
+-- Then the raised sectors were erased, and the touched sectors were programmed.
 abbrev pub Programmed : Changes → (ℕ → ℕ) → (erases programs : ℕ) → (old now : BusState) → Tally → Type 0
 Programmed changes wanted erases programs old now tally =
     SoFar changes wanted
@@ -224,7 +224,7 @@ module _ {changes : Changes} {wanted : ℕ → ℕ} {old free mid made : BusStat
         (grind (arith, last_asked, parts.erase.fewer, parts.program.fewer)) (grind arith) (omega arith) fails
         (names_writing changes needed error (λ writes. rw (sym is ∙ writes) (omega arith)) names)
 
-    -- the erases were sent before the programs and the last status write, and neither of these two erases anything
+    -- all erases were sent before the programs and the last status write
     erased_first : {last : ℕ} → DoesCode changes.status changes.code needed made new last
         → ErasesFirst (raised_in changes) old new
     erased_first does =

@@ -22,7 +22,7 @@ use Rattle.nor_apply.proofs.InTurn.{Ran, ran_part, ran_after, honest_now, leaves
 use Rattle.nor_apply.proofs.Changing.{change_then}
 use Rattle.nor_apply.proofs.ApplyingSteps.{IsIntermediate, can_write, code_change, intermediate_code}
 
--- ---- counts
+-- ---- numbers of sectors and of status writes
 
 one_fewer : (b c : Bool) → (b ≡ true → c ≡ true) → (if b then 1 else 0) ≤ (if c then 1 else 0)
 one_fewer b c wider = grind arith
@@ -60,8 +60,8 @@ sending_these changes n = sending changes n.erases n.programs n.status_writes
 
 -- Holds after some parts of the changes succeeded. They sent exactly these numbers of operations, at most `readings`
 -- reads, and at most `spent` transactions. On a well-behaved bus, if `CanApply` held at the start, the parts changed
--- the chip only as `MayChange` allows. The chip then has the bytes `bytes`, the erased sectors `worn` and the
--- protection bits `code`.
+-- the chip only as `MayChange` allows. The chip then has the bytes `bytes` and the protection bits `code`, and the
+-- sectors recorded as erased are `worn`.
 pub record SoFar (changes : Changes) (wanted bytes : ℕ → ℕ) (worn : ℕ → Bool) (code : ℕ) (numbers : Numbers)
     (readings spent : ℕ) (old now : BusState) (tally : Tally) : Type 0 where
   pub ran : Ran (sending_these changes numbers) readings old now tally
@@ -141,8 +141,8 @@ module _ {changes : Changes} {wanted bytes : ℕ → ℕ} {worn : ℕ → Bool} 
         (λ honest can.
         intermediate_code can (λ writes. writable writes can) (so.intermediate honest can) (honest_now so.ran honest) does)
 
--- Let the changes need at least one status write if `needed` is true. If `FailsWriting` holds for an error of a status
--- write, `NamesChange` holds for this error, too.
+-- Suppose that the changes need at least one status write if `needed` is true. If `FailsWriting` holds for an error,
+-- `NamesChange` holds for this error, too.
 pub names_writing : (changes : Changes) (needed : Bool) (error : OperationError) → (needed ≡ true → 1 ≤ status_writes changes)
     → FailsWriting needed error → NamesChange changes error
 names_writing changes needed error counts returned = grind arith

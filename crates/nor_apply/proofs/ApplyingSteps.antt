@@ -31,9 +31,9 @@ code_read changes = code_of (kept_in (bytes_of changes.status))
 abbrev pub code_once : Changes → ℕ
 code_once changes = if changes.unlock then 0 else code_read changes
 
--- Holds for a state between two steps, if the chip has the bytes `bytes`, the erased sectors are `worn`, and the
--- protection bits are `code`. All other non-volatile status bits are as they were, the chip is idle, and its write
--- enable latch is set only if it was set before.
+-- Holds for a state between two steps, if the chip has the bytes `bytes`, the sectors recorded as erased are `worn`,
+-- and the protection bits are `code`. All other non-volatile status bits are as they were, the chip is idle, and its
+-- write enable latch is set only if it was set before.
 pub record IsIntermediate (bytes : ℕ → ℕ) (worn : ℕ → Bool) (code : ℕ) (old new : BusState) : Type 0 where
   pub config : new.chip.config ≡ old.chip.config
   pub byte : (a : ℕ) → new.chip.bytes a ≡ bytes a

@@ -1,5 +1,5 @@
--- Lemmas about successive parts of a change: the relations for every exit and those for success hold for two parts
--- together, if they hold for each part.
+-- Lemmas about a change that consists of successive parts. If a relation for every exit, or one for success, holds for
+-- each of two successive parts, it holds for both together.
 use Rattle.std.proofs.Common.{◌≡◌, ℕ, ◌/◌, ◌⊎◌, inl, true, false, true≢false, arith, ◌∙◌, sym, ap}
 use Rattle.std.specs.Prelude.{Bool, ◌||◌, if◌then◌else◌}
 use Rattle.std.proofs.lemmas.Bool.{false_from_ne_true}
@@ -12,7 +12,7 @@ use Rattle.nor_apply.specs.Within.{is_writable, IsWithin, addresses_of}
 use Rattle.nor_apply.specs.Change.{CanChange, MayChange, HasMade, HasChanged}
 use Rattle.nor_apply.proofs.Kept.{fixed_coded, writable_same}
 
--- ---- `IsWithin`
+-- ---- how far a chip may differ from the original one (`IsWithin`)
 
 pub within_then : (p : ℕ → Bool) (first : Chip) (mid new : BusState) → IsWithin p first mid → IsWithin p mid.chip new
     → IsWithin p first new
@@ -34,8 +34,7 @@ within_then p first mid new before after =
           };
     }
 
--- If an element in a set is also in a larger set (`b` implies `c`), an element outside the larger set is outside the
--- smaller one.
+-- If `b` implies `c`, and `c` is false, then `b` is false. So an element outside a set is outside each smaller set.
 pub narrower : {b c : Bool} → (b ≡ true → c ≡ true) → c ≡ false → b ≡ false
 narrower {b} wider out = false_from_ne_true b (λ is. true≢false (sym (wider is) ∙ out))
 
@@ -50,8 +49,8 @@ within_wider p q first state wider within = record {
       let runs = within.runs loses works in search (runs.inside, runs.status);
 }
 
--- If a chip is idle, has the configuration and non-volatile status bits of `first`, and has its bytes at all addresses
--- outside `p`, then `IsWithin` holds for `p`.
+-- If a chip is idle, has the configuration and non-volatile status bits of `first`, and has the bytes of `first` at all
+-- addresses outside `p`, then `IsWithin` holds for `p`.
 pub idle_within : {p : ℕ → Bool} {first : Chip} {state : BusState} → state.chip.config ≡ first.config
     → ((a : ℕ) → p a ≡ false → state.chip.bytes a ≡ first.bytes a) → state.chip.kept ≡ first.kept → state.chip.busy ≡ 0
     → IsWithin p first state
@@ -61,7 +60,7 @@ pub same_within : (p : ℕ → Bool) (first : Chip) (state : BusState) → IsSam
     → IsWithin p first state
 same_within p first state same idle = idle_within same.config (λ a out. same.bytes a) same.kept idle
 
--- ---- `CanChange`
+-- ---- sectors that can be changed (`CanChange`)
 
 -- Let the sectors `t'` be a subset of `t`. If the sectors `t` of the chip `old` can be changed, the sectors `t'` of
 -- `new` can be changed, provided that `new` is idle and has the same configuration and non-volatile status bits.
@@ -70,7 +69,7 @@ pub can_after : {t t' : ℕ → Bool} {old : Chip} (new : Chip) → ((s : ℕ) �
 can_after {old} new within can config kept idle =
     grind (arith, within, can.inside, can.free, is_protected-same old new config kept)
 
--- ---- every exit
+-- ---- the relation for every exit (`MayChange`)
 
 -- If the chip is the same as before, is idle, and no sector was erased, `MayChange` holds for any sectors.
 pub same_change : {t r : ℕ → Bool} {w : ℕ → ℕ} {old new : BusState} → IsSame old.chip new.chip → new.chip.busy ≡ 0
@@ -95,14 +94,14 @@ change_as {t} {t' = t'} {old} {new} more raised wanted change =
     let within = within_wider (addresses_of t) (addresses_of t') old.chip new (λ a. more (a / 4096)) change.within in
     grind (arith, within, raised, wanted, change.gentle, change.within.bytes, change.worn)
 
--- After a status write to a chip whose status can be written, even after an interrupted one, `MayChange` holds for any
--- sectors.
+-- If the status of a chip can be written (`is_writable`), `MayChange` holds for any sectors after a status write, even
+-- after an interrupted one.
 pub status_change : {t r : ℕ → Bool} {w : ℕ → ℕ} {code : ℕ} {old new : BusState} → is_writable old.chip ≡ true
     → MayWriteStatus code old new → MayChange t r w old new
 status_change {code = code} {old = old} writable wrote =
     grind (arith, wrote.bytes, wrote.runs, wrote.worn, fixed_coded code old.chip.kept)
 
--- ---- after success
+-- ---- the relation for success (`HasMade`)
 
 -- If `b` decides whether the byte `x` is the target byte or the old byte, then `x` is one of these two.
 pub either_byte : (b : Bool) {x old wanted : ℕ} → x ≡ (if b then wanted else old) → (x ≡ old) ⊎ (x ≡ wanted)

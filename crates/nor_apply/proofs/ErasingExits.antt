@@ -1,4 +1,4 @@
--- Lemmas about the erases of a set in turn: the state between two erases, and each exit.
+-- Lemmas about the successive erases of a set of sectors: the state between two erases, and each exit.
 use Rattle.std.proofs.Common.{ℕ, ◌≡◌, ◌<◌, ◌≤◌, ◌+◌, ◌*◌, ◌/◌, ◌-◌, ◌∙◌, ◌||◌, Bool, true, false, List, [], ◌∷◌, ◌++◌, length, inl, inr, refl, sym, ap, arith}
 use Rattle.std.proofs.lemmas.Bool.{cases_lt, or_cases, false_from_ne_true, and_from, le-leb, lt-ltb}
 use Rattle.std.proofs.lemmas.Bool.Decides.{nat_tests}
@@ -32,8 +32,8 @@ use Rattle.nor_apply.proofs.InTurn.{ran_leaves, honest_now, Listed, listed_after
 use Rattle.nor_apply.proofs.Changing.{can_after, change_then, made_may, made_same, made_then}
 use Rattle.nor_apply.proofs.Targeting.{unit_targets}
 
--- Holds if the erase `unit` may be in the plan for `set` on a chip of `total` sectors. The chip offers this erase
--- (`IsErase`), and it erases at least one sector and only sectors of the set.
+-- Holds if the erase `unit` may be in the plan for `set` on a chip of `total` sectors. Such a chip can carry out this
+-- erase (`IsErase`), which erases at least one sector, and only sectors of the set.
 record IsOfPlan (kinds : Kinds) (total : ℕ) (set : ℕ → Bool) (unit : Erase) : Type 0 where
   pub is : IsErase kinds total unit
   pub some : 1 ≤ sectors_in total unit.unit

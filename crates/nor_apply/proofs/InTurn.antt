@@ -17,8 +17,9 @@ use Rattle.nor_apply.specs.Spending.{Tallies}
 
 -- ---- parts that succeeded
 
--- Holds after a part of a change succeeded. It sent exactly the numbers of operations in `limits`, and only operations
--- that `limits` allows. `tally` counts its operations and transactions, with at most `readings` reads (`Tallies`).
+-- Holds after a part of a change succeeded. The part sent exactly the numbers of operations in `limits`, and only
+-- operations that `limits` allows. `tally` counts its operations and transactions, with at most `readings` reads
+-- (`Tallies`).
 pub record Ran (limits : Limits) (readings : ℕ) (old new : BusState) (tally : Tally) : Type 0 where
   pub nature : KeepsNature old new
   pub sends : SendsWithin limits old new
@@ -52,7 +53,7 @@ pub ran_one : {e p w sent : ℕ} {limits : Limits} {Can : Chip → Type 0} {May 
     (record { count = 1; transactions = sent })
 ran_one leaves exactly ends = ran_part leaves exactly (search arith)
 
--- ---- parts in turn
+-- ---- two successive parts that succeeded
 
 module _ {first : Limits} {r : ℕ} {old mid new : BusState} {done : Tally} (ran : Ran first r old mid done) where
   pub ran_after : {second both : Limits} {k readings : ℕ} {more all : Tally} → IsSum first second both
@@ -68,7 +69,7 @@ module _ {first : Limits} {r : ℕ} {old mid new : BusState} {done : Tally} (ran
         tallies = grind (arith, ran.nature.honest, ran.tallies.sent, after.tallies.sent, ran.tallies.idle, after.tallies.idle, ran.tallies.unsent, after.tallies.unsent);
       }
 
--- ---- the exits
+-- ---- each exit of the next part
 
 module _ {limits : Limits} {r : ℕ} {old mid : BusState} {done : Tally} (ran : Ran limits r old mid done) where
   pub honest_now : old.honest ≡ true → mid.honest ≡ true
@@ -106,8 +107,8 @@ module _ {limits : Limits} {r : ℕ} {old mid : BusState} {done : Tally} (ran : 
 
 -- ---- one operation for each element of a list
 
--- Holds after the operations for the elements `done` of the list `all` succeeded. Those for the elements `left` are not
--- sent yet.
+-- Holds after the operations for the elements `done` of the list `all` succeeded. The operations for the elements
+-- `left` are not sent yet.
 pub record Listed {A : Type 0} (all done left : List A) (limits : ℕ → Limits) (old new : BusState)
     (tally : Tally) : Type 0 where
   pub split : done ++ left ≡ all

@@ -21,7 +21,7 @@ coded_again code later kept =
     let high : (64 * (code / 32) + kept.two % 64) % 64 ≡ kept.two % 64 = omega arith in
     rw (low, high) refl
 
--- If the protection bits are set to 0, all of them are clear.
+-- If the protection bits of `kept` are replaced by 0, `code_of` returns 0.
 pub code_cleared : (kept : KeptBits) → code_of (with_code 0 kept) ≡ 0
 code_cleared kept = omega arith
 

@@ -1,5 +1,6 @@
--- Lemmas about the page programs of a sector, one for each span: the state between two programs, their number, and each
--- exit.
+-- Lemmas about the page programs of a sector. There is one for each span: the bytes of a page from the first to the
+-- last one that differs from its target. The lemmas state the state between two programs, the number of programs, and
+-- each exit.
 use Rattle.std.proofs.Common.{◌≡◌, ◌<◌, ◌≤◌, ◌+◌, ◌-◌, ◌*◌, ◌/◌, ◌⊎◌, inl, inr, ◌∙◌, ℕ, Bool, true, List, [], ◌∷◌, ◌++◌, length, take, drop, slice_index, refl, ap, sym, arith, length-take, length-drop, ◌||◌, zero, suc}
 use Rattle.std.specs.Prelude.{◌&&◌, ◌||◌, nat_le, nat_lt, bit_and, if◌then◌else◌, ◌==◌, not, min, count_by}
 use Rattle.std.specs.Int.Bits.{and_self}
@@ -231,7 +232,7 @@ pages_other content sector old wanted whole shown =
     (λ page. is_page_other content (byte_of sector wanted) (16 * sector + page))
     (page_same content sector old wanted whole shown)
 
--- ---- the spans in turn
+-- ---- one span after another
 
 -- Holds after the spans `spans` of a sector were programmed, and no other operation was sent. The spans in `left` are
 -- not programmed yet.

@@ -1,5 +1,5 @@
--- Lemmas about one sector, which is read unless it was erased and then programmed, and about the loop over all sectors:
--- the state after the sectors below a number, and each exit.
+-- Lemmas about the programming of one sector, which is read first unless it was erased, and about the loop that
+-- programs all touched sectors.
 use Rattle.std.proofs.Common.{◌≡◌, ◌<◌, ◌≤◌, ◌+◌, ◌*◌, ◌/◌, ◌∙◌, ℕ, Bool, true, false, List, slice_index, refl, ap, sym, arith, inl, inr, true≢false}
 use Rattle.std.specs.Prelude.{◌&&◌, ◌||◌, nat_lt}
 use Rattle.std.proofs.lemmas.Bool.{cases_Bool, and_parts, lt-ltb, le-ltb}
@@ -30,7 +30,7 @@ use Rattle.nor_apply.proofs.Changing.{can_after, change_then, change_as, made_ma
 
 module _ {sector : ℕ} {erased : Bool} {bytes bytes' : List ℕ} {reads : ℕ} {first mid : BusState}
     (loads : LoadsOk sector erased bytes bytes' first mid reads) where
-  -- Loading a sector takes at most one transaction, and no operation.
+  -- Loading a sector takes at most one transaction, and sends no operation.
   loads_ran : Ran (programming (only sector) 0) 1 first mid (record { count = 0; transactions = reads })
   loads_ran =
       let read = loads.honest_reads in
@@ -100,7 +100,7 @@ module _ {sector : ℕ} {erased : Bool} {bytes bytes' : List ℕ} {reads : ℕ} 
               ∙ ap (λ (x : ℕ → ℕ). count_below 16 (pages x)) bytes;
         }
 
--- ---- the sectors in turn
+-- ---- one sector after another
 
 -- True for the touched sectors below `n`.
 abbrev pub before : (ℕ → Bool) → ℕ → ℕ → Bool
@@ -116,7 +116,7 @@ before_skip touched n free s = grind (arith, nat_tests)
 -- Holds after the touched sectors below `n` were programmed. No erase or status write was sent, and the programs target
 -- only touched sectors (`SendsWithin` states this exactly). The number of reads is at most the number of touched
 -- sectors below `n`. On a well-behaved bus, if `CanProgramAll` held at the start, these sectors have the target bytes,
--- and one program was sent for each of their pages that differed.
+-- and one program was sent for each of their pages that differed from its target.
 pub record SectorsSoFar (touched raised : ℕ → Bool) (wanted : ℕ → ℕ) (n : ℕ) (first now : BusState)
     (tally : Tally) : Type 0 where
   pub ran : Ran (programming touched tally.count) (count_below n touched) first now tally
@@ -175,7 +175,8 @@ module _ {touched raised : ℕ → Bool} {wanted : ℕ → ℕ} {n : ℕ} {first
   pub few_sectors : n < 4096 → (tally.count ≤ 65520) × (tally.transactions ≤ 4294053855)
   few_sectors below = omega (arith, count_below-most n touched)
 
-  -- If sector `n` isn't touched, and `SectorsSoFar` holds for the sectors below `n`, it holds for those below `n + 1`.
+  -- If sector `n` isn't touched, and `SectorsSoFar` holds for the sectors below `n`, it also holds for those below `n +
+  -- 1`.
   pub sectors_skip : touched n ≡ false → SectorsSoFar touched raised wanted (n + 1) first now tally
   sectors_skip free =
       let count = count_below-without n touched free in

@@ -77,9 +77,9 @@ pub record AreConsistent (changes : Changes) : Type 0 where
 
 -- Holds if the changes can be made to this chip. The chip is idle, and has the size, the erase types and the
 -- non-volatile status bits that `changes` names. The touched sectors lie on the chip. Unless all protection bits are
--- cleared first, no address in these sectors is protected. If the changes need a status write, the chip's status can be
--- written. The raised sectors are touched, the target bytes of touched sectors are below 256, and in a touched sector
--- that isn't raised no bit must go from 0 to 1.
+-- cleared first, no address in these sectors is protected. If the changes need a status write, the chip has block
+-- protection and its status isn't locked (`is_writable`). The raised sectors are touched, the target bytes of touched
+-- sectors are below 256, and in a touched sector that isn't raised no bit has to go from 0 to 1.
 pub record CanApply (changes : Changes) (wanted : ℕ → ℕ) (chip : Chip) : Type 0 where
   pub idle : chip.busy ≡ 0
   pub sized : IsSized changes.size changes.kinds chip
@@ -104,14 +104,14 @@ pub record HasApplied (changes : Changes) (wanted : ℕ → ℕ) (old new : BusS
   pub latch : new.chip.latch ≡ true → old.chip.latch ≡ true
 
 -- A bound on the transactions if `touched` sectors are touched. It allows one read, one erase and sixteen page programs
--- for each of them, and two status writes.
+-- for each touched sector, and two status writes.
 abbrev pub most_applied : ℕ → ℕ
 most_applied touched = touched + most_operation * (17 * touched + 2)
 
 -- Holds at every exit of `apply`. On every bus, erases and programs target only touched sectors and, if these are the
--- whole chip, sectors past its end. The numbers of operations are within `most_sent`. `SendsWithin` states both
--- exactly. On a well-behaved bus at most `most_applied` transactions are carried out. If `CanApply` held at the start
--- on such a bus, the chip changes only as `MayChange` allows.
+-- whole chip, sectors past its end. The status writes and the numbers of operations, too, are within the limits
+-- `most_sent` (`SendsWithin`). On a well-behaved bus at most `most_applied` transactions are carried out. If `CanApply`
+-- held at the start on such a bus, the chip changes only as `MayChange` allows.
 abbrev pub LeavesApply : Changes → (wanted : ℕ → ℕ) → (old new : BusState) → Type 0
 LeavesApply changes wanted =
     Leaves (most_applied (sector_count (touched_in changes))) (most_sent changes) (CanApply changes wanted)
@@ -132,8 +132,9 @@ pub record ErasesFirst (sectors : ℕ → Bool) (old new : BusState) : Type 0 wh
 -- Holds if `apply` succeeded with the counts `work`. On every bus exactly these numbers of erases and page programs
 -- were sent, and the status writes that the changes need. An erase was sent for each raised sector before anything was
 -- programmed (`ErasesFirst`). The number of transactions includes at most one read for each touched sector (`Tallies`).
--- The number of erases is that of the plan. On a well-behaved bus, if `CanApply` held at the start, the changes are
--- complete, and one program was sent for each page of a touched sector that differed from the target after the erases.
+-- The number of erases is the length of the planned list of erases (`planned`). On a well-behaved bus, if `CanApply`
+-- held at the start, the changes are complete, and one program was sent for each page of a touched sector that differed
+-- from the target after the erases.
 pub record DoesApply (changes : Changes) (wanted : ℕ → ℕ) (old new : BusState) (work : Work) : Type 0 where
   pub erases : work.erases ≡ length (planned changes.kinds (changes.size / 4096) (raised_in changes))
   pub fewer_erases : work.erases ≤ sector_count (raised_in changes)
@@ -147,8 +148,8 @@ pub record DoesApply (changes : Changes) (wanted : ℕ → ℕ) (old new : BusSt
       → work.programs ≡ count_below 65536
       (is_programmed (touched_in changes) (once_erased (raised_in changes) old.chip.bytes) wanted)
 
--- Holds if the error of the changes names an address that it may name. A stop names none. A timeout names an address in
--- a touched sector or, if a status write is needed, address 0.
+-- Holds for every stop, and for a timeout that names an address in a touched sector or, if the changes need a status
+-- write, address 0.
 abbrev pub NamesChange : Changes → OperationError → Type 0
 NamesChange changes Stopped = ⊤
 NamesChange changes (Timeout address) =

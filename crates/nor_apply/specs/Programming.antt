@@ -30,8 +30,8 @@ pub record CanProgramSpans (sector : ℕ) (old wanted : List ℕ) (chip : Chip) 
   pub shown : IsSectorOf chip.bytes sector old
   pub falls : (i : ℕ) → i < 4096 → bit_and (slice_index wanted i) (slice_index old i) ≡ slice_index wanted i
 
--- Holds if the sector can be changed (`CanChange`), and needs no bit to go from 0 to 1. If `erased` is set, all its
--- bytes are FFh.
+-- Holds if the sector can be changed (`CanChange`), and needs no bit to go from 0 to 1. If `erased` is set, all bytes
+-- of the sector are FFh.
 pub record CanProgramSector (sector : ℕ) (wanted : List ℕ) (erased : Bool) (chip : Chip) : Type 0 where
   pub can : CanChange (only sector) chip
   pub blank : erased ≡ true → (a : ℕ) → a / 4096 ≡ sector → chip.bytes a ≡ 255
@@ -70,7 +70,7 @@ pub record LoadsOk (sector : ℕ) (erased : Bool) (bytes bytes' : List ℕ) (old
 -- ---- all touched sectors
 
 -- Holds if the touched sectors can be changed (`CanChange`), all bytes of the raised ones among them are FFh, and no
--- bit of a touched sector must go from 0 to 1.
+-- bit of a touched sector has to go from 0 to 1.
 pub record CanProgramAll (touched raised : ℕ → Bool) (wanted : ℕ → ℕ) (chip : Chip) : Type 0 where
   pub can : CanChange touched chip
   pub blank : (a : ℕ) → touched (a / 4096) ≡ true → raised (a / 4096) ≡ true → chip.bytes a ≡ 255

@@ -9,10 +9,10 @@ use Rattle.nor_driver.specs.Limits.{writing, SendsExactly, Leaves}
 use Rattle.nor_driver.specs.Operations.{most_operation}
 use Rattle.nor_apply.specs.Spending.{Tallies}
 
--- Holds at every exit of `write_code`. On every bus, if the write isn't needed, no status write was sent. If it is
--- needed, at most one was sent, with the protection bits `code` and the bits of `status` that are never changed
--- (`SendsWithin` states this exactly). On a well-behaved bus, if the write isn't needed, nothing changed. If it is
--- needed and `CanWriteStatus` held at the start, the chip changes only as `MayWriteStatus` allows.
+-- Holds at every exit of `write_code`. On every bus, if the write isn't needed, no status write was sent. If the write
+-- is needed, at most one status write was sent, with the protection bits `code` and the bits of `status` that are never
+-- changed (`SendsWithin` states this exactly). On a well-behaved bus, if the write isn't needed, nothing changed. If
+-- the write is needed and `CanWriteStatus` held at the start, the chip changes only as `MayWriteStatus` allows.
 abbrev pub LeavesCode : Status → (code : ℕ) → (needed : Bool) → (old new : BusState) → Type 0
 LeavesCode status code needed =
     Leaves (if needed then most_operation else 0)
@@ -20,9 +20,9 @@ LeavesCode status code needed =
     (λ chip. needed ≡ true → CanWriteStatus status chip)
     (λ old new. MatchBool needed (MayWriteStatus code old new) (new ≡ old))
 
--- Holds after `write_code` succeeded. On every bus, exactly one status write was sent if it is needed, and otherwise
--- none. If it is needed on a well-behaved bus, the chip is idle. If in addition `CanWriteStatus` held at the start, the
--- chip has the protection bits `code` (`HasWrittenStatus`).
+-- Holds after `write_code` succeeded. On every bus, exactly one status write was sent if the write is needed, and
+-- otherwise none. If the write is needed, the chip of a well-behaved bus is then idle. If in addition `CanWriteStatus`
+-- held at the start, the chip has the protection bits `code` (`HasWrittenStatus`).
 pub record DoesCode (status : Status) (code : ℕ) (needed : Bool) (old new : BusState) (sent : ℕ) : Type 0 where
   pub exactly : SendsExactly 0 0 (if needed then 1 else 0) old new
   pub tallies : Tallies 0 old new (record { count = if needed then 1 else 0; transactions = sent })

@@ -66,11 +66,11 @@ pub struct Work {
 /// - If a status write is needed, the chip has block protection and its status isn't locked.
 /// - If `unlock` isn't set, no address in a touched sector is protected.
 /// - The target bytes of touched sectors are below 256.
-/// - In touched sectors that aren't raised, no bit must go from 0 to 1.
+/// - In touched sectors that aren't raised, no bit has to go from 0 to 1.
 ///
-/// Returns `Stopped` if the bus stopped. Returns `Timeout` if the chip stayed busy for 65,536 polls; its address is in
-/// a touched sector or, after a status write, 0. On a well-behaved bus there is no timeout. On any bus nothing is sent
-/// after the transaction at which the bus stopped, or after the last of these polls.
+/// Returns `Stopped` if the bus stopped. Returns `Timeout` if the chip stayed busy for 65,536 polls; the error's
+/// address is in a touched sector or, after a status write, 0. On a well-behaved bus there is no timeout. On any bus
+/// nothing is sent after the transaction at which the bus stopped, or after the last of these polls.
 pub fn apply<B: Bus, S: Source>(
     bus: &mut B,
     source: &S,
