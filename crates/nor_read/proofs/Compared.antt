@@ -43,8 +43,8 @@ module _ (named : Option ChipName) (included : Option (List Span)) (image : List
       → Verified named included image old new (Err refusal)
   refused refusal sends is last replies errors own = search sends.own
 
-  -- An error of the probe is one that `verify` may return. On a modelled bus it has the meaning that `VerifyErrors`
-  -- gives it.
+  -- An error of the probe is one that `verify` may return. On a modelled bus this error has the meaning that
+  -- `VerifyErrors` states.
   unfound_errors : (old new : BusState) (refusal : Refusal) → IdentificationErrors most_probe named old new refusal
       → IsVerifyRefusal refusal × VerifyEnds old.history new.history refusal
       × HasReadBack included image old.history new.history (Err refusal) × (IsModelled old → VerifyErrors named included image old new refusal)
@@ -84,7 +84,7 @@ module _ (named : Option ChipName) (included : Option (List Span)) (image : List
       module _ (whole : length image ≡ probed.found.size) (fits : FitsInto included probed.found.size)
           {compared : Compared} (all : ComparesBelow included image probed.found.size (probed.found.size / 4096) mid new compared) where
         -- On a modelled bus, `compared.first` is the first included address at which the image differs from the chip as
-        -- it was before the probe. It is `None` if there is no such address.
+        -- it was before the probe. `compared.first` is `None` if there is no such address.
         first_before : (first : Option ℕ) → compared.first ≡ first → IsModelled old
             → FindsFirst included image old.chip.bytes 0 old.chip.config.size first
         first_before first is known =

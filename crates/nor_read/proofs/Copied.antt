@@ -32,8 +32,8 @@ copied_none included size state vault = record {
   };
 }
 
--- If the vault accepts `k` more bytes, `CopiesIf` holds for `m + k` bytes. The premise is that these are the next bytes
--- of the copy if `known` holds.
+-- If `CopiesIf` holds for `m` bytes, and the vault accepts `k` more bytes, `CopiesIf` holds for `m + k` bytes. The
+-- premise is that, if `known` holds, the `k` bytes are the next ones of the copy.
 module _ {known : Type 0} {included : Option (List Span)} {content : ℕ → ℕ} {m : ℕ} {vault mid new : VaultState} where
   copies_more : (k count : ℕ) (part : List ℕ) → m + k ≡ count → CopiesIf known included content m vault mid
       → length part ≡ k → new.bytes ≡ mid.bytes ++ part
@@ -85,8 +85,8 @@ module _ {included : Option (List Span)} {size n reads more : ℕ} {bytes : List
         (took.bytes (has.accepted.telling ∙ telling)) piece_right;
   }
 
-  -- If the vault refuses the next piece, `CopyErrors` holds: error 19 has the number of bytes that a `telling` vault
-  -- accepted of all pieces together.
+  -- If the vault refuses the next piece, `CopyErrors` holds: error 19 has the number of bytes that a faithful
+  -- (`telling`) vault accepted of all pieces together.
   pub copy_fails : (later : VaultState) (refusal : Refusal) → PutErrors n bytes now later refusal
       → CopyErrors included size old new vault later refusal
   copy_fails later (Output written) errors =

@@ -34,8 +34,8 @@ in_sector Holds sector each a above below =
     let at : 4096 * sector + i ≡ a = omega arith in
     subst Holds at (each i (omega arith))
 
--- Lemmas about the bytes that are compared (`filled`). They are the bytes of the sector, but at addresses that aren't
--- included they are the bytes of the image.
+-- Lemmas about the bytes that are compared (`filled`). At included addresses, these are the bytes that were read, and
+-- at all other addresses of the sector the bytes of the image.
 module _ (included : Option (List Span)) (image : List ℕ) (sector : ℕ) (bytes filled part : List ℕ)
     (long : length filled ≡ 4096)
     (cut : (i : ℕ) → i < 4096 → slice_index part i ≡ slice_index image (4096 * sector + i))
@@ -75,7 +75,7 @@ module _ (included : Option (List Span)) (image : List ℕ) (sector : ℕ) (byte
             agree_to first (λ i low before. difference.before i before) a above (omega arith) below;
       }
 
--- If a sector has no included address, no included address in it differs.
+-- If a sector has no included address, any contents agree with the image at each included address of this sector.
 none_differs : (included : Option (List Span)) (image : List ℕ) (content : ℕ → ℕ) (sector : ℕ)
     → NoneInSector (includes included) sector → AgreeIn included image content (4096 * sector) (4096 * (sector + 1))
 none_differs included image content sector none =

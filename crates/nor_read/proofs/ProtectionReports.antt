@@ -53,7 +53,7 @@ module _ (named : Option ChipName) where
       → (IsModelled old → ProtectionErrors named old.chip refusal) → HasReported named old new (Err refusal)
   refused refusal only_reads is last errors own = search
 
-  -- An error of the probe is one that `wp_status` may return. `ProtectionErrors` says nothing about it.
+  -- An error of the probe is one that `wp_status` may return. `ProtectionErrors` says nothing about this error.
   unfound_errors : (old new : BusState) (refusal : Refusal) → IdentificationErrors most_probe named old new refusal
       → IsProtectionRefusal refusal × ProtectionErrors named old.chip refusal
   unfound_errors old new (Timeout address) errors = (errors.0, tt)

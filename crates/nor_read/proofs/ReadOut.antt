@@ -36,8 +36,8 @@ module _ (named : Option ChipName) (included : Option (List Span)) (vault : Vaul
       → HasReadOut named included old new vault vault' (Err refusal)
   refused refusal sends is last errors own = search sends.own
 
-  -- An error of the probe is one that `read_out` may return. On a modelled bus it has the meaning that `ReadOutErrors`
-  -- gives it.
+  -- An error of the probe is one that `read_out` may return. On a modelled bus this error has the meaning that
+  -- `ReadOutErrors` states.
   unfound_errors : (old new : BusState) (refusal : Refusal) → IdentificationErrors most_probe named old new refusal
       → IsReadRefusal vault vault refusal × (IsModelled old → ReadOutErrors named included old new vault vault refusal)
   unfound_errors old new Stopped errors =

@@ -41,8 +41,8 @@ find_errors most named old new Stopped fits errors honest = let ran = errors.ran
 find_errors most named old new (Timeout address) fits errors honest = absurd (errors.2 honest)
 find_errors most named old new _ fits errors honest = search
 
--- If an error of the probe is 12 or 13, the last transaction is as `EndsAtError` says. About the probe's other errors
--- `EndsAtError` says nothing.
+-- If the probe returned error 12, the bus stopped at the last transaction. If it returned error 13, the last
+-- transaction was a poll that showed BUSY. `EndsAtError` says nothing about the probe's other errors.
 pub find_ends : (most : ℕ) (named : Option ChipName) (old new : BusState) (refusal : Refusal)
     → IdentificationErrors most named old new refusal → EndsAtError refusal new.history
 find_ends most named old new Stopped errors = errors.last

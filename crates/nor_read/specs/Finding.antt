@@ -23,9 +23,9 @@ use Rattle.nor_request.specs.declared.report.Report.{Report}
 abbrev pub most_status : ℕ
 most_status = 65541
 
--- Describes the chip that was found. On every bus this chip is in the table or was identified by SFDP, and has the
--- requested name, if any. On a well-behaved bus its type is the one that the chip's replies show. On a modelled bus it
--- has the chip's configuration.
+-- Holds if `found` describes the chip that was found. On every bus, `found` is in the table or was identified by SFDP,
+-- and has the requested name, if any. On a well-behaved bus, `found` has the chip type that the replies of the chip on
+-- the bus show. On a modelled bus, `found` has the configuration of that chip.
 pub record IsFound (named : Option ChipName) (old : BusState) (found : Found) : Type 0 where
   pub part : IsPart found
   pub has_name : IsWanted named found.name
@@ -65,8 +65,8 @@ most_read size = most_probe + size / 4096
 
 -- ---- the report
 
--- Describes the report of a call on every bus. The report has a chip with the requested name, if any, and counts no
--- change.
+-- Holds if the report has a chip with the requested name, if any, and counts no change. `read_out` and `verify` promise
+-- this on every bus.
 pub record ReportsPart (named : Option ChipName) (report : Report) : Type 0 where
   -- The chip is in the table, or was identified by SFDP.
   pub part : IsPart report.found
@@ -79,7 +79,7 @@ pub record ReportsPart (named : Option ChipName) (report : Report) : Type 0 wher
   -- The number of transactions is at most the bound `most_read` for a chip of this size.
   pub most : report.transactions ≤ most_read report.found.size
 
--- Describes the report of a call that read `reads` sectors on a well-behaved bus. The report has the chip type that the
+-- Holds for the report of a call that read `reads` sectors on a well-behaved bus. The report has the chip type that the
 -- chip's replies show. Contents and non-volatile status bits are as before the call.
 pub record ReportsReads (reads : ℕ) (old new : BusState) (report : Report) : Type 0 where
   -- The reported chip type is the one that the chip shows (`shown_as`).
@@ -88,7 +88,7 @@ pub record ReportsReads (reads : ℕ) (old new : BusState) (report : Report) : T
   pub rested : Rested old new
   -- The chip is idle.
   pub idle : new.chip.busy ≡ 0
-  -- All bits of status 1 in the report are those that the chip would reply now.
+  -- Status 1 in the report, with all its bits, is what the chip would reply now.
   pub status1 : report.found.status1 ≡ status1_of new.chip
   -- The report counts the transactions of the probe and of the reads.
   pub count : report.transactions ≡ needed old.chip + reads
@@ -97,8 +97,8 @@ pub record ReportsReads (reads : ℕ) (old new : BusState) (report : Report) : T
 
 -- ---- errors
 
--- Holds for an error that may be returned while the chip is found. The calls promise this on every bus. A timeout has
--- address 0.
+-- Holds for error 1, 2, 3 or 12, and for error 13 (a timeout) with address 0. On every bus, only these errors are
+-- returned while the chip is identified.
 abbrev pub IsFindRefusal : Refusal → Type 0
 IsFindRefusal NoChip = ⊤
 IsFindRefusal (UnknownChip fault) = ⊤

@@ -13,15 +13,15 @@ use Rattle.nor_request.specs.Errors.{EndsAtError}
 use Rattle.nor_read.specs.declared.protection.Protection.{Protection}
 use Rattle.nor_read.specs.Finding.{IsNamed, IsFindRefusal, ReadingErrors, most_status}
 
--- Holds if the chip's protection bits are defined, and if the protected addresses are exactly the `len` addresses from
--- `start` on. If `len` is 0, `start` is 0.
+-- Holds if the datasheets define the chip's protection bits, and the protected addresses are exactly the `len`
+-- addresses from `start` on. If `len` is 0, `start` is 0.
 pub record IsProtectedRange (chip : Chip) (start len : ℕ) : Type 0 where
   pub defined : is_undefined (code_of chip.kept) ≡ false
   pub exactly : (a : ℕ) → (is_protected chip a ≡ true) ↔ ((start ≤ a) × (a < start + len))
   pub plain : len ≡ 0 → start ≡ 0
 
--- Holds if the report matches a chip with block protection. It has the chip's protected range (`None` if the chip's
--- protection bits are undefined) and size, and it says whether the status is locked.
+-- Holds if the report matches a chip with block protection. The report has the chip's protected range (`None` if the
+-- datasheets don't define the chip's protection bits) and size, and says whether the status is locked.
 pub record IsProtection (chip : Chip) (protection : Protection) : Type 0 where
   pub scheme : chip.config.scheme ≡ true
   pub protected : MatchOption protection.range (is_undefined (code_of chip.kept) ≡ true)

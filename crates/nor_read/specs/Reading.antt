@@ -37,24 +37,24 @@ pub record Copies (included : Option (List Span)) (content : ℕ → ℕ) (count
 
 -- ---- the promises of `read_out`
 
--- Holds if the vault refused nothing and, if it is `telling`, accepted `count` bytes.
+-- Holds if the vault refused nothing and, if it is faithful (`telling`), accepted `count` bytes.
 pub record TakesWhole (count : ℕ) (old new : VaultState) : Type 0 where
   -- Nothing was refused, and the vault is sealed if and only if it was sealed before.
   pub accepted : Accepted old new
-  -- A `telling` vault has `count` bytes more.
+  -- A faithful (`telling`) vault has `count` bytes more.
   pub grows : old.telling ≡ true → Grows count old new
 
--- Holds if the vault refused one piece. If the vault is `telling`, it accepted `written` bytes between the two states,
--- including those that it accepted of the refused piece.
+-- Holds if the vault refused one piece. If the vault is faithful (`telling`), it accepted `written` bytes between the
+-- two states, including those that it accepted of the refused piece.
 pub record TakesPart (written : ℕ) (old new : VaultState) : Type 0 where
   -- The vault counts one more refusal, and is sealed if and only if it was sealed before.
   pub refused : Refused old new
-  -- A `telling` vault has `written` bytes more.
+  -- A faithful (`telling`) vault has `written` bytes more.
   pub grows : old.telling ≡ true → Grows written old new
 
 -- Holds if `read_out` may return this error and leave this vault. `read_out` promises this on every bus. After error 19
--- the vault has refused one piece, and the error has the number of bytes that a `telling` vault accepted. After any
--- other error the vault has refused nothing.
+-- the vault has refused one piece, and the error has the number of bytes that a faithful (`telling`) vault accepted.
+-- After any other error the vault has refused nothing.
 abbrev pub IsReadRefusal : (vault vault' : VaultState) → Refusal → Type 0
 IsReadRefusal vault vault' (Output written) = TakesPart written vault vault'
 IsReadRefusal vault vault' RegionOutside = Accepted vault vault'
@@ -70,10 +70,11 @@ pub record ReadOutAlways (named : Option ChipName) (included : Option (List Span
   pub reports : IfOk result (ReportsPart named)
   -- After success no included address is past the end of the chip that was found.
   pub fits : IfOk result (λ report. FitsInto included report.found.size)
-  -- After success the vault has refused nothing. A `telling` vault has accepted one byte for each address of the chip
-  -- that was found.
+  -- After success the vault has refused nothing. A faithful (`telling`) vault has accepted one byte for each address of
+  -- the chip that was found.
   pub whole : IfOk result (λ report. TakesWhole report.found.size vault vault')
-  -- An error is one that `read_out` may return. Error 19 has the number of bytes that a `telling` vault accepted.
+  -- An error is one that `read_out` may return. Error 19 has the number of bytes that a faithful (`telling`) vault
+  -- accepted.
   pub refuses : IfErr result (IsReadRefusal vault vault')
   -- After error 12 the bus stopped at the last transaction. After error 13 the last transaction was a poll that showed
   -- BUSY.
@@ -92,8 +93,8 @@ pub record ReadOutHonest (named : Option ChipName) (included : Option (List Span
   pub errors : IfErr result (ReadingErrors (most_read 16777216) named old new)
 
 -- The meaning of error 19 (the vault refused a piece) on a modelled bus. The chip has the requested name, if any, all
--- included addresses are on it, and `written` is at most its size. A `telling` vault has its bytes from before the call
--- and then the first `written` bytes of the copy.
+-- included addresses are on it, and `written` is at most its size. A faithful (`telling`) vault has its bytes from
+-- before the call and then the first `written` bytes of the copy.
 pub record BreaksOff (named : Option ChipName) (included : Option (List Span)) (written : ℕ) (old : BusState)
     (vault vault' : VaultState) : Type 0 where
   pub taken : IsTaken named included old.chip.config
@@ -115,12 +116,12 @@ pub record ReadOutModelled (named : Option ChipName) (included : Option (List Sp
   pub only_reads : OnlyReads (most_read old.chip.config.size) old new
   -- After success the chip type in the report has the chip's configuration.
   pub config : IfOk result (λ report. IsConfigOf old.chip.config report.found)
-  -- After success a `telling` vault has its earlier bytes and then the whole copy: the chip's bytes at the included
-  -- addresses, and FFh at all others.
+  -- After success a faithful (`telling`) vault has its earlier bytes and then the whole copy: the chip's bytes at the
+  -- included addresses, and FFh at all others.
   pub copy : IfOk result (λ report. vault.telling ≡ true
       → Copies included old.chip.bytes old.chip.config.size vault vault')
   -- Error 5 means that an included address isn't on the chip, and error 12 that too few transactions were left. Error
-  -- 19 has the number of bytes of the copy that a `telling` vault accepted.
+  -- 19 has the number of bytes of the copy that a faithful (`telling`) vault accepted.
   pub errors : IfErr result (ReadOutErrors named included old new vault vault')
 
 -- ---- the copy: in pieces of sixteen sectors, and each piece sector by sector
@@ -135,8 +136,8 @@ pub record ReadsPart (included : Option (List Span)) (sector : ℕ) (bytes : Lis
       → AreOfSector (copied included old.chip.bytes) sector bytes
 
 -- Holds after the first `n` of a piece's sixteen sectors were copied. One transaction was sent for each of these
--- sectors that has an included address. On a well-behaved bus with an idle chip that has the whole piece, the copied
--- bytes are right.
+-- sectors that has an included address. On a well-behaved bus with an idle chip that has the whole piece, the first
+-- `4096 * n` bytes of `bytes` are those of the copy.
 pub record ReadsPiece (included : Option (List Span)) (piece n : ℕ) (bytes : List ℕ) (old new : BusState)
     (reads : ℕ) : Type 0 where
   pub counted : count_below (16 * piece + n) (has_in_sector (includes included))
@@ -154,7 +155,7 @@ pub record CopiesIf (known : Type 0) (included : Option (List Span)) (content : 
   pub right : known → (a : ℕ) → a < count → slice_index grows.bytes a ≡ copied included content a
 
 -- Holds after the pieces below `n` were made and appended to the vault, which refused nothing. On a well-behaved bus
--- with an idle chip of this size, a `telling` vault has the right bytes.
+-- with an idle chip of this size, a faithful (`telling`) vault has its earlier bytes and then these pieces of the copy.
 pub record ReadsPieces (included : Option (List Span)) (size n : ℕ) (old new : BusState) (vault vault' : VaultState)
     (reads : ℕ) : Type 0 where
   pub counted : reads ≡ count_below (16 * n) (has_in_sector (includes included))
@@ -163,8 +164,8 @@ pub record ReadsPieces (included : Option (List Span)) (size n : ℕ) (old new :
   pub accepted : Accepted vault vault'
   pub copy : vault.telling ≡ true → CopiesIf (IsOpen size old) included old.chip.bytes (65536 * n) vault vault'
 
--- Holds after the vault refused a piece of the copy. A `telling` vault accepted `written` bytes of all pieces together.
--- On a well-behaved bus with an idle chip of this size, these are the first bytes of the copy.
+-- Holds after the vault refused a piece of the copy. A faithful (`telling`) vault accepted `written` bytes of all
+-- pieces together. On a well-behaved bus with an idle chip of this size, these are the first bytes of the copy.
 pub record BreaksCopy (included : Option (List Span)) (size written : ℕ) (old new : BusState)
     (vault vault' : VaultState) : Type 0 where
   pub rested : old.honest ≡ true → Rested old new
@@ -181,7 +182,7 @@ CopyErrors included size old new vault vault' (Output written) = BreaksCopy incl
 CopyErrors included size old new vault vault' _ = ⊥
 
 -- The meaning of an error when the piece with the index `piece` is appended. `written` counts the bytes of the earlier
--- pieces, 65,536 each, and the bytes that a `telling` vault accepted of this piece.
+-- pieces, 65,536 each, and the bytes that a faithful (`telling`) vault accepted of this piece.
 abbrev pub PutErrors : ℕ → List ℕ → (old new : VaultState) → Refusal → Type 0
 PutErrors piece bytes old new (Output written) =
     (kept : ℕ) × (written ≡ 65536 * piece + kept) × PutRefused old bytes kept new

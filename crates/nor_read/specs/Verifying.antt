@@ -46,8 +46,8 @@ pub record IsOtherSize (named : Option ChipName) (image : List ℕ) (config : Co
   pub of_image : image_size ≡ length image
   pub differ : length image ≢ config.size
 
--- The meaning of error 14: the chip has the requested name, if any, all included addresses are on it, and it is as long
--- as the image. `address` is the first included address at which chip and image differ.
+-- The meaning of error 14: the chip has the requested name, if any, all included addresses are on it, and the chip is
+-- as long as the image. `address` is the first included address at which chip and image differ.
 pub record IsMismatch (named : Option ChipName) (included : Option (List Span)) (image : List ℕ) (chip : Chip)
     (address : ℕ) : Type 0 where
   pub taken : IsTaken named included chip.config
@@ -74,7 +74,8 @@ pub record HasReadAt (address : ℕ) (old new : List Exchange) : Type 0 where
 
 -- Holds for the history after `verify` returned this error. After error 14, the sector that contains the error's
 -- address was read, and only reads of sectors were sent after that read, since `verify` reads on after a difference.
--- After any other error, the last transaction is as `EndsAtError` says.
+-- After error 12 the last transaction is one at which the bus stopped, and after error 13 it is a poll that showed BUSY
+-- (`EndsAtError`).
 abbrev pub VerifyEnds : (old new : List Exchange) → Refusal → Type 0
 VerifyEnds old new (Mismatch address) = HasReadAt address old new
 VerifyEnds old new refusal = EndsAtError refusal new
@@ -83,10 +84,10 @@ VerifyEnds old new refusal = EndsAtError refusal new
 abbrev pub included_below : Option (List Span) → (size : ℕ) → (a : ℕ) → Bool
 included_below included size a = includes included a && nat_lt a size
 
--- Holds if the result fits the replies. After success, the last transactions were reads of sectors, whose last replies
--- have the image's byte at each included address. After error 14, the last transactions were reads of sectors, and the
--- error has the first included address at which their last replies differ from the image. Nothing is said about other
--- errors.
+-- Holds if the result fits the replies. After success or error 14, the last transactions are reads of sectors, and what
+-- counts is the last reply to a read of each sector. After success these replies have the image's byte at each included
+-- address. Error 14 has the first included address at which these replies differ from the image. Nothing is said about
+-- other errors.
 abbrev pub HasReadBack : Option (List Span) → List ℕ → (old new : List Exchange) → Result Report Refusal → Type 0
 HasReadBack included image old new (Ok report) =
     EndsReadBack (included_below included (length image)) (slice_index image) old new
@@ -190,8 +191,8 @@ pub record ComparesPart (included : Option (List Span)) (image : List ℕ) (sect
 
 -- Holds after the sectors below `n` were compared. On every bus, for each of these sectors that has an included
 -- address, the last reply has 4,096 bytes. `compared.first` is the first included address at which these replies differ
--- from the image, if any. On a well-behaved bus with an idle chip of this size, it is also the first included address
--- at which the chip differs from the image.
+-- from the image, if any. On a well-behaved bus with an idle chip of this size, `compared.first` is also the first
+-- included address at which the chip differs from the image.
 pub record ComparesBelow (included : Option (List Span)) (image : List ℕ) (size n : ℕ) (old new : BusState)
     (compared : Compared) : Type 0 where
   pub counted : compared.reads ≡ count_below n (has_in_sector (includes included))

@@ -23,7 +23,7 @@
 //! ```
 //!
 //! `specs/Reading.antt`, `specs/Verifying.antt` and `specs/Protecting.antt` define what each call promises and what its
-//! own errors mean, and `specs/Finding.antt` what the errors mean that all calls share. `Report` and `Refusal` are
+//! own errors mean. `specs/Finding.antt` defines what the errors mean that all calls share. `Report` and `Refusal` are
 //! those of nor_request, which sessions use, too.
 #![tactic(auto)]
 

@@ -23,13 +23,14 @@ const PIECE_LEN: usize = 65_536;
 /// other addresses. If `included` is `None`, all addresses are included. The call reads each sector that has an
 /// included address once, in ascending order. The vault must be unsealed, and the call does not seal it.
 ///
-/// If the bus is modelled and `out` is `telling`, success leaves this copy in `out`, after the bytes that `out` held
-/// before. On a well-behaved bus success leaves the chip's contents and non-volatile status bits as they were.
+/// If the bus is modelled and `out` is faithful (`telling`: it holds exactly the bytes that it accepted), success
+/// leaves this copy in `out`, after the bytes that `out` held before. On a well-behaved bus success leaves the chip's
+/// contents and non-volatile status bits as they were.
 ///
 /// Returns error 1 (no chip), 2 (unknown chip), 3 (other name), 5 (an included address isn't on the chip), 12 (the bus
 /// stopped) or 19 (the vault failed). Returns 13 (the chip stayed busy) only if the bus isn't well-behaved. Error 19
-/// has the number of bytes that a `telling` vault accepted during this call. On any bus, nothing is sent after the bus
-/// stopped, or after the poll for which error 13 is returned.
+/// has the number of bytes that a faithful (`telling`) vault accepted during this call. On any bus, nothing is sent
+/// after the bus stopped, or after the poll for which error 13 is returned.
 pub fn read_out<B: Bus, V: Vault>(
     bus: &mut B,
     included: Option<&Ranges>,
@@ -124,7 +125,7 @@ fn read_part<B: Bus>(
 }
 
 // Appends a piece of the copy to the vault, which has accepted the `piece` earlier pieces. Error 19 has the number of
-// bytes of the copy that a `telling` vault accepted, including the earlier pieces.
+// bytes of the copy that a faithful (`telling`) vault accepted, including the earlier pieces.
 fn put_piece<V: Vault>(out: &mut V, piece: u32, bytes: &[u8; PIECE_LEN]) -> Result<(), Refusal>
     requires reachable { piece < 256 }
     requires unsealed { (V.state out.old).sealed ≡ false }

@@ -117,8 +117,8 @@ fn compare_part<B: Bus>(
 }
 
 // Returns the first included address of the sector at which `bytes`, read from the chip, differ from the image. Returns
-// `None` if they differ at no included address. Overwrites the bytes at addresses that aren't included with the bytes
-// of the image.
+// `None` if there is no such address. Overwrites the bytes at addresses that aren't included with the bytes of the
+// image.
 fn first_other(
     image: &[u8],
     included: Option<&Ranges>,
