@@ -37,7 +37,7 @@ digits_of-digits digits all = grind (arith, nat_tests)
 address_of-taken : (text : List ℕ) (address : ℕ) → IsAddress text address → digits_address text ≡ Some address
 address_of-taken text address is = grind (arith, nat_tests, digits_of-digits is.digits)
 
--- ---- cuts
+-- ---- splits at a byte (`cut_at`)
 
 -- Holds if the text is the first part, then `byte`, then the second part.
 abbrev IsCut : ℕ → List ℕ → List ℕ × List ℕ → Type 0

@@ -46,7 +46,8 @@ rising-cons sector first span rest le forward rising = cond_both (is_outside sec
       weaker _ _ rest (grind (arith, nat_tests)) rising,
     ))
 
--- If disjoint spans follow `low`, and are apart from it, their positions ascend, and come after those of `low`.
+-- If disjoint spans follow `low`, with at least one address in between, their positions ascend, and come after those of
+-- `low`.
 parts_rise : (sector : ℕ) (low : Span) (spans : List Span) → IsApartFrom low spans → AreDisjoint spans
     → AreRisingFrom (low.last + 1 - 4096 * sector) (parts_in_sector sector spans)
 parts_rise sector low [] from apart = tt

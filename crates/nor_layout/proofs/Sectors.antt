@@ -24,7 +24,7 @@ some_span : (test : Span → Bool) (a : ℕ) → ((span : Span) → is_in_span s
 some_span test a passes [] h = h
 some_span test a passes (span ∷ spans) h = grind (arith, passes span, some_span test a passes spans)
 
--- ---- at or above an address
+-- ---- whether the set has an address that is `size` or greater
 
 abbrev pub ends_from : ℕ → Span → Bool
 ends_from size span = leb size span.last
@@ -39,7 +39,7 @@ size_cases spans size apart = elim (cases_Bool (list_any (ends_from size) spans)
       (some_span (ends_from size) reaches.0 (λ span here. grind (arith, nat_tests, reaches.1)) spans reaches.2))
 ]
 
--- ---- in a sector
+-- ---- whether the set has an address in a sector
 
 abbrev pub is_in_sector : ℕ → Span → Bool
 is_in_sector sector span = leb (span.first / 4096) sector && leb sector (span.last / 4096)
@@ -49,7 +49,7 @@ pub in_sector-is : (spans : List Span) (sector : ℕ) → AreDisjoint spans → 
 in_sector-is spans sector apart =
     same_tests (list_any (is_in_sector sector) spans) (has_in_sector (contains spans) sector)
     (λ yes.
-    -- The address in both is the greater one of the first address of the span and the first address of the sector.
+    -- The greater one of the first address of the span and the first address of the sector is in both.
     let h = any_span (is_in_sector sector) (λ a. a / 4096 ≡ sector)
     (λ span forward here. (max span.first (sector * 4096), grind (arith, nat_tests), grind (arith, nat_tests)))
     spans apart yes in

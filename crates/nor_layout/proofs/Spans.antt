@@ -26,13 +26,14 @@ contains-merged new (span ∷ spans) address forward apart =
     let joined = contains-merged (join new span) spans address (omega (arith, forward, apart.0)) apart.2 in
     grind (arith, nat_tests)
 
--- If `span` and `spans` are disjoint, and `low` is apart below `span`, then `low` and `spans` are disjoint, too.
+-- If `span` and `spans` are disjoint, and `low` ends below `span` with at least one address between them, then `low`
+-- and `spans` are disjoint, too.
 further : (low span : Span) (spans : List Span) → low.first ≤ low.last → low.last + 1 < span.first
     → AreDisjoint (span ∷ spans) → AreDisjoint (low ∷ spans)
 further low span spans forward lt apart = grind arith
 
--- Let `low` and `spans` be disjoint. If a span that is apart above `low` is added to `spans`, the result is disjoint,
--- and apart from `low`.
+-- Let `low` and `spans` be disjoint, and let `new` begin above `low` with at least one address between them. If `new`
+-- is added to `spans`, then `low` and the result are disjoint, too.
 apart_after : (low new : Span) (spans : List Span) → low.last + 1 < new.first → new.first ≤ new.last
     → AreDisjoint (low ∷ spans) → AreDisjoint (low ∷ merged new spans)
 unfolding merged

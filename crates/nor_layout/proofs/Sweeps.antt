@@ -11,8 +11,7 @@ use Rattle.nor_layout.specs.Ranges.{is_in_span, contains, AreDisjoint, IsSetOf}
 first_in : (span : Span) (spans : List Span) → span.first ≤ span.last → contains (span ∷ spans) span.first ≡ true
 first_in span spans forward = grind (arith, nat_tests)
 
--- If the spans are disjoint, each address in the spans after the first one is above the address after the end of the
--- first.
+-- If `span` and the spans after it are disjoint, each address in these later spans is greater than `span.last + 1`.
 above : (span : Span) (spans : List Span) (a : ℕ) → AreDisjoint (span ∷ spans) → contains spans a ≡ true → span.last + 1 < a
 above span [] a apart holds = absurd (false≢true holds)
 above span (next ∷ spans) a apart holds = grind (arith, nat_tests, above next spans a apart.2)
@@ -25,8 +24,9 @@ record AreCut (low limit : ℕ) (few many : List Span) : Type 0 where
 
 module _ (low limit : ℕ) (s : Span) (ss : List Span) (b : Span) (bs : List Span) (apart : AreDisjoint (s ∷ ss))
     (apart_b : AreDisjoint (b ∷ bs)) (cut : AreCut low limit (s ∷ ss) (b ∷ bs)) where
-  -- If s begins in b, the spans after s are cut from the spans after b (`AreCut`). None of their addresses is in b,
-  -- because b would then also contain the address after s, which isn't in the list that begins with s.
+  -- If the span `s` begins in the span `b`, the spans `ss` after `s` are cut from the spans `bs` after `b` (`AreCut`).
+  -- No address of `ss` is in `b`: otherwise `b` would also contain the address after `s`, which neither `s` nor `ss`
+  -- contains.
   rests : is_in_span b s.first ≡ true → AreCut (s.last + 1) limit ss bs
   rests begins = record {
     within = λ a holds. grind (arith, nat_tests, above s ss a apart, cut.within a);
@@ -37,7 +37,7 @@ module _ (low limit : ℕ) (s : Span) (ss : List Span) (b : Span) (bs : List Spa
     from = λ a least most holds. grind (arith, nat_tests, cut.from a, cut.within s.first);
   }
 
-  -- If s begins in a span after b, the list that begins with s is cut from the spans after b (`AreCut`).
+  -- If the span `s` begins in one of the spans `bs` after `b`, the list `s ∷ ss` is cut from `bs` (`AreCut`).
   without : contains bs s.first ≡ true → AreCut low limit (s ∷ ss) bs
   without later =
       let high = λ (a : ℕ). above s ss a apart in

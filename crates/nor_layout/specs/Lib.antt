@@ -12,5 +12,5 @@ pub mod Positions
 -- The numbers of faults, and the results of private functions.
 pub mod Faults
 pub mod Steps
--- Exported, too, because the name of a region is an `ArrayVec`.
+-- The definitions of `ArrayVec` are exported, too, because the name of a region is an `ArrayVec`.
 pub use Rattle.arrayvec.specs.ArrayVec

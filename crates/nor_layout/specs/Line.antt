@@ -48,7 +48,7 @@ is_name_byte b = nat_le 33 b && nat_le b 126 && not (b == 44) && not (b == 58)
 abbrev pub is_name : List ℕ → Bool
 is_name name = nat_le 1 (length name) && nat_le (length name) 32 && list_all is_name_byte name
 
--- The region with this start, end and name, or the first fault of these. A start or end of None is a text that is no
+-- The region with this start, end and name, or the first fault of these. The start or the end is None if its text is no
 -- address.
 abbrev pub region_of : (start end : Option ℕ) → (name : List ℕ) → Result Region LineFault
 region_of None end name = Err Address

@@ -1,4 +1,5 @@
--- The positions in a sector (`Positions`) whose addresses are in a set.
+-- The positions in a sector whose addresses are in a set. A position is an offset in bytes from the beginning of the
+-- sector.
 use Rattle.std.specs.Prelude.{◌≡◌, ℕ, ◌+◌, ◌*◌, ◌/◌, ◌%◌, ◌<◌, ◌≤◌, Bool, ◌&&◌, ◌||◌, nat_le, nat_lt, if◌then◌else◌, List, [], ◌∷◌, Option, Some, None, ⊤}
 use Rattle.std.specs.List.{list_any, filter_map}
 use Rattle.nor_layout.specs.declared.ranges.Span.{Span}
@@ -28,7 +29,7 @@ pub record AreIncludedIn (spans : List Span) (sector : ℕ) (all : List Position
   pub exact : (at : ℕ) → at < 4096 → is_covered all at ≡ contains spans (4096 * sector + at)
   pub rising : AreRisingFrom 0 all
 
--- the positions in the sector that the span covers, or None if it covers none
+-- the positions in the sector that the span covers, or None if the span has no address in the sector
 abbrev pub part_in_sector : ℕ → Span → Option Positions
 part_in_sector sector span =
     if nat_lt sector (span.first / 4096) || nat_lt (span.last / 4096) sector then None

@@ -39,8 +39,8 @@ join a b = record { first = min a.first b.first; last = max a.last b.last }
 abbrev pub EndBelow : (done : ℕ) → List Span → Type 0
 EndBelow done spans = (address : ℕ) → done ≤ address → contains spans address ≡ false
 
--- Holds if `next` contains only addresses of the spans, at least one of which is `done` or greater, and begins at or
--- below each address of the spans that is `done` or greater.
+-- Holds if each address of the span `next` is in `spans`, and the last address of `next` is `done` or greater. `next`
+-- must begin at or below each address in `spans` that is `done` or greater.
 pub record IsNext (done : ℕ) (spans : List Span) (next : Span) : Type 0 where
   pub forward : next.first ≤ next.last
   pub reaches : done ≤ next.last

@@ -63,8 +63,8 @@ pub record AreRegions (regions : List Region) : Type 0 where
   pub forward : AllByRecursion (λ region. region.start ≤ region.end) regions
   pub named_apart : AreNamedApart regions
 
--- Holds if the result of reading (`answer`) is what the text defines (`said`), or `Memory`. It isn't `Memory` if the
--- text defines a layout without regions.
+-- Holds if the result of reading (`answer`) is what the text defines (`said`), or `Memory`. The result isn't `Memory`
+-- if the text defines a layout without regions.
 abbrev pub ReadsLayout : (answer said : Result (List Region) LayoutFault) → Type 0
 ReadsLayout (Ok regions) said = said ≡ Ok regions
 ReadsLayout (Err Memory) said = said ≢ Ok []

@@ -99,8 +99,8 @@ impl Layout {
     /// and `TooMany` after them. Returns `Memory` if an allocation fails, which is possible only at a line that adds a
     /// region, if no earlier line has a fault.
     pub fn read(alloc: Global, text: &[u8]) -> Result<Layout, LayoutFault>
-        // The result is what the text defines, or `Memory`. It can be `Memory` only if some line adds a region, and no
-        // earlier line has a fault.
+        // The result is what the text defines, or `Memory`. The result can be `Memory` only if some line adds a region,
+        // and no earlier line has a fault.
         ensures exact { ReadsLayout result (layout_says text.now) }
         ensures asks { IfErr result (λ fault. fault ≡ LayoutFault.Memory → AsksMemory text.now) }
 

@@ -1,4 +1,5 @@
-//! Completes a copy of a sector: it keeps its bytes at given positions, and gets all other bytes from a second copy.
+//! Completes a copy of a sector. The copy keeps its bytes at given positions, and gets all other bytes from a second
+//! copy.
 
 ghost use Rattle.std.specs.Prelude.{◌≡◌, ◌<◌, ◌≤◌, ℕ, length, slice_index, if◌then◌else◌};
 ghost use Rattle.nor_layout.specs.Positions.{is_covered, AreRisingFrom, positions_left};

@@ -1,4 +1,4 @@
-//! The positions within one sector whose addresses are in a set.
+//! The positions in one sector whose addresses are in a set. A position is an offset from the beginning of the sector.
 
 ghost use Rattle.std.specs.Prelude.{◌≡◌};
 ghost use Rattle.std.specs.Iterator.{YieldsFirst, item_count};
@@ -14,7 +14,7 @@ pub struct Positions {
     pub end: usize,
 }
 
-/// An iterator over the positions in one sector whose addresses are in a set, in ascending order.
+/// An iterator over the ranges of positions in one sector whose addresses are in a set, in ascending order.
 #[derive(Debug, Drop)]
 pub struct PositionsIn<'a> {
     spans: &'a [Span],
@@ -29,7 +29,8 @@ impl<'a> PositionsIn<'a> {
     }
 }
 
-/// Returns the positions in sector number `sector` that a span covers, or `None` if it covers none.
+/// Returns the positions in sector number `sector` that `span` covers, or `None` if the span has no address in this
+/// sector.
 fn part_of(span: &Span, sector: u32) -> Option<Positions>
     ensures { result ≡ part_in_sector sector span.now }
 {

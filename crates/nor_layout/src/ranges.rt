@@ -69,8 +69,8 @@ fn has_backwards(spans: &[Span]) -> bool
     spans.iter().any(|span| span.last < span.first)
 }
 
-// Returns the one of `next` and `span` that begins first, or `next` if both begin at the same address. A `span` that
-// ends below the address `done` is ignored.
+// Returns the one of `next` and `span` that begins first, or `next` if both begin at the same address. Returns `span`
+// if `next` is `None`. A `span` that ends below the address `done` is ignored, so that `next` is returned.
 fn sooner(next: Option<Span>, span: &Span, done: u64) -> Option<Span>
     ensures { result ≡ sooner next span.now done }
 {

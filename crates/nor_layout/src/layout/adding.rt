@@ -67,11 +67,11 @@ impl Layout {
         }
     }
 
-    /// Adds a region after the others. Its end must not be below its start. Both addresses belong to the region, and it
-    /// may overlap others.
+    /// Adds a region after the others. Its end must not be below its start. Both addresses belong to the region. The
+    /// region may overlap others.
     ///
-    /// Returns the first fault in the order of `RegionFault`, and then the layout is unchanged. Returns `Memory` if an
-    /// allocation fails, which is possible only if the region has no other fault.
+    /// Returns the first fault in the order of `RegionFault`. `Memory` (an allocation failed) is possible only if the
+    /// region has no other fault. After an error the layout is unchanged.
     pub fn add(&mut self, region: Region) -> Result<(), RegionFault>
         requires { region.start ≤ region.end }
         ensures { Adds self.old self.new region result }
