@@ -1,4 +1,5 @@
--- Lemmas: the effect of an exchange over a well-behaved port, from the effects of its calls.
+-- Lemmas: the effect of one exchange of an O_SPIOP over a well-behaved port follows from the effects of the calls of
+-- the port, one of which sends the frame and two of which receive the reply.
 use Rattle.std.proofs.Common.{◌≡◌, ◌∙◌, ◌<◌, ◌≤◌, true, ◌++◌, ℕ, Bool, List, [], ◌∷◌, length, refl, sym, subst, ap, arith, length-append}
 use Rattle.std.specs.Prelude.{slice_index, Result, Ok, Err, OnErr}
 use Rattle.std.proofs.lemmas.List.{append-nil}
@@ -26,8 +27,8 @@ none_rest answer reply [] e len = refl
 none_rest answer reply (x ∷ rest) e len =
     absurd (omega (arith, length-append reply (x ∷ rest), ap length e))
 
--- If the chip and its erased sectors did not change after a step of the chip, this step is also the step of the whole
--- exchange.
+-- If the chip made a step from `old` to `sent`, and the chip and its erased sectors did not change from `sent` to
+-- `new`, the chip made this step from `old` to `new`.
 steps_then : (out answer : List ℕ) (old sent new : Device) → new.chip ≡ sent.chip → new.worn ≡ sent.worn
     → StepsOnce out answer old sent → StepsOnce out answer old new
 steps_then out answer old sent new chip worn steps = record {
@@ -115,8 +116,8 @@ missed frame out replies wanted old sent new idle whole opcode goes comes s m =
       };
     }
 
--- The lemmas `exchanged`, `cut_off` and `missed` for every command. For a command other than O_SPIOP they are trivially
--- true.
+-- The next three lemmas state `exchanged`, `cut_off` and `missed` for every command. For a command other than O_SPIOP
+-- they are trivially true.
 pub exchanged_by : (command : Command) (frame reply : List ℕ) (len : ℕ) (old sent new : PortState)
     → IsIdle old.device → IsFrame frame → ReadsAs frame command → IsSent frame old sent → TakesAnswer reply sent new
     → length reply ≡ len → IfOperates command (λ out replies. len ≡ replies → Exchanged out reply old new)
@@ -140,7 +141,7 @@ missed_by (Operate out replies) frame wanted old sent new idle whole reads s m =
     (m (begins_with_ack frame old sent idle (operated frame old sent idle whole reads.0 s)))
 missed_by _ frame wanted old sent new idle whole reads s m = tt
 
--- If `P` holds, it also holds on an error.
+-- If `P` holds, `OnErr result P` holds for every `result`.
 pub on_err : {T E : Type 0} (result : Result T E) (P : Type 0) → P → OnErr result P
 on_err (Ok x) P p = tt
 on_err (Err e) P p = p

@@ -179,8 +179,8 @@ set_result false firmware setting reply opcode (Ok value) old new replies first 
 set_result false firmware setting reply opcode (Err error) old new replies first a =
     fails_as _ (a.naked replies) (λ found. ap (λ (n : ℕ). Some (Faults.Failure (Refused n))) (sym first) ∙ found)
 
--- If the programmer does not refuse S_BUSTYPE, SPI is selected afterwards; if the programmer lacks the command, the
--- settings are unchanged.
+-- If the programmer accepts S_BUSTYPE, SPI is selected afterwards; if the programmer lacks the command, the settings
+-- are unchanged.
 bus_selected : {C : Type 0} (has_it takes : Bool) (settings : ProgrammerSettings)
     → refused {C = C} 0x12 has_it takes ≡ None
     → (if has_it then (if takes then record settings { bus_type = Some 8 } else settings) else settings)
@@ -189,8 +189,8 @@ bus_selected true true settings none = refl
 bus_selected true false settings none = let never : ⊥ = cc in absurd never
 bus_selected false takes settings none = refl
 
--- If the programmer does not refuse S_PIN_STATE, the pin drivers are on afterwards; if the programmer lacks the
--- command, the settings are unchanged.
+-- If the programmer accepts S_PIN_STATE, the pin drivers are on afterwards; if the programmer lacks the command, the
+-- settings are unchanged.
 pins_switched : {C : Type 0} (has_it takes : Bool) (settings : ProgrammerSettings)
     → refused {C = C} 0x15 has_it takes ≡ None
     → (if has_it then (if takes then record settings { pins_on = true } else settings) else settings)
@@ -199,8 +199,8 @@ pins_switched true true settings none = refl
 pins_switched true false settings none = let never : ⊥ = cc in absurd never
 pins_switched false takes settings none = refl
 
--- If the programmer refuses neither S_BUSTYPE nor S_PIN_STATE, the settings after both are those of a programmer that
--- was prepared for SPI.
+-- If the programmer refuses neither S_BUSTYPE nor S_PIN_STATE, the settings after both commands are those of a
+-- programmer that was prepared for SPI (`prepared_settings`).
 pub is_prepared : {C : Type 0} (firmware : Firmware) (settings : ProgrammerSettings)
     → refused {C = C} 0x12 (has_command firmware 0x12) (firmware.takes_buses 8) ≡ None
     → refused {C = C} 0x15 (has_command firmware 0x15) (firmware.takes_pins true) ≡ None
@@ -225,11 +225,11 @@ after_bus_type firmware settings = settings_if_offered firmware 0x12 (SetBuses 8
 abbrev pub after_pins : Firmware → ProgrammerSettings → ProgrammerSettings
 after_pins firmware settings = settings_if_offered firmware 0x15 (SetPins true) settings
 
--- The first error of the list `identify_faults` without its first `done` entries.
+-- The first error in the list `identify_faults` after its first `done` entries.
 abbrev pub faults_from : {C : Type 0} → Least → (done : ℕ) → Firmware → Option ℕ → Option (HandshakeFault C)
 faults_from least done firmware hertz = first_handshake_fault (drop done (identify_faults least firmware hertz))
 
--- Holds if no frame on the link may have been sent only in part, the port is well-behaved and its programmer is idle.
+-- Holds if the port is well-behaved, its programmer is idle, and the link is not `Cut`.
 abbrev pub Starts : {P C : Type 0} → (P → PortState) → Link P C → Type 0
 Starts port link = AwaitsCommand (port link.port) × (is_cut link ≡ false)
 

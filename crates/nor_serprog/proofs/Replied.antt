@@ -1,5 +1,5 @@
--- Lemmas: the effect of an exchange of a command other than O_SPIOP over a well-behaved port, from the effects of its
--- calls.
+-- Lemmas: the effect of an exchange of a command other than O_SPIOP over a well-behaved port follows from the effects
+-- of the calls of the port that send the frame and receive the reply.
 use Rattle.std.proofs.Common.{◌≡◌, ◌∙◌, ◌<◌, ◌≤◌, ◌⊎◌, true, ◌++◌, ℕ, Bool, true, false, List, [], ◌∷◌, length, refl, sym, subst, ap, arith, inl, inr, length-append}
 use Rattle.std.specs.Prelude.{slice_index, if◌then◌else◌, Option, None, Some, Ok, Err}
 use Rattle.std.proofs.lemmas.List.{append-nil}
@@ -83,7 +83,7 @@ short_one command old idle has = record {
   reads = omega (arith, length-append (reply_of old.firmware command) [], reply_short old.firmware command);
 }
 
--- ---- the exits of an exchange
+-- ---- how an exchange ends
 
 pub answered_ok : {C : Type 0} (command : Command) (frame : List ℕ) (count : ℕ) (reply : List ℕ)
     (old sent new : PortState) → AwaitsCommand old → frame ≡ frame_of command
@@ -135,8 +135,8 @@ answered_cut_off command frame count reply failure old new awaits exact has cut 
       power = cut.power (command ∷ []) asks;
     }
 
--- If `IsRefused` holds for a state with `left` calls left and the limit `calls`, it also holds for `left'` and
--- `calls'`, provided that `left' < calls'` follows from `left < calls`.
+-- If `left < calls` implies `left' < calls'`, then `IsRefused` with `calls` and `left` implies `IsRefused` with
+-- `calls'` and `left'`.
 refused_more : {C : Type 0} (opcode opcode' calls calls' left left' : ℕ) (failure : Failure C) → opcode ≡ opcode'
     → (left < calls → left' < calls') → IsRefused opcode calls left failure → IsRefused opcode' calls' left' failure
 refused_more opcode opcode' calls calls' left left' failure same more (inl refusal) =

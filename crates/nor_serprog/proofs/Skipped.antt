@@ -1,5 +1,5 @@
--- Lemmas: a link skips the bytes up to the ones that it wants. If exactly the wanted bytes are pending, it receives all
--- of them, and no more.
+-- Lemmas on `skip_past`, which receives bytes until the last ones are `wanted`: if exactly the bytes `wanted` are
+-- pending, `skip_past` receives all of them.
 use Rattle.std.proofs.Common.{◌≡◌, ◌≢◌, ◌∙◌, ◌+◌, ◌-◌, ◌<◌, ◌≤◌, inl, inr, true, ◌++◌, ℕ, suc, Bool, eqb, List, [], ◌∷◌, length, get_or, take, drop, refl, sym, ap, arith, append_assoc, length-append, length-drop, length-take-le}
 use Rattle.std.specs.Prelude.{slice_index, replicate}
 use Rattle.std.specs.Cmp.Lexicographic.{pointwise}
@@ -55,7 +55,8 @@ skips_none wanted state = record {
   );
 }
 
--- If one more byte is received, the window loses its first byte and gains this byte at its end.
+-- If one more byte is received, the window (the last 25 bytes received) loses its first byte and gains this byte at its
+-- end.
 more : (zeros received : List ℕ) (byte : ℕ) → 0 < length zeros
     → drop 1 (drop (length received) (zeros ++ received)) ++ byte ∷ []
     ≡ drop (length (received ++ byte ∷ [])) (zeros ++ (received ++ byte ∷ []))

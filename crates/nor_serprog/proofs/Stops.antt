@@ -1,4 +1,4 @@
--- Lemmas: a transaction over a well-behaved port fails as the contract of a bus allows.
+-- Lemmas: if a transaction over a well-behaved port fails, it fails as the contract of a bus allows (`Stops`).
 use Rattle.std.proofs.Common.{◌≡◌, ◌∙◌, ◌<◌, ◌≤◌, ◌⊎◌, ℕ, true, false, List, [], length, refl, sym, ap, subst, arith, inl, inr}
 use Rattle.std.proofs.Math.Bool.{or-false}
 use Rattle.std.proofs.lemmas.Bool.{cases_Bool, false≢true}
@@ -29,7 +29,7 @@ stops_cut out replies old new history history' few is = record {
   };
 }
 
--- If fewer than three calls are left, a transaction of which nothing was sent is a stop of the bus.
+-- If fewer than three calls are left, a transaction that failed before any byte was sent is a stop of the bus.
 stops_silent : (out : List ℕ) (port : PortState) (history history' : List Exchange) → port.left < 3
     → Stops out (over_port port history) (over_port port history')
 stops_silent out port history history' few = record {
@@ -47,8 +47,8 @@ stops_silent out port history history' few = record {
   };
 }
 
--- If a transaction that a bus over a well-behaved port accepts fails, this is a stop of the bus, whether the link was
--- in step or not.
+-- If a bus over a well-behaved port accepts a transaction (`IsHonestFor`) and the transaction fails, its failure is a
+-- stop of the bus, whether or not the link was in step.
 pub stops_over : {P C : Type 0} (port : P → PortState) (out : List ℕ) (replies : ℕ) (link link' : Link P C)
     (history history' : List Exchange) → IsSettled port link → (is_in_step link ≡ false → link' ≡ link)
     → ((port link.port).honest ≡ true → (link' ≡ link)

@@ -9,7 +9,7 @@ use Rattle.nor_serprog.specs.declared.link.Failure.{Failure}
 use Rattle.nor_serprog.specs.Replies.{IsPortFailure, AwaitsCommand, OnlyAsks, AsksUnlessFew, IsPending}
 use Rattle.nor_serprog.proofs.Replied.{power_then}
 
--- The commands of `ROW`.
+-- The commands of `ROW` (link.rt), the fixed sequence that the second part of `synchronize` sends.
 abbrev pub row : List Command
 row =
     SyncNop ∷ SyncNop ∷ Nop ∷ SyncNop ∷ Nop ∷ Nop ∷ SyncNop ∷ SyncNop ∷ SyncNop ∷ Nop ∷ Nop ∷ Nop ∷ SyncNop ∷ Nop
@@ -128,8 +128,8 @@ row_cut commands bytes answers calls failure old new is awaits cut failed some =
       power = cut.power commands asks;
     }
 
--- If the frames of a row were sent and the port failed while the replies to it were received, fewer than `calls + 1`
--- calls were left at the start.
+-- If the frames of a row were sent, and the replies to it were not received because fewer than `calls` calls of the
+-- port were left, fewer than `calls + 1` calls were left before the frames were sent.
 pub row_missed : {C : Type 0} (commands : List Command) (bytes answers : List ℕ) (calls : ℕ) (failure : Failure C)
     (old sent new : PortState) → IsRow commands bytes answers → AwaitsCommand old → sent.honest ≡ old.honest
     → IsSent bytes old sent → (IsPending answers sent → AsksUnlessFew calls (Err failure) sent new)

@@ -13,8 +13,8 @@ use Rattle.nor_serprog.specs.Link.{is_in_step}
 
 -- The state of a bus that has this history over a port in this state. The chip of the bus is the programmer's. A
 -- transaction takes three calls of the port: one sends the frame, one receives ACK, and one receives the reply. The bus
--- is not steady, since a port can fail inside a transaction, and not unlimited, since a frame sends at most 260 bytes.
--- The bus has no allowances.
+-- is not `steady`, since the port can fail in the middle of a transaction, and not `unlimited`, since a frame sends at
+-- most 260 bytes. The list of allowances is empty, because this bus has no call that sets one.
 abbrev pub over_port : PortState → (history : List Exchange) → BusState
 over_port port history = record {
   chip = port.device.chip;

@@ -120,10 +120,11 @@ pub record AreWithinLimits (commands : List Command) (device : Device) : Type 0 
   pub reads : length (replies_of device.firmware commands) ≤ 4096
 
 -- Holds if the port failed while it sent `bytes`, after any number of them. No further call succeeds. If `bytes` would
--- complete a frame of O_SPIOP, its transaction was cut (`IsCut`), since a programmer may begin it before the frame is
--- complete. If this frame is within the limits, the port failed because no call was left. If no command was incomplete
--- and `bytes` are whole frames of other commands whose replies are specified (`AsksFor`), the chip was not selected,
--- but may have lost its power. If these commands are within the limits, the port failed because no call was left.
+-- complete a frame of O_SPIOP, its transaction was cut (`IsCut`), since a programmer may begin a transaction before its
+-- frame is complete. If this frame is within the limits (`IsWithinLimits`), the port failed because no call was left.
+-- If no command was incomplete and `bytes` are whole frames of other commands whose replies are specified (`AsksFor`),
+-- the chip was not selected, but may have lost its power. If these commands are within the limits (`AreWithinLimits`),
+-- the port failed because no call was left.
 pub record IsCutOff (bytes : List ℕ) (old new : PortState) : Type 0 where
   pub firmware : new.device.firmware ≡ old.device.firmware
   pub none_left_for_commands : (commands : List Command) → AsksFor commands bytes old.device

@@ -59,8 +59,8 @@ abbrev pub long_len : List ℕ → Option ℕ
 long_len (a ∷ b ∷ c ∷ rest) = Some (7 + number_in a b c)
 long_len _ = None
 
--- The length of the frame that begins with the bytes `begun`, as a programmer computes it that has no commands after
--- 16h; `None` if more bytes are needed to determine it.
+-- The length of the frame that begins with the bytes `begun`, as a programmer without commands after 16h computes it;
+-- `None` if more bytes are needed to determine it.
 abbrev pub frame_len : (begun : List ℕ) → Option ℕ
 frame_len [] = None
 frame_len (opcode ∷ rest) =

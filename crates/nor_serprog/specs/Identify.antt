@@ -23,8 +23,8 @@ use Rattle.nor_serprog.specs.Replies.{AwaitsCommand, OnlyAsks, IsPortFailure}
 abbrev pub buses_of : Firmware → ℕ
 buses_of firmware = if has_command firmware 0x05 then firmware.buses else 8
 
--- The limit of a programmer for the length of a transaction. It is 2^24 if the programmer lacks the query for the limit
--- (`has_query`), or if it replies 0 (`limit`).
+-- The limit of a programmer for the length of a transaction. `has_query` is true if the programmer has the query for
+-- this limit, and `limit` is its reply. Without the query, or if the reply is 0, the limit is 2^24.
 abbrev pub limit_in : (has_query : Bool) → (limit : ℕ) → ℕ
 limit_in has_query limit = if has_query && not (limit == 0) then limit else 16777216
 
@@ -44,8 +44,8 @@ part_limit_of commands writes buffer =
     if is_in_map commands 0x08 then writes
     else if is_in_map commands 0x04 then max (min writes (buffer - 7)) 5 else writes
 
--- Holds if `programmer` has the values that this firmware replied to a handshake that requested a clock of `hertz`. If
--- the programmer lacks a query, its limit is 2^24, its buffer is 0, or its name is all zeros.
+-- Holds if `programmer` has the values that this firmware replied to a handshake that requested a clock of `hertz`. For
+-- a query that the programmer lacks, the limit is 2^24, the size of the buffer is 0, or the name is all zeros.
 pub record IsAnyProgrammerOf (firmware : Firmware) (hertz : Option ℕ) (programmer : AnyProgrammer) : Type 0 where
   pub name : programmer.name ≡ (if has_command firmware 0x03 then firmware.name else replicate 16 0)
   pub writes : programmer.longest_write ≡ write_limit firmware
@@ -127,8 +127,8 @@ whole_limits = record { write = 260; read = 4096; frame = 267 }
 abbrev pub part_limits : Least
 part_limits = record { write = 5; read = 1; frame = 12 }
 
--- The errors that a handshake can return that requires the limits `least`, in the order of its steps. An entry is
--- `None` if this firmware doesn't cause its error.
+-- The errors that the firmware can cause in a handshake that requires the limits `least`, in the order of its steps. An
+-- entry is `None` if this firmware doesn't cause the error of that step.
 abbrev pub identify_faults : {C : Type 0} → Least → Firmware → (hertz : Option ℕ) → List (Option (HandshakeFault C))
 identify_faults least firmware hertz =
     version_fault firmware
@@ -147,12 +147,13 @@ identify_faults least firmware hertz =
 abbrev pub least_fault : {C : Type 0} → Least → Firmware → (hertz : Option ℕ) → Option (HandshakeFault C)
 least_fault least firmware hertz = first_handshake_fault (identify_faults least firmware hertz)
 
--- The error of a handshake that requires whole transactions (`whole_limits`). `None` if the programmer can be used.
+-- The error of a handshake that requires a page program, and the read of a sector, in one transaction each
+-- (`whole_limits`). `None` if the programmer can be used.
 abbrev pub identify_fault : {C : Type 0} → Firmware → (hertz : Option ℕ) → Option (HandshakeFault C)
 identify_fault firmware hertz = least_fault whole_limits firmware hertz
 
--- The error of a handshake that requires only transactions in parts (`part_limits`). `None` if the programmer can be
--- used.
+-- The error of a handshake that also accepts a programmer for which long transactions must be split (`part_limits`).
+-- `None` if the programmer can be used.
 abbrev pub narrow_fault : {C : Type 0} → Firmware → (hertz : Option ℕ) → Option (HandshakeFault C)
 narrow_fault firmware hertz = least_fault part_limits firmware hertz
 
@@ -211,8 +212,8 @@ pub record IsInStepWith {P C : Type 0} (port : P → PortState) (firmware : Firm
   pub same : (port link.port).device.firmware ≡ firmware
 
 -- Holds for the result of one exchange of the handshake that sends `command` and requests `count` reply bytes. If the
--- firmware replies ACK and `count` bytes, the exchange returns these bytes. If it replies NAK, the exchange returns
--- `Refused`.
+-- firmware replies ACK and `count` bytes, the exchange returns these bytes. If the firmware replies NAK, the exchange
+-- returns `Refused`. In both cases the port may fail instead, if fewer than three calls were left.
 pub record Asked {C : Type 0} (firmware : Firmware) (command : Command) (count : ℕ) (reply : List ℕ)
     (result : Result Unit (HandshakeFault C)) (old new : PortState) : Type 0 where
   pub acked : (bytes : List ℕ) → reply_of firmware command ≡ 0x06 ∷ bytes → count ≡ length bytes

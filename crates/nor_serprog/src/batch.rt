@@ -54,9 +54,9 @@ impl<P: Port + Drop> Batch<P> {
     /// Makes one transaction. A modifying command that requests no reply bytes waits for the next transaction instead,
     /// if its frame fits into the serial buffer.
     ///
-    /// If the transaction is sent, the frames that wait are sent before it. Both are sent in the same write if they fit
-    /// into the buffer together and have at most 512 bytes. The frames that wait are also sent if one more frame that
-    /// is to wait would exceed a limit.
+    /// If the transaction is sent, the frames that wait are sent before its frame. All of them are sent in the same
+    /// write if together they fit into the buffer and have at most 512 bytes. The frames that wait are also sent if
+    /// another frame should wait, but would exceed one of these limits.
     ///
     /// Returns `OutOfStep` or `CutFrame` if the link was out of step. Otherwise returns `TooLong` if the transaction
     /// does not fit into one frame, or reads more than the programmer can; then nothing was sent, and the waiting

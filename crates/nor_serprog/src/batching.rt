@@ -15,8 +15,8 @@ use nor_model::{Bus, History, Stopped};
 ///
 /// - `transfer` of a modifying command (06h, 01h, 02h, 20h, 52h, D8h, C7h) that reads no reply may return `Ok` before
 ///   the command is sent. If the command fails later, the transaction or `flush` that sends it returns `Stopped`.
-/// - Every other transaction that isn't rejected first sends the commands that wait, in order. If it returns `Ok`, no
-///   command waits.
+/// - Every other transaction first sends the commands that wait, in order, unless the transaction is rejected. If it
+///   returns `Ok`, no command waits.
 /// - `flush` sends the commands that wait. Without `flush` or a later transaction they are never sent. A session or
 ///   restore that returns `Ok` has polled after its last modifying command, so no command waits then.
 /// - The frames that are sent together fit into the programmer's serial buffer. No command waits if the programmer does

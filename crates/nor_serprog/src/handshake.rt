@@ -1,4 +1,4 @@
-//! The steps of the handshake that precedes the first transaction.
+//! The steps of the handshake with a serial programmer, which precedes the first transaction.
 ghost use Rattle.std.specs.Prelude.{◌≡◌, ◌<◌, ◌≤◌, ℕ, Bool, true, false, List, length, slice_index, None, Some, OnOk, IfOk};
 ghost use Rattle.std.specs.Prelude.{option_and_then, replicate, if◌then◌else◌, ◌||◌, ◌&&◌, ◌==◌, not, bit_and, ⊤};
 ghost use Rattle.nor_serprog.specs.Device.{with_settings};
@@ -242,7 +242,8 @@ fn limit_of(reply: Option<[u8; 3]>) -> u32
 
 // Returns the size of the serial buffer, or 0 if the programmer lacks Q_SERBUF. Returns the error `SmallBuffer` if the
 // programmer has Q_SERBUF but lacks Q_WRNMAXLEN, and a frame of `least` bytes does not fit into the buffer. A
-// programmer that has Q_WRNMAXLEN accepts frames of the length that it allows, regardless of its buffer.
+// programmer that has Q_WRNMAXLEN accepts a frame of the length that Q_WRNMAXLEN allows, whatever the size of its
+// buffer.
 pub(crate) fn query_buffer<P: Port + Drop>(
     link: &mut Link<P>,
     commands: &Map,

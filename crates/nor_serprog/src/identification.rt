@@ -34,9 +34,8 @@ impl AnyProgrammer {
     /// `Programmer::identify`. This function accepts lower limits: a transaction must be able to send 5 bytes and read
     /// 1 byte. If the programmer has Q_SERBUF but lacks Q_WRNMAXLEN, 12 bytes must fit into its serial buffer.
     ///
-    /// If the port is well-behaved, the programmer is idle, and no frame on the link may have been sent only in part,
-    /// then the only errors are those of `narrow_fault`, and a failure of the port because fewer than 59 calls of it
-    /// were left.
+    /// If the port is well-behaved, the programmer is idle and the link is not `Sync::Cut`, the only errors are those
+    /// that the firmware causes (`narrow_fault`), and a failure of the port because fewer than 59 calls were left.
     pub fn identify<P: Port + Drop>(
         link: &mut Link<P>,
         hertz: Option<u32>,
@@ -100,12 +99,13 @@ impl Programmer {
     /// - if `hertz` is given, request a clock of at most that frequency (S_SPI_FREQ)
     /// - switch the pin drivers on (S_PIN_STATE)
     ///
-    /// A step whose command is not in the programmer's map is skipped. However, it is an error if `hertz` is given and
-    /// the map lacks S_SPI_FREQ. (serprog protocol, flashrom's Documentation/serprog-protocol.txt.)
+    /// After the first two steps, a command that is not in the programmer's map is not sent, and its step is skipped.
+    /// However, it is an error if `hertz` is given and the map lacks S_SPI_FREQ. (serprog protocol, flashrom's
+    /// Documentation/serprog-protocol.txt.)
     ///
-    /// If the port is well-behaved, the programmer is idle, and no frame on the link may have been sent only in part,
-    /// the firmware determines the result, unless the port fails because fewer than 59 calls were left. The errors are
-    /// those of `identify_fault`, in the order of the steps. Under these premises, after `Ok`:
+    /// If the port is well-behaved, the programmer is idle and the link is not `Sync::Cut`, the firmware determines the
+    /// result, unless the port fails because fewer than 59 calls were left. The error that the firmware causes is that
+    /// of the first step that fails (`identify_fault`). Under these premises, after `Ok`:
     ///
     /// - The programmer is idle again, and its chip is as it was.
     /// - SPI is selected if the programmer has S_BUSTYPE; otherwise the type of bus is as it was.

@@ -53,7 +53,7 @@ pub enum Sync {
     Cut,
 }
 
-/// A programmer at a port, with the state of their synchronization.
+/// A port to a programmer, and whether the programmer's replies can be matched to the frames (`Sync`).
 #[derive(Drop)]
 pub struct Link<P: Port + Drop> {
     port: P,
@@ -116,8 +116,8 @@ impl<P: Port + Drop> Link<P> {
     /// If the port is well-behaved, the link is in step and the programmer is idle, the firmware determines the reply
     /// to each command except O_SPIOP and SYNCNOP. A command with arguments must be in the programmer's map. If the
     /// firmware replies ACK and as many bytes as `reply` holds, the call fills `reply` with these bytes. If the
-    /// firmware replies NAK, the call returns `Refused`. The only other error is a failure of the port because fewer
-    /// than three calls were left (`EndsExchange`).
+    /// firmware replies NAK, the call returns `Refused`. In both cases the only other error is a failure of the port
+    /// because fewer than three calls were left (`EndsExchange`).
     pub fn exchange(
         &mut self,
         command: Command<'_>,
@@ -225,8 +225,8 @@ impl<P: Port + Drop> Link<P> {
     /// complete the frame, and the chip would carry out a command that was never intended. The link can't know about a
     /// frame that another run sent in part, so disconnect the programmer from power after a run that was killed.
     ///
-    /// If no frame may have been sent in part, the port is well-behaved and the programmer is idle, the call fails only
-    /// if fewer than 29 calls of the port were left. The chip is not selected.
+    /// If the link is not `Sync::Cut`, the port is well-behaved and the programmer is idle, the call fails only if
+    /// fewer than 29 calls of the port were left. The chip is not selected.
     ///
     /// Returns `Port` if the port fails. Returns `NoSync` if the reply to the first SYNCNOP isn't among the next 65,536
     /// bytes, or the replies to the sequence aren't among the 65,536 bytes after it.

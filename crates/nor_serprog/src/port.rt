@@ -1,4 +1,4 @@
-//! The port to a programmer.
+//! The contract of a port to a serial programmer.
 ghost use Rattle.std.specs.Prelude.{◌≡◌, true, length, OnOk, OnErr};
 ghost use Rattle.nor_model.specs.Chip.{IsChip};
 ghost use Rattle.nor_serprog.specs.Device.{PortState, IsSent, IsCutOff, IsReceived, IsSilent};
@@ -10,7 +10,8 @@ ghost use Rattle.nor_serprog.specs.Device.{PortState, IsSent, IsCutOff, IsReceiv
 /// `Firmware` says. The port returns the programmer's replies in order. While calls are left, each of these calls
 /// succeeds:
 ///
-/// - a call that sends an O_SPIOP of at most 260 bytes and 4,096 reply bytes, while no reply is pending
+/// - a call that sends all or the rest of an O_SPIOP frame, while no reply is pending; the O_SPIOP must send at most
+///   260 bytes and read at most 4,096
 /// - a call that sends whole frames of other commands, in total at most 260 bytes, with replies of at most 4,096 bytes
 ///   in total (including each ACK), while no command is incomplete and no reply is pending; commands that have
 ///   arguments must be in the programmer's map

@@ -37,15 +37,15 @@ pub enum HandshakeFault<C> {
     SmallBuffer(u16),
 }
 
-/// The replies of a programmer to its identification. Nothing is promised about its limits. If one transaction can't
-/// send a page program or read a sector, use a `SplittingBus`.
+/// The replies of a programmer to its identification. The type promises only that `longest_part` is at least 5 and
+/// `longest_read` at least 1. If one transaction can't send a page program or read a sector, use a `SplittingBus`.
 #[derive(Clone, Copy, Debug, PartialEq, Eq)]
 pub struct AnyProgrammer {
     pub(crate) name: [u8; 16],
     pub(crate) longest_write: u32,
     pub(crate) longest_read: u32,
-    // The greatest number of bytes that a part of a program may send. It is `longest_write`, or less if the serial
-    // buffer of a programmer without Q_WRNMAXLEN is too small for the frame of such a transaction.
+    // The greatest number of bytes that a part of a program may send. It is `longest_write`, or less if the programmer
+    // lacks Q_WRNMAXLEN and its serial buffer is too small for the frame of a transaction that sends `longest_write`.
     pub(crate) longest_part: u32,
     pub(crate) serial_buffer: u16,
     pub(crate) frequency: Option<u32>,
@@ -133,7 +133,8 @@ impl Programmer {
         self.reported.name
     }
 
-    /// Returns the replies of the programmer as an `AnyProgrammer`, whose type promises nothing about the limits.
+    /// Returns the replies of the programmer as an `AnyProgrammer`, whose type promises only the limits that a bus
+    /// needs to send transactions in parts.
     pub fn reported(&self) -> &AnyProgrammer
         ensures { result.now ≡ self.now.reported }
     {
