@@ -1,5 +1,5 @@
--- Lemmas: which bytes of the chip a block that was read ahead holds, in terms of the last transaction over the bus
--- inside.
+-- Lemmas on the block of a `ReadAhead`, which holds the bytes that were read ahead: these bytes are the reply to the
+-- last transaction over the bus inside.
 use Rattle.std.proofs.Common.{◌≡◌, ◌∙◌, ◌<◌, ◌≤◌, ◌+◌, ◌-◌, ◌*◌, ◌++◌, ℕ, true, List, [], ◌∷◌, length, refl, sym, ap, subst, arith, take-take}
 use Rattle.std.specs.Prelude.{◌/◌, ◌%◌, Result, Ok, Err, OnOk, take, drop, slice_index}
 use Rattle.std.proofs.lemmas.List.{drop-take}

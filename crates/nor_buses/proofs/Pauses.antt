@@ -8,7 +8,7 @@ pub long_pause : (typical elapsed n : ℕ) → 96 ≤ n → pause_before typical
 long_pause typical elapsed n h = grind (arith, nat_tests)
 
 -- If all polls of a wait show BUSY, each pause after the 96th poll is 6.25 ms. So the pauses before the first `n` polls
--- add up to at least that for each poll after the 96th.
+-- add up to at least `n - 96` times 6.25 ms.
 pub long_pauses : (typical elapsed n : ℕ) → 6250 * (n - 96) ≤ pauses typical elapsed n
 unfolding pauses
 long_pauses typical elapsed zero = omega arith

@@ -1,5 +1,5 @@
--- Lemmas for the parts of a reply that are read again: the transactions so far after one more part, and the data that a
--- chip returns twice.
+-- Lemmas on the parts of a reply that a `ReadTwice` reads again: which transactions these second reads are, and that a
+-- well-behaved bus returns the same data again.
 use Rattle.std.proofs.Common.{◌≡◌, ◌∙◌, ◌<◌, ◌≤◌, ◌+◌, ◌-◌, ◌*◌, ◌/◌, ◌%◌, ◌++◌, ◌⊎◌, ℕ, suc, Bool, true, false, List, [], ◌∷◌, length, ltb, refl, sym, ap, subst, arith, inl, inr, length-take-le, length-drop}
 use Rattle.std.specs.Prelude.{◌==◌, if◌then◌else◌, slice_index, slice_range, take, drop, Result, Ok, Err, IfOk, Option, None, Some}
 use Rattle.std.proofs.Common.{Vec, Global}
@@ -51,7 +51,7 @@ fits_less out other m n old new nature short less fits = record {
 
 -- ---- the data of a chip
 
--- The bytes of the reply to a read of data from `at` on: an idle chip returns its bytes, a busy one returns FFh.
+-- An idle chip replies to a read of data from `at` on with its bytes, and a busy chip replies with FFh.
 data_at : (idle : Bool) (at : ℕ) (old new : Chip) (answer : List ℕ)
     → Does (read_of idle (ReadData (at % old.config.size))) [] old answer new → (i : ℕ) → i < length answer
     → slice_index answer i ≡ (if idle then old.bytes ((at + i) % old.config.size) else 255)
@@ -89,7 +89,7 @@ data_still at bytes old new still has = record {
 address_back : (a : ℕ) → a ≤ 16777215 → 65536 * (a / 65536 % 256) + 256 * (a / 256 % 256) + a % 256 ≡ a
 address_back a below = omega (arith, below)
 
--- The lemmas `data_returned` and `data_stays` for the read of data from the address `a` on.
+-- The next two lemmas state `data_returned` and `data_stays` for a read of data from the address `a` on.
 pub data_read_returned : (a : ℕ) (old new : Chip) (answer : List ℕ) → a ≤ 16777215 → Step old (data_read a) answer new
     → HasData old a answer
 data_read_returned a old new answer below step =
@@ -358,7 +358,7 @@ true_by false never = absurd (never refl)
 
 -- ---- a read that is confirmed, after its first reply
 
--- If a well-behaved bus accepted the first read, it accepts a read of data with a reply of the same length after it.
+-- If a well-behaved bus accepted the first read, it then also accepts a read of data with a reply of the same length.
 pub fits_first : (at : ℕ) (out answer : List ℕ) (old mid : BusState) → FirstRead out answer old mid
     → IsHonestFor out (length answer) old → IsHonestFor (data_read at) (length answer) mid
 fits_first at out answer old mid first honest =
@@ -401,7 +401,7 @@ carries_whole out answer old mid new same first again is = record {
   again = again is;
 }
 
--- A well-behaved bus returns the same reply to a read of an ID, SFDP or data if it is repeated.
+-- If a read of an ID, of SFDP or of data is repeated at once, a well-behaved bus returns the same reply.
 pub whole_same : (out answer : List ℕ) (old mid new : BusState) (same : Bool) → begins_read out ≡ true
     → FirstRead out answer old mid → (same ≡ false → CarriesOther out answer mid new) → same ≡ true
 whole_same out answer old mid new same reads first other =

@@ -67,8 +67,8 @@ alike command other sent old mid new first again one two len same =
     (λ (i : ℕ) (below : i < length again).
     two.replies i below ∙ same i ∙ sym (one.replies i (let P : ℕ → Type 0 = λ n. i < n in subst P len below)))
 
--- If the same read is sent twice in a row, both replies are equal. `make` returns the command of the read for the
--- configuration of the chip.
+-- If the same read is sent twice in a row, and both replies have the same length, they are equal. `make` returns the
+-- command of the read for the configuration of the chip.
 pub reading_alike : (make : Config → Command) (sent : List ℕ) (old mid new : Chip) (first again : List ℕ)
     → ((c : Config) → IsReading (make c)) → Does (read_of (old.busy == 0) (make old.config)) sent old first mid
     → Does (read_of (mid.busy == 0) (make mid.config)) sent mid again new → length again ≡ length first
@@ -84,13 +84,14 @@ reading_alike make sent old mid new first again is one two len =
     (λ i. ap (λ (k : Command). reply_byte mid k i) command
     ∙ same_byte (read_of (old.busy == 0) (make old.config)) old mid reads s i)
 
--- If a transaction that the chip ignores is sent twice in a row, both replies are equal.
+-- If a transaction that the chip ignores is sent twice in a row, and both replies have the same length, they are equal.
 ignored_alike : (sent : List ℕ) (old mid new : Chip) (first again : List ℕ) → Does Ignored sent old first mid
     → Does Ignored sent mid again new → length again ≡ length first → again ≡ first
 ignored_alike sent old mid new first again one two len =
     alike Ignored Ignored sent old mid new first again one two len (λ i. refl)
 
--- The lemma `same_reply` for transactions whose first byte is 03h.
+-- If a transaction whose first byte is 03h is sent twice in a row, and both replies have the same length, they are
+-- equal.
 same_reply_03 : (rest : List ℕ) (old mid new : Chip) (first again : List ℕ)
     → Step old (0x03 ∷ rest) first mid → Step mid (0x03 ∷ rest) again new → length again ≡ length first → again ≡ first
 same_reply_03 [] old mid new first again one two len = ignored_alike [] old mid new first again one two len
@@ -103,7 +104,8 @@ same_reply_03 (x ∷ y ∷ z ∷ b ∷ []) old mid new first again one two len =
 same_reply_03 (x ∷ y ∷ z ∷ b ∷ d ∷ rest) old mid new first again one two len =
     ignored_alike (b ∷ d ∷ rest) old mid new first again one two len
 
--- The lemma `same_reply` for transactions whose first byte is 9Fh.
+-- If a transaction whose first byte is 9Fh is sent twice in a row, and both replies have the same length, they are
+-- equal.
 same_reply_9F : (rest : List ℕ) (old mid new : Chip) (first again : List ℕ)
     → Step old (0x9F ∷ rest) first mid → Step mid (0x9F ∷ rest) again new → length again ≡ length first → again ≡ first
 same_reply_9F [] old mid new first again one two len =
@@ -117,7 +119,8 @@ same_reply_9F (x ∷ y ∷ z ∷ b ∷ []) old mid new first again one two len =
 same_reply_9F (x ∷ y ∷ z ∷ b ∷ d ∷ rest) old mid new first again one two len =
     ignored_alike (b ∷ d ∷ rest) old mid new first again one two len
 
--- The lemma `same_reply` for transactions whose first byte is 5Ah.
+-- If a transaction whose first byte is 5Ah is sent twice in a row, and both replies have the same length, they are
+-- equal.
 same_reply_5A : (rest : List ℕ) (old mid new : Chip) (first again : List ℕ)
     → Step old (0x5A ∷ rest) first mid → Step mid (0x5A ∷ rest) again new → length again ≡ length first → again ≡ first
 same_reply_5A [] old mid new first again one two len = ignored_alike [] old mid new first again one two len
@@ -130,7 +133,8 @@ same_reply_5A (x ∷ y ∷ z ∷ b ∷ []) old mid new first again one two len =
 same_reply_5A (x ∷ y ∷ z ∷ b ∷ d ∷ rest) old mid new first again one two len =
     ignored_alike (b ∷ d ∷ rest) old mid new first again one two len
 
--- The lemma `same_reply` for transactions whose first byte is 4Bh.
+-- If a transaction whose first byte is 4Bh is sent twice in a row, and both replies have the same length, they are
+-- equal.
 same_reply_4B : (rest : List ℕ) (old mid new : Chip) (first again : List ℕ)
     → Step old (0x4B ∷ rest) first mid → Step mid (0x4B ∷ rest) again new → length again ≡ length first → again ≡ first
 same_reply_4B [] old mid new first again one two len = ignored_alike [] old mid new first again one two len
@@ -149,7 +153,7 @@ moved : (a n : ℕ) (rest : List ℕ) (old new : Chip) (answer : List ℕ) → (
 moved a n rest old new answer same step =
     let P : ℕ → Type 0 = λ k. Step old (k ∷ rest) answer new in subst P (eqb-true a n same) step
 
--- The lemma `same_reply`, for given results of the comparisons of the opcode with 03h, 9Fh and 5Ah.
+-- States `same_reply` for the opcode `a`, with the results of its comparisons with 03h, 9Fh and 5Ah as arguments.
 same_by : (a : ℕ) (rest : List ℕ) (old mid new : Chip) (first again : List ℕ) (data_read id_read sfdp_read : Bool)
     → (a == 0x03) ≡ data_read → (a == 0x9F) ≡ id_read → (a == 0x5A) ≡ sfdp_read
     → (data_read || id_read || sfdp_read || a == 0x4B) ≡ true → Step old (a ∷ rest) first mid

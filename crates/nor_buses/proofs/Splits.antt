@@ -1,5 +1,5 @@
--- Lemmas for reads and programs that are carried out in parts: the transactions so far after one more part, and after a
--- stop.
+-- Lemmas on reads and programs in parts: what holds for the transactions so far (`ReadsInParts`, `ProgramsInParts`)
+-- also holds after one more part, and leads to the promise of the whole transaction.
 use Rattle.std.proofs.Common.{◌≡◌, ◌∙◌, ◌<◌, ◌≤◌, ◌+◌, ◌++◌, ◌⊎◌, ℕ, List, [], ◌∷◌, length, refl, sym, ap, subst, arith, inl, inr, length-take-le, length-drop, append_assoc}
 use Rattle.std.specs.Prelude.{Result, Ok, Err, OnOk, take, drop}
 use Rattle.std.proofs.lemmas.Slice.{take-put_mid}
@@ -16,7 +16,7 @@ never : (P : Type 0) (result : Result Unit Stopped) → OnOk result ⊥ → OnOk
 never P (Ok done) fails = absurd fails
 never P (Err stop) fails = tt
 
--- If `P` holds, it also holds on success.
+-- If `P` holds, `OnOk result P` holds for every `result`.
 always : (P : Type 0) (result : Result Unit Stopped) → P → OnOk result P
 always P (Ok done) fact = fact
 always P (Err stop) fact = tt

@@ -45,7 +45,8 @@ second_read byte None old new twice = absurd (false≢true twice.knows)
 second_read byte (Some id) old new twice =
     ap (λ (h : List Exchange). was_read_twice 53 byte h) twice.is ∙ rw byte_is refl
 
--- If an ID was known after two reads (`IsReadTwice`), it is still the known ID later.
+-- If `IsReadTwice` holds with the ID `known`, and the known ID did not change up to `later` (`KeepsId`), `IsReadTwice`
+-- also holds with `later`.
 pub still_known : (read : Exchange) (known later : Option (List ℕ)) (old new : List Exchange)
     → IsReadTwice read known old new → KeepsId known later → IsReadTwice read later old new
 still_known read known later old new twice keeps =

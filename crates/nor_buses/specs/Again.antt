@@ -1,4 +1,4 @@
--- A reply to a read of data that is compared with an image, and the second reads of the bytes that differ.
+-- A reply to a read of data that is compared with an image, and the second reads of the sectors that differ.
 use Rattle.std.specs.Prelude.{◌≡◌, ◌≢◌, ◌<◌, ◌≤◌, ◌+◌, ◌/◌, ◌%◌, ◌++◌, ◌⊎◌, ◌==◌, ℕ, true, List, [], ◌∷◌, length, slice_index, ⊤, if◌then◌else◌}
 use Rattle.nor_model.specs.Bus.{BusState, Carries, IsHonestFor, SameNature}
 use Rattle.nor_model.specs.Chip.{Chip}

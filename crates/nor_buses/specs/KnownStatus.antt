@@ -54,9 +54,9 @@ pub record KeepsStatus (old new : Known) : Type 0 where
   pub is_changing : new.is_changing ≡ old.is_changing
   pub written : new.written ≡ old.written
 
--- Holds at every exit of a transaction that sends `out`. The bus inside is sent nothing that may modify the chip,
--- except this transaction itself, at most once. If the transaction is a status write, it is sent only if it keeps the
--- bits that were read (`IsStatusKept`).
+-- Holds after a transaction that sends `out`, whether it succeeded or not, if the bus inside was sent nothing that may
+-- modify the chip, except this transaction itself, at most once. A status write was sent only if it keeps the bits that
+-- were read (`IsStatusKept`).
 pub record SendsKept (out : List ℕ) (old new : BusState) : Type 0 where
   pub sent : (new.sent ≡ old.sent) ⊎ (new.sent ≡ with_sent out old.sent)
   pub kept : begins_status_write out ≡ true → (new ≡ old) ⊎ IsStatusKept out old.history

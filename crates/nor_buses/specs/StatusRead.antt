@@ -1,5 +1,5 @@
--- Replies after which the ID was read, status registers that were read twice, and status writes that keep the bits that
--- were read.
+-- How a `CheckedStatus` confirms what it reads: it reads the ID after a reply, and status registers twice. Also the
+-- status writes that keep the bits that were read.
 use Rattle.std.specs.Prelude.{◌≡◌, ◌/◌, ◌%◌, ◌&&◌, ◌||◌, ◌==◌, ℕ, Bool, true, false, List, [], ◌∷◌, Option, None, Some, slice_index}
 use Rattle.nor_model.specs.Exchange.{Exchange}
 use Rattle.nor_model.specs.History.{begins_with, bytes_or_none, replied}

@@ -80,7 +80,8 @@ pub(crate) fn is_repeated_or_expected<B: Bus>(
     Ok(true)
 }
 
-// Returns the longest run of sectors that begins at the index `from` of a reply. The reply was read from `address` on.
+// Returns the longest run of sectors, from the index `from` of a reply on, that all equal the image or that all differ
+// from it. The reply was read from `address` on.
 fn run_from(image: &[u8], address: u32, reply: &[u8], from: usize) -> Run
     requires fits { address + length reply.now ≤ 16777216 }
     requires some { from < length reply.now }

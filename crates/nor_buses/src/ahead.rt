@@ -15,18 +15,19 @@ const LONGEST_BLOCK: u32 = 1 << 16;
 
 const READ_DATA: u8 = 0x03;
 
-/// A bus that reads data (03h) ahead, if reads follow each other. It returns the bytes of a read inside the last block
-/// from memory. A read that begins where the last block ended doubles the length of the next block, up to 64 KiB. Any
-/// other read sets this length to its own length. A block is longer if the read needs more bytes, and shorter if it
-/// would pass a multiple of 64 KiB.
+/// A bus that reads data (03h) ahead, if reads follow each other. It keeps the bytes that it last read over the bus
+/// inside in memory: the *block*. If the block has all bytes of a read, they are returned from memory. Otherwise a new
+/// block is read, from the address of the read on. If this is the address at which the last block ended, the intended
+/// length of the block doubles, up to 64 KiB; otherwise it is the length of the read. The block is longer if the read
+/// needs more bytes, and shorter if it would pass a multiple of 64 KiB.
 ///
 /// The bus forgets the block at each transaction that it passes on unchanged, and if the bus inside stops. A block ends
 /// at a multiple of 64 KiB at the latest, so it never reaches past the end of a chip. A block is never longer than the
-/// bus inside can read, and `end_blocks_at` ends it earlier. A transaction is passed on unchanged if it is no read of
-/// data, reads more than the longest block, or reaches past a multiple of 64 KiB.
+/// bus inside can read, and `end_blocks_at` can end it earlier. A transaction is passed on unchanged if it is no read
+/// of data, reads more than the longest block, or reaches past a multiple of 64 KiB.
 ///
 /// If a read of data of at least one byte returns `Ok`, the last transaction over the bus inside is a read of data, and
-/// the bytes returned are the bytes that the reply to it has for the same addresses.
+/// its reply has the returned bytes at the same addresses.
 ///
 /// A read over this bus may be no transaction over the bus inside, or a longer one, so this bus is not well-behaved as
 /// `Bus` defines it, even if the bus inside is. While this bus is used, nobody else may modify the chip.
@@ -40,8 +41,8 @@ pub struct ReadAhead<B: Bus + Drop> {
     block: [u8; LONGEST_BLOCK as usize],
     start: u32,
     len: u32,
-    // The intended length of the last block. The block is shorter if it would pass a multiple of 64 KiB, and longer if
-    // the read needed more bytes.
+    // The intended length of the last block. The block is shorter if it would pass a multiple of 64 KiB or `end`, and
+    // longer if the read needed more bytes.
     step: u32,
     longest: u32,
     // The address at which a block ends at the latest, unless the read needs more bytes.

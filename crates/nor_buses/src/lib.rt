@@ -1,5 +1,6 @@
-//! Buses over a bus of any programmer. Each passes transactions on to the bus inside, and adds one thing. The program
-//! `flashnor_serprog` uses this crate; the program `flashnor` does not.
+//! Buses that wrap a bus to a chip at any programmer. Each passes transactions on to the bus inside and adds one
+//! feature, for example pauses or second reads. The program `flashnor_serprog` uses this crate; the program `flashnor`
+//! does not.
 //!
 //! - `paced.rt`: a bus that pauses between polls of a busy chip
 //! - `splitting.rt`: a bus that splits transactions that exceed the limits of a programmer

@@ -214,7 +214,8 @@ fn program_part<B: Bus>(bus: &mut B, address: u32, part: &[u8]) -> Result<(), St
     bus.transfer(&out, &mut [])
 }
 
-// Polls until the chip is ready, at most 65,536 times. Returns `Stopped` if it isn't ready then.
+// Polls until the chip is ready, at most 65,536 times. Each poll reads `polled` bytes. Returns `Stopped` if the chip
+// isn't ready then, or if the bus stopped.
 fn wait<B: Bus>(bus: &mut B, polled: usize) -> Result<(), Stopped>
     requires polled { 1 ≤ polled }
     requires few { polled ≤ 2 }

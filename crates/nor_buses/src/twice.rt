@@ -31,11 +31,11 @@ const READ_ID: u8 = 0x9F;
 /// into the journal, and a restore would write it to the chip; or a wrong ID could be read. If such a read requests
 /// more than 65,536 bytes, it is rejected: nothing is sent.
 ///
-/// If an image is expected (`expecting`), a read of data that sends four bytes is carried out once. After that only the
-/// sectors of its reply that differ from the image at the same addresses are read again, neighbouring ones together. If
-/// the reply has only a part of a sector, only this part is compared. If the expected image is the image of a session,
-/// each sector that the session's journal saves was read twice: a session saves only sectors that differ from its
-/// image, and reads each one with a single transaction.
+/// If an image is expected (`expecting`), a read of data (03h and three address bytes) that does not pass address
+/// FFFFFFh is carried out once. After that only the sectors of its reply that differ from the image at the same
+/// addresses are read again, neighbouring ones together. If the reply has only a part of a sector, only this part is
+/// compared. If the expected image is the image of a session, each sector that the session's journal saves was read
+/// twice: a session saves only sectors that differ from its image, and reads each one with a single transaction.
 ///
 /// An error that is the same in both reads is not detected. A read over this bus may be several transactions over the
 /// bus inside, so this bus is not well-behaved as `Bus` defines it, even if the bus inside is. On any bus, each byte
@@ -141,9 +141,9 @@ impl<B: Bus> ReadTwice<B> {
         Ok(())
     }
 
-    // Repeats the read `out`, whose first reply was `reply`. If an image is expected, repeats only the sectors that
-    // differ from the image. Returns whether all second replies are the same. In the clauses, `before` is the state
-    // before the first read.
+    // Repeats the read `out`, whose first reply was `reply`. If an image is expected and `out` is a read of data that
+    // does not pass address FFFFFFh, repeats only the sectors that differ from the image. Returns whether all second
+    // replies are the same. In the clauses, `before` is the state before the first read.
     fn is_confirmed(&mut self, out: &[u8], reply: &[u8]) -> Result<bool, Stopped>
         requires reads { begins_read out.now ≡ true }
         requires len { length reply.now ≤ 65536 }

@@ -2,13 +2,13 @@ use Rattle.std.proofs.Common.{arith, [], Result, Ok, Err, OnOk}
 use Rattle.std.proofs.lemmas.Grind.{common_steps}
 use Rattle.nor_buses.proofs.status.CheckedStatus.carry.Goals as goal
 
--- If `P` holds, it also holds on success.
+-- If `P` holds, `OnOk r P` holds for every result `r`.
 on_ok : {T E : Type 0} (r : Result T E) (P : Type 0) → P → OnOk r P
 on_ok (Ok done) P holds = holds
 on_ok (Err stop) P holds = tt
 
--- No field of `BelievesStatus` that is about a poll, a read of status 2 or a status write applies to any other
--- transaction.
+-- If a transaction is neither a poll, nor a read of status 2, nor a status write, the fields of `BelievesStatus` about
+-- these three hold trivially.
 pub returns-in_default-clause-believes : goal.returns-in_default-clause-believes
 returns-in_default-clause-believes g c = on_ok c.pass_on.result _ record {
   poll = λ is len ready. record {
