@@ -1,4 +1,5 @@
--- Lemmas: the promises of nor_session for a bus over a port are promises for the programmer's chip.
+-- Lemmas: what nor_session promises for the chip of a bus over a port holds for the chip of the programmer at this
+-- port.
 use Rattle.std.proofs.Common.{◌≡◌, ◌∙◌, ◌/◌, ℕ, false, List, [], length, refl, sym, ap, subst, arith, inl, inr}
 use Rattle.std.specs.Prelude.{Result, Ok, Err}
 use Rattle.std.proofs.lemmas.List.{append-nil}

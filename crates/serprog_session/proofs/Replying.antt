@@ -69,8 +69,8 @@ no_operation [] frames same have first =
 no_operation (command ∷ rest) frames same have first =
     first_is command have.0 (frames_of rest) (sym (ap (λ (f : List ℕ). slice_index f 0) same) ∙ first)
 
--- A frame has at least one byte, also if its length isn't known yet and counts as 2^64 - 1. `long_some` proves this for
--- O_SPIOP and "write n", `len_some` for all commands.
+-- A frame has at least one byte, even if its length isn't known yet and counts as 2^64 - 1. `long_some` proves this for
+-- O_SPIOP and "write n", and `len_some` for all commands.
 long_some : (rest : List ℕ) → 0 < unwrap_or (long_len rest) 18446744073709551615
 long_some (a ∷ b ∷ c ∷ rest) = omega arith
 long_some _ = omega arith
@@ -87,9 +87,10 @@ len_some (opcode ∷ rest) =
     either_some (opcode == 0x13 || opcode == 0x0D) (long_len rest) (Some (1 + argument_count opcode)) (long_some rest)
     (omega arith)
 
--- Holds while the programmer answers the frames of `commands` one after another. `rest` has the frames of the commands
--- `later`, which are not answered yet, and `now` has `before` and the replies to the others. From the type of bus
--- `bus'` the commands `later` lead to the same type as all `commands` do from `bus`.
+-- Holds while the programmer replies to the frames of `commands` one after another. `rest` has the frames of the
+-- commands `later`, which have no reply yet. `now` is `before`, followed by the replies to the other commands. The type
+-- of bus was `bus` at first, and `bus'` is selected now: `later` changes `bus'` to the same type as all `commands`
+-- change `bus` to.
 pub record Remains (rest before now : List ℕ) (bus bus' : Option ℕ) (commands : List Command) : Type 0 where
   pub later : List Command
   pub frames : rest ≡ frames_of later
@@ -175,7 +176,7 @@ answers_then frames rest frame rest' before now now' bus mid bus' len done is sp
       r.replies r.settings;
 }
 
--- If no bytes are left, no command is left to be answered.
+-- If the frames of the commands `later` (`rest`) have no bytes, `later` is empty.
 ended : (rest : List ℕ) (later : List Command) → length rest ≤ 0 → rest ≡ frames_of later
     → HaveReplies simulated_firmware later → later ≡ []
 ended rest [] none frames have = refl
@@ -188,7 +189,7 @@ ended rest (command ∷ later) none frames have =
       frame_some command have.0,
     ))
 
--- If the bytes left are no whole frame, no command is left to be answered.
+-- If the frames of the commands `later` (`rest`) are shorter than their first frame, `later` is empty.
 no_frame : (rest : List ℕ) (len : ℕ) (later : List Command)
     → len ≡ unwrap_or (frame_len rest) 18446744073709551615 → length rest < len → rest ≡ frames_of later
     → HaveReplies simulated_firmware later → later ≡ []
@@ -258,7 +259,7 @@ reply_fits frames rest frame rest' before now bus bus' len done commands is spli
     let r = a.remains commands same have in
     next_fits rest frame rest' before now len commands r.later is split fits r.frames r.have r.replies
 
--- If a result is Ok, the test whether it is an error is not true.
+-- If a result is `Ok`, `is_err` is false for it.
 pub err_not_ok : {T E : Type 0} (result : Result T E) → IsOk result → true ≡ is_err result → ⊥
 err_not_ok (Ok value) ok is = false≢true (sym is)
 err_not_ok (Err error) ok is = false≢true ok

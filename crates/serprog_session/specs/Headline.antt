@@ -61,9 +61,9 @@ SessionFails request image port vault vault' Vault = CountsRefusal vault vault'
 SessionFails request image port vault vault' Stopped = HadFewCalls (most_of (port.device.chip.config.size / 4096)) port
 SessionFails request image port vault vault' refusal = IsVerdict request image port.device.chip refusal
 
--- The promise of a session at every exit, wherever the port failed. `sent` lists the transactions before the session
--- that may modify the chip, as far as the bus was asked to send them; `sent'` lists those until the exit of the
--- session.
+-- The promise of a session at every exit, wherever the port failed. `sent` lists the transactions that may modify the
+-- chip and that the bus was asked to send before the session. `sent'` also lists those that it was asked to send until
+-- the exit of the session.
 pub record KeepsOriginalChip (old new : PortState) (sent sent' : Sent) (vault : VaultState) : Type 0 where
   -- on every port: if the vault isn't sealed, no modifying command was sent
   pub unsent : vault.sealed ≡ false → sent' ≡ sent

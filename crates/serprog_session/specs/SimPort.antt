@@ -40,7 +40,8 @@ simulated_firmware = record {
   clock_fits = λ hertz. tt;
 }
 
--- The reply of the simulated programmer to a frame that begins with `opcode`. This definition is not used for O_SPIOP.
+-- The reply of the simulated programmer to a frame that begins with `opcode`. An O_SPIOP that is sent alone has another
+-- reply: ACK and the bytes that the chip returned.
 abbrev pub simulated_reply : (opcode : ℕ) → List ℕ
 simulated_reply opcode =
     if opcode == 0x00 || opcode == 0x12 then 0x06 ∷ []

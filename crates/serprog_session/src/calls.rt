@@ -13,7 +13,8 @@ use nor_session::{Refusal, Report, Request, restore, session};
 /// Runs `session` of nor_session on the chip at a programmer: saves each sector that it will touch to `vault`, and then
 /// makes the chip what `request` asks for. `vault` must be empty and unsealed; `image` is as for `session`.
 ///
-/// The port may fail at any call, and inside any exchange. The promises depend on the port:
+/// The port may fail at any call, and inside any exchange. The promises depend on the port and its chip. (A *genuine*
+/// chip has the properties that its row in the table of chips says, or, without a row, its SFDP: `ReachesGenuine`.)
 ///
 /// - On every port, no modifying command is sent before the vault is sealed. An error is one that `session` returns (1
 ///   to 14). After an error from 1 to 11 the vault isn't sealed.
@@ -45,12 +46,13 @@ pub fn session_over<P: Port + Drop, V: Vault>(
 /// The port may fail at any call, and inside any exchange. If it fails, connect again, and run the restore again. The
 /// promises depend on the port and the journal:
 ///
-/// - On every port, the modifying commands that are sent fit the journal (`SendsSaved`). None is sent before an error
-///   other than 12, 13 and 14.
+/// - On every port, the modifying commands that are sent fit the journal (`SendsSaved`): they target only sectors that
+///   it saves, or the whole chip if it saves each sector, and they write only status bits that it allows. None is sent
+///   before an error other than 12, 13 and 14.
 /// - On a well-behaved port to a genuine chip, success leaves the saved bytes and status bits. An error is the verdict
 ///   of `restore`, which leaves the chip as it was, or 12 (the port failed).
 /// - If in addition the journal can restore an original chip at the start, it can restore that chip at every exit. Then
-///   success leaves that chip, idle, and the only possible error is 12.
+///   success restores that chip and leaves it idle, and the only possible error is 12.
 pub fn restore_over<P: Port + Drop>(
     bus: &mut SerprogBus<P>,
     journal: &Journal<'_>,
