@@ -15,8 +15,8 @@ use Rattle.nor_journal.proofs.SectorRecords.{IsBytes, IsBytes-drop, number_text-
 use Rattle.std.proofs.Math.Seq.{take-add}
 use Rattle.std.proofs.lemmas.Grind.{elements}
 
--- A list with at least two elements begins with the elements 0 and 1. A list with at least three elements begins with
--- the elements 0, 1 and 2 (`three_first`).
+-- If `bytes` has at least two elements, `take 2 bytes` consists of those with the indices 0 and 1. If `bytes` has at
+-- least three elements, `take 3 bytes` consists of those with the indices 0, 1 and 2 (`three_first`).
 two_first : (bytes : List ℕ) → 2 ≤ length bytes → take 2 bytes ≡ get_or bytes 0 0 ∷ get_or bytes 1 0 ∷ []
 two_first bytes long = grind (arith, elements)
 
@@ -82,7 +82,7 @@ pub length-put : (n k : ℕ) (bytes part : List ℕ) → length bytes ≡ 25 →
 length-put n k bytes part long many within =
     same_len_mid n k bytes part (omega (arith, length-take k (drop n bytes), length-drop n bytes)) ∙ long
 
--- If `part` is written directly after the n bytes `before`, it replaces the next k bytes.
+-- If `part` is written directly after the n bytes `before`, it replaces the first k bytes of `rest`.
 pub put_after : (n k : ℕ) (before rest part : List ℕ) → length before ≡ n
     → put_mid n k (before ++ rest) part ≡ (before ++ part) ++ drop k rest
 put_after n k before rest part len =

@@ -76,9 +76,9 @@ begins_record sectors least s rest bytes few is rises e =
 abbrev pub NoRecord : (sectors least : ℕ) → List ℕ → Type 0
 NoRecord sectors least bytes = BeginsRecord sectors least bytes (number_at bytes) → ⊥
 
--- Let `ss` and `ts` be ascending lists (`AreRising`) for a chip with at most 4,096 sectors. No valid record that may
--- follow `ss` begins `x`, and no valid record that may follow `ts` begins `y`. If the encoding of `ss` followed by `x`
--- equals the encoding of `ts` followed by `y`, then `ss` equals `ts`, and `x` equals `y`.
+-- Let `ss` and `ts` be ascending lists (`AreRising`) for a chip with at most 4,096 sectors. Let `x` not begin with a
+-- valid record that may follow `ss`, and let `y` not begin with one that may follow `ts`. If the encoding of `ss`
+-- followed by `x` equals the encoding of `ts` followed by `y`, then `ss` equals `ts`, and `x` equals `y`.
 same_records : (sectors least : ℕ) (ss ts : List SavedSector) (x y : List ℕ) → sectors ≤ 4096
     → AreRising sectors least ss → AreRising sectors least ts → NoRecord sectors (least_after least ss) x
     → NoRecord sectors (least_after least ts) y → records_text ss ++ x ≡ records_text ts ++ y → (ss ≡ ts) × (x ≡ y)
@@ -147,8 +147,9 @@ pub text_opened : (c : Content) → text c ≡ front c ++ (end_mark ++ sha256 (b
 unfolding text body
 text_opened c = rw append_assoc
 
--- Let `c` and `d` be valid contents. No valid record that may follow those of `c` begins `x`, and no valid record that
--- may follow those of `d` begins `y`. If `front c ++ x` equals `front d ++ y`, then `c` equals `d`, and `x` equals `y`.
+-- Let `c` and `d` be valid contents. Let `x` not begin with a valid record that may follow those of `c`, and let `y`
+-- not begin with one that may follow those of `d`. If `front c ++ x` equals `front d ++ y`, then `c` equals `d`, and
+-- `x` equals `y`.
 pub same_fronts : (c d : Content) (x y : List ℕ) → IsContent c → IsContent d
     → NoRecord (c.size / 4096) (next_number c) x → NoRecord (d.size / 4096) (next_number d) y
     → front c ++ x ≡ front d ++ y → (c ≡ d) × (x ≡ y)

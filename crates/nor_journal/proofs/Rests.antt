@@ -1,6 +1,6 @@
--- The final state of a vault that a function borrows, if the function returns a writer that holds the vault, or an
--- error. These lemmas are for the proofs, written by hand, of `Writer::into_result`, `Writer::start` and
--- `Writer::sector`.
+-- Lemmas about the final state of a vault that a function borrows. The function returns a writer that still borrows the
+-- vault, or an error. The handwritten proofs of `Writer::into_result`, `Writer::start` and `Writer::sector` use these
+-- lemmas.
 use mathlib.Core.Path.{◌≡◌, refl}
 use mathlib.Core.Logic.{inl, inr}
 use mathlib.Core.Option.{Option, some, none}
@@ -29,8 +29,9 @@ use Rattle.std.specs.Prelude.{Result, Ok, Err, OnErr, IfOk}
 
 module _ {M : Type 1} {𝓤 : Ura M} (𝓛 : Logic 𝓤) (R : RattleType) (γ : GName) (v : R.Denot)
     (P : R.Denot → R.Denot → Type 0) (Q : R.Denot → Type 0) (q : Q v) where
-  -- How the final value depends on the result: a function of the last value of the reference that the result holds, and
-  -- the value if the result holds no reference. The function satisfies `P`, and the value satisfies `Q`.
+  -- How the final value of a borrowed reference depends on the result. If the result holds a reference with the last
+  -- value w, the final value is `s.0 w`, and `P w (s.0 w)` holds. If the result holds no reference, the final value is
+  -- `s.1`, and `Q s.1` holds.
   abbrev How : Type 0
   How = (s : (R.Denot → R.Denot) × R.Denot) × ((w : R.Denot) → P w (s.0 w)) × Q s.1
 
@@ -53,7 +54,8 @@ module _ {M : Type 1} {𝓤 : Ura M} (𝓛 : Logic 𝓤) (R : RattleType) (γ : 
 
 module _ {M : Type 1} {𝓤 : Ura M} (𝓛 : Logic 𝓤) (R : RattleType) (γ : GName) (m : Option GName)
     (P : R.Denot → R.Denot → Type 0) (Q Q' : R.Denot → Type 0) where
-  -- A fact `Q` about the final value if the result holds no reference may be replaced by a weaker fact `Q'`.
+  -- Let `Q` be a fact about the final value for a result that holds no reference. If `Q` implies `Q'`, then `Q'` may
+  -- replace `Q`.
   pub rests_more : ((n : R.Denot) → Q n → Q' n)
       → ent 𝓤 (sem 𝓛 (follows_so R R γ m P Q)) (sem 𝓛 (follows_so R R γ m P Q'))
   unfolding such_by
@@ -88,7 +90,7 @@ module _ {M : Type 1} {𝓤 : Ura M} (𝓛 : Logic 𝓤) (A E : RattleType) (w :
       feq_i ! (List Val) (live 1 (vcons w vnil) ∷ []) (live 1 (vcons w vnil) ∷ []) refl $ fjoin ! $
       fpack ! (List Val) (tagged_with (form_of (shape N)) (payload (rowss N.parts)) (inr (inl (x, tt))) (live 1 (vcons w vnil) ∷ [])) (w ∷ []) $ done !
 
--- the code after the first statement, if there are several
+-- the code after the first statement, or all of the code if it is a single statement
 abbrev pub tail : Body → Body
 tail (seq first rest) = rest
 tail body = body
@@ -98,7 +100,8 @@ pub err_both : {T E A B C : Type 0} (r : Result T E) → (A → B → C) → OnE
 err_both (Ok x) f a b = tt
 err_both (Err e) f a b = f a b
 
--- If an attempt holds the reference to the vault named γ, the writer that it returns holds this reference, too.
+-- Let the reference in the attempt `a` have the name γ. If the attempt returns a writer, the reference in this writer
+-- also has the name γ.
 pub outcome_same : {V : Type 0} (a : Attempt V) (γ : GName) → (lent_by a).ghost_name ≡ γ
     → IfOk (outcome_of a) (λ writer. (vault_of writer).ghost_name ≡ γ)
 outcome_same (attempt.Accepted writer) γ same = same

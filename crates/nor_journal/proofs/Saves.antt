@@ -39,8 +39,8 @@ Saves-more chip saved more c number bytes saves follows sector one = record {
 pub Saves-set : (chip : ℕ → ℕ) (saved : ℕ → Bool) (c : Content) (s : ℕ) → Saves chip saved c → saved s ≡ is_saved c s
 Saves-set chip saved c s saves = grind (arith, saves.sectors s, saves.others s)
 
--- If `c` saves a set of the chip's sectors, and the address a is in one of them, the byte that `c` saves for a is the
--- chip's byte.
+-- If `c` saves a set of the chip's sectors, and the address `a` is in one of them, the byte that `c` saves for `a` is
+-- the chip's byte at `a`.
 pub saved_byte-is : (chip : ℕ → ℕ) (saved : ℕ → Bool) (c : Content) (a : ℕ) → Saves chip saved c → saved (a / 4096) ≡ true → saved_byte c a ≡ chip a
 saved_byte-is chip saved c a saves is =
     let place : 4096 * (a / 4096) + a % 4096 ≡ a = omega arith in
@@ -65,7 +65,8 @@ reads_kept bytes (Err fault) head chip saved kept never = absurd never
 
 -- ---- a writer
 
--- If exactly a header was written, `HasPutSectors` holds for the empty set of sectors and every bound n.
+-- If exactly a header was written, then `HasPutSectors` (a header, and a set of sectors with numbers below n, were
+-- written) holds for the empty set and every n.
 pub HasKept-none : {V : Type 0} (state : V → VaultState) (w : Writer V) (id : List ℕ) (unique : Option (List ℕ)) (status : List ℕ) (size : ℕ) (chip : ℕ → ℕ) (saved : ℕ → Bool) (n : ℕ)
     → HasWritten state w (empty_content id unique status size) → ((s : ℕ) → saved s ≡ false) → HasPutSectors state w (empty_content id unique status size) chip saved n
 HasKept-none state w id unique status size chip saved n written none = record {
@@ -84,8 +85,8 @@ may_follow state w head chip saved n number kept above place = record {
   place = subst (λ (c : Content). number < c.size / 4096) kept.same place;
 }
 
--- Let `HasPutSectors` hold for a set of the chip's sectors. If one more sector of the chip, which may follow, is
--- written after these, `HasPutSectors` holds for the set with this sector added.
+-- Let a header and a set of the chip's sectors be written (`HasPutSectors`). If one more sector of the chip, which may
+-- follow these, is then written, `HasPutSectors` holds for the set with this sector added.
 pub HasKept-more : {V : Type 0} (state : V → VaultState) (old new : Writer V) (head : Content) (chip : ℕ → ℕ) (saved more : ℕ → Bool) (n number : ℕ) (bytes : List ℕ) (kept : HasPutSectors state old head chip saved n)
     → MayFollow kept.content number → IsWholeSector chip number bytes → HasOneMore saved number more → HasWritten state new (with_sector kept.content number bytes) → HasPutSectors state new head chip more (number + 1)
 HasKept-more state old new head chip saved more n number bytes kept follows sector one written = record {

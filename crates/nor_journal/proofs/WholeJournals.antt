@@ -31,7 +31,7 @@ sector_whole chip sector = record {
 
 -- ---- the part of a set below a bound
 
--- If n is in the set, its part below n + 1 is its part below n with n added.
+-- If n is in the set, the part of the set below n + 1 is the part below n with n added.
 pub one_more_below : (set : ℕ → Bool) (n : ℕ) → set n ≡ true
     → HasOneMore (λ s. nat_lt s n && set s) n (λ s. nat_lt s (n + 1) && set s)
 one_more_below set n is = record {
@@ -39,7 +39,7 @@ one_more_below set n is = record {
   others = λ s other. grind (arith, nat_tests);
 }
 
--- If n isn't in the set, its parts below n and below n + 1 are equal.
+-- If n isn't in the set, the parts of the set below n and below n + 1 are equal.
 none_more_below : (set : ℕ → Bool) (n : ℕ) → set n ≡ false
     → (s : ℕ) → (nat_lt s (n + 1) && set s) ≡ (nat_lt s n && set s)
 none_more_below set n is s = grind (arith, nat_tests)
@@ -47,7 +47,8 @@ none_more_below set n is s = grind (arith, nat_tests)
 -- ---- completing a content
 
 -- Holds if some content continues `c`. That content has the header of `c`, and saves exactly the chip's sectors that
--- are in the set and below n. Each prefix of the header and records of `c` is also a prefix of its header and records.
+-- are in the set and below n. Each prefix of the header and records of `c` is also a prefix of the header and records
+-- of that content.
 pub record GoesOn (chip : ℕ → ℕ) (set : ℕ → Bool) (c : Content) (n : ℕ) : Type 0 where
   pub content : Content
   pub same : SameHeader c content

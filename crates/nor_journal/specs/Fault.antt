@@ -40,7 +40,7 @@ HeaderFault bytes _ = ⊥
 -- Holds if the record at the beginning of `rest` has this fault. The chip has `sectors` sectors. The number of the
 -- record must be at least `least`, because the numbers of the records ascend.
 abbrev pub RecordFault : (sectors least : ℕ) → (rest : List ℕ) → JournalFault → Type 0
--- the bytes end within the number, or the number is valid but the bytes end within the sector's bytes
+-- the number is incomplete, or the number is valid but the sector's bytes are incomplete
 RecordFault sectors least rest Short =
     (length rest < 4) ⊎ ((least ≤ number_at rest) × (number_at rest < sectors) × (length rest < 4100))
 -- the number isn't the end mark, and no sector of the chip has this number
@@ -71,7 +71,7 @@ pub record FaultAfterFront (bytes : List ℕ) (fault : JournalFault) : Type 0 wh
   pub split : bytes ≡ front content ++ rest
   pub next : NextFault content rest fault
 
--- Holds if `fault` is the first fault of `bytes`. The fault is in the header, or it follows the records that are
--- complete and in order.
+-- Holds if `fault` is the first fault of `bytes`: a fault in the header, or a fault in the bytes after a valid header
+-- and valid records.
 abbrev pub HasFault : List ℕ → JournalFault → Type 0
 HasFault bytes fault = HeaderFault bytes fault ⊎ FaultAfterFront bytes fault

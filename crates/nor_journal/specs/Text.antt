@@ -6,7 +6,7 @@ use Rattle.sha2.specs.Sha256.{sha256}
 use Rattle.nor_geometry.specs.Size.{is_chip_size}
 use Rattle.nor_journal.specs.Number.{number_text}
 
--- A saved sector: its number, and its bytes before the session.
+-- A saved sector: its number, and the bytes that it had when it was saved.
 pub record SavedSector : Type 0 where
   pub number : ℕ
   pub bytes : List ℕ

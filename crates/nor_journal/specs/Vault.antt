@@ -7,8 +7,8 @@ use Rattle.nor_journal.specs.declared.vault.VaultFault.{VaultFault}
 pub record VaultState : Type 0 where
   -- true for a faithful vault, which holds exactly the bytes it accepted
   pub telling : Bool
-  -- The accepted bytes, in order. If the vault isn't faithful, they are unknown. But until a vault that isn't faithful
-  -- is sealed, they are empty only if it has accepted no byte.
+  -- The accepted bytes, in order. If the vault isn't faithful, contracts don't know these bytes, but until the vault is
+  -- sealed, they are empty only if it has accepted no byte.
   pub bytes : List ℕ
   -- true if the vault was sealed
   pub sealed : Bool

@@ -100,7 +100,7 @@ impl<V: Vault> Vault for BrokenVault<V> {
         requires { (⟦<BrokenVault<V> as Vault>⟧.state self.old).sealed ≡ false }
         ensures law { Puts (⟦<BrokenVault<V> as Vault>⟧.state self.old) piece.now result
             (⟦<BrokenVault<V> as Vault>⟧.state self.new) }
-        // The call to refuse fails. `Broke` says what the inner vault accepted before.
+        // The call to refuse fails. `Broke` says which bytes of its piece the inner vault accepted.
         ensures breaks { calls_left self.old ≡ 1
             → IsErrAnd result
             (Broke (kept_of self.old) (V.state (inner_vault self.old)) piece.now (V.state (inner_vault self.new))) }

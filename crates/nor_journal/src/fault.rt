@@ -10,13 +10,13 @@ use std::fmt;
 /// The order of the checks is defined in `specs/Fault.antt`; it isn't the order of the numbers.
 #[derive(Clone, Copy, Debug, PartialEq, Eq)]
 pub enum JournalFault {
-    /// The bytes end within the header, a sector's number or contents, the end mark, or the digest.
+    /// The bytes end before the header, a record, the end mark or the digest is complete.
     Short = 1,
     /// The first eight bytes aren't the magic of a format.
     Magic,
     /// The chip's size isn't a power of two from 64 KiB to 16 MiB.
     Size,
-    /// The number of a record isn't the end mark, and isn't the number of a sector of the chip.
+    /// The number of a record is neither the end mark nor the number of a sector of the chip.
     Place,
     /// The number of a record isn't greater than that of the record before it.
     Order,

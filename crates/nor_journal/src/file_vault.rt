@@ -11,8 +11,8 @@ use crate::vault::{Vault, VaultFault};
 /// `put` fails if a write fails or writes no bytes. The `kept` of its error is the number of bytes of the piece that
 /// were written before. `seal` fails if the sync fails.
 ///
-/// The vault isn't faithful (`telling`), because contracts don't know what a file of the system contains. The state of
-/// the vault shows only whether it has accepted a byte since `new`, not which bytes.
+/// The vault isn't faithful (`telling`), because contracts don't know what a file of the system contains. The `bytes`
+/// of the vault's state show only whether it has accepted a byte since `new`, not which bytes.
 #[derive(Drop)]
 pub struct FileVault<F: VaultFile> {
     file: F,

@@ -14,7 +14,7 @@ use std::marker::Model;
 
 /// A journal that was read. The saved sectors are borrowed from its bytes.
 ///
-/// In contracts its value is a `Content`.
+/// In contracts its value is a `Content`: the fields of the header, and the list of saved sectors.
 #[derive(Drop)]
 pub struct Journal<'a> {
     head: Head,
@@ -156,7 +156,7 @@ impl<'a> Journal<'a> {
     }
 }
 
-/// A law: if the same bytes begin with two journals, both journals have the same content.
+/// A law: if the encodings of two journals are prefixes of the same bytes, both journals have the same content.
 ///
 /// Therefore each journal has one content, and no journal is a proper prefix of another.
 pub fn one_text()

@@ -1,5 +1,5 @@
-//! Journals, from which a session can be undone, and vaults, which receive a journal piece by piece and are then
-//! sealed.
+//! Journals, with which a change of a chip can be undone, and vaults, which receive a journal piece by piece and are
+//! then sealed.
 //!
 //! A journal has the original chip's ID, unique ID (only in format 2), size and status bytes, and the contents of the
 //! saved sectors. It ends with an end mark and a SHA-256 digest. Format 2 is written; formats 1 and 2 are read.
@@ -30,8 +30,8 @@
 //! - `number.rt`: little-endian numbers of four bytes
 //! - `fault.rt`: `JournalFault`, the reasons why bytes aren't a journal
 //!
-//! `specs/Vault.antt` defines the contract of a vault, `Text.antt` the encoding of a journal, `Fault.antt` its faults,
-//! and `Saved.antt` the sectors that it saves.
+//! `specs/Vault.antt` defines the contract of a vault, `Text.antt` the encoding of a journal, `Fault.antt` the faults
+//! of bytes that aren't a journal, and `Saved.antt` the sectors that a journal saves.
 #![tactic(auto)]
 
 mod broken;

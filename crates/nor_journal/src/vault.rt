@@ -27,8 +27,9 @@ impl Error for VaultFault {}
 /// A sink that receives the bytes of a journal piece by piece, and is then sealed.
 ///
 /// In contracts, the state of a vault is a `VaultState`. For every vault, `Puts` and `Seals` relate the states before
-/// and after a call. If the vault is faithful (`telling`), they also say which bytes it holds. If it isn't, they say of
-/// its bytes only that, before the seal, they aren't empty once the vault has accepted a byte.
+/// and after a call. If the vault is faithful (`telling`), they also say which bytes it holds. About the bytes of a
+/// vault that isn't faithful, they say only this: the bytes aren't empty if the vault has accepted a byte and isn't
+/// sealed.
 pub trait Vault {
     ghost use Rattle.nor_journal.specs.Vault.{VaultState, Puts, Seals};
 

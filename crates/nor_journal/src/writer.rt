@@ -21,9 +21,9 @@ use sha2::{Digest, Sha256};
 /// digest with each piece.
 ///
 /// A call fails if the vault refuses a piece or the seal. The vault is then unsealed. If the vault is faithful
-/// (`telling`) and the sectors were written in ascending order, it then holds a prefix of the journal. The clauses
-/// don't say how long the prefix is. The `kept` of the error counts the accepted bytes of the refused piece. No clause
-/// specifies it.
+/// (`telling`), and the header and then sectors of the chip in ascending order were written, the vault holds a prefix
+/// of the journal. No public clause says how long the prefix is. The `kept` of the error counts the accepted bytes of
+/// the refused piece, but no public clause says so.
 #[derive(Drop)]
 pub struct Writer<'a, V: Vault> {
     vault: &'a mut V,
@@ -182,7 +182,7 @@ impl<'a, V: Vault> Writer<'a, V> {
         Ok(())
     }
 
-    /// Writes the header. It must be called once, before any sector is written.
+    /// Writes the header. Must be called once, before any sector is written.
     ///
     /// `status` has status 1 and 2. `size` is in bytes, and must be a power of two from 64 KiB to 16 MiB.
     ///
@@ -233,9 +233,9 @@ impl<'a, V: Vault> Writer<'a, V> {
 
     /// Writes the end mark and the digest, and seals the vault.
     ///
-    /// If a header and ascending sectors were written before, a faithful (`telling`) vault then holds exactly the
-    /// journal. If `end` fails, the vault is unsealed, and a faithful vault holds a prefix of the journal. This prefix
-    /// is the whole journal if only the seal failed.
+    /// Let a header and ascending sectors be written before. If `end` succeeds, a faithful (`telling`) vault holds
+    /// exactly the journal. If `end` fails, the vault is unsealed, and a faithful vault holds a prefix of the journal.
+    /// This prefix is the whole journal if only the seal failed.
     pub fn end(self) -> Result<(), VaultFault>
         requires { (vault_seen V.state self).sealed ≡ false }
         ensures vault { Completes (vault_seen V.state self.entry) result (V.state self.exit.0.now) }
