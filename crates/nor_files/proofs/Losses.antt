@@ -51,7 +51,8 @@ pub record AreLeft (old new : List Stored) (left : ℕ) (borrowed : Option Name)
   pub allowed : (name : Name) → MayLeave (file_named old name) (file_named new name).seen
   pub durable : (name : Name) → IsDurable name (file_named new name).seen (files_state new left borrowed)
 
--- After the loop that interrupts each file, the files are those that `AreLeft` describes.
+-- Let the loop of `Memory::lose` have interrupted each of the files `old`. Then `AreLeft` holds for `old` and the list
+-- of files after the loop.
 pub are_left : (old now : List Stored) {len left : ℕ} {borrowed : Option Name} → length now ≡ len → len ≡ length old
     → ((k : ℕ) (d : Stored) → k < length old → FileLoses (get_or old k d) (get_or now k d))
     → AreLeft old (take len (now ++ drop (length now) old)) left borrowed

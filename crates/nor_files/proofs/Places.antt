@@ -94,7 +94,8 @@ set_there any (first ∷ files) zero now d same = ap (λ named. cond named true 
 set_there any (first ∷ files) (suc at) now d same =
     ap (cond (is_named any first) true) (set_there any files at now d same)
 
--- Holds if the file of this name was replaced, and each file whose name is apart from this one is the same.
+-- Holds if the file of this name was `was` in the list `old`, is `now` in the list `new`, and has an entry in `new`.
+-- Each file whose name is apart from this one (a different file) is the same in both lists.
 pub record IsUpdated (name : Name) (old new : List Stored) (was now : Stored) : Type 0 where
   pub before : file_named old name ≡ file_in was
   pub after : file_named new name ≡ file_in now
@@ -145,7 +146,8 @@ module _ (files : List Stored) (at : ℕ) (was now : Stored) (place : was ≡ ge
   lent_updated None there = refl
   lent_updated (Some name) there = set_there name files at now was (still_named name) ∙ there
 
--- If each name has the same file in `kept` as in `old`, a file that was replaced in `kept` was also replaced in `old`.
+-- Let each name have the same file in the lists `kept` and `old`. If `new` is `kept` with one file replaced
+-- (`IsUpdated`), `new` is also `old` with this file replaced.
 pub updated_since : {name : Name} {old kept new : List Stored} {was now : Stored}
     → ((any : Name) → file_named kept any ≡ file_named old any) → IsUpdated name kept new was now
     → IsUpdated name old new was now

@@ -30,7 +30,8 @@ Counts (Ok _) old new = Succeeds old new
 Counts (Err _) old new = Fails old new
 
 -- The effect of a call on one file, except for calls that lend or take back a vault or log. The call is counted
--- (`Counts`), and what is borrowed doesn't change. Each file whose name is apart from `name` is as it was.
+-- (`Counts`), and what is borrowed doesn't change. Each file whose name is apart from `name` (a different file) is as
+-- it was.
 pub record WorksOn {T E : Type 0} (name : Name) (result : Result T E) (old new : FilesState) : Type 0 where
   pub counts : Counts result old new
   pub borrowed : new.borrowed ≡ old.borrowed
@@ -56,29 +57,29 @@ pub record IsSynced (name : Name) (old new : FilesState) : Type 0 where
   pub leaves : (left : Found) → new.may_leave name left
       → (left ≡ old.view.seen name) ⊎ ((left ≡ None) × old.may_leave name None)
 
--- Holds if a read returns the same as before, and a host crash can neither remove the file nor create it, nor leave
--- anything that it couldn't leave before.
+-- Holds if a read returns the same as before, and a host crash can neither remove the file nor create it, and can leave
+-- only what it could leave before.
 pub record IsPlaced (name : Name) (old new : FilesState) : Type 0 where
   pub seen : new.view.seen name ≡ old.view.seen name
   pub leaves : (left : Found) → new.may_leave name left
       → old.may_leave name left × (is_some left ≡ is_some (old.view.seen name))
 
--- Holds if a host crash can leave nothing of the file that it couldn't leave before.
+-- Holds if a host crash can leave of the file only what it could leave before.
 abbrev pub LeavesNoMore : Name → (old new : FilesState) → Type 0
 LeavesNoMore name old new = (left : Found) → new.may_leave name left → old.may_leave name left
 
--- Holds if a host crash can leave nothing of any file that it couldn't leave before.
+-- Holds if a host crash can leave of each file only what it could leave before.
 abbrev pub LeaveNoMore : (old new : FilesState) → Type 0
 LeaveNoMore old new = (name : Name) → LeavesNoMore name old new
 
--- Holds if a host crash can leave nothing of the file that it couldn't leave before, except an empty file if it was
+-- Holds if a host crash can leave only what it could leave of the file before, or an empty file if the file was
 -- missing.
 abbrev pub LeavesOrEmpty : Name → (old new : FilesState) → Type 0
 LeavesOrEmpty name old new = (left : Found) → new.may_leave name left
     → old.may_leave name left ⊎ ((old.view.seen name ≡ None) × (left ≡ Some []))
 
--- The effect of a sync of a file. After a failure it is unknown what a read returns, but a host crash can leave nothing
--- that it couldn't leave before.
+-- The effect of a sync of a file. After a failure it is unknown what a read returns, but a host crash can leave only
+-- what it could leave before.
 abbrev pub Syncs : {T E : Type 0} → Name → Result T E → (old new : FilesState) → Type 0
 Syncs name (Ok _) old new = IsSynced name old new
 Syncs name (Err _) old new = LeavesNoMore name old new
@@ -141,22 +142,23 @@ Creates name (Err _) old new = KeepsFile name old new
 
 -- ---- vaults and logs
 
--- The effect of lending a vault in the file. Each file whose name is apart from `name` is as it was.
+-- The effect of lending a vault in the file. Each file whose name is apart from `name` (a different file) is as it was.
 pub record Borrows (name : Name) (old new : FilesState) : Type 0 where
   pub succeeds : Succeeds old new
   pub borrowed : new.borrowed ≡ Some name
   pub out : new.view.out name ≡ true
   pub others : OthersStay name old new
 
--- The effect of a failed call that lends a vault. If the files obey the contract, and no vault or log in the file was
--- borrowed before, a host crash can leave nothing of the file that it couldn't leave before, except an empty file if it
--- was missing.
+-- The effect of a failed call that lends a vault. Let the files obey the contract, and let no vault or log in the file
+-- be borrowed before. Then a host crash can leave only what it could leave of the file before, or an empty file if the
+-- file was missing.
 pub record BorrowsNone (name : Name) (old new : FilesState) : Type 0 where
   pub fails : Fails old new
   pub leaves : IsKnownFile name old.view → LeavesOrEmpty name old new
 
 -- The effect of taking back the vault in the file. The vault is faithful (`telling`), and the file has its bytes. If
--- the vault is sealed, a host crash can leave nothing else. Each file whose name is apart from `name` is as it was.
+-- the vault is sealed, a host crash can leave nothing else. Each file whose name is apart from `name` (a different
+-- file) is as it was.
 pub record TakesBack (name : Name) (vault : VaultState) (old new : FilesState) : Type 0 where
   pub borrowed : new.borrowed ≡ None
   pub in_store : new.view.out name ≡ false

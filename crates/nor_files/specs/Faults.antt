@@ -1,4 +1,4 @@
--- Which errors a call on a file may return, by the store's `Nature`.
+-- The errors that a call on a file may return. They depend on the store's `Nature`, its properties that never change.
 use Rattle.std.specs.Prelude.{◌≡◌, true, ⊤}
 use Rattle.nor_files.specs.Files.{Name, Nature}
 use Rattle.nor_files.specs.Files.Failure.{Busy, There, Unheld, Unmade, Unread}

@@ -80,14 +80,13 @@ pub record AreAtRest (files : FilesState) : Type 0 where
   pub in_store : (name : Name) → files.view.out name ≡ false
 
 -- Holds if the file is as it was: a read returns the same, and a vault or log in it is borrowed if and only if one was.
--- A host crash can leave nothing that it couldn't leave before.
+-- A host crash can leave only what it could leave before.
 pub record KeepsFile (name : Name) (old new : FilesState) : Type 0 where
   pub out : new.view.out name ≡ old.view.out name
   pub seen : new.view.seen name ≡ old.view.seen name
   pub leaves : (left : Found) → new.may_leave name left → old.may_leave name left
 
--- Holds if each file is as it was: a read returns the same, and a host crash can leave nothing that it couldn't leave
--- before.
+-- Holds if each file is as it was: a read returns the same, and a host crash can leave only what it could leave before.
 pub record AreUntouched (old new : FilesState) : Type 0 where
   pub view : new.view ≡ old.view
   pub leaves : (name : Name) (left : Found) → new.may_leave name left → old.may_leave name left
@@ -100,7 +99,8 @@ AllStay old new = (name : Name) → KeepsFile name old new
 abbrev pub KnownStay : (old new : FilesState) → Type 0
 KnownStay old new = (name : Name) → IsKnownFile name old.view → KeepsFile name old new
 
--- Holds if each file whose name is apart from `name` is as it was. Nothing is said about other names of the same file.
+-- Holds if each file whose name is apart from `name` is as it was. On lawful files these are different files, so
+-- nothing is said about other names of the file `name`.
 abbrev pub OthersStay : Name → (old new : FilesState) → Type 0
 OthersStay name old new = (other : Name) → AreApart old.view.nature name other → KeepsFile other old new
 

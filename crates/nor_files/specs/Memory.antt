@@ -20,7 +20,7 @@ memory_fails (Shared one other) = are_same_names one other
 memory_fails (Printed name) = false
 memory_fails failure = true
 
--- the nature of files in memory, which obey the contract, and of which each has exactly one name
+-- the nature of files in memory: they obey the contract, and each file has exactly one name
 abbrev pub memory_nature : Nature
 memory_nature = record { lawful = true; fails = memory_fails; apart = λ one other. not (are_same_names one other) }
 
@@ -56,7 +56,7 @@ one_file_itself : (name : Name) (files : FilesState) → AreOneFile name name fi
 one_file_itself name files =
     record { seen = refl; out = refl; leaves = λ left can. can; back = λ left can. can }
 
--- Files in memory obey the law of names.
+-- Files in memory obey the law of names (`NamesAreOfOne`): the state treats two names of one file alike.
 pub names_of_one : (files : List Stored) (left : ℕ) (borrowed : Option Name)
     → NamesAreOfOne (files_state files left borrowed)
 names_of_one files left borrowed lawful one other may =

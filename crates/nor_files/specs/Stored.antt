@@ -139,8 +139,8 @@ pub record FileSets {T E : Type 0} (len : ℕ) (result : Result T E) (old new : 
   pub leaves : (left : Found) → MayLeave (file_in new) left
       → MayLeave (file_in old) left ⊎ IsCutOf len (MayLeave (file_in old)) left
 
--- The effect of a sync of the file. A host crash can't undo the changes made before. It may still remove the file if it
--- could before.
+-- The effect of a sync of the file. A host crash can't undo the changes made before. A host crash may still remove the
+-- file if it could before the sync.
 pub record FileSyncs (old new : Stored) : Type 0 where
   pub name : new.name ≡ old.name
   pub file : file_in new ≡ record (file_in old) { steps = [] }

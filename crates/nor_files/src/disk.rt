@@ -1,4 +1,4 @@
-//! The system's files, as a `Store`.
+//! `Disk`: the files of the operating system, as an implementation of the trait `Store`.
 ghost use Rattle.std.specs.Prelude.{◌≡◌, IfOk, IfSome, take};
 ghost use Rattle.std.proofs.lemmas.Bool.{false≢true};
 
@@ -25,14 +25,15 @@ use std::{fs, io};
 /// another file by then. In this case `sync` returns `NotFound`.
 ///
 /// `make` returns `NotFound` for a name that wasn't passed to `hold` or `share` before. The file that it creates stays
-/// open and locked, too. `sync`, `write_over` and `set_len` return `NotFound` for a name under which no file is open.
+/// open and locked, too. `sync`, `write_over` and `set_len` return `NotFound` for a name under which `hold`, `share` or
+/// `make` has opened no file.
 #[derive(Drop)]
 pub struct Disk<'a, R: Files> {
     files: &'a R,
     held: Vec<Held<R::File>>,
     // Names that could not be looked up when `look_ahead` was called.
     unseen: RefCell<Vec<String>>,
-    // The file whose vault was taken back last. It stays open, and therefore locked.
+    // The file whose vault was taken back last. It stays open, which also keeps its lock.
     vaulted: Option<VaultedFile<'a, R>>,
     // Whether the vault that was taken back last was sealed.
     sealed: bool,

@@ -1,4 +1,5 @@
-//! Whether two names refer to one of the system's files, and whether a name refers to an output stream of the program.
+//! Finds out whether two names refer to the same file of the system, and whether a name refers to the file to which an
+//! output stream of the program prints.
 ghost use Rattle.std.specs.Prelude.{◌≡◌, ◌⊎◌, IfErr, IfSome};
 ghost use Rattle.nor_files.specs.Disk.{IsStreamName};
 

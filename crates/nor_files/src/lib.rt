@@ -1,8 +1,8 @@
-//! The files of a run, by their names, and their contract `Store`.
+//! The files that a run of the program reads and writes by their names, and the trait `Store`, which is their contract.
 //!
 //! A `Store` reads, locks, creates, overwrites and syncs files, and lends vaults and logs in them. Contracts see the
-//! bytes of each file, what a host crash may leave of it, and how many calls can still succeed. A clause for every exit
-//! of a function therefore covers a kill at each of these calls.
+//! bytes of each file, what a host crash may leave of it, and how many calls can still succeed. If no call is left,
+//! each counted call fails. A clause proved for every number of calls therefore covers a kill at each of these calls.
 //!
 //! ```rust
 //! use nor_files::{Loss, Memory, Store};
@@ -21,7 +21,7 @@
 //! - `locks.rt`: locks against other runs
 //! - `making.rt`: creating and truncating the system's files; `VaultedFile`, the file that a vault writes to
 //! - `folder.rt`: syncing a directory
-//! - `identity.rt`: whether two names refer to one of the system's files; whether a name refers to an output stream
+//! - `identity.rt`: whether two names refer to the same file of the system; whether a name refers to an output stream
 //! - `memory.rt`: `Memory`, files in memory that obey the contract, and on which only a given number of calls succeed
 //! - `stored.rt`: one file in memory, and what a host crash may leave of it
 //!

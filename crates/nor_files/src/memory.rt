@@ -58,8 +58,8 @@ impl Memory {
         Ok(())
     }
 
-    /// From now on, if a `write_over` is the last call that is left, it writes only the first half of its bytes, and
-    /// then fails. It succeeds only if it has no bytes to write.
+    /// Makes the last call fail halfway if it is a `write_over`: if only one call is left, a `write_over` writes only
+    /// the first half of its bytes, and then fails. It succeeds only if it has no bytes to write.
     pub fn tear(&mut self)
         ensures left { self.new.left ≡ self.old.left }
         ensures stay { AllStay (memory_state self.old) (memory_state self.new) }

@@ -105,9 +105,10 @@ pub enum Stream {
 /// counted fails and changes nothing if no call is left. A clause proved for every lawful store therefore covers an
 /// interruption at each of these calls.
 ///
-/// A file may have several names. On lawful files, a call on a name leaves each file whose name is apart from it as it
-/// was. `is_one_file` returns false only for names that are apart. Names that aren't apart are names of one file, so a
-/// read of either name returns the same (`names_of_one`).
+/// A file may have several names. The state says which names are *apart*. On lawful files, names that are apart refer
+/// to different files, and a call on one of these names leaves the file of the other as it was. `is_one_file` returns
+/// false only for names that are apart. Names that aren't apart are names of one file, so a read of either name returns
+/// the same (`names_of_one`).
 ///
 /// Nothing is promised about other names of the file that a call changes, with two exceptions. `hold` and `share` leave
 /// all files as they were. After a successful `sync` or any `sync_folder`, a read of another name returns the same as
@@ -161,9 +162,10 @@ pub trait Store: AllocGlobal {
         ensures { IfSome result (λ name. IsStreamName name.now
             × ((state self.now).view.nature.fails (Unread name.now) ≡ true)) };
 
-    /// Looks up a file before the run opens other files. If that fails, a later `read_named` of this name finds no
-    /// file, unless a call such as `hold` opened it. Otherwise a name such as `/dev/fd/6` could refer to a file that
-    /// the run itself opened in the meantime. Contracts see no effect. Fails if the program is out of memory.
+    /// Looks up a file before the run opens other files. If the look-up fails, a later `read_named` of a `Disk` finds
+    /// no file of this name, unless a call such as `hold` opened one. Without this rule, a name such as `/dev/fd/6`
+    /// could refer to a file that the run itself opened in the meantime. Contracts see no effect. `look_ahead` itself
+    /// fails only if the program is out of memory.
     fn look_ahead(&self, name: &str) -> Result<(), AllocError>;
 
     /// Returns whether a file or a link of this name exists.
@@ -207,7 +209,7 @@ pub trait Store: AllocGlobal {
     /// - after success a read of each file returns the same as before, even by another name of this file
     /// - after success a host crash leaves these bytes of this file, or no file if that was possible before
     /// - after a failure it is unknown what a read of this file returns
-    /// - after success or failure a host crash can leave nothing that it couldn't leave before
+    /// - after success or failure a host crash can leave only what it could leave before
     fn sync(&mut self, name: &str) -> io::Result<()>
         ensures nature { (state self.new).view.nature ≡ (state self.old).view.nature }
         ensures alone { is_lawful (state self.old).view ≡ true
@@ -243,8 +245,8 @@ pub trait Store: AllocGlobal {
         ensures fails { OnErr result ((state self.old).view.nature.fails (Unwritten name.now) ≡ true) };
 
     /// Sets the length of the named file to `len` bytes. If the file grows, the added bytes are 0. For lawful files
-    /// without a borrowed vault or log, a host crash before the next sync may leave a content that it could leave
-    /// before, or one of these contents with its length changed to `len`.
+    /// without a borrowed vault or log, a host crash before the next sync may leave what it could leave before, or such
+    /// a content with its length changed to `len`.
     fn set_len(&mut self, name: &str, len: u64) -> io::Result<()>
         ensures nature { (state self.new).view.nature ≡ (state self.old).view.nature }
         ensures alone { is_lawful (state self.old).view ≡ true
@@ -266,8 +268,8 @@ pub trait Store: AllocGlobal {
     /// Creates the named file, which must not exist, and lends a vault in it. Give the vault to `return_vault` when it
     /// is complete. `Disk` returns `There` if the file exists, and syncs the directory of the file.
     ///
-    /// On lawful files, if no vault or log in the file was borrowed before a failed call, a host crash can leave of
-    /// this file only what it could leave before, or an empty file if it was missing.
+    /// Let a call fail on lawful files, and let no vault or log in the file be borrowed before. Then a host crash can
+    /// leave only what it could leave of the file before, or an empty file if the file was missing.
     fn vault_in_new(&mut self, name: &str) -> Result<Self::Filed, CreateFault>
         ensures nature { (state self.new).view.nature ≡ (state self.old).view.nature }
         ensures fresh { IfOk result (λ vault. IsFresh (Self.Filed.state vault)) }
@@ -303,14 +305,15 @@ pub trait Store: AllocGlobal {
         ensures takes { is_lawful (state self.old).view ≡ true → (name : Name) → (state self.old).borrowed ≡ Some name
             → TakesBack name (Self.Filed.state vault) (state self.old) (state self.new) };
 
-    /// Returns whether a later run will find the vault that was taken back last, if this vault was sealed. The file of
-    /// the vault must still have the name `name`, and as many bytes as were written to the vault. Returns true if this
-    /// vault wasn't sealed, or if no vault was taken back. `Disk` checks only files that `vault_in_new` created.
+    /// Returns whether a later run will find the vault that was taken back last, if this vault was sealed. The vault is
+    /// found if `name`, the name of its file, still refers to this file, and the file has as many bytes as were written
+    /// to the vault. Returns true if this vault wasn't sealed, or if no vault was taken back. `Disk` checks only files
+    /// that `vault_in_new` created, and uses the name given there instead of `name`.
     fn is_kept(&self, name: &str) -> bool
         ensures { result ≡ false → (state self.now).view.nature.fails (Unwritten name.now) ≡ true };
 
-    /// Creates or truncates the named file, and lends it as a log. `Disk` refuses to truncate a journal. It doesn't
-    /// truncate any other existing file at once, but just before the first write, or at a flush if nothing was written.
+    /// Creates or truncates the named file, and lends it as a log. `Disk` refuses to truncate a journal. It truncates
+    /// any other existing regular file just before the first write, or at a flush if nothing was written.
     fn log_in(&mut self, name: &str) -> Result<Self::Log, CreateFault>
         ensures nature { (state self.new).view.nature ≡ (state self.old).view.nature }
         ensures alone { is_lawful (state self.old).view ≡ true

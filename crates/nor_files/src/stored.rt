@@ -154,8 +154,8 @@ impl Stored {
         Ok(())
     }
 
-    /// Syncs the file, so that a host crash can't undo the changes made before. It may still remove the file if it
-    /// could before.
+    /// Syncs the file, so that a host crash can't undo the changes made before. A host crash may still remove the file
+    /// if it could before the sync.
     pub fn sync(&mut self)
         ensures { FileSyncs self.old self.new }
     {
