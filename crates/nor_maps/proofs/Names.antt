@@ -66,7 +66,8 @@ named_push index entry [] named = ((index, omega arith, refl), named)
 named_push index entry (region ∷ regions) named =
     ((named.0.0, omega (arith, named.0.1), named.0.2), named_push index entry regions named.1)
 
--- An entry adds one region or none, or its fault is that its region is outside the chip.
+-- Let `regions` have only names of entries below `index`. Then entry `index` adds nothing to `regions`, or adds its
+-- region, or has the fault `Outside`.
 added : (size index entry : ℕ) (regions : List Region) → index < 16 → AreNamedBelow index regions
     → length regions ≤ index
     → (with_number size regions index entry ≡ Ok regions)

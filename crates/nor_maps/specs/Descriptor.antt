@@ -1,6 +1,7 @@
 -- The flash descriptor of Intel's chipsets, the first 4 KiB of an image (the SPI programming guides of the chipsets;
 -- flashrom's ich_descriptors.c). Numbers are little-endian, of 4 bytes. FLVALSIG, the signature, is followed by FLMAP0
--- and FLMAP1, whose fields say where tables are, in units of 16 bytes from the first byte of the image:
+-- and FLMAP1. Their fields say how many regions there are, and where tables are, in units of 16 bytes from the first
+-- byte of the image:
 --
 --   FLMAP0: bits 23:16 region table (FRBA), bits 26:24 number of regions minus one (NR)
 --   FLMAP1: bits 7:0 masters' section (FMBA)
@@ -76,7 +77,8 @@ with_number size regions index entry =
 abbrev pub with_entry : (size : ℕ) → List Region → (index : ℕ) → List ℕ → Result (List Region) MapFault
 with_entry size regions index bytes = with_number size regions index (little_from 0 4 bytes)
 
--- the regions of a descriptor whose signature is at this index, or the first fault
+-- the regions of a descriptor whose signature is at this index, or the first fault; without a signature (None), the
+-- fault is `Missing`
 abbrev pub entries_say : (size : ℕ) → List ℕ → Option ℕ → Result (List Region) MapFault
 entries_say size image None = Err Missing
 entries_say size image (Some signature) =

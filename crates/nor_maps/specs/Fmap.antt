@@ -28,8 +28,9 @@ fmap_length header = 56 + 42 * area_count header
 abbrev pub is_ended_name : (field : List ℕ) → Bool
 is_ended_name field = nat_lt (length (before_nul field)) 32 && list_all is_visible (before_nul field)
 
--- True if the bytes begin with a valid header. A valid header has the signature, major version 1, a name that ends with
--- NUL, and a size of the image that is not less than the length of the FMAP.
+-- True if the bytes begin with a valid header. A valid header has the signature, major version 1, and a name of visible
+-- ASCII characters that ends with NUL. The size of the image that the header states must not be less than the length of
+-- the FMAP.
 unfoldable pub is_fmap_header : List ℕ → Bool
 is_fmap_header bytes =
     nat_le 56 (length bytes) && bytes_eq (slice_range bytes 0 8) (codes "__FMAP__") && slice_index bytes 8 == 1

@@ -129,8 +129,8 @@ fn read_entries(alloc: Global, table: &[u8], count: u16, size: u32) -> Result<La
 ///
 /// The signature 0FF0A55Ah is at 10h, or at 0 in descriptors up to the ICH10. The regions are named as flashrom names
 /// them: `fd`, `bios`, `me`, `gbe`, `pd`, `reg5`, `bios2`, `reg7`, `ec`, `reg9`, `ie`, `10gbe`, and `reg12` to `reg15`.
-/// The base and the limit of an entry are the numbers of the first and the last 4 KiB of its region. An entry is unused
-/// if its base is above its limit, if it is erased (FFFFFFFFh), or if it is 0 and not the first entry.
+/// The base and the limit of an entry are the numbers of the first and the last 4 KiB sector of its region. An entry is
+/// unused if its base is above its limit, if it is erased (FFFFFFFFh), or if it is 0 and not the first entry.
 ///
 /// The table has 16 entries if the masters' section begins at least 40h bytes after the beginning of the table, as in
 /// the 100 series and later. The number of entries that such a descriptor states isn't valid. In earlier descriptors

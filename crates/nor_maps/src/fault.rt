@@ -19,7 +19,8 @@ pub enum MapFault {
     Short,
     /// A region reaches past the end of the chip.
     Outside { record: u16 },
-    /// A layout can't have a region, because of its name, because it is the 65th region, or because memory ran out.
+    /// The layout can't have a region, because of the region's name, because it is the 65th region, or because memory
+    /// ran out.
     Region { record: u16, fault: RegionFault },
 }
 

@@ -1,4 +1,4 @@
-//! Finds and reads an FMAP, the map of its regions that an image of Chromium's firmware contains.
+//! Finds and reads an FMAP, the table of regions in an image of Chromium's firmware.
 
 ghost use Rattle.std.specs.Prelude.{◌≡◌, ◌≤◌, ◌+◌, ◌*◌, [], length, IfSome, IsTrue, MatchOption, None, Some};
 ghost use Rattle.std.specs.List.{list_all};
@@ -98,10 +98,10 @@ fn read_areas(alloc: Global, areas: &[u8], count: u16, size: u32) -> Result<Layo
 /// Reads the first FMAP of an image as the layout of a chip of `size` bytes (Chromium's flashmap, lib/fmap.h;
 /// flashrom's manual page, `--fmap`).
 ///
-/// An FMAP begins, at any address, with a valid header. A header is valid if it has the signature `__FMAP__`, major
-/// version 1, a name of visible ASCII characters that ends with NUL, and a size of the image that is not less than the
-/// length of the FMAP. If the image contains several FMAPs, the one at the lowest address is read. The minor version,
-/// the base address and the flags of areas are ignored.
+/// An FMAP begins, at any address, with a valid header. A valid header has the signature `__FMAP__`, major version 1,
+/// and a name of visible ASCII characters that ends with NUL. The size of the image that the header states must not be
+/// less than the length of the FMAP. If the image contains several FMAPs, the one at the lowest address is read. The
+/// minor version, the base address and the flags of areas are ignored.
 ///
 /// The regions are the areas, in their order and at their offsets, and may overlap. The name of an area ends before the
 /// first NUL in its field, or has all 32 bytes of the field. An area of size 0 is no region.
