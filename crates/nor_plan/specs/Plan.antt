@@ -4,8 +4,8 @@ use Rattle.std.specs.Prelude.{ℕ, ◌≡◌, ◌≢◌, ◌<◌, true, MatchBoo
 use Rattle.nor_plan.specs.declared.plan.SectorPlan.{SectorPlan}
 use Rattle.nor_plan.specs.Bytes.{IsWithinBits}
 
--- Holds if `bytes` has, at each position, the byte that `content` has there. `content` may be the bytes of a chip or an
--- image by address.
+-- Holds if `bytes` has, at each position, the byte that `content` has there. `content` may be the bytes of one sector
+-- of a chip or an image, by their position in the sector.
 abbrev pub AreBytesOf : (ℕ → ℕ) → List ℕ → Type 0
 AreBytesOf content bytes = EachIndex bytes (λ i. slice_index bytes i ≡ content i)
 

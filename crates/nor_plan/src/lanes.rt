@@ -78,8 +78,8 @@ fn first_from(a: &[u8], b: &[u8], from: usize) -> Option<usize>
     None
 }
 
-/// Returns a position before which `a` and `b` agree: the start of the first 256-byte block in which they differ. If
-/// they differ in none of these blocks, the result is the end of the last one.
+/// Returns a position before which `a` and `b` agree: the start of the first whole 256-byte block in which they differ.
+/// If they differ in none of these blocks, the result is the end of the last one, or 0 if there is none.
 fn agreeing(a: &[u8], b: &[u8]) -> usize
     requires { length a.now ≡ length b.now }
     ensures within { result ≤ length a.now }

@@ -28,8 +28,8 @@ impl Plan {
         ensures touched { MatchBool result.touched (SomeDiffer old.now target.now) (AllAgree old.now target.now) }
         ensures raised { MatchBool result.raised (SomeRise old.now target.now) (NoneRises old.now target.now) }
         ensures needed { result.raised ≡ true → result.touched ≡ true }
-        // Restates the result for contents, which are functions from positions to bytes, such as those of a chip and an
-        // image.
+        // Restates the result for contents, which are functions from positions to bytes, such as those of a sector of a
+        // chip and of an image.
         ensures anywhere { (content wanted : ℕ → ℕ) → AreBytesOf content old.now → AreBytesOf wanted target.now
             → IsPlan content wanted (length old.now) result }
     {
