@@ -30,7 +30,8 @@ abbrev pub with_start : List ℕ → Option (List ℕ × List ℕ) → Option Pa
 with_start start None = None
 with_start start (Some parts) = Some (record { start = start; end = parts.0; name = without_spaces parts.1 })
 
--- the parts of a line, computed from the texts before and after its first `:`, or None if the line has no `:`
+-- The parts of a line, computed from the texts before and after its first `:`. The result is None if the line has no
+-- `:`, or no space after the first `:`.
 abbrev pub parts_after : Option (List ℕ × List ℕ) → Option Parts
 parts_after None = None
 parts_after (Some parts) = with_start parts.0 (cut_at 32 parts.1)
