@@ -23,8 +23,8 @@ pub struct Case {
 }
 
 impl Case {
-    /// Draws a case. One case in five has a chip with block protection, so that errors of block protection occur often
-    /// enough.
+    /// Draws a case. On average one case in five has a chip with block protection, so that errors of block protection
+    /// occur often enough.
     pub fn next(alloc: Global, dice: &mut Dice) -> Result<Case, Fault> {
         let chip = chip_for(alloc, dice)?;
         let image = image_for(alloc, dice, &chip)?;
@@ -104,8 +104,8 @@ fn request_for(
     Ok((request, spans))
 }
 
-// Draws an image: the chip's bytes, usually with changes. In some images all bytes are replaced, and one image in 25
-// has another length than the chip.
+// Draws an image: the chip's bytes, usually with changes. In some images all bytes are replaced, and on average one
+// image in 25 has another length than the chip.
 fn image_for(alloc: Global, dice: &mut Dice, chip: &Chip) -> Result<Vec<u8>, Fault> {
     let mut image = chip.bytes.to_vec(alloc)?;
     contents::alter(dice, image.as_mut_slice());
@@ -176,8 +176,8 @@ fn spans_for(alloc: Global, dice: &mut Dice, chip: &Chip) -> Result<Vec<Span>, F
     Ok(spans)
 }
 
-// Draws a span. First draws its greatest length: 300 bytes, one sector, 40,000 bytes or half of the chip. One span in
-// 40 may be longer, and ends at the chip's last address or after it. All others end on the chip.
+// Draws a span. Its greatest length is drawn, too: 300 bytes, one sector, 40,000 bytes or half of the chip. On average
+// one span in 40 may be longer, and ends at the chip's last address or after it. All others end on the chip.
 fn span_for(dice: &mut Dice, size: u32) -> Span {
     let sector = contents::sector(dice, size / SECTOR_LEN);
     let offset = dice.pick(0, &[0, 0x800, 0xFFF, 0x100]);

@@ -112,8 +112,8 @@ pub fn large(alloc: Global, dice: &mut Dice) -> Result<Chip, Fault> {
     chip_of(alloc, dice, config, status)
 }
 
-/// Draws status bytes. On average about a third of them are locked. At least a third have no protection bit set, or
-/// only BP0. At least one in eight has protection bits that the datasheets don't define.
+/// Draws status bytes. On average about a third of them are locked, at least a third have no protection bit set or only
+/// BP0, and at least one in eight has protection bits that the datasheets don't define.
 pub fn protection(dice: &mut Dice) -> Status {
     let lock1 = dice.pick(0x80, &[0x00, 0x00, 0x00, 0x00]);
     let lock2 = dice.pick(0x01, &[0x00, 0x00, 0x00, 0x00]);

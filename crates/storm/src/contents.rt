@@ -50,8 +50,8 @@ pub fn sector_at(bytes: &[u8], number: u32) -> &[u8] {
         .unwrap_or(&[])
 }
 
-/// Fills a chip with FFh or 00h, or one in five chips of up to 256 KiB with random bytes. Then changes up to eight runs
-/// of adjacent sectors.
+/// Fills a chip with FFh or 00h, or about one in five chips of up to 256 KiB with random bytes. Then changes up to
+/// eight runs of adjacent sectors.
 pub fn paint(dice: &mut Dice, bytes: &mut [u8]) {
     let base = dice.pick(Style::Erased, &[Style::Erased, Style::Cleared]);
     let small = bytes.len() <= 262_144;
@@ -69,8 +69,8 @@ pub fn paint(dice: &mut Dice, bytes: &mut [u8]) {
     }
 }
 
-/// Makes an image from a chip's bytes by changing up to six runs of adjacent sectors. For about one in five chips of up
-/// to 256 KiB, all bytes are replaced before that.
+/// Changes up to six runs of adjacent sectors in `image`, which has the bytes of a chip. For about one in five chips of
+/// up to 256 KiB, all bytes are replaced before that.
 pub fn alter(dice: &mut Dice, image: &mut [u8]) {
     let small = image.len() <= 262_144;
     if small && dice.hits(1, 10) {

@@ -155,8 +155,8 @@ struct Read {
     sent: Vec<u8>,
 }
 
-// The result of the reference implementation for a reading call, and the trace of its transactions. A success has the
-// case with the chip that the replies describe.
+// The result of the reference implementation for a reading call, and the trace of its transactions. After a success the
+// result is a copy of the case in which the chip is the one that the replies describe.
 #[derive(Drop)]
 struct Known {
     answer: Result<Case, CallError>,
@@ -239,8 +239,8 @@ enum Lie {
 type Faulty = HighBus<SpoiltBus<SimBus>>;
 
 // Draws a fault of the bus. About three of four faults that clear a bit are replaced by a fault that sets the same bit
-// in the replies to one opcode. Half of the time this opcode is 35h (status 2). The replacement depends only on `count`
-// and draws no random number.
+// in the replies to one opcode. Half of the time this opcode is 35h (status 2). Whether a fault is replaced, and the
+// opcode, depend only on `count`.
 fn lie_for(dice: &mut Dice, count: u64) -> Lie {
     let opcodes = [0x35, 0x05, 0x35, 0x9F, 0x35, 0x03, 0x35, 0x4B];
     let high = usize::try_from(count / 4 % 8)

@@ -1,7 +1,7 @@
 //! A random differential test of sessions, restores, rehearsals and reading calls on simulated chips. Each case is
 //! drawn from a seed, and its results are compared with those of a reference implementation. The reference
-//! implementation is written from the specification, and has no code of the engine for what a call checks, saves, sends
-//! and changes.
+//! implementation is written from the specification. Except for the table of chips, it has no code of the engine for
+//! what a call checks, saves, sends and changes.
 //!
 //! - `words.rt`: the command line: seeds, number of cases, first case
 //! - `runs.rt`: runs the cases of a seed, and draws which checks each case gets

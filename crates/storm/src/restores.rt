@@ -184,7 +184,7 @@ fn check_stop(wanted: Option<Refusal>, lines: &str, ran: &Restored) -> Result<()
 }
 
 // Draws a chip to restore. One time in twelve this is an unrelated small chip. Otherwise it is the original chip of the
-// journal with some changed bytes, half of the time also with new status bits or a new unique ID.
+// journal, usually with changed bytes, half of the time also with new status bits or a new unique ID.
 fn other_chip(alloc: Global, dice: &mut Dice, chip: &Chip) -> Result<Chip, Fault> {
     if dice.hits(1, 12) {
         return chips::small(alloc, dice);

@@ -53,8 +53,8 @@ impl<'a> Caller<'a> {
 }
 
 impl Caller<'_> {
-    /// Runs the session of a case. The chip's configuration, status and bytes are what the replies say. Bytes that the
-    /// session doesn't read are taken to be FFh.
+    /// Runs the session of a case in the reference implementation. The chip's configuration, status and bytes are what
+    /// the replies say. Bytes that the session doesn't read are taken to be FFh.
     pub fn session(&mut self, case: &Case) -> Result<(), CallError> {
         let (config, status1) = self.find(case.request.named)?;
         let chip = self.identify(config, status1)?;
@@ -62,7 +62,8 @@ impl Caller<'_> {
         self.judge(case, &mut told)
     }
 
-    // Checks the request for errors 1 to 8, scans the chip, checks for errors 9 and 10, and makes the changes.
+    // Checks the request for errors 1 to 8, scans the chip unless the request is for a protection range, checks for
+    // errors 9 and 10, and makes the changes.
     fn judge(&mut self, case: &Case, told: &mut Case) -> Result<(), CallError> {
         refuse(verdicts::of_opening(told))?;
         if !matches!(told.request.what, What::WpRange { .. }) {
@@ -84,7 +85,8 @@ impl Caller<'_> {
         Ok(())
     }
 
-    /// Runs a reading call. If it succeeds, returns the case with the chip that the replies describe.
+    /// Runs a reading call in the reference implementation. If the call succeeds, returns a copy of `case` in which the
+    /// chip is the one that the replies of the bus describe.
     pub fn reading(&mut self, reading: Reading, case: &Case) -> Result<Case, CallError> {
         let (config, status1) = self.find(case.request.named)?;
         let chip = unread(self.alloc, config, [status1, 0])?;
@@ -103,7 +105,7 @@ impl Caller<'_> {
         refuse(reading.refusal(told))
     }
 
-    /// Runs a restore from a journal with the contents `saved`.
+    /// Runs a restore in the reference implementation, from a journal with the contents `saved`.
     pub fn restore(&mut self, saved: Saved<'_>) -> Result<(), CallError> {
         let (config, status1) = self.find(None)?;
         refuse(verdicts::of_journal(&config, saved))?;
@@ -112,7 +114,7 @@ impl Caller<'_> {
         self.give_back(saved, &mut chip)
     }
 
-    // Checks that the journal is for this device and its status bits, and reads the saved sectors in ascending order.
+    // Checks for errors 20 and 17, and reads the saved sectors in ascending order.
     fn take_saved(&mut self, saved: Saved<'_>, chip: &mut Chip) -> Result<(), CallError> {
         refuse(verdicts::of_unit(chip, saved))?;
         for number in 0..chip.sectors() {
@@ -335,8 +337,8 @@ fn unread(alloc: Global, config: Config, status: Status) -> Result<Chip, Fault> 
     })
 }
 
-// Returns the case with `chip`, the chip that the replies describe, in place of its own. The included addresses are
-// only in the field `included` of the new case, since the reference implementation doesn't use those of the request.
+// Returns a copy of `case` in which the chip is `chip`, the one that the replies describe. The included addresses are
+// only in the field `included` of the copy, since the reference implementation doesn't use those of the request.
 fn asked_of(alloc: Global, case: &Case, chip: Chip) -> Result<Case, Fault> {
     Ok(Case {
         chip,
