@@ -1,4 +1,5 @@
--- The job that options without a fault ask for, and its parts.
+-- The job that the options ask for, and its parts. For programs for hardware also: the fault of options that ask for no
+-- job or no operation.
 use Rattle.std.specs.Prelude.{◌≡◌, ◌⊎◌, [], ◌∷◌, true, false, MatchResult, Option, Some, None, is_some, not, option_and_then, option_map}
 use Rattle.std.specs.Borrow.{Bor}
 use Rattle.std.specs.Option.{IsSomeAnd}

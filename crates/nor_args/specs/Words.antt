@@ -71,8 +71,8 @@ pub record IsRefusedArguments (words : List Text) : Type 0 where
 abbrev pub hardware_refusals_of : (program : Text) → List Text → Kinds
 hardware_refusals_of program words = fault_of (hardware_options program) words
 
--- Holds if the arguments of the program with this name ask for this job: `clap` accepts the arguments, and each part of
--- the job has the value of its option.
+-- Holds if the arguments of the program with this name ask for this job: `clap` accepts the arguments, and the options
+-- in them ask for the job (`IsHardwareAsked`).
 pub record IsHardwareJob (program : Text) (words : List Text) (job : HardwareJob) : Type 0 where
   pub taken : hardware_refusals_of program words ≡ []
   pub asked : IsHardwareAsked (hardware_given_by program words) job

@@ -52,8 +52,8 @@ pub struct ProgrammerJob<'a> {
 pub struct Operation<'a> {
     /// `-c NAME`: the name that the chip must have.
     pub named: Option<ChipName>,
-    /// True without `-N`: after a restore, and after a write or an erase without `-n`, the program also compares the
-    /// sectors that the operation did not change.
+    /// True without `-N`: after a restore, the program compares the sectors that the journal doesn't save. After a
+    /// write or an erase without `-n`, it compares the whole chip.
     pub verifies_all: bool,
     /// True with `--quick`: a restore rewrites only the saved sectors that differ.
     pub is_quick: bool,

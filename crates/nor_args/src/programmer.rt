@@ -12,7 +12,7 @@ use nor_probe::{Part, emulated_part};
 /// A chip that the program emulates: `TINY64`, or a chip of the table.
 #[derive(Clone, Copy)]
 pub struct Emulated {
-    /// The chip type that the program identifies when it reads the ID and the SFDP of this chip.
+    /// The chip type as which the program identifies this chip: by its ID or, for TINY64, by its SFDP.
     pub part: Part,
     /// For proofs: `part` is the type of a chip that the program emulates.
     pub ghost emulated: { IsEmulatedPart part },

@@ -5,7 +5,7 @@ ghost use Rattle.nor_args.specs.Options.{chosen, own_rules};
 use crate::options::Choice;
 
 // The options that only programs for hardware have, except `-R`, in the order of the help. The help prints them after
-// the options that these programs share with flashnor.
+// the options of `CHOICES`, and before `-R` and `-h`.
 static HARDWARE_CHOICES: [Choice; 9] = [
     Choice {
         letter: None,
