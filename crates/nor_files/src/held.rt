@@ -1,5 +1,5 @@
 //! The files that `hold` and `share` keep open and locked until the run ends: the chip's files, if the run will write
-//! them, and the journal that a restore reads.
+//! them, and the journal that a restore or `--check-journal` reads.
 
 use crate::identity::is_same;
 use crate::locks::LockFile;
@@ -111,7 +111,7 @@ where
 }
 
 // Opens the named file for reading and writing. The error is `Unheld` if the file can only be opened for reading, and
-// `Unread` if it can't be opened at all.
+// `Unread` if it can't be opened for reading either.
 fn open_both<R: Files>(files: &R, name: &str) -> Result<R::File, LockFault> {
     let opened = OpenOptions::new().read(true).write(true).open(files, name);
     match opened {
@@ -123,7 +123,7 @@ fn open_both<R: Files>(files: &R, name: &str) -> Result<R::File, LockFault> {
     }
 }
 
-// Opens the named file for reading, and locks it so that no other run writes to it.
+// Opens the named file for reading, and locks it for reading (`lock_shared`).
 fn open_shared<R: Files>(files: &R, name: &str) -> Result<R::File, LockFault>
 where
     R::File: LockFile,

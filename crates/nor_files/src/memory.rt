@@ -34,7 +34,7 @@ pub struct Memory {
 impl Memory {
     ghost use Rattle.nor_files.specs.Memory.{memory_state};
 
-    /// Returns a store without files, on which at most `left` calls succeed.
+    /// Returns a store without files, on which at most `left` counted calls succeed.
     pub fn new(alloc: Global, left: u64) -> Memory {
         Memory {
             alloc,
@@ -58,8 +58,8 @@ impl Memory {
         Ok(())
     }
 
-    /// Makes the last call fail halfway if it is a `write_over`: if only one call is left, a `write_over` writes only
-    /// the first half of its bytes, and then fails. It succeeds only if it has no bytes to write.
+    /// Makes the last counted call fail halfway if it is a `write_over`: if only one call is left, a `write_over`
+    /// writes only the first half of its bytes, and then fails. It succeeds only if it has no bytes to write.
     pub fn tear(&mut self)
         ensures left { self.new.left ≡ self.old.left }
         ensures stay { AllStay (memory_state self.old) (memory_state self.new) }
@@ -67,8 +67,8 @@ impl Memory {
         self.torn = true;
     }
 
-    /// Interrupts the run now, and returns the files that are left, on which at most `left` calls succeed. Each file is
-    /// one that a host crash might have left, and a later host crash can leave nothing else of it.
+    /// Interrupts the run now, and returns the files that are left, on which at most `left` counted calls succeed. Each
+    /// file is one that a host crash might have left, and a later host crash can leave nothing else of it.
     pub fn lose(self, loss: Loss, left: u64) -> Memory
         ensures left { (memory_state result).left ≡ left }
         ensures at_rest { AreAtRest (memory_state result) }

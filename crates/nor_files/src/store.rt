@@ -110,9 +110,13 @@ pub enum Stream {
 /// false only for names that are apart. Names that aren't apart are names of one file, so a read of either name returns
 /// the same (`names_of_one`).
 ///
-/// Nothing is promised about other names of the file that a call changes, with two exceptions. `hold` and `share` leave
-/// all files as they were. After a successful `sync` or any `sync_folder`, a read of another name returns the same as
-/// before, if no vault or log in that file is borrowed.
+/// Apart from this, a call promises nothing about other names of the file that it changes, with these exceptions on
+/// lawful files:
+///
+/// - `hold`, `share`, and a counted call that fails because no call is left, leave all files as they were
+/// - after a successful `sync` or any `sync_folder`, a read of another name returns the same as before, if no vault or
+///   log in that file is borrowed
+/// - after any `sync`, a host crash can leave of each name only what it could leave before
 pub trait Store: AllocGlobal {
     ghost use Rattle.std.specs.Prelude.{◌≡◌, ◌⊎◌, false, true, None, IfErr, IfOk, IfSome, Ok, OnErr, OnOk, option_map};
     ghost use Rattle.nor_journal.specs.Vault.{IsFresh};
@@ -148,8 +152,9 @@ pub trait Store: AllocGlobal {
         ensures either { IfErr result (λ name. name.now ≡ one.now ⊎ name.now ≡ other.now) }
         ensures unseen { IfErr result (λ name. (state self.now).view.nature.fails (Unread name.now) ≡ true) };
 
-    /// Returns whether the named file is a regular file to which this stream prints. If the name can't be looked up,
-    /// returns it as the error. If the stream can't be looked up, the result is false (see `unseen_stream`).
+    /// Returns whether the named file is a regular file to which this stream prints. If the stream isn't a regular file
+    /// or can't be looked up (see `unseen_stream`), the result is false. Otherwise, if the name can't be looked up,
+    /// returns the name as the error.
     fn is_stream<'n>(&self, stream: Stream, name: &'n str) -> Result<bool, &'n str>
         ensures printed { IfOk result (λ is_stream. is_stream ≡ true
             → (state self.now).view.nature.fails (Printed name.now) ≡ true) }
@@ -195,7 +200,7 @@ pub trait Store: AllocGlobal {
             → Holds name.now result (state self.old) (state self.new) }
         ensures fails { IfErr result (IsLockFault (state self.old).view.nature name.now) };
 
-    /// Locks the named file, if it exists, for reading. All files are as they were.
+    /// Locks the named file, if it exists, for reading. All files are as they were. `Disk` locks only a regular file.
     ///
     /// The lock of a `Disk` keeps other runs from locking the file in order to overwrite it, until the store is
     /// dropped, if the file system has locks. Contracts don't describe locks.

@@ -22,7 +22,8 @@ pub enum Content {
 /// The effect of a call on a file.
 #[derive(Drop)]
 pub enum Change {
-    /// The file was overwritten in place with these bytes, from its start.
+    /// The file was overwritten in place with these bytes, or after a torn write only with the first of them, from its
+    /// start.
     Written(Vec<u8>),
     /// The length was set to this number of bytes.
     Cut(u64),
