@@ -1,4 +1,4 @@
--- The results of the jobs that only identify the chip, on every bus.
+-- The results of an identification, as a whole job or before a further call to the engine, on every bus.
 use Rattle.std.specs.Prelude.{◌≡◌, true, Option, None, Some, Result, Ok, Err, IfOk}
 use Rattle.nor_model.specs.Bus.{BusState}
 use Rattle.nor_probe.specs.Found.{IsConfigOf, ProbeAlways, ProbeHonest}

@@ -1,4 +1,4 @@
-//! The jobs that only identify the chip, and the check of its name before a restore.
+//! The jobs that only identify the chip, and the identification that precedes a further call to the engine.
 ghost use Rattle.std.specs.Prelude.{Err, IfErr, IfOk, Ok, OnOk};
 ghost use Rattle.nor_jobs.specs.Finding.{FailsToFind, HasIdentified, HasLookedUp, IsNamedFirst, ReportsFound};
 ghost use Rattle.nor_jobs.specs.Finding.{ReportsSize};

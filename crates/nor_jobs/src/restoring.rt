@@ -8,10 +8,10 @@ use nor_model::Bus;
 use nor_session::{Announcement, restore_announced, rewrite_announced};
 
 /// Restores the chip from a journal. If `quick` is true, reads the saved sectors and writes only those that differ
-/// (`restore`). Otherwise erases and programs every saved sector, without reading it before (`rewrite`).
+/// (`restore`). Otherwise erases every saved sector without reading it first, and programs its saved bytes (`rewrite`).
 ///
-/// `announce` receives the numbers of touched sectors and of erases before the first change (see `restore_announced`).
-/// It must accept every announcement. Returns an error of `restore` or `rewrite`.
+/// `announce` receives the numbers of touched sectors and of erases before the first change (see `restore_announced`
+/// and `rewrite_announced`). It must accept every announcement. Returns an error of `restore` or `rewrite`.
 pub fn run_restore<B: Bus, F: FnOnce(Announcement) + Drop>(
     bus: &mut B,
     journal: &Journal<'_>,
@@ -41,7 +41,7 @@ fn restore_differing<B: Bus, F: FnOnce(Announcement) + Drop>(
     Ok(Answer::Done(report))
 }
 
-// Erases and programs every saved sector, without reading it before.
+// Erases every saved sector without reading it first, and programs its saved bytes.
 fn restore_all<B: Bus, F: FnOnce(Announcement) + Drop>(
     bus: &mut B,
     journal: &Journal<'_>,

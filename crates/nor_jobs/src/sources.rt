@@ -12,7 +12,7 @@ use nor_layout::Ranges;
 /// The contents of the files that a job reads.
 #[derive(Drop)]
 pub struct Sources {
-    /// The addresses of the included regions, or `None` for the whole chip.
+    /// The addresses of the included regions, or `None` if the job isn't limited to regions.
     pub included: Option<Ranges>,
     /// The image to write or to compare, or the journal to restore from; empty if the job needs neither.
     pub bytes: Vec<u8>,
