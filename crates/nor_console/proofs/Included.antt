@@ -59,7 +59,7 @@ pub all_known : (regions : List Region) (names : List ℕ) → first_unknown reg
     → are_known regions names ≡ true
 all_known regions names none = all_pass (is_region_named regions) (names_of names) none
 
--- Holds if the fault is a layout fault or a map fault.
+-- Holds if the fault is `Layout` or `Map`.
 abbrev IsOfLayout : Fault → Type 0
 IsOfLayout (end.Layout fault) = ⊤
 IsOfLayout (end.Map fault) = ⊤

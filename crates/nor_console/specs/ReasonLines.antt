@@ -85,7 +85,8 @@ map_line (map.Outside number) =
     concat (codes "error: region " ∷ decimal number ∷ codes " of the image does not lie in the image\n" ∷ [])
 map_line (map.Region number fault) = region_fault_text fault
 
--- the line that says whether an invalid journal was never sealed or is damaged, or no bytes for any other error
+-- the line that says what may be wrong with an invalid journal (never sealed, cut off, damaged, or no journal), or no
+-- bytes for any other error
 abbrev pub journal_line : Refusal → List ℕ
 journal_line (BadJournal journal.Short) = codes "error: the journal was never sealed, or was cut off later\n"
 journal_line (BadJournal journal.Magic) = codes "error: the file is no journal, or is damaged\n"

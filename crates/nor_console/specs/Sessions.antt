@@ -36,9 +36,9 @@ pub record HasRunSession (request : Request) (image : List ℕ) (old new : BusSt
   pub modelled : IsModelled old → SessionModelled request image old new vault vault' result
   pub returned : AnswersCall ReportsDone result outcome
 
--- Holds if the job's outcome is the report or the error of a call of `session_announced` or `restore_announced`, and if
--- `Announces` holds for that call: the call made an announcement for which `Was` holds or sent no modifying command,
--- and if it succeeded, `Was` holds for the announcement with the report's numbers.
+-- Holds if the job's outcome is the report or the error of a call such as `session_announced`, and if `Announces` holds
+-- for that call: the call made an announcement for which `Was` holds or sent no modifying command, and if it succeeded,
+-- `Was` holds for the announcement with the report's numbers.
 pub record HasAnnounced (Was : Announcement → Type 0) (old new : BusState)
     (outcome : Result Answer Refusal) : Type 0 where
   pub result : Result Report Refusal

@@ -1,5 +1,5 @@
-//! The calls to the engine that flashnor and flashnor-serprog both make. Each function opens the files that its call
-//! needs, and turns the call's result into an answer.
+//! Calls to the engine that read, compare, change or back up a chip. Their functions create or truncate the files that
+//! they write, and turn each call's result into an answer.
 ghost use Rattle.std.specs.Prelude.{◌≡◌, IfErr, IfOk, OnErr, false, option_copied, replicate, true};
 ghost use Rattle.nor_files.specs.Calls.{BorrowsNone};
 ghost use Rattle.nor_files.specs.Files.{OthersStay, is_lawful};

@@ -56,7 +56,7 @@ pub fn reading(error: io::Error, name: &str) -> Fault<'_>
     }
 }
 
-/// Returns file fault 1: the file is missing, or can't be looked up, opened or read.
+/// Returns file fault 1 with this name. `FileFault::Read` lists the reasons.
 pub fn unread(name: &str) -> Fault<'_>
     ensures { result ≡ Faults.File FileFaults.Read name.entry }
 {
@@ -147,8 +147,7 @@ pub fn taken(name: &str) -> Fault<'_>
     Fault::File { fault, name }
 }
 
-/// Returns file fault 2: the file can't be created, truncated, read before it is truncated, locked, written or synced,
-/// or its directory can't be synced.
+/// Returns file fault 2 with this name. `FileFault::Write` lists the reasons.
 pub fn unmade(name: &str) -> Fault<'_>
     ensures { result ≡ Faults.File FileFaults.Write name.entry }
 {

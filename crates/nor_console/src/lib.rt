@@ -4,7 +4,7 @@
 //! that these are printed alike.
 //!
 //! - `answers.rt`: the result of a job
-//! - `calls.rt`: the calls to the engine that both programs make, with their files
+//! - `calls.rt`: calls to the engine, with the files that they write (only flashnor-serprog makes backups)
 //! - `messages.rt`: the faults that end a run with exit status 1, and their texts
 //! - `reasons.rt`: the lines that precede the numbered line of a fault, and say what is wrong
 //! - `escapes.rt`: file names with their control characters escaped

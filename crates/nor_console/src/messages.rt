@@ -15,10 +15,12 @@ use std::{fmt, io};
 /// A failure of a file. The variants are numbered from 1 to 5 in this order, and the message has the number.
 #[derive(Clone, Copy)]
 pub enum FileFault {
-    /// The file is missing, can't be looked up or read, or is a layout of more than 16 MiB.
+    /// The file is missing, can't be looked up or read, or is a layout of more than 16 MiB. For a file of the chip
+    /// also: a read of it may block forever.
     Read = 1,
     /// The file can't be created, truncated, read before it is truncated, locked, written or synced, or its directory
-    /// can't be synced. For the trace also: a line could not be written.
+    /// can't be synced. For the trace also: a line could not be written. For a journal also: after it was sealed, it
+    /// was removed or replaced, or its length changed. Standard output has this fault if it can't be written.
     Write,
     /// The file with the chip's bytes has another length than the chip, or the status file doesn't have two bytes.
     Length,

@@ -156,7 +156,8 @@ fn text_of_region(fault: RegionFault) -> &'static str
     }
 }
 
-/// The line that says whether an invalid journal was never sealed or is damaged, or no text for any other error.
+/// The line that says what may be wrong with an invalid journal (never sealed, cut off, damaged, or no journal), or no
+/// text for any other error.
 #[derive(Drop)]
 pub struct JournalLine<'a>(pub &'a Refusal);
 

@@ -161,7 +161,8 @@ pub fn found_streams<R: Store>(rt: &R) -> Result<(), Fault<'static>>
 }
 
 /// Looks up the file `name`, if a name is given. Call this function before the run opens other files. If the look-up
-/// fails, a later read of this name is file fault 1, even if the name refers to a file by then.
+/// fails on a `Disk`, a later read of this name is file fault 1, even if the name refers to a file by then, unless a
+/// call such as `Store::hold` opened that file.
 ///
 /// Returns error 18 if memory runs out.
 pub fn look_ahead<'a, R: Store>(rt: &R, name: Option<&'a str>) -> Result<(), Fault<'a>>
