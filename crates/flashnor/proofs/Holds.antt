@@ -1,5 +1,6 @@
--- After the chip's files were locked and read, the absence of a missing file is durable. A fault of the second file
--- could also occur with the files as they were at the start.
+-- Lemmas about locking and reading the chip's files. If a file is missing and its directory was synced, its absence is
+-- durable. The image is locked first. What is then read of the status file, and each fault of locking and reading it,
+-- is also allowed for the files as they were before.
 use Rattle.std.proofs.Common.{◌≡◌, ℕ, Bool, Option, None, Ok, IsSomeAnd, arith, false}
 use Rattle.std.specs.Borrow.{Bor}
 use Rattle.nor_files.specs.Calls.{Holds, IsPlaced}

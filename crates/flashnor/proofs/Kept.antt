@@ -61,9 +61,9 @@ module _ (job : ChipJob) (held : Held) (s0 s1 s2 : FilesState) (bus bus' : BusSt
   status_many : length held.content.status ≡ 2
   status_many = grind arith
 
-  -- If the contents that were read of a file of the chip are durable (`MakesDurable`), the file is ready to be
-  -- overwritten with the same number of bytes (`IsReadyIfNamed`). The file's name must be apart from the names of the
-  -- trace and of the file that the task creates.
+  -- If the contents that were read of a file of the chip, or its absence, are durable (`MakesDurable`), the file is
+  -- ready to be written with the same number of bytes (`IsReadyIfNamed`). The file's name must be apart from the names
+  -- of the trace and of the file that the task creates.
   ready : (name : Option (Bor Text)) (there : Bool) (had put : List ℕ)
       → AreTwo s0.view.nature name job.programmer.trace → AreTwo s0.view.nature name (made_by job.task)
       → MakesDurable name (was there had) s1 → length had ≡ length put

@@ -1,5 +1,5 @@
--- The results of the jobs that only identify the chip, on a ready bus (`IsReady`). They are derived from what these
--- jobs promise on every bus.
+-- The results of the jobs that only identify the chip, on a ready bus (`IsReady`). They are derived from the promises
+-- of these jobs (`HasLookedUp`).
 use Rattle.std.proofs.Common.{◌∙◌, Option, Result, Ok, Err, MatchResult, ap}
 use Rattle.nor_model.specs.Bus.{BusState}
 use Rattle.nor_probe.specs.declared.probes.Found.{Found}

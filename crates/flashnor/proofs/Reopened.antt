@@ -27,10 +27,10 @@ module _ {programmer : Programmer} {files : FilesState} (first : Opened programm
 abbrev pub IsEither : (had bytes has : List ℕ) → Type 0
 IsEither had bytes has = (i : ℕ) → (slice_index has i ≡ slice_index had i) ⊎ (slice_index has i ≡ slice_index bytes i)
 
--- Suppose that a later run finds the contents `left` of a file of the chip. Then each byte is the old or the new byte
--- at its position (`IsEither`). If the file was moved aside, each byte is the old one, since the file was missing at
--- first and a missing file is opened as `missing`. `over` in Kept.antt needs this for the image and for the status
--- file.
+-- Suppose that a later run finds the contents `left` of a file of the chip, with as many bytes as `bytes`. Then each
+-- byte is the old or the new byte at its position (`IsEither`). If the file was moved aside, each byte is the old one,
+-- since the file was missing at first and a missing file is opened as `missing`. `over` in Kept.antt needs this for the
+-- image and for the status file.
 pub found_either : (view : View) (named : Option (Bor Text)) (len : ℕ) (missing had bytes : List ℕ)
     (are : AreOfFile view named len missing had) (there : Bool) (files : FilesState) (left : Found)
     → (there ≡ false → had ≡ missing) → LeavesAmid named there had bytes files → MayFind named are.found left files

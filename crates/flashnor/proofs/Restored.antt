@@ -1,5 +1,5 @@
--- The result of a restore on a modelled bus that is steady or whose chip is idle. It is derived from what a restore
--- promises on every bus.
+-- The result of a restore on a modelled bus that is steady or whose chip is idle. It is derived from the promises of
+-- the restore (`HasRunRestore`).
 use Rattle.std.proofs.Common.{◌∙◌, Option, None, Some, Result, Ok, Err, inl, inr, true}
 use Rattle.nor_model.specs.Bus.{BusState}
 use Rattle.nor_driver.specs.OnlyReads.{IsSteadyOrIdle, OnlyReads}

@@ -103,7 +103,8 @@ abbrev pub IsStream : Nature → ChipJob → Fault → Type 0
 IsStream nature job (end.File file.Taken of) = IsPrintedName nature job of.now
 IsStream nature job _ = ⊥
 
--- True if the job may change or create a file: a file of the chip, the trace, or the output of a readout.
+-- True if the job may change or create a file: a file of the chip, a change's journal, the trace, or the output of a
+-- readout.
 abbrev pub changes_files : ChipJob → Bool
 changes_files job = writes_back job.task || (is_some job.programmer.trace || is_some (named_by job.task).output)
 

@@ -37,10 +37,11 @@ pub struct Held {
 ///
 /// Returns one of these faults:
 ///
-/// - file fault 1 if a file can't be read, if reading may block without end, or if the store finds no file of a name
+/// - file fault 1 if a file can't be looked up or read, if it is a directory, or if the store finds no file of a name
 ///   that it has locked
 /// - file fault 2 if a file can't be opened for overwriting, locked or synced, or its directory can't be synced; on a
-///   `Disk` also if the file was removed or replaced after it was locked, since a sync then fails
+///   `Disk` also for a FIFO, a device or a dangling link, and if the file was removed or replaced after it was locked,
+///   since a sync then fails
 /// - file fault 3 if the image has another length than the chip, or the status file does not have two bytes
 /// - file fault 5 if another process has locked a file
 /// - error 18 if memory runs out
@@ -127,8 +128,8 @@ fn read_held<'a, R: Store>(rt: &mut R, name: &'a str, len: u32) -> Result<Vec<u8
 }
 
 /// The names of files that were not written or were lost in a run. The image and the status file are named if they
-/// could not be written, and the trace if it lost a line. The journal is named if it was removed, replaced or truncated
-/// after the session sealed it.
+/// could not be written, and the trace if it lost a line. The journal is named if it was removed or replaced, or if its
+/// length changed, after the session sealed it.
 #[derive(Clone, Copy)]
 pub struct Unwritten<'a> {
     pub image: Option<&'a str>,
@@ -137,8 +138,8 @@ pub struct Unwritten<'a> {
     pub journal: Option<&'a str>,
 }
 
-/// Returns the name of the journal that the task created and sealed, if the file of that name no longer holds the
-/// journal.
+/// Returns the name of the journal that the task created and sealed, if that name no longer refers to the journal's
+/// file, or if the file has another length (`Store::is_kept`).
 pub fn lost_journal<'a, R: Store>(rt: &R, task: &Task<'a>) -> Option<&'a str>
     ensures { IsReportedOf (journal_by task.now) result (R.state rt.now).view }
 {

@@ -71,7 +71,8 @@ pub fn have_one_role<'a, R: Store>(rt: &R, job: &ChipJob<'a>) -> Result<(), Faul
 }
 
 /// Looks up the files that the task only reads (the layout, and the image to write or compare), before the run opens
-/// any file. If such a name can't be looked up now, reading the file later returns file fault 1.
+/// any file. On a `Disk`, if such a name can't be looked up now, reading the file later returns file fault 1, unless
+/// the name is also that of a chip's file that the run has locked.
 ///
 /// Returns error 18 if memory runs out.
 pub fn look_at_sources<'a, R: Store>(rt: &R, job: &ChipJob<'a>) -> Result<(), Fault<'a>>

@@ -29,8 +29,8 @@ use std::io;
 use std::io::Write;
 use std::rt::Files;
 
-/// Performs the job given by the program's arguments, prints results to `output` and faults to `errors`, and returns
-/// the exit status: 0, or 1 after any fault or if not all results could be printed.
+/// Performs the job given by the program's arguments, or prints the help. Prints results and the help to `output` and
+/// faults to `errors`. Returns the exit status: 0, or 1 after any fault or if not all results could be printed.
 ///
 /// If standard error prints to a file of the job, the fault that reports this is printed to `output`. If standard
 /// output prints to a file of the job too, that fault isn't printed.

@@ -130,7 +130,8 @@ fn printed_in_role<'a, R: Store>(
     }
 }
 
-// True if the job may change or create a file: a file of the chip, the trace, or the output of a readout.
+// True if the job may change or create a file: a file of the chip, a change's journal, the trace, or the output of a
+// readout.
 fn changes_files(job: &ChipJob<'_>) -> bool
     ensures { result ≡ changes_files job.now }
 {
