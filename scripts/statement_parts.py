@@ -33,15 +33,15 @@ FIELDS = {
 # The names that STATEMENT.md describes in one line each; the appendices have their definitions.
 NAMES = {
     "Sent":
-        "`Sent`: the transactions that the bus was given, the last one first, each with all bytes that it was to send. "
+        "`Sent`: the transactions that `Records` adds, the last one first, each with all bytes that it was to send. "
         "No program can read or clear it.",
     "Records":
         "`Records out answer result old new`: if `out` is empty or begins with 03h, 04h, 05h, 35h, 4Bh, 5Ah or 9Fh, "
         "`sent` stays. Otherwise all of `out` is put before the old `sent`, even if the bus stopped.",
     "IsFresh": "`IsFresh vault`: the vault is unsealed, and accepted no byte.",
     "Vault":
-        "`Vault`: the trait of a vault. `put` appends a piece to `bytes`. A call that fails counts as a refusal, and "
-        "may have appended a prefix of the piece.",
+        "`Vault`: the trait of a vault. `put` appends a piece to `bytes`. A call that fails counts as a refusal. A "
+        "`put` that fails appends the first bytes of the piece: none, some or all.",
     "Kinds":
         "`Kinds`: the fields `k32` and `k64` say whether 52h erases 32 KiB and D8h 64 KiB.",
     "has_srp0": "`has_srp0 kept`: SRP0 is set.",
@@ -54,13 +54,13 @@ NAMES = {
     "with_code": "`with_code code kept`: `kept` with the protection bits of `code` in place of its own.",
     "is_chip_size": "`is_chip_size n`: `n` is a power of two from 64 KiB to 16 MiB.",
     "IsChip": "`IsChip chip`: bytes are below 256, status bits fit their registers, and `busy` is below 65,536.",
-    "Command": "`Command`: what a transaction asks for. Its cases are in the equations above.",
+    "Command": "`Command`: what a transaction asks for, with the cases above.",
     "is_idle": "`is_idle chip`: `busy` is 0.",
     "is_protected":
         "`is_protected chip a`: the chip has block protection, and its protection bits protect the address `a`.",
     "is_block_protected":
         "`is_block_protected chip start len`: the first or the last of the `len` addresses from `start` on is "
-        "protected. Protected addresses lie at one end of the chip, so this holds if any of these is protected.",
+        "protected, which is so if any is: protected addresses lie at one end of the chip.",
     "Stopped": "`Stopped`: what a transaction returns that failed.",
     "SameNature":
         "`SameNature old new`: `honest`, `steady` and `unlimited` are as before. On a well-behaved bus `config` of the "
@@ -69,9 +69,10 @@ NAMES = {
         "`IsHonestFor out n bus`: the bus is well-behaved, and takes a transaction of this length: `out` has at most "
         "260 bytes and `n` is at most 4,096, or the bus is `unlimited`. No call sends or reads more.",
     "IsGenuine":
-        "`IsGenuine config`: if the table has the ID, size, erase types and block protection are those of its row: EF "
-        "40 17 (W25Q64FV, 8 MiB) or EF 40 18 (W25Q128FV, 16 MiB), with all erase types and block protection. Otherwise "
-        "the chip has no block protection and, if its SFDP is accepted, the size and erase types that the SFDP gives.",
+        "`IsGenuine config`: if the table has the ID, size, erase types and block protection are those of its row. The "
+        "rows are EF 40 17 (W25Q64FV, 8 MiB) and EF 40 18 (W25Q128FV, 16 MiB), with all erase types and block "
+        "protection. Without a row, the chip has no block protection and, if its SFDP is accepted, the size and erase "
+        "types that the SFDP gives.",
     "IsKnown":
         "`IsKnown config`: the chip is genuine, its ID isn't FF FF FF or 00 00 00, and the table has it or its SFDP is "
         "accepted.",
@@ -85,12 +86,12 @@ NAMES = {
         "FF FF FF FF; the SHA-256 of all bytes before it. Size and numbers take four bytes each, little-endian. Format 1 has "
         "`NORUNDO1` and no unique ID.",
     "IsOfType": "`IsOfType journal config`: the journal has the ID and the size of the chip.",
-    "is_saved": "`is_saved journal s`: the journal saves sector `s`, which is the 4,096 addresses from 4096 * s on.",
+    "is_saved": "`is_saved journal s`: the journal saves sector `s`.",
     "Saves":
         "`Saves old saved journal`: the journal is valid (`IsContent`), saves exactly the sectors of `saved`, and has "
         "their bytes in `old`. In `SavesChip`, `saved` is the journal's own set, so there only the bytes matter.",
     "is_known_running": "`is_known_running running`: the operation isn't `Unknown`.",
-    "Journal": "`Journal`: a journal that was read. In contracts its value is a `Content`.",
+    "Journal": "`Journal`: a journal that was read; in contracts, a `Content`.",
     "JournalFault": "`JournalFault`: why bytes are no journal.",
     "ChipName": "`ChipName`: W25Q64FV, W25Q128FV, SFDP for a chip without a row, or a name that no chip has.",
     "Ranges": "`Ranges`: at most 64 spans of addresses, each with at least one address.",
@@ -102,7 +103,9 @@ NAMES = {
     "IsLeastCode":
         "`IsLeastCode size start len code`: `code` is the least number below 64 whose protection bits are defined (not "
         "SEC with BP 110) and protect exactly the `len` addresses from `start` on.",
-    "Report": "`Report`: the chip that was found, and counts, which are right (`reported`). A session with nothing to change sent no modifying command (`unsent`).",
+    "Report":
+        "`Report`: the chip that was found, and counts, which are right (`reported`). A session with nothing to change "
+        "sent no modifying command (`unsent` of `IsDone`).",
     "Refusal": "`Refusal`: the errors of calls.",
     "refusal_number": "`refusal_number refusal`: the number of the error.",
     "RefusalHolds":
@@ -116,8 +119,8 @@ NAMES = {
         "sectors.",
     "Choice": "`Choice`: which sectors a restore touches and raises.",
     "differing":
-        "`differing`: the touched sectors are the saved ones in which a byte differs from the saved byte, the raised "
-        "ones those of them in which a bit must go from 0 to 1.",
+        "`differing`: a restore touches the saved sectors in which a byte differs from the saved byte, and raises those "
+        "in which a bit must go from 0 to 1.",
     "IsRestoreVerdict":
         "`IsRestoreVerdict choice journal chip refusal`: the error is the first of the list above that applies.",
 }
