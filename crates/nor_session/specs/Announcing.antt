@@ -8,8 +8,8 @@ use Rattle.nor_request.specs.declared.report.Report.{Report}
 use Rattle.nor_request.specs.declared.refusal.Refusal.{Refusal}
 use Rattle.nor_session.specs.declared.announcement.Announcement.{Announcement}
 
--- the announcement of these changes: the given number of touched sectors, and the least number of erases that cover
--- exactly the raised sectors
+-- The announcement of these changes: the given number of touched sectors, and the number of erases planned for the
+-- raised sectors. If the raised sectors lie on the chip, that number is the least with which erases cover exactly them.
 abbrev pub announcement_of : Changes → (touched : ℕ) → Announcement
 announcement_of changes touched =
     record { touched = touched; erases = fewest_erases changes.kinds (changes.size / 4096) (raised_in changes) }

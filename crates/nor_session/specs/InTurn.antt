@@ -14,7 +14,8 @@ use Rattle.nor_session.specs.Restore.{NeedsStatusFrom}
 use Rattle.nor_session.specs.WrittenOver.{IsWrittenOver}
 
 -- Holds if a session on a modelled bus left this journal in a faithful vault. The session ended, or was stopped
--- anywhere after the seal, so what it promises after the seal holds (`CanBeUndone`).
+-- anywhere after the seal, so what it promises after the seal holds (`CanBeUndone`). The original chip's values are in
+-- range (`IsChip`), which each well-behaved bus ensures.
 pub record LeavesJournal (request : Request) (image : List ℕ) (old new : BusState) (journal : Content) : Type 0 where
   pub modelled : IsModelled old
   pub is : IsChip old.chip

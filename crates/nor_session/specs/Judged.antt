@@ -19,8 +19,8 @@ use Rattle.nor_scan.specs.Verdict.{IsNamed, IdentityAccepts}
 use Rattle.nor_probe.specs.Known.{IsModelled}
 use Rattle.nor_session.specs.Session.{SessionAlways, SessionHonest, SessionModelled}
 
--- Holds if the identification found a chip type, and if the checks accepted the request for an image of `image` bytes,
--- with the target protection bits `code`.
+-- Holds if the identification found a chip type with at most 65,542 transactions, and if the checks accepted the
+-- request for an image of `image` bytes, with the target protection bits `code`.
 pub record IsJudged (request : Request) (image : ℕ) (identity : Identity) (code : ℕ) : Type 0 where
   pub part : IsPart identity.found
   pub few : identity.transactions ≤ most_identity

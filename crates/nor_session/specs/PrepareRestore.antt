@@ -149,7 +149,8 @@ pub record MarksChosen (choice : Choice) (journal : Content) (old new : BusState
 abbrev pub plan_of_rewritten : SectorPlan
 plan_of_rewritten = record { touched = true; raised = true }
 
--- Holds if every saved sector is marked as touched and as raised, and no other sector is.
+-- Holds if every saved sector is marked as touched and as raised, no other sector is, and the marks and their count are
+-- right for the choice of a rewrite (`MarksChosen`).
 pub record MarksSaved (journal : Content) (scanned : Scanned) : Type 0 where
   pub touched : (s : ℕ) → has scanned.touched s ≡ is_saved journal s
   pub raised : (s : ℕ) → has scanned.raised s ≡ is_saved journal s
@@ -262,7 +263,8 @@ pub record IsSoundChoice (choice : Choice) : Type 0 where
       → choice.touched journal content s ≡ true
   pub few : (saved : ℕ) → choice.reads saved ≤ saved
 
--- Holds if a restore that began in the state `old` has prepared its changes, and left the state `new`.
+-- Holds if a restore that began in the state `old` has prepared its changes, and left the state `new`. Its choice of
+-- sectors is sufficient (`IsSoundChoice`), it only read, and the journal fits the replies to its identification.
 pub record HasPrepared (choice : Choice) (journal : Content) (old new : BusState)
     (prepared : PreparedRestore) : Type 0 where
   pub sound : IsSoundChoice choice

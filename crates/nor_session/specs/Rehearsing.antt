@@ -28,10 +28,11 @@ use Rattle.nor_session.specs.Rehearsal.{CanEnd, SealFits, AreRestores, FitsLastS
 
 -- ---- the session
 
--- Holds if these bytes can restore the original chip (`first`) on this bus. The original chip is known (`IsKnown`). The
--- bytes are a journal of it that saves exactly the sectors in `saved`. All these sectors lie inside the chip, and if
--- the chip's status is locked, none of them is protected. The bus's chip differs from the original one only in bytes of
--- these sectors, in protection bits that can be written, and in BUSY and WEL (`IsWithin`).
+-- Holds if these bytes can restore the original chip (`first`) on this bus. The original chip is known (`IsKnown`), and
+-- its values are in range (`IsChip`). The bytes are a journal of it that saves exactly the sectors in `saved`. All
+-- these sectors lie inside the chip, and if the chip's status is locked, none of them is protected. The bus's chip
+-- differs from the original one only in bytes of these sectors, in protection bits that can be written, and in BUSY and
+-- WEL. On a bus that isn't steady, an operation in progress is limited too (`IsWithin`).
 pub record CanUndo (saved : ℕ → Bool) (first : Chip) (text : List ℕ) (state : BusState) : Type 0 where
   pub is : IsChip first
   pub known : IsKnown first.config

@@ -16,7 +16,7 @@ use nor_request::{Refusal, Report, Request};
 use nor_scan::{Identity, save};
 
 /// The state of a session whose request was checked against the identification, and in which nothing is saved yet. A
-/// `Judged` holds all that the session uses until it returns.
+/// `Judged` holds all that the rest of the session uses, except the closure for the announcement.
 pub(crate) struct Judged<'a, B: Bus, V: Vault> {
     pub(crate) bus: &'a mut B,
     pub(crate) vault: &'a mut V,

@@ -1,6 +1,6 @@
-//! Laws (theorems) on sessions and restores that follow one another, and on chips in files. They say which chips a
-//! journal can restore after a session, after a loss of power, and while files are being overwritten, and which chips
-//! restores leave.
+//! Laws (theorems) on sessions and restores that follow one another, on chips in files, and on backups. They say which
+//! chips a journal can restore after a session or backup, after a loss of power, and while files are being overwritten,
+//! and which chips restores leave.
 ghost use Rattle.std.specs.Prelude.{◌≡◌, ◌⊎◌, true, ℕ, List};
 ghost use Rattle.nor_model.specs.Bus.{BusState};
 ghost use Rattle.nor_model.specs.Chip.{Chip, IsChip, IsSame};
@@ -18,7 +18,7 @@ ghost use Rattle.nor_session.specs.Session.{CanBeUndone, HoldsBegun};
 ghost use Rattle.nor_session.specs.WrittenOver.{IsWrittenOver};
 
 /// If a journal saves the chip in its present state (`SavesChip`), a restore from this journal that succeeds on a
-/// modelled bus changes nothing. That is so, for example, after another restore from the same journal.
+/// modelled bus changes nothing. That is so, for example, after another restore from the same journal succeeded.
 pub fn restored_stays()
     ensures { (journal : Content) (first : Chip) (old new : BusState) (report : Report)
         → SavesChip journal first → IsSame first old.chip → IsRestored journal old new report

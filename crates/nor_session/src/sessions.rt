@@ -1,5 +1,5 @@
 //! The calls `session` and `session_announced`, which save each sector that they will change, and then change the chip
-//! as the request asks.
+//! as the request asks. `accepted_alone` states that an accepted request has no error as its verdict.
 ghost use Rattle.std.specs.Prelude.{◌≡◌, ℕ, List, true};
 ghost use Rattle.nor_model.specs.Chip.{Chip};
 ghost use Rattle.nor_journal.specs.Vault.{IsFresh};
