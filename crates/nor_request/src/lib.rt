@@ -18,7 +18,8 @@
 //! ```
 //!
 //! `specs/Request.antt` defines what a request asks of a chip, and `specs/Refusal.antt` the numbers of errors.
-//! `specs/Texts.antt` defines the texts of errors, and `specs/Errors.antt` what an error during identification means.
+//! `specs/Texts.antt` defines the texts of errors. `specs/Errors.antt` defines what an error during identification
+//! means, and how the history of the bus ends after an error.
 #![tactic(auto)]
 
 mod refusal;
