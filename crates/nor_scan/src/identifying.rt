@@ -1,5 +1,5 @@
-//! The identification at the start of every session and restore: it finds the chip, and reads status 2 and the unique
-//! ID.
+//! The identification at the start of a session, restore or backup: it finds the chip, and reads status 2 and the
+//! unique ID. A restore finds the chip by itself, and then calls only `read_on`.
 ghost use Rattle.std.specs.Prelude.{◌≡◌, ◌<◌, ◌≤◌, true, IfOk, IfErr, OnErr, IsTrue};
 ghost use Rattle.nor_model.specs.Size.{is_chip_size};
 ghost use Rattle.nor_driver.specs.OnlyReads.{OnlyReads, HasStopped};

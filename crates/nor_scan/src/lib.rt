@@ -1,8 +1,9 @@
 //! The part of a session before the first modifying command: identifies the chip, checks the request, scans the
-//! sectors, and writes the touched ones to the journal. nor_session adds the changes.
+//! sectors, and writes the touched ones to the journal. nor_session adds the changes. `save_whole` saves a whole chip,
+//! for backups.
 //!
 //! - `identity.rt`: the result of the identification
-//! - `identifying.rt`: the identification, for sessions and restores
+//! - `identifying.rt`: the identification, for sessions, restores and backups
 //! - `judging.rt`: checks a request against the identification, and against the touched sectors
 //! - `scanning.rt`: reads the sectors, and finds those that the session will touch
 //! - `saving.rt`: scans the sectors, checks the touched ones, and seals the journal

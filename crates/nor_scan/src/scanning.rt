@@ -24,6 +24,8 @@ use nor_request::{Refusal, Request, What};
 
 /// The result of a scan. A sector is touched if some byte in it differs from the target, and raised if it must be
 /// erased. `count` is the number of touched sectors, and `reads` the number of sectors that were read.
+///
+/// A rewrite scans nothing: it marks every saved sector as touched and raised, and both numbers count these sectors.
 #[derive(Clone, Copy)]
 pub struct Scanned {
     pub touched: SectorSet,
