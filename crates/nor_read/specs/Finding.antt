@@ -65,8 +65,8 @@ most_read size = most_probe + size / 4096
 
 -- ---- the report
 
--- Holds if the report has a chip with the requested name, if any, and counts no change. `read_out` and `verify` promise
--- this on every bus.
+-- Holds if the report has a chip with the requested name, if any, counts no change, and counts at most the bound
+-- `most_read` of transactions. `read_out` and `verify` promise this on every bus.
 pub record ReportsPart (named : Option ChipName) (report : Report) : Type 0 where
   -- The chip is in the table, or was identified by SFDP.
   pub part : IsPart report.found

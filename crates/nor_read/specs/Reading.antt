@@ -174,8 +174,8 @@ pub record BreaksCopy (included : Option (List Span)) (size written : ℕ) (old 
   pub copy : IsOpen size old → vault.telling ≡ true → Copies included old.chip.bytes written vault vault'
 
 -- The meaning of an error of the copy. After a stop the vault has refused nothing, and the bus stopped at the last
--- transaction. On a well-behaved bus fewer transactions were left at the start than the chip has sectors. After error
--- 19 `BreaksCopy` holds.
+-- transaction. On a well-behaved bus fewer transactions were left at the start than a chip of `size` bytes has sectors.
+-- After error 19 `BreaksCopy` holds.
 abbrev pub CopyErrors : Option (List Span) → ℕ → (old new : BusState) → (vault vault' : VaultState) → Refusal → Type 0
 CopyErrors included size old new vault vault' Stopped = HasStopped (size / 4096) old new × Accepted vault vault'
 CopyErrors included size old new vault vault' (Output written) = BreaksCopy included size written old new vault vault'

@@ -30,8 +30,8 @@ struct Compared {
 ///
 /// Returns error 1 (no chip), 2 (unknown chip), 3 (other name), 4 (the image isn't as long as the chip) or 5 (an
 /// included address isn't on the chip). Returns 12 if the bus stopped, 13 if the chip stayed busy (not on a
-/// well-behaved bus), and 14 with the first included address at which chip and image differ. On any bus, nothing is
-/// sent after the bus stopped, or after the poll for which error 13 is returned.
+/// well-behaved bus), and 14 with the first included address at which the bytes that were read and the image differ. On
+/// any bus, nothing is sent after the bus stopped, or after the poll for which error 13 is returned.
 pub fn verify<B: Bus>(
     bus: &mut B,
     image: &[u8],
