@@ -1,4 +1,4 @@
-//! Reading a journal.
+//! Reading a journal, the length of a journal, and laws about journals.
 ghost use Rattle.std.specs.Prelude.{◌≡◌, ◌↔◌, ℕ, ◌/◌, ◌<◌, ◌≤◌, Bool, List, ◌++◌};
 ghost use Rattle.std.specs.Prelude.{length, take, slice_get};
 ghost use Rattle.std.specs.Prelude.{Some, None, IfSome, MatchOption, IfOk, IfErr, OnOk, IsOkAnd};
