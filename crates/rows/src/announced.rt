@@ -13,7 +13,7 @@ use std::process::Abort;
 //
 // - the numbers of touched sectors and of erases of its session
 // - the same numbers of a restore after that session
-// - the number of transactions that a restore sends before its first change: seven to identify a chip by its SFDP or
+// - the number of transactions that a restore sends before its announcement: seven to identify a chip by its SFDP or
 //   four for a W25Q64FV, and one for each saved sector
 const ROWS: [(Row, (u32, u32), (u32, u32), u64); 8] = [
     (Row::ABitFalls, (1, 0), (1, 1), 8),

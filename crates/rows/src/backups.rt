@@ -1,5 +1,5 @@
-//! Backups of whole chips that are stopped after each number of their transactions, and restores from a backup after
-//! sectors changed that no session touched.
+//! Backups of whole chips: stopped after each number of their transactions, with a vault that refuses a call, or of a
+//! chip that isn't the named one. Restores from a backup after sectors changed that no session touched.
 use crate::held::assert_held;
 use crate::row::{Row, Start};
 use crate::runs::{AMPLE, assert_untouched, keep};

@@ -1,5 +1,6 @@
-//! Rewrites, which erase and program every saved sector whatever its bytes are. Each rewrite is stopped after each
-//! number of its transactions, and then the chip is rewritten again, or restored.
+//! Rewrites. A rewrite erases every saved sector, and programs each of its pages whose saved bytes aren't all FFh, even
+//! if the chip already has the saved bytes. Each rewrite is stopped after each number of its transactions, and then the
+//! chip is rewritten again, or restored.
 use crate::held::assert_held;
 use crate::row::{Row, Start};
 use crate::runs::{AMPLE, Cut, Runs};

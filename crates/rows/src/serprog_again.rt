@@ -135,8 +135,9 @@ fn parts_of_sectors_are_read_again(rt: HostRuntime) {
 }
 
 // If a second read differs from the first one, the bus stops, and nothing is sent after it. In the first two cases two
-// sectors are read again: the reread of the first one differs in the first case, and that of the second one in the
-// second case. In the third case only the first byte of the last sector is read and reread, and it differs.
+// sectors of the chip differ from the image: the second read of the first one is spoilt in the first case, and that of
+// the second one in the second case. In the third case the read covers only the first byte of its last sector, and the
+// second read of this byte is spoilt.
 #[test]
 fn a_sector_that_differs_stops_the_bus(rt: HostRuntime) {
     let cases: [(u64, usize, &'static [usize], &'static [u8]); 3] = [

@@ -1,4 +1,4 @@
-//! Transactions over a serprog port in memory, batches of commands, and the state of the buses after each fault.
+//! Transactions over a serprog port in memory, batches of commands, and the state of the buses after faults.
 
 use crate::serprog_model::{Fault, Model};
 use nor_chip::Bus;

@@ -59,8 +59,9 @@ fn always_busy<'a>(
     )
 }
 
-// Each row has a command, the typical time of the operation that it begins, and the pause before the third poll after
-// the command, both in microseconds. The last command begins no operation.
+// Each row has a command, the time that `Paced` expects of the operation that it begins, and the pause before the third
+// poll after the command, both in microseconds. The expected time is the typical one, but the erase of a whole chip
+// (C7h) counts as one of 64 KiB. The last command begins no operation.
 const COMMANDS: [(&[u8], u64, u64); 7] = [
     (&[0x02, 0, 0, 0, 0], 700, 100),
     (&[0x01, 0, 0], 10_000, 625),
@@ -98,8 +99,8 @@ fn polls_of_a_busy_chip_are_paced(rt: HostRuntime) {
 }
 
 // The chip shows BUSY in each poll. The first poll after a command is sent without a pause. The pause before the second
-// one is the typical time of the operation, less the time since the command; there is no pause if more time has passed.
-// If the clock fails, the pause is the whole typical time. A reply to a poll has one or two bytes.
+// one is the expected time of the operation, less the time since the command; there is no pause if more time has
+// passed. If the clock fails, the pause is the whole expected time. A reply to a poll has one or two bytes.
 #[test]
 fn the_second_poll_comes_after_the_typical_time(rt: HostRuntime) {
     for (command, typical, third) in COMMANDS {

@@ -1,5 +1,5 @@
-//! Sessions and restores that are stopped inside a transaction. At each stop the bus still sends the first bytes of the
-//! next transaction, and then the chip keeps its power or loses it.
+//! Sessions and restores that are stopped before, inside or after a transaction. At each stop the bus still sends none,
+//! some or all of the bytes of the next transaction, and then the chip keeps its power or loses it.
 //!
 //! Each test asserts how many sessions or restores it stopped.
 use crate::row::{Row, Start};
