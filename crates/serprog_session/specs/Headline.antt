@@ -128,5 +128,6 @@ pub record RestoresOriginalChip (journal : Content) (old new : PortState)
   pub kept : OnOk result (new.device.chip.kept ≡ kept_in journal.status)
   -- an error is the verdict on the journal and the chip, or a failure of the port (`RestoreFails`)
   pub errors : IfErr result (RestoreFails journal old)
-  -- after an error that a restore checks first (`IsCheckedFirst`), the programmer's chip is as it was
+  -- after an error that a restore checks first (`IsCheckedFirst`), the contents and the non-volatile status bits of the
+  -- programmer's chip are as they were
   pub same : IfErr result (λ refusal. IsCheckedFirst refusal → IsSame old.device.chip new.device.chip)

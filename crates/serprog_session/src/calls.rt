@@ -14,7 +14,8 @@ use nor_session::{Refusal, Report, Request, restore, session};
 /// makes the chip what `request` asks for. `vault` must be empty and unsealed; `image` is as for `session`.
 ///
 /// The port may fail at any call, and inside any exchange. The promises depend on the port and its chip. (A *genuine*
-/// chip has the properties that its row in the table of chips says, or, without a row, its SFDP: `ReachesGenuine`.)
+/// chip has the size, erase types and block protection of its row in the table of chips. Without a row it has no block
+/// protection and, if its SFDP is accepted, the size and erase types that the SFDP describes: `ReachesGenuine`.)
 ///
 /// - On every port, no modifying command is sent before the vault is sealed. An error is one that `session` returns (1
 ///   to 14). After an error from 1 to 11 the vault isn't sealed.
@@ -49,8 +50,9 @@ pub fn session_over<P: Port + Drop, V: Vault>(
 /// - On every port, the modifying commands that are sent fit the journal (`SendsSaved`): they target only sectors that
 ///   it saves, or the whole chip if it saves each sector, and they write only status bits that it allows. None is sent
 ///   before an error other than 12, 13 and 14.
-/// - On a well-behaved port to a genuine chip, success leaves the saved bytes and status bits. An error is the verdict
-///   of `restore`, which leaves the chip as it was, or 12 (the port failed).
+/// - On a well-behaved port to a genuine chip, success leaves the saved bytes and non-volatile status bits. An error is
+///   12 (the port failed), or the verdict of `restore`. The verdict leaves the chip's contents and non-volatile status
+///   bits as they were.
 /// - If in addition the journal can restore an original chip at the start, it can restore that chip at every exit. Then
 ///   success restores that chip and leaves it idle, and the only possible error is 12.
 pub fn restore_over<P: Port + Drop>(
