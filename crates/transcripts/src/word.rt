@@ -17,7 +17,7 @@ pub enum Word {
     Program,
     /// `erase OPCODE SECTOR = RESULT`: erases the block that begins at this sector (`erase`).
     Erase,
-    /// `protect STATUS CODE = RESULT`: writes this status with other protection bits (`write_status`).
+    /// `protect STATUS CODE = RESULT`: writes this status with the protection bits `CODE` (`write_status`).
     Protect,
     /// `| LINE`: the next line of the trace. A case has all lines of its trace, or none.
     Traced,
@@ -37,7 +37,8 @@ pub enum Word {
     Sets,
     /// `unit STATUS START..END = guarded`, or `= free`: whether this status protects some address of the range.
     Unit,
-    /// `least START LENGTH = CODE`, or `= none`: the least value of the protection bits that protects this range.
+    /// `least START LENGTH = CODE`, or `= none`: the least value of the protection bits that protects exactly this
+    /// range.
     Least,
     /// `size SIZE SFDP = made`, or `= none`: whether a chip may have this size and this number of SFDP bytes.
     Size,
