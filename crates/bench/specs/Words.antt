@@ -15,8 +15,8 @@ request_named word =
     else if bytes_eq word (codes "answers") then Answers
     else Unknown
 
--- The job that the arguments select. No argument prints the usage, one argument selects a job, and more than one are an
--- error.
+-- The job that the arguments select. No argument prints the usage, one argument selects the job with its name
+-- (`request_named`), and more than one are an error.
 abbrev pub request_of : List (List ℕ) → Request
 request_of [] = Usage
 request_of (word ∷ []) = request_named word

@@ -50,8 +50,9 @@ const TOUCHING: Measurement = Measurement {
     rounds: 15,
 };
 
-/// Prints the times of three sessions and a restore, each as a ratio to the time of a reference. The reference computes
-/// the SHA-256 digest of the journal, or copies the contents of the chip. Returns a checksum of all results.
+/// Prints the times of three sessions and a restore, each as a ratio to the time of a reference. The first session and
+/// the restore are timed with an erase of the chip before them. The reference computes the SHA-256 digest of a journal,
+/// or copies the contents of the chip. Returns a checksum of all results.
 pub fn measure<R: Clock + Print + AllocGlobal>(rt: &R) -> Result<u64, Fault> {
     let alloc = rt.alloc();
     let image = scattered(alloc)?;
