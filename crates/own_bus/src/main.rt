@@ -4,7 +4,7 @@
 //! Without arguments the example simulates a serial programmer and a chip: it reads the chip out into a file, changes
 //! the chip with a journal, and restores it. Then it begins the same change on a second simulated chip, over a bus that
 //! does not speak serprog and whose wires are cut during the session. If the argument is the name of a serial port, the
-//! example identifies the chip of the programmer at that port, and changes nothing.
+//! example identifies the chip of the programmer at that port, and does not change the chip.
 //!
 //! - `main.rt`: the steps of the example
 //! - `device.rt`: a port over a device file
