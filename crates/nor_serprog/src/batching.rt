@@ -10,7 +10,7 @@ use nor_model::{Bus, History, Stopped};
 
 /// A bus to the chip at a serial programmer, over any port. It needs fewer round trips than `SerprogBus`, because it
 /// sends a modifying command that requests no reply together with the next transaction of another kind, if the
-/// programmer's serial buffer holds both. After a modifying command the engine polls, so write enable, page program and
+/// programmer's serial buffer holds both. After each page program the engine polls, so write enable, page program and
 /// the first poll are one write to the port, if the buffer holds all three.
 ///
 /// - `transfer` of a modifying command (06h, 01h, 02h, 20h, 52h, D8h, C7h) that reads no reply may return `Ok` before
@@ -26,9 +26,10 @@ use nor_model::{Bus, History, Stopped};
 /// without a reply. A modifying command that waits is already in the history, with an empty reply, and stays there even
 /// if it is dropped.
 ///
-/// A transaction that sends more than 260 bytes, or reads more than the programmer can, is rejected: nothing is sent,
-/// and the commands that wait still wait. After any other transaction that failed, no command waits, and no transaction
-/// is sent until `synchronize` returns `Ok`. The programmer may have carried out any part of the commands that waited.
+/// A transaction that sends more than 260 bytes, or reads 2^24 bytes or more, or more than the programmer can, is
+/// rejected: nothing is sent, and the commands that wait still wait. After any other transaction that failed, no
+/// command waits, and no transaction is sent until `synchronize` returns `Ok`. The programmer may have carried out any
+/// part of the commands that waited.
 ///
 /// The bus is not well-behaved as `Bus` defines it, even over a well-behaved port, because a command that waits has not
 /// reached the chip.

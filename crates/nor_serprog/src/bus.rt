@@ -16,9 +16,9 @@ use nor_model::{Bus, History, Stopped};
 /// have lost its power.
 ///
 /// Over any port the history lists each transaction with its reply. A transaction that failed or was rejected is listed
-/// without a reply. A transaction that sends more than 260 bytes, or reads more than the programmer can, is rejected,
-/// and nothing is sent. After any other transaction that failed, no transaction is sent until `synchronize` returns
-/// `Ok`.
+/// without a reply. A transaction that sends more than 260 bytes, or reads 2^24 bytes or more, or more than the
+/// programmer can, is rejected, and nothing is sent. After any other transaction that failed, no transaction is sent
+/// until `synchronize` returns `Ok`.
 #[derive(Drop)]
 pub struct SerprogBus<P: Port + Drop> {
     link: Link<P>,

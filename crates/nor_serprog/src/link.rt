@@ -23,8 +23,8 @@ pub enum Failure<C> {
     /// The reply began with this byte, which is neither ACK (06h) nor NAK (15h).
     #[error("the programmer answered {0:02X}h, which is neither ACK nor NAK")]
     Strange(u8),
-    /// The transaction sends more than 260 bytes, or reads more than the programmer can return. Nothing was sent, and
-    /// the link is as it was.
+    /// The transaction sends more than 260 bytes, or reads 2^24 bytes or more, or more than the programmer can return.
+    /// Nothing was sent, and the link is as it was.
     #[error("a transaction of this length does not fit into one serprog frame")]
     TooLong,
     /// Nothing was sent, because the link isn't synchronized: it is new, or an earlier exchange or `synchronize`
@@ -109,9 +109,9 @@ impl<P: Port + Drop> Link<P> {
 
     /// Sends the frame of a command, and reads the reply: ACK, and then exactly as many bytes as `reply` holds.
     ///
-    /// Returns `TooLong` if the command does not fit into one frame; then nothing was sent, and the link is as it was.
-    /// After any other error no exchange sends anything until `synchronize` returns `Ok`. If the link was out of step,
-    /// the call returns `OutOfStep` or `CutFrame` and does not use the port.
+    /// If the link was out of step, the call returns `OutOfStep` or `CutFrame` and does not use the port. Otherwise
+    /// returns `TooLong` if the command does not fit into one frame; then nothing was sent, and the link is as it was.
+    /// After any other error no exchange sends anything until `synchronize` returns `Ok`.
     ///
     /// If the port is well-behaved, the link is in step and the programmer is idle, the firmware determines the reply
     /// to each command except O_SPIOP and SYNCNOP. A command with arguments must be in the programmer's map. If the
@@ -190,9 +190,9 @@ impl<P: Port + Drop> Link<P> {
     /// Sends frames of O_SPIOP together, and then reads their replies: an ACK for each frame, and after the last ACK as
     /// many bytes as `reply` holds. `frames` has `earlier` frames that request no reply bytes, and then one more frame.
     ///
-    /// After an error no exchange sends anything until `synchronize` returns `Ok`; the programmer may have carried out
-    /// any of the frames. If the link was out of step, the call returns `OutOfStep` or `CutFrame` and does not use the
-    /// port.
+    /// If the link was out of step, the call returns `OutOfStep` or `CutFrame` and does not use the port. After any
+    /// other error the programmer may have carried out any of the frames. After each error no exchange sends anything
+    /// until `synchronize` returns `Ok`.
     pub(crate) fn exchange_batch(
         &mut self,
         frames: &[u8],

@@ -7,8 +7,8 @@ ghost use Rattle.nor_serprog.specs.Device.{PortState, IsSent, IsCutOff, IsReceiv
 ///
 /// Contracts see a port as a `PortState`. A *well-behaved* port (its field `honest` is true) passes what is sent to a
 /// programmer that carries out O_SPIOP as the protocol says, and replies to whole frames of other commands as its
-/// `Firmware` says. The port returns the programmer's replies in order. While calls are left, each of these calls
-/// succeeds:
+/// `Firmware` says, if that specifies the reply (`HasReply`). The port returns the programmer's replies in order. While
+/// calls are left, each of these calls succeeds:
 ///
 /// - a call that sends all or the rest of an O_SPIOP frame, while no reply is pending; the O_SPIOP must send at most
 ///   260 bytes and read at most 4,096

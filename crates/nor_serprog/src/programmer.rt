@@ -45,7 +45,8 @@ pub struct AnyProgrammer {
     pub(crate) longest_write: u32,
     pub(crate) longest_read: u32,
     // The greatest number of bytes that a part of a program may send. It is `longest_write`, or less if the programmer
-    // lacks Q_WRNMAXLEN and its serial buffer is too small for the frame of a transaction that sends `longest_write`.
+    // lacks Q_WRNMAXLEN, has Q_SERBUF, and its serial buffer is too small for the frame of a transaction that sends
+    // `longest_write`.
     pub(crate) longest_part: u32,
     pub(crate) serial_buffer: u16,
     pub(crate) frequency: Option<u32>,
@@ -107,8 +108,8 @@ impl AnyProgrammer {
         self.longest_read
     }
 
-    /// Returns the size of the serial buffer in bytes, or 0 if the programmer lacks the query (Q_SERBUF). At most this
-    /// many bytes may be sent before the replies to them are read.
+    /// Returns the size of the serial buffer in bytes, or 0 if the programmer lacks the query (Q_SERBUF). Frames that
+    /// are sent together, before their replies are read, must fit into this buffer.
     pub fn serial_buffer(&self) -> u16
         ensures { result ≡ self.now.serial_buffer }
     {
@@ -159,8 +160,8 @@ impl Programmer {
         self.reported.longest_read
     }
 
-    /// Returns the size of the serial buffer in bytes, or 0 if the programmer lacks the query (Q_SERBUF). At most this
-    /// many bytes may be sent before the replies to them are read.
+    /// Returns the size of the serial buffer in bytes, or 0 if the programmer lacks the query (Q_SERBUF). Frames that
+    /// are sent together, before their replies are read, must fit into this buffer.
     pub fn serial_buffer(&self) -> u16
         ensures { result ≡ buffer_of self.now }
     {
