@@ -1,4 +1,5 @@
--- The command that the chip carries out at a transaction depends neither on the chip's bytes nor on `running`.
+-- The command that the chip carries out at a transaction depends neither on the chip's bytes nor on `running`. A
+-- transaction without bytes changes nothing.
 use Rattle.std.proofs.Common.{◌≡◌, ℕ, List, [], refl, arith}
 use Rattle.nor_model.specs.declared.command.Command.{Command}
 use Rattle.nor_model.specs.declared.command.Command.TheVariants.{Poll}

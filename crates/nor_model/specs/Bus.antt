@@ -17,7 +17,8 @@ pub record BusState : Type 0 where
   -- On a well-behaved bus: the number of transactions that the bus will still carry out unless `allow` is called. Code
   -- can't read this number.
   pub left : ℕ
-  -- Whether the bus is well-behaved, which means that it obeys the contract of a bus.
+  -- Whether the bus is well-behaved. If it is, it carries out each transaction of a length that it takes
+  -- (`IsHonestFor`) as the modelled chip would, or stops.
   pub honest : Bool
   -- All transactions that the bus was asked to carry out, each with its reply, the last one first.
   pub history : List Exchange

@@ -1,4 +1,4 @@
--- The configurations that the functions of `Config` return.
+-- The configurations that `Config::new` returns, and those of the emulated chips.
 use Rattle.std.specs.Prelude.{◌≡◌, ◌-◌, ◌*◌, ◌++◌, ℕ, Bool, true, false, List, [], ◌∷◌, length, replicate}
 use Rattle.nor_model.specs.declared.config.Config.{Config}
 use Rattle.nor_model.specs.declared.config.Kinds.{Kinds}

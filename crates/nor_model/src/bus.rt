@@ -33,7 +33,7 @@ impl std::error::Error for Stopped {}
 /// A faulty bus, which isn't well-behaved, may do anything that the clauses `nature` and `records` allow, because these
 /// clauses hold for every bus. `nature` says that a transaction doesn't change whether a bus is well-behaved, steady or
 /// unlimited; `allow` doesn't change this either. `records` says that the bus records each transaction with its reply,
-/// and in `polled_ready` whether the last poll that received a reply showed that the chip is ready.
+/// and in `polled_ready` whether the last poll that received a reply byte showed that the chip is ready.
 pub trait Bus {
     ghost state: { Self → BusState };
 

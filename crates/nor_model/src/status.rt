@@ -27,8 +27,8 @@ bitflag_items! {
         const TB = 0x20;
         /// Set if BP 001 to 101 select 4 to 32 KiB, clear if they select a fraction of the chip.
         const SEC = 0x40;
-        /// Locks the status registers if set. (A real chip does so only while its WP# pin is low; the model assumes
-        /// that it is low.)
+        /// Locks the status registers if set. (On a real chip with only SRP0 set, they are locked only while the WP#
+        /// pin is low; the model assumes that it is low.)
         const SRP0 = 0x80;
     }
     impl Status2: u8 {
