@@ -136,8 +136,8 @@ fn withheld(spoil: Spoil, sent: u64) -> Option<u8>
     }
 }
 
-// Returns the reply byte that replaces `byte` in the next transaction that isn't dropped. `sent` is the number of
-// transactions that succeeded before.
+// Returns the reply byte that replaces `byte` in the next transaction, which sends `out` and isn't dropped. `sent` is
+// the number of transactions that succeeded before.
 fn spoilt_byte(spoil: Spoil, sent: u64, out: &[u8], byte: u8) -> u8
     ensures { result ≡ spoilt_byte spoil sent out.now byte }
 {
