@@ -89,7 +89,7 @@ pub record ReadsSfdp (at len : ℕ) (old new : BusState) (bytes : List ℕ) : Ty
   pub replied : old.honest ≡ true → old.chip.busy ≡ 0 → bytes ≡ shown old.chip.config at len
 
 -- Holds if a read from the start of `sector` succeeded, and `bytes` is the reply. On a well-behaved bus the read left
--- the chip as it was. If the chip was idle and has the sector, the first 4,096 bytes of `bytes` are the chip's.
+-- the chip as it was, and the first 4,096 bytes of `bytes` are the chip's if the chip was idle and has the sector.
 pub record ReadsSector (sector : ℕ) (old new : BusState) (bytes : List ℕ) : Type 0 where
   pub answered : Answered (names 0x03 (4096 * sector)) old.history new.history bytes
   pub read : old.honest ≡ true → HasRead old new

@@ -49,8 +49,8 @@ impl Erase {
         SECTOR_LEN * u32::from(self.sector)
     }
 
-    /// Returns whether a block of this kind may begin at `sector`. A 4 KiB block may begin at any sector, a 32 or 64
-    /// KiB block at a multiple of its size, and the whole chip only at sector 0.
+    /// Returns whether the block may begin at its first sector, `self.sector`. A 4 KiB block may begin at any sector, a
+    /// 32 or 64 KiB block at a multiple of its size, and the whole chip only at sector 0.
     pub fn is_aligned(self) -> bool
         ensures { result ≡ is_aligned self.unit self.sector }
     {

@@ -35,7 +35,7 @@ pub enum OperationError {
     #[error("the bus stopped")]
     Stopped,
     /// Status 1 showed BUSY in 65,536 polls in a row. `address` is the address of the operation's command, or 0 for a
-    /// status write. In an error from `wait`, it is the address that the caller passed.
+    /// chip erase or a status write. In an error from `wait`, it is the address that the caller passed.
     #[error("the chip stayed busy after the command for address 0x{address:06x}")]
     Timeout { address: u32 },
 }
