@@ -31,7 +31,7 @@ use Rattle.nor_apply.proofs.Changing.{change_as, same_change}
 use Rattle.nor_apply.proofs.ApplyingSteps.{code_read, code_once, intermediate_first, intermediate_changed, can_erase_all, can_program_all, applied}
 use Rattle.nor_apply.proofs.ApplyingInTurn.{raised_few, Numbers, SoFar, EndsInError, ends_in_error, goes_on, code_then, code_written, names_writing, names_sectors}
 
--- ---- the four parts
+-- ---- the first three parts
 
 -- The numbers of operations that were sent up to the unlock (`lifting`): one status write, if an unlock was requested.
 -- `and_more` adds further erases and page programs to such numbers.
@@ -42,7 +42,7 @@ abbrev pub and_more : Numbers → (erases programs : ℕ) → Numbers
 and_more n erases programs =
     record { erases = n.erases + erases; programs = n.programs + programs; status_writes = n.status_writes }
 
--- Holds after the first part of `apply` (`SoFar`): if an unlock was requested, the protection bits were cleared.
+-- `SoFar` after the first part of `apply`, which clears the protection bits if an unlock was requested.
 abbrev pub Lifted : Changes → (ℕ → ℕ) → (old now : BusState) → Tally → Type 0
 Lifted changes wanted old now tally =
     SoFar changes wanted old.chip.bytes old.worn (code_once changes) (lifting changes) 0 most_operation old now tally
@@ -65,8 +65,7 @@ lifted changes {old} {new} wanted leaves does =
     code_written nothing 0 new (λ lifts can. can.writable (rw lifts refl)) leaves does (grind arith) (omega arith)
     (omega arith) (omega arith)
 
--- Holds after the first two parts of `apply` (`SoFar`): if an unlock was requested, the protection bits were cleared,
--- and then the raised sectors were erased.
+-- `SoFar` after the first two parts of `apply`: the unlock, if it was requested, and the erases of the raised sectors.
 abbrev pub Erased : Changes → (ℕ → ℕ) → (erases : ℕ) → (old now : BusState) → Tally → Type 0
 Erased changes wanted erases old now tally =
     SoFar changes wanted (once_erased (raised_in changes) old.chip.bytes) (λ s. old.worn s || raised_in changes s)
@@ -107,8 +106,8 @@ module _ {changes : Changes} {wanted : ℕ → ℕ} {old mid new : BusState} {do
       let is = so.intermediate honest can in
       intermediate_changed is (does.done (honest_now so.ran honest) (can_erase_all can is)))
 
--- Holds after the first three parts of `apply` (`SoFar`): if an unlock was requested, the protection bits were cleared.
--- Then the raised sectors were erased, and the touched sectors were programmed.
+-- `SoFar` after the first three parts of `apply`: the unlock, if it was requested, the erases of the raised sectors and
+-- the programs of the touched sectors.
 abbrev pub Programmed : Changes → (ℕ → ℕ) → (erases programs : ℕ) → (old now : BusState) → Tally → Type 0
 Programmed changes wanted erases programs old now tally =
     SoFar changes wanted

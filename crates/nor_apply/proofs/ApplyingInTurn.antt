@@ -80,8 +80,8 @@ EndsInError changes wanted old new error =
 module _ {changes : Changes} {wanted bytes : ℕ → ℕ} {worn : ℕ → Bool} {code : ℕ} {numbers : Numbers}
     {readings spent : ℕ} {old mid : BusState} {done : Tally}
     (so : SoFar changes wanted bytes worn code numbers readings spent old mid done) where
-  -- Lemmas about the next part. The premise `follows` says that, if `CanApply` held at the start of all changes, the
-  -- part can be carried out (`Can`), and changes the chip only as `MayChange` allows.
+  -- Lemmas about the next part. The premise `follows` says that, on a well-behaved bus, if `CanApply` held at the start
+  -- of all changes, the part can be carried out (`Can`), and changes the chip only as `MayChange` allows.
   module _ {part : ℕ} {limits : Limits} {Can : Chip → Type 0} {May : BusState → BusState → Type 0} {new : BusState}
       (leaves : Leaves part limits Can May mid new)
       (follows : old.honest ≡ true → CanApply changes wanted old.chip → Can mid.chip
@@ -118,7 +118,8 @@ module _ {changes : Changes} {wanted bytes : ℕ → ℕ} {worn : ℕ → Bool} 
       intermediate = intermediate;
     }
 
-  -- If the next part is a status write, it satisfies the premise `follows`.
+  -- If the next part is a status write, and the status can be written if that is needed (`writable`), the part
+  -- satisfies the premise `follows`.
   module _ {needed : Bool} (code' : ℕ) (new : BusState)
       (writable : needed ≡ true → CanApply changes wanted old.chip → is_writable old.chip ≡ true) where
     pub code_then : old.honest ≡ true → CanApply changes wanted old.chip

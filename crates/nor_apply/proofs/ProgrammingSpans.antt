@@ -40,8 +40,8 @@ use Rattle.nor_apply.proofs.Targeting.{named_in}
 abbrev pub in_spans : ℕ → List PageSpan → ℕ → Bool
 in_spans sector spans a = spanned_by spans (a - 4096 * sector) && only sector (a / 4096)
 
--- Holds after these spans of a sector were programmed: their bytes are the target bytes, and all other bytes are as
--- they were.
+-- Holds if the bytes of these spans of a sector are the target bytes, and all else is as `HasMade` says: all other
+-- bytes are as they were, and no sector was erased.
 abbrev pub HasFilled : ℕ → List ℕ → List PageSpan → (old new : BusState) → Type 0
 HasFilled sector wanted spans old new = HasMade (in_spans sector spans) (byte_of sector wanted) none old new
 

@@ -92,9 +92,10 @@ pub record CanApply (changes : Changes) (wanted : ℕ → ℕ) (chip : Chip) : T
   pub falls : (a : ℕ) → touched_in changes (a / 4096) ≡ true → raised_in changes (a / 4096) ≡ false
       → bit_and (wanted a) (chip.bytes a) ≡ wanted a
 
--- Holds after all changes succeeded. The touched sectors have the target bytes, the protection bits have their target
--- values, and the raised sectors were erased. All other bytes and non-volatile status bits are as they were, the chip
--- is idle, and its write enable latch is set only if it was set before.
+-- The effect, on a well-behaved bus, of all changes together, if they could be made (`CanApply`) and succeeded. The
+-- touched sectors have the target bytes, the protection bits have their target values, and the raised sectors were
+-- erased. All other bytes and non-volatile status bits are as they were, the chip is idle, and its write enable latch
+-- is set only if it was set before.
 pub record HasApplied (changes : Changes) (wanted : ℕ → ℕ) (old new : BusState) : Type 0 where
   pub config : new.chip.config ≡ old.chip.config
   pub bytes : (a : ℕ) → new.chip.bytes a ≡ (if touched_in changes (a / 4096) then wanted a else old.chip.bytes a)

@@ -23,19 +23,19 @@ pub record IsSized (size : ℕ) (kinds : Kinds) (chip : Chip) : Type 0 where
 abbrev pub OnlyFalls : (sectors : ℕ → Bool) → (wanted content : ℕ → ℕ) → Type 0
 OnlyFalls sectors wanted content = (a : ℕ) → sectors (a / 4096) ≡ true → bit_and (wanted a) (content a) ≡ wanted a
 
--- Holds at every exit of a change. The chip differs from the chip at the start only as `IsWithin` allows. So bytes
--- outside the touched sectors, and the bits that are never changed, are as they were. The protection bits are as they
--- were if they couldn't be written. On a steady bus each byte of a sector that isn't raised is the old or the target
--- byte. Only raised sectors were erased.
+-- The effect, on a well-behaved bus and at every exit, of a change that the chip can carry out. The chip differs from
+-- the chip at the start only as `IsWithin` allows. So bytes outside the touched sectors, and the bits that are never
+-- changed, are as they were. The protection bits are as they were if they couldn't be written. On a steady bus each
+-- byte of a sector that isn't raised is the old or the target byte. Only raised sectors were erased.
 pub record MayChange (touched raised : ℕ → Bool) (wanted : ℕ → ℕ) (old new : BusState) : Type 0 where
   pub within : IsWithin (addresses_of touched) old.chip new
   pub gentle : old.steady ≡ true → (a : ℕ) → raised (a / 4096) ≡ false
       → (new.chip.bytes a ≡ old.chip.bytes a) ⊎ (new.chip.bytes a ≡ wanted a)
   pub worn : (s : ℕ) → raised s ≡ false → new.worn s ≡ old.worn s
 
--- Holds after a change succeeded. The bytes at `addresses` are the target bytes, and the sectors in `erased` were
--- erased. All other bytes and the non-volatile status bits are as they were, the chip is idle, and its write enable
--- latch is set only if it was set before.
+-- The effect, on a well-behaved bus, of a change that the chip can carry out and that succeeded. The bytes at
+-- `addresses` are the target bytes, and the sectors in `erased` were erased. All other bytes and the non-volatile
+-- status bits are as they were, the chip is idle, and its write enable latch is set only if it was set before.
 pub record HasMade (addresses : ℕ → Bool) (wanted : ℕ → ℕ) (erased : ℕ → Bool) (old new : BusState) : Type 0 where
   pub config : new.chip.config ≡ old.chip.config
   pub bytes : (a : ℕ) → new.chip.bytes a ≡ (if addresses a then wanted a else old.chip.bytes a)
@@ -44,7 +44,7 @@ pub record HasMade (addresses : ℕ → Bool) (wanted : ℕ → ℕ) (erased : �
   pub idle : new.chip.busy ≡ 0
   pub latch : new.chip.latch ≡ true → old.chip.latch ≡ true
 
--- Holds after a change of all addresses in `sectors` succeeded (`HasMade`).
+-- the effect `HasMade`, for all addresses in `sectors`
 abbrev pub HasChanged : (sectors : ℕ → Bool) → (wanted : ℕ → ℕ) → (erased : ℕ → Bool) → (old new : BusState) → Type 0
 HasChanged sectors = HasMade (addresses_of sectors)
 

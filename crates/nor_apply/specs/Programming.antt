@@ -46,8 +46,8 @@ LeavesSector most Can sector wanted =
     Leaves most (programming (only sector) 16) Can (MayChange (only sector) none (byte_of sector wanted))
 
 -- Holds after a call that programs one sector succeeded, with at most `readings` reads. On a well-behaved bus, if `Can`
--- held at the start, the sector has its target bytes, and one program was sent for each page that differed from its
--- target bytes.
+-- held at the start, the sector has its target bytes, and one program was sent for each of its pages that differed from
+-- the target bytes.
 pub record DoesSector (readings : ℕ) (Can : Chip → Type 0) (sector : ℕ) (wanted : List ℕ) (old new : BusState)
     (tally : Tally) : Type 0 where
   pub fewer : tally.count ≤ 16
@@ -86,7 +86,7 @@ LeavesPrograms touched raised wanted =
     (CanProgramAll touched raised wanted) (MayChange touched none wanted)
 
 -- Holds after the programs succeeded. On a well-behaved bus, if `CanProgramAll` held at the start, the touched sectors
--- have the target bytes, and one program was sent for each page that differed from its target bytes.
+-- have the target bytes, and one program was sent for each of their pages that differed from the target bytes.
 pub record DoesPrograms (touched raised : ℕ → Bool) (wanted : ℕ → ℕ) (old new : BusState) (tally : Tally) : Type 0 where
   pub fewer : tally.count ≤ 16 * sector_count touched
   pub exactly : SendsExactly 0 tally.count 0 old new

@@ -12,9 +12,9 @@ abbrev pub is_writable : Chip → Bool
 is_writable chip = chip.config.scheme && not (is_locked chip.kept)
 
 -- Holds if the operation `running` may be in progress on a chip that is to be restored. Its command is known, and the
--- operation changes only bytes at these addresses. If it is a status write, the status of the original chip, `first`,
--- can be written. A status write in progress contains the status bits from before it; among these, the bits that are
--- never changed have the values of `first`.
+-- operation changes no bytes except at these addresses. If it is a status write, the status of the original chip,
+-- `first`, can be written. A status write in progress contains the status bits from before it; among these, the bits
+-- that are never changed have the values of `first`.
 pub record WorksIn (addresses : ℕ → Bool) (first : Chip) (running : Running) : Type 0 where
   pub known : is_known_running running ≡ true
   pub inside : (a : ℕ) → is_in_work running a ≡ true → addresses a ≡ true
@@ -22,8 +22,8 @@ pub record WorksIn (addresses : ℕ → Bool) (first : Chip) (running : Running)
       → (is_writable first ≡ true) × (fixed_of (record { one = one; two = two }) ≡ fixed_of first.kept)
 
 -- Holds if the bus's chip is the original chip, `first`, with three exceptions: bytes at these addresses, protection
--- bits that can be written, and BUSY and WEL may have any value. If the bus isn't steady, an operation in progress
--- changes only bytes at these addresses (`WorksIn`).
+-- bits that can be written, and BUSY and WEL may have any value. If the bus isn't steady, `WorksIn` holds for an
+-- operation in progress.
 pub record IsWithin (addresses : ℕ → Bool) (first : Chip) (state : BusState) : Type 0 where
   pub config : state.chip.config ≡ first.config
   pub bytes : (a : ℕ) → addresses a ≡ false → state.chip.bytes a ≡ first.bytes a

@@ -53,14 +53,15 @@ pub struct Work {
 
 /// Changes the touched sectors to the bytes of `source` and the protection bits to `changes.code`. `apply` first clears
 /// the protection bits if `changes.unlock` is set. Then it erases the raised sectors with the fewest erases, and
-/// programs the touched sectors. At the end it writes the protection bits, if they differ from the target bits.
+/// programs those pages of the touched sectors that still differ from `source`. At the end it writes the protection
+/// bits, if they differ from the target bits.
 ///
 /// The changes must fit each other (`AreConsistent`): the touched sectors lie below `changes.size`, which is at most 16
 /// MiB; every raised sector is touched; and `changes.code` is below 64. `source` must have every touched sector. On any
 /// bus, erases and programs target only touched sectors and, if these are the whole chip, addresses past its end.
 ///
-/// On a well-behaved bus, after success the changes are complete if `CanApply` held at the start. In addition to the
-/// conditions above, `CanApply` requires:
+/// On a well-behaved bus, after success the changes are complete if `CanApply` held at the start. `CanApply` requires
+/// that the touched sectors lie on the chip and every raised sector is touched. It also requires:
 ///
 /// - The chip is idle, and has the size, the erase types and the non-volatile status bits that `changes` names.
 /// - If a status write is needed, the chip has block protection and its status isn't locked.

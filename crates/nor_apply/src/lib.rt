@@ -1,5 +1,6 @@
 //! Changes the sectors and the protection bits of a flash chip to their target values: clears the protection bits if
-//! that is needed, erases, programs, and writes the status. Sessions and restores use this crate.
+//! that is requested, erases, programs, and writes the protection bits if they still differ. Sessions and restores use
+//! this crate.
 //!
 //! ```rust
 //! ghost use Rattle.std.specs.Prelude.{◌%◌, true, slice_index};

@@ -17,10 +17,11 @@ use nor_model::{Bus, Stopped};
 use nor_plan::{SectorSet, spans};
 
 /// Programs the touched sectors, in ascending order, with the bytes of `source`, which must have every touched sector.
-/// A raised sector is not read: it was erased, so its bytes are taken to be FFh. Returns the number of programs, and
-/// the number of transactions including reads. On a well-behaved bus, after success the touched sectors have the target
-/// bytes if `CanProgramAll` held at the start: the chip was idle and contained the touched sectors, none of their
-/// addresses was protected, the raised ones were FFh, and no bit had to go from 0 to 1.
+/// Pages that already have these bytes are left out. A raised sector is not read: it was erased, so its bytes are taken
+/// to be FFh. Returns the number of programs, and the number of transactions including reads. On a well-behaved bus,
+/// after success the touched sectors have the target bytes if `CanProgramAll` held at the start: the chip was idle and
+/// contained the touched sectors, none of their addresses was protected, the raised ones were FFh, and no bit had to go
+/// from 0 to 1.
 ///
 /// Returns `Stopped` if the bus stopped, and `Timeout` with an address in a touched sector if the chip stayed busy for
 /// 65,536 polls. On a well-behaved bus there is no timeout. On any bus nothing is sent after the transaction at which
