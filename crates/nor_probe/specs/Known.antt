@@ -48,7 +48,8 @@ listed_or by_sfdp (Some part) = Ok part
 listed_or by_sfdp None = by_sfdp
 
 -- The chip type that a chip shows: the row of the table with its ID or, without a row, the type that its SFDP
--- describes. The result is a fault if the ID shows that there is no chip, or if the SFDP isn't accepted.
+-- describes. The result is a fault if the ID shows that there is no chip, or if the ID has no row and the SFDP isn't
+-- accepted.
 abbrev pub shown_as : Config → Result Part ProbeFault
 shown_as config =
     if is_no_chip (id_of config) then Err NoChip

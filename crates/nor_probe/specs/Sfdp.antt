@@ -18,7 +18,8 @@ has_signature header =
     slice_index header 0 == 0x53 && slice_index header 1 == 0x46
     && slice_index header 2 == 0x44 && slice_index header 3 == 0x50
 
--- true if the first parameter header is that of the basic flash parameter table, in major revision 1
+-- True if the first parameter header is that of the basic flash parameter table, in major revision 1. Only the low byte
+-- of its ID and its major revision are compared.
 unfoldable pub is_basic : (first : List ℕ) → Bool
 is_basic first = slice_index first 0 == 0 && slice_index first 2 == 1
 
