@@ -40,36 +40,36 @@ NAMES = {
         "`sent` stays. Otherwise all of `out` is put before the old `sent`, even if the bus stopped.",
     "IsFresh": "`IsFresh vault`: the vault is unsealed, and accepted no byte.",
     "Vault":
-        "`Vault`: the trait of a vault. `put` appends a piece to `bytes`. A call that fails counts as a refusal. A "
-        "`put` that fails appends the first bytes of the piece: none, some or all.",
+        "`Vault`: the trait of a vault. `put` appends a piece to `bytes`. A failed call counts as a refusal. A "
+        "failed `put` appends the piece's first bytes: none, some or all.",
     "Kinds":
         "`Kinds`: the fields `k32` and `k64` say whether 52h erases 32 KiB and D8h 64 KiB.",
     "has_srp0": "`has_srp0 kept`: SRP0 is set.",
     "has_srp1": "`has_srp1 kept`: SRP1 is set.",
-    "cmp_qe_srp1": "`cmp_qe_srp1`: CMP, QE and SRP1 in status 2.",
-    "lb3_to_reserved": "`lb3_to_reserved`: LB3, LB2, LB1 and the reserved bit in status 2.",
-    "lb3_to_lb1": "`lb3_to_lb1`: LB3, LB2 and LB1 in status 2.",
+    "cmp_qe_srp1": "`cmp_qe_srp1`: CMP, QE and SRP1.",
+    "lb3_to_reserved": "`lb3_to_reserved`: LB3, LB2, LB1 and the reserved bit.",
+    "lb3_to_lb1": "`lb3_to_lb1`: LB3, LB2 and LB1.",
     "srp0_bit": "`srp0_bit kept`: SRP0, as 0 or 1.",
     "lb3_to_srp1": "`lb3_to_srp1 kept`: the bits from LB3 down to SRP1, as a number.",
     "with_code": "`with_code code kept`: `kept` with the protection bits of `code` in place of its own.",
     "is_chip_size": "`is_chip_size n`: `n` is a power of two from 64 KiB to 16 MiB.",
     "IsChip": "`IsChip chip`: bytes are below 256, status bits fit their registers, and `busy` is below 65,536.",
-    "Command": "`Command`: what a transaction asks for, with the cases above.",
+    "Command": "`Command`: what a transaction asks for (cases above).",
     "is_idle": "`is_idle chip`: `busy` is 0.",
     "is_protected":
         "`is_protected chip a`: the chip has block protection, and its protection bits protect the address `a`.",
     "is_block_protected":
         "`is_block_protected chip start len`: the first or the last of the `len` addresses from `start` on is "
         "protected, which is so if any is: protected addresses lie at one end of the chip.",
-    "Stopped": "`Stopped`: what a transaction returns that failed.",
+    "Stopped": "`Stopped`: what a failed transaction returns.",
     "SameNature":
-        "`SameNature old new`: `honest`, `steady` and `unlimited` are as before. On a well-behaved bus `config` of the "
-        "chip is, too.",
+        "`SameNature old new`: `honest`, `steady`, `unlimited` and, on a well-behaved bus, the chip's `config` are as "
+        "before.",
     "IsHonestFor":
         "`IsHonestFor out n bus`: the bus is well-behaved, and takes a transaction of this length: `out` has at most "
         "260 bytes and `n` is at most 4,096, or the bus is `unlimited`. No call sends or reads more.",
     "IsGenuine":
-        "`IsGenuine config`: if the table has the ID, size, erase types and block protection are those of its row. The "
+        "`IsGenuine config`: for an ID in the table, size, erase types and block protection are those of its row. The "
         "rows are EF 40 17 (W25Q64FV, 8 MiB) and EF 40 18 (W25Q128FV, 16 MiB), with all erase types and block "
         "protection. Without a row, the chip has no block protection and, if its SFDP is accepted, the size and erase "
         "types that the SFDP gives.",
@@ -82,32 +82,32 @@ NAMES = {
         "`IsContent c`: the ID has 3 bytes, a unique ID 8, the status 2; `is_chip_size` holds for the size. The "
         "numbers of the saved sectors rise and are below size / 4,096; each has 4,096 bytes.",
     "text":
-        "`text c`: `NORUNDO2` in ASCII, ID, unique ID, status 1 and 2, size; each saved sector's number and bytes; "
-        "FF FF FF FF; the SHA-256 of all bytes before it. Size and numbers take four bytes each, little-endian. Format 1 has "
-        "`NORUNDO1` and no unique ID.",
-    "IsOfType": "`IsOfType journal config`: the journal has the ID and the size of the chip.",
+        "`text c`: the header (`NORUNDO2` in ASCII, ID, unique ID, status 1 and 2, size); each saved sector's number "
+        "and bytes; FF FF FF FF; the SHA-256 of all bytes before it. Size and numbers take four bytes each, "
+        "little-endian. Format 1 has `NORUNDO1` and no unique ID.",
+    "IsOfType": "`IsOfType journal config`: the journal has the chip's ID and size.",
     "is_saved": "`is_saved journal s`: the journal saves sector `s`.",
     "Saves":
         "`Saves old saved journal`: the journal is valid (`IsContent`), saves exactly the sectors of `saved`, and has "
-        "their bytes in `old`. In `SavesChip`, `saved` is the journal's own set, so there only the bytes matter.",
+        "their bytes in `old`. In `SavesChip`, `saved` is `is_saved journal`, so the second part always holds.",
     "is_known_running": "`is_known_running running`: the operation isn't `Unknown`.",
     "Journal": "`Journal`: a journal that was read; in contracts, a `Content`.",
     "JournalFault": "`JournalFault`: why bytes are no journal.",
     "ChipName": "`ChipName`: W25Q64FV, W25Q128FV, SFDP for a chip without a row, or a name that no chip has.",
-    "Ranges": "`Ranges`: at most 64 spans of addresses, each with at least one address.",
+    "Ranges": "`Ranges`: at most 64 spans of one or more addresses.",
     "is_requested":
         "`is_requested request size a`: the request is a write or an erase, and `a` is below `size` and included: in "
         "one of the spans, or the request has no `Ranges`.",
     "target": "`target what image a`: the byte of the image at `a` for a write, FFh for an erase.",
-    "code_of": "`code_of kept`: CMP, SEC, TB, BP2, BP1 and BP0 as a number, CMP being the highest bit.",
+    "code_of": "`code_of kept`: CMP (the highest bit), SEC, TB, BP2, BP1 and BP0 as a number.",
     "IsLeastCode":
         "`IsLeastCode size start len code`: `code` is the least number below 64 whose protection bits are defined (not "
         "SEC with BP 110) and protect exactly the `len` addresses from `start` on.",
     "Report":
-        "`Report`: the chip that was found, and counts, which are right (`reported`). A session with nothing to change "
-        "sent no modifying command (`unsent` of `IsDone`).",
+        "`Report`: the chip found, and counts, which are right (`reported`). A session with nothing to change sent no "
+        "modifying command (`unsent` of `IsDone`).",
     "Refusal": "`Refusal`: the errors of calls.",
-    "refusal_number": "`refusal_number refusal`: the number of the error.",
+    "refusal_number": "`refusal_number refusal`: its number.",
     "RefusalHolds":
         "`RefusalHolds request image chip refusal`: the error is one of 1 to 10, and applies as the list says.",
     "CountsRefusal": "`CountsRefusal old new`: the vault refused a call between these states.",
@@ -119,8 +119,8 @@ NAMES = {
         "sectors.",
     "Choice": "`Choice`: which sectors a restore touches and raises.",
     "differing":
-        "`differing`: a restore touches the saved sectors in which a byte differs from the saved byte, and raises those "
-        "in which a bit must go from 0 to 1.",
+        "`differing`: the saved sectors in which a byte differs from the saved one are touched, and those in which a "
+        "bit must go from 0 to 1 are raised.",
     "IsRestoreVerdict":
         "`IsRestoreVerdict choice journal chip refusal`: the error is the first of the list above that applies.",
 }

@@ -56,6 +56,5 @@ def with_digests(prose):
     def digest(match):
         """Returns the digest of the bytes that a match names."""
         code = hashlib.sha256(bytes.fromhex(match[1])).hexdigest().upper()
-        pairs = [code[at : at + 2] for at in range(0, 64, 2)]
-        return " ".join(pairs[:16]) + "\n" + " ".join(pairs[16:])
+        return code[:32] + "\n" + code[32:]
     return re.sub(r"\{digest ([0-9A-F ]+)\}", digest, prose)
