@@ -79,7 +79,7 @@ def limits():
         ("transactions of an operation", bound("nor_driver/specs/Operations.antt", "most_operation"), r"\+ #\(e \+ p"),
         ("KiB of the smallest chip", constant("nor_probe/src/sfdp.rt", "LEAST_BITS") >> 13, "from # KiB to"),
         ("MiB of the largest chip", 2 ** constant("nor_probe/src/sfdp.rt", "MOST_EXPONENT") >> 23, "KiB to # MiB"),
-        ("status of a fault", int(few[1]), "tandard error, (?:with|and the) status(?: is)? #"),
+        ("status of a fault", int(few[1]), "tandard error, (?:with|and the) (?:exit )?status(?: is)? #"),
     ]
 
 
