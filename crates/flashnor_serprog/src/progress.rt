@@ -5,42 +5,13 @@ use crate::estimates::Minutes;
 use crate::gauge::{Gauge, micros_between};
 use crate::hints::Replies;
 use crate::status_line::protects;
+use crate::step_lines::{Counts, StepCount, StepOf, Took};
 use crate::steps::{Phase, Step, Total, step_of};
 use crate::terminal::Look;
 pub use crate::terminal::Terminal;
 use nor_buses::ReadAhead;
 use nor_chip::{Bus, Stopped, is_changing};
-use std::fmt;
 use std::time::Instant;
-
-// The number of transactions sent so far for each step, if the progress is shown.
-#[derive(Clone, Copy, Default)]
-struct Counts {
-    identify: u64,
-    scan: u64,
-    erase: u64,
-    program: u64,
-    protect: u64,
-    read_back: u64,
-    compare: u64,
-}
-
-impl Counts {
-    // Counts one more transaction of this step, and returns the step's new count.
-    fn count(&mut self, step: Step) -> u64 {
-        let count = match step {
-            Step::Identify => &mut self.identify,
-            Step::Scan => &mut self.scan,
-            Step::Erase => &mut self.erase,
-            Step::Program => &mut self.program,
-            Step::Protect => &mut self.protect,
-            Step::ReadBack => &mut self.read_back,
-            Step::Compare => &mut self.compare,
-        };
-        *count = count.saturating_add(1);
-        *count
-    }
-}
 
 // A bit of status 1, and two of status 2 (W25Q64FV datasheet, Status Registers).
 const SRP0: u8 = 0x80;
@@ -332,43 +303,6 @@ impl<B> Shown<'_, B> {
             self.terminal.draw(&line);
             self.terminal.end_line();
         }
-    }
-}
-
-// The plain line of a step whose number of transactions is known.
-#[derive(Clone, Copy, Drop)]
-struct StepOf {
-    text: &'static str,
-    count: u64,
-    expected: usize,
-}
-
-impl fmt::Display for StepOf {
-    fn fmt<W: fmt::Write>(&self, f: &mut fmt::Formatter<W>) -> fmt::Result {
-        write!(f, "{} {} of {}", self.text, self.count, self.expected)
-    }
-}
-
-// The plain line of another step.
-#[derive(Clone, Copy, Drop)]
-struct StepCount {
-    text: &'static str,
-    count: u64,
-}
-
-impl fmt::Display for StepCount {
-    fn fmt<W: fmt::Write>(&self, f: &mut fmt::Formatter<W>) -> fmt::Result {
-        write!(f, "{} {}", self.text, self.count)
-    }
-}
-
-// The line that says how long a change took.
-#[derive(Clone, Copy, Drop)]
-struct Took(Minutes);
-
-impl fmt::Display for Took {
-    fn fmt<W: fmt::Write>(&self, f: &mut fmt::Formatter<W>) -> fmt::Result {
-        write!(f, "The change took {}.", self.0)
     }
 }
 

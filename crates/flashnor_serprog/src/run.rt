@@ -7,23 +7,23 @@ ghost use Rattle.flashnor_serprog.specs.Connected.{MayExpectImage, IsUnused, dev
 ghost use Rattle.flashnor_serprog.specs.Run.{AsksForHelp, EndsJob, HasRun, HasRunJob, HasRunOperation};
 ghost use Rattle.flashnor_serprog.specs.Run.{HasSucceeded, IsAskedByArguments, IsEndedAs, IsHelpAskedBy, IsPrepared};
 ghost use Rattle.flashnor_serprog.specs.Sends.{SendsOnly};
-ghost use Rattle.flashnor_serprog.specs.declared.trouble.Left.TheVariants.{Unchanged};
 
 use crate::backups::check_new;
 use crate::chip_faults::JobFault;
 use crate::connect::{ChipBus, Connected, connect};
 use crate::ending::{end_badly, end_well, status_of};
 use crate::help::HELP;
-use crate::hints::{Replies, Saved, print_operation_hint};
+use crate::hints::Saved;
 use crate::jobs::{changes_bytes, perform};
 use crate::journals::check_journal;
 use crate::progress::{Progress, StatusWrite, Terminal};
+use crate::reports::{print_job_fault, print_trouble};
 use crate::roles::have_one_role;
 use crate::setting::Setting;
 use crate::sources::{image_of, prepare_sources};
 use crate::status_line::protects;
 use crate::terminal::Screen;
-use crate::trouble::{Left, StopLine, Trouble};
+use crate::trouble::Trouble;
 use clap::Error as WordsError;
 use nor_args::{HardwareJob, Operation, Task, operation_of};
 use nor_chip::Bus;
@@ -154,14 +154,6 @@ fn run_on_chip<'b, R: Store, O: Write, E: Write>(
             print_trouble(errors, &trouble, operation);
             1
         }
-    }
-}
-
-// Prints the lines of a fault that ended a run before the first transaction.
-fn print_trouble<E: Write>(errors: &mut E, trouble: &Trouble<'_>, operation: &Operation<'_>) {
-    let _ = writeln!(errors, "{trouble}");
-    if let Trouble::Fault(fault) = trouble {
-        print_operation_hint(errors, fault, operation, None, Replies::default());
     }
 }
 
@@ -337,27 +329,6 @@ fn status_write_of(task: &Task<'_>, saved: Option<Saved>) -> StatusWrite {
     }
 }
 
-// Prints the lines of a fault with which a job ended: its own and, if there are such lines, its hint, the cause of
-// error 12, and a note.
-fn print_job_fault<E: Write>(
-    errors: &mut E,
-    fault: &JobFault<'_>,
-    bus: &ChipBus<'_>,
-    operation: &Operation<'_>,
-    saved: Option<Saved>,
-) {
-    let _ = writeln!(errors, "{fault}");
-    if let JobFault::Fault(fault) = fault {
-        print_operation_hint(errors, fault, operation, saved, bus.replies());
-    }
-    if fault.is_stop() {
-        print_cause(errors, bus, fault, &operation.task);
-    }
-    if let Some(note) = fault.note() {
-        let _ = writeln!(errors, "{note}");
-    }
-}
-
 // Performs a job, and returns its answer or its fault.
 fn end_job<'a, R: Store, B: Progress>(
     files: &mut R,
@@ -382,34 +353,5 @@ fn end_call<'a>(outcome: Outcome) -> Result<Answer, JobFault<'a>>
     match outcome {
         Ok(answer) => Ok(answer),
         Err(refusal) => Err(JobFault::Fault(Fault::Refused(refusal))),
-    }
-}
-
-// Prints the line that follows error 12: the cause, and advice.
-fn print_cause<E: Write>(errors: &mut E, bus: &ChipBus<'_>, fault: &JobFault<'_>, task: &Task<'_>) {
-    let twice = bus.inner().inner();
-    let checked = twice.inner();
-    let line = StopLine {
-        failure: checked.inner().inner().inner().cause(),
-        status: checked.fault(),
-        differed: twice.differed(),
-        left: if fault.follows_completion() {
-            Left::Completed
-        } else {
-            left_by(task, checked.has_begun())
-        },
-    };
-    let _ = writeln!(errors, "{line}");
-}
-
-// Returns what a task left that stopped. `begun` is true if a modifying command was sent. A restore that sent none may
-// follow a session or a restore that sent some.
-fn left_by(task: &Task<'_>, begun: bool) -> Left
-    ensures { begun ≡ true → result ≡ Unchanged → ⊥ }
-{
-    match task {
-        Task::Change(_) if !begun => Left::Unchanged,
-        Task::Change(_) | Task::Restore { .. } => Left::Changed,
-        _ => Left::Reading,
     }
 }

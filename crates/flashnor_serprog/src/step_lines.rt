@@ -1,0 +1,70 @@
+//! The plain lines of the progress, and the number of transactions that they show for each step.
+use crate::estimates::Minutes;
+use crate::steps::Step;
+use std::fmt;
+
+/// The number of transactions sent so far for each step, if the progress is shown.
+#[derive(Clone, Copy, Default)]
+pub struct Counts {
+    pub identify: u64,
+    pub scan: u64,
+    pub erase: u64,
+    pub program: u64,
+    pub protect: u64,
+    pub read_back: u64,
+    pub compare: u64,
+}
+
+impl Counts {
+    /// Counts one more transaction of this step, and returns the step's new count.
+    pub fn count(&mut self, step: Step) -> u64 {
+        let count = match step {
+            Step::Identify => &mut self.identify,
+            Step::Scan => &mut self.scan,
+            Step::Erase => &mut self.erase,
+            Step::Program => &mut self.program,
+            Step::Protect => &mut self.protect,
+            Step::ReadBack => &mut self.read_back,
+            Step::Compare => &mut self.compare,
+        };
+        *count = count.saturating_add(1);
+        *count
+    }
+}
+
+/// The plain line of a step whose number of transactions is known.
+#[derive(Clone, Copy, Drop)]
+pub struct StepOf {
+    pub text: &'static str,
+    pub count: u64,
+    pub expected: usize,
+}
+
+impl fmt::Display for StepOf {
+    fn fmt<W: fmt::Write>(&self, f: &mut fmt::Formatter<W>) -> fmt::Result {
+        write!(f, "{} {} of {}", self.text, self.count, self.expected)
+    }
+}
+
+/// The plain line of another step.
+#[derive(Clone, Copy, Drop)]
+pub struct StepCount {
+    pub text: &'static str,
+    pub count: u64,
+}
+
+impl fmt::Display for StepCount {
+    fn fmt<W: fmt::Write>(&self, f: &mut fmt::Formatter<W>) -> fmt::Result {
+        write!(f, "{} {}", self.text, self.count)
+    }
+}
+
+/// The line that says how long a change took.
+#[derive(Clone, Copy, Drop)]
+pub struct Took(pub Minutes);
+
+impl fmt::Display for Took {
+    fn fmt<W: fmt::Write>(&self, f: &mut fmt::Formatter<W>) -> fmt::Result {
+        write!(f, "The change took {}.", self.0)
+    }
+}
