@@ -14,7 +14,8 @@ bus_of checked = checked.bus
 abbrev pub inner_state : {B : Type 0} {over : Ghosts B} → CheckedStatus B over → BusState
 inner_state {over = over} checked = over.state (bus_of checked)
 
--- What the bus knows about the chip: its status registers, its ID, and the modifying commands so far.
+-- What the bus knows about the chip: its status registers and its ID, whether a modifying command was passed on, and
+-- the status write that is not read back yet.
 abbrev pub known_of : {B : Type 0} {over : Ghosts B} → CheckedStatus B over → Known
 known_of checked = checked.known
 

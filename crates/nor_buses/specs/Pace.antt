@@ -19,8 +19,8 @@ typical_of (opcode ∷ rest) =
     else if opcode == 0xD8 || opcode == 0xC7 then Some 150000
     else None
 
--- The typical duration of the operation that the last command began, after one more transaction that sent `out`. Before
--- it the duration was `before`.
+-- The typical duration of the operation that began last, after one more transaction that sent `out`. Before it the
+-- duration was `before`.
 abbrev pub typical_after : (out : List ℕ) → (before : ℕ) → ℕ
 typical_after out before = elim (typical_of out) [ None ↦ before | Some typical ↦ typical ]
 

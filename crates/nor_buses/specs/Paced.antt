@@ -10,7 +10,7 @@ paced_of paced = paced.bus
 abbrev pub busy_row : {B C : Type 0} → Paced B C → ℕ
 busy_row paced = paced.busy_polls
 
--- The typical duration in microseconds of the operation that the last command began. Only transactions that succeeded
--- count; the duration is 0 if none of them began an operation.
+-- The typical duration in microseconds of the operation that began last. Only transactions that succeeded count; the
+-- duration is 0 if none of them began an operation.
 abbrev pub typical_in : {B C : Type 0} → Paced B C → ℕ
 typical_in paced = paced.typical

@@ -3,6 +3,7 @@ ghost use Rattle.std.specs.Prelude.{◌≡◌, true, IfSome};
 ghost use Rattle.nor_model.specs.Status.{bytes_of};
 ghost use Rattle.nor_buses.specs.KnownStatus.{KeepsKnown};
 
+use crate::counts::ChangedByte;
 use nor_model::Status;
 
 const WRITE_STATUS: u8 = 0x01;
@@ -10,11 +11,12 @@ const WRITE_STATUS: u8 = 0x01;
 /// The reason why a `CheckedStatus` stopped although the bus inside did not.
 #[derive(Clone, Copy, Debug, PartialEq, Eq)]
 pub enum CheckFault {
-    /// Two reads of the same status register (05h or 35h) had different replies.
+    /// Two reads of the same status register (05h or 35h) had different replies, or the two reply bytes of one poll
+    /// differed although both showed that the chip is ready.
     Differs,
     /// A status write was not sent, because it could change a bit that is not a protection bit, and some of these bits
-    /// can be set only once. Status 1 or status 2 was not read yet, or such a bit differs from the one that was read,
-    /// or BUSY, WEL or SUS is set, or the status write doesn't have exactly two data bytes.
+    /// can be set only once. The reason is one of these: status 1 or status 2 was not read yet; such a bit differs from
+    /// the one that was read; BUSY, WEL or SUS is set in the write; or the write doesn't have exactly two data bytes.
     Refused,
     /// The status write of `sent` was not stored: afterwards the status registers are `found`, which differs in a
     /// non-volatile bit.
@@ -22,9 +24,12 @@ pub enum CheckFault {
     /// The chip first replied the ID `id`, and later `found`. If contact or supply fails, all replies are FFh or 00h,
     /// and so are the bytes of `found`.
     Lost { id: [u8; 3], found: [u8; 3] },
+    /// The first modifying command was not sent, because the port seems to change bytes that are received: see
+    /// `ChangedByte`.
+    ChangedByte(ChangedByte),
 }
 
-// The state of the knowledge of a `CheckedStatus` about the chip.
+// What a `CheckedStatus` knows about the chip.
 #[derive(Clone, Copy)]
 pub(crate) struct Known {
     // Status 1 and status 2. Each is known if the register was read twice with the same value, and the known ID was
@@ -35,7 +40,7 @@ pub(crate) struct Known {
     pub(crate) is_changing: bool,
     // The bytes of a status write that was passed on and is not read back yet.
     pub(crate) written: Option<[u8; 2]>,
-    // The ID of the chip: the first reply to 9Fh.
+    // The ID of the chip: the reply to the first 9Fh with three reply bytes.
     pub(crate) id: Option<[u8; 3]>,
 }
 

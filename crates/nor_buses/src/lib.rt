@@ -1,5 +1,5 @@
-//! Buses that wrap a bus to a chip at any programmer. Each passes transactions on to the bus inside and adds one
-//! feature, for example pauses or second reads. The program `flashnor_serprog` uses this crate; the program `flashnor`
+//! Buses that wrap a bus to a chip at any programmer. Each passes transactions on to the bus inside and adds its own
+//! features, for example pauses or second reads. The program `flashnor_serprog` uses this crate; the program `flashnor`
 //! does not.
 //!
 //! - `paced.rt`: a bus that pauses between polls of a busy chip
@@ -8,6 +8,7 @@
 //! - `status.rt`: a bus that notices a lost chip, reads the status registers twice, and checks status writes
 //! - `status/reads.rt`: how the bus of `status.rt` reads IDs and status registers
 //! - `known.rt`: what the bus of `status.rt` knows about the chip, and why it stops
+//! - `counts.rt`: how often each value occurs in the data that was read
 //! - `twice.rt`: a bus that reads IDs, SFDP and data twice and compares the replies
 //! - `again.rt`: repeats a read, as a whole or only for the sectors whose bytes differ from an image
 //! - `ahead.rt`: a bus that reads ahead
@@ -15,6 +16,7 @@
 
 mod again;
 mod ahead;
+mod counts;
 mod known;
 mod paced;
 mod parts;
@@ -23,6 +25,7 @@ mod status;
 mod twice;
 
 pub use ahead::ReadAhead;
+pub use counts::ChangedByte;
 pub use known::CheckFault;
 pub use paced::Paced;
 pub use splitting::SplittingBus;

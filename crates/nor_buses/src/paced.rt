@@ -20,11 +20,11 @@ const LONGEST: u64 = 6250;
 /// The pause before a transaction depends on how many polls in a row showed BUSY before it:
 ///
 /// - none: no pause. The first poll after a command may be sent together with it (`BatchingBus`).
-/// - one: the typical duration of the operation that the last command began, minus the time since this command was
-///   passed to the bus. A page program typically takes 0.7 ms, a status write 10 ms, an erase of 4 KiB 45 ms, of 32 KiB
-///   120 ms, of 64 KiB 150 ms (W25Q64FV datasheet, AC characteristics). An erase of the whole chip, whose duration
-///   depends on the chip, counts as one of 64 KiB. If the clock fails, the pause has the whole duration. If no command
-///   began an operation, there is no pause.
+/// - one: the typical duration of the operation that began last, minus the time since its command was passed to the
+///   bus. A page program typically takes 0.7 ms, a status write 10 ms, an erase of 4 KiB 45 ms, of 32 KiB 120 ms, of
+///   64 KiB 150 ms (W25Q64FV datasheet, AC characteristics). An erase of the whole chip, whose duration depends on the
+///   chip, counts as one of 64 KiB. If the clock fails, the pause has the whole duration. If no command began an
+///   operation, there is no pause.
 /// - two or more: a sixteenth of the typical duration, but at least 0.1 ms. This pause doubles after every 16 polls, up
 ///   to 6.25 ms.
 ///
@@ -38,7 +38,7 @@ const LONGEST: u64 = 6250;
 pub struct Paced<B, C> {
     bus: B,
     clock: C,
-    // The typical duration in microseconds of the operation that the last command began; 0 if no command began one.
+    // The typical duration in microseconds of the operation that began last; 0 if no command began one.
     typical: u64,
     // When the last command that began an operation was passed to the bus; `None` if there was none, or if the clock
     // failed.

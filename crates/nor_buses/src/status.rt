@@ -12,6 +12,7 @@ ghost use Rattle.nor_buses.specs.StatusRead.{begins_confirmed, second, was_read_
 
 mod reads;
 
+use crate::counts::{ByteCounts, ChangedByte};
 use crate::known::{CheckFault, Known, are_same, kept_status};
 use nor_model::{Bus, History, Status, Stopped, is_changing};
 
@@ -52,13 +53,15 @@ const BUSY: u8 = 0x01;
 ///   LB2 and LB3. BUSY, WEL and SUS must be clear. Otherwise nothing is sent.
 /// - After a status write, the first poll that shows that the chip is ready also reads status 2, twice. If a
 ///   non-volatile bit isn't as it was sent, the poll returns `Stopped`.
+/// - The bus counts how often each value occurs in the data that is read. If the port seems to change one value into
+///   another (`changed_byte`), a bus that `guarding` made refuses the first modifying command, since a journal of such
+///   data would be wrong.
 ///
 /// `fault` returns why this bus stopped, if the bus inside did not.
 ///
-/// A busy chip ignores a read of its ID (W25Q64FV datasheet, Instructions), so it would count as lost. Therefore the ID
-/// is read only after a poll that shows that the chip is ready, and data, SFDP, the unique ID and status 2 must be read
-/// only while the chip is ready. The engine does so: a probe waits first, and each operation waits at its end (`wait`
-/// of nor_driver).
+/// A busy chip ignores a read of its ID (W25Q64FV datasheet, Instructions), so it would count as lost. Therefore a poll
+/// that returns BUSY reads no ID, and data, SFDP, the unique ID and status 2 must be read only while the chip is ready.
+/// The engine does so: a probe waits first, and each operation waits at its end (`wait` of nor_driver).
 ///
 /// A transaction over this bus may be several over the bus inside, so this bus is not well-behaved as `Bus` defines it,
 /// even if the bus inside is. The history lists each transaction over this bus with its reply; a transaction that
@@ -69,6 +72,9 @@ pub struct CheckedStatus<B: Bus + Drop> {
     known: Known,
     fault: Option<CheckFault>,
     history: History,
+    counts: ByteCounts,
+    // True if the first modifying command is refused if the port seems to change bytes.
+    guards: bool,
     // Each status byte that is known was read twice over the bus inside, and an ID was read after each of the two
     // reads.
     ghost one_read: { ForSome known.one (λ byte. was_read_twice 0x05 byte (B.state bus).history ≡ true) },
@@ -78,8 +84,29 @@ pub struct CheckedStatus<B: Bus + Drop> {
 impl<B: Bus + Drop> CheckedStatus<B> {
     ghost use Rattle.nor_buses.specs.Checked.{bus_of, history_of, has_begun, written_of};
 
-    /// Returns a bus over `bus` that checks the status registers.
+    /// Returns a bus over `bus` that checks the status registers. It sends modifying commands even if the port seems to
+    /// change bytes: a restore writes what its journal saved, not data that was read.
     pub fn new(bus: B) -> CheckedStatus<B>
+        ensures bus { bus_of result ≡ bus }
+        ensures begun { has_begun result ≡ false }
+        ensures written { written_of result ≡ None }
+        ensures history { history_of result ≡ [] }
+    {
+        CheckedStatus::with(bus, false)
+    }
+
+    /// Returns a bus over `bus` that checks the status registers, and refuses the first modifying command if the port
+    /// seems to change bytes (`changed_byte`).
+    pub fn guarding(bus: B) -> CheckedStatus<B>
+        ensures bus { bus_of result ≡ bus }
+        ensures begun { has_begun result ≡ false }
+        ensures written { written_of result ≡ None }
+        ensures history { history_of result ≡ [] }
+    {
+        CheckedStatus::with(bus, true)
+    }
+
+    fn with(bus: B, guards: bool) -> CheckedStatus<B>
         ensures bus { bus_of result ≡ bus }
         ensures begun { has_begun result ≡ false }
         ensures written { written_of result ≡ None }
@@ -96,6 +123,8 @@ impl<B: Bus + Drop> CheckedStatus<B> {
             },
             fault: None,
             history: History::new(),
+            counts: ByteCounts::new(),
+            guards,
         }
     }
 
@@ -109,6 +138,12 @@ impl<B: Bus + Drop> CheckedStatus<B> {
     /// Returns the reason of the last stop that the bus inside did not cause, or `None` if there was none.
     pub fn fault(&self) -> Option<CheckFault> {
         self.fault
+    }
+
+    /// Returns the value that the port seems to change (0Dh or 0Ah), if there is one: it does not occur in the data
+    /// that was read, but the other of the two occurs at least 64 times, and at least 192 of the 256 values occur.
+    pub fn changed_byte(&self) -> Option<ChangedByte> {
+        self.counts.changed_byte()
     }
 
     /// Returns whether a modifying command was ever passed on, even if the bus inside stopped there.
@@ -137,8 +172,9 @@ impl<B: Bus + Drop> CheckedStatus<B> {
         Ok(status)
     }
 
-    // Polls, and returns status 1. Polls twice before the first modifying command and after a status write, otherwise
-    // once. If a status write is not read back yet, and the chip is ready, reads it back.
+    // Polls, and returns status 1. Before the first modifying command, and while a status write is not read back yet,
+    // polls twice unless the first poll shows BUSY. Otherwise polls once. If a status write is not read back yet, and
+    // the chip is ready, reads it back.
     #[tactic(auto, using(crate::proofs::StatusRead::pair_read, crate::proofs::StatusRead::still_known))]
     fn poll(&mut self) -> Result<u8, Stopped>
         ensures history { history_of self.new ≡ history_of self.old }
@@ -184,8 +220,8 @@ impl<B: Bus + Drop> CheckedStatus<B> {
         Ok(())
     }
 
-    // Passes a status write on if both status registers are known and the write keeps all their bits except the
-    // protection bits. Otherwise stops.
+    // Passes a status write on if both status registers are known, and the write keeps all their bits except the
+    // protection bits, with BUSY, WEL and SUS clear (`kept_status`). Otherwise stops.
     fn write(&mut self, out: &[u8], reply: &mut [u8]) -> Result<(), Stopped>
         ensures history { history_of self.new ≡ history_of self.old }
         ensures kept { (inner_state self.new ≡ inner_state self.old)
@@ -236,6 +272,16 @@ impl<B: Bus + Drop> CheckedStatus<B> {
         }
     }
 
+    // Returns why `out` is refused: it would be the first modifying command over a bus that `guarding` made, and the
+    // port seems to change bytes. Returns `None` if it isn't refused for this reason.
+    fn refusal(&self, out: &[u8]) -> Option<CheckFault> {
+        if !self.guards || self.known.is_changing || !is_changing(out) {
+            return None;
+        }
+        self.changed_byte()
+            .map(|changed| CheckFault::ChangedByte(changed))
+    }
+
     // Makes a transaction that is neither a poll, nor a read of status 2, nor a status write.
     fn pass_on(&mut self, out: &[u8], reply: &mut [u8]) -> Result<(), Stopped>
         ensures history { history_of self.new ≡ history_of self.old }
@@ -270,6 +316,9 @@ impl<B: Bus + Drop> CheckedStatus<B> {
             self.known.is_changing = true;
         }
         self.pass(out, reply)?;
+        if let [READ_DATA, ..] = out {
+            self.counts.add(reply);
+        }
         if is_confirmed(out) {
             self.read_id()?;
         }
@@ -302,7 +351,11 @@ impl<B: Bus + Drop> Bus for CheckedStatus<B> {
         ensures read { begins_confirmed out.now ≡ true → OnOk result (IsConfirmed (replied out.now reply.new)
             (known_of self.new).id (inner_state self.old).history (inner_state self.new).history) }
     {
-        match self.carry(out, reply) {
+        let carried = match self.refusal(out) {
+            Some(fault) => Err(self.stop(fault)),
+            None => self.carry(out, reply),
+        };
+        match carried {
             Ok(()) => {
                 self.history = self.history.replied(out, reply);
                 Ok(())

@@ -34,8 +34,9 @@ const READ_ID: u8 = 0x9F;
 /// If an image is expected (`expecting`), a read of data (03h and three address bytes) that does not pass address
 /// FFFFFFh is carried out once. After that only the sectors of its reply that differ from the image at the same
 /// addresses are read again, neighbouring ones together. If the reply has only a part of a sector, only this part is
-/// compared. If the expected image is the image of a session, each sector that the session's journal saves was read
-/// twice: a session saves only sectors that differ from its image, and reads each one with a single transaction.
+/// compared. If the expected image is the one that a session writes, each sector that the session's journal saves was
+/// read twice: such a session saves only sectors that differ from the image, and reads each one with a single
+/// transaction.
 ///
 /// An error that is the same in both reads is not detected. A read over this bus may be several transactions over the
 /// bus inside, so this bus is not well-behaved as `Bus` defines it, even if the bus inside is. On any bus, each byte
@@ -56,7 +57,7 @@ pub struct ReadTwice<B> {
 }
 
 impl<B: Bus + Drop> ReadTwice<B> {
-    /// Returns a bus over `bus` that carries out each read twice.
+    /// Returns a bus over `bus` that carries out each read of data, of IDs and of SFDP twice.
     pub fn new(bus: B) -> ReadTwice<B>
         ensures bus { twice_of result ≡ bus }
         ensures differed { has_differed result ≡ false }
@@ -72,8 +73,8 @@ impl<B: Bus + Drop> ReadTwice<B> {
         }
     }
 
-    /// Returns a bus over `bus` that reads data twice, except for sectors that equal `image` at their addresses. The
-    /// first byte of `image` is the one at address 0.
+    /// Returns a bus over `bus` that carries out reads of data, of IDs and of SFDP twice, except for sectors of data
+    /// that equal `image` at their addresses. The first byte of `image` is the one at address 0.
     pub fn expecting(bus: B, image: Vec<u8>) -> ReadTwice<B>
         ensures bus { twice_of result ≡ bus }
         ensures differed { has_differed result ≡ false }

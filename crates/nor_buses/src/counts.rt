@@ -1,0 +1,76 @@
+//! How often each value occurs in the data that was read, which shows whether the port changes one value into another.
+
+/// A byte value that the port seems to change: it does not occur in the data that was read, but the value into which a
+/// port may change it does.
+///
+/// A port that is not set up as raw may change each received 0Dh into 0Ah (`icrnl` of stty(1)), or each 0Ah into 0Dh
+/// (`inlcr`). Reading twice doesn't detect this, because both reads are changed in the same way.
+#[derive(Clone, Copy, Debug, PartialEq, Eq)]
+pub struct ChangedByte {
+    /// The value that does not occur: 0Dh or 0Ah.
+    pub lost: u8,
+    /// The other value, which does.
+    pub read_as: u8,
+}
+
+// The pairs of a value and the one into which a port may change it.
+const CHANGES: [ChangedByte; 2] = [
+    ChangedByte {
+        lost: 0x0D,
+        read_as: 0x0A,
+    },
+    ChangedByte {
+        lost: 0x0A,
+        read_as: 0x0D,
+    },
+];
+
+// How many different values the data must have at least, before a value counts as changed. ASCII text, which may lack
+// 0Dh, has at most half of the 256 values.
+const FEWEST_VALUES: usize = 192;
+
+// How often `read_as` must occur at least. Since most data is read twice, these are at least 32 bytes of the chip. If
+// `lost` and `read_as` are equally likely in the data, the first 32 of these bytes are all `read_as` in 1 of 2^32 cases.
+const FEWEST_OCCURRENCES: u32 = 64;
+
+// How often each value occurs in the data that was read. A count that reaches 2^32 - 1 stays there.
+#[derive(Drop)]
+pub(crate) struct ByteCounts {
+    counts: [u32; 256],
+}
+
+impl ByteCounts {
+    pub(crate) fn new() -> ByteCounts {
+        ByteCounts { counts: [0; 256] }
+    }
+
+    pub(crate) fn add(&mut self, data: &[u8]) {
+        for byte in data {
+            if let Some(count) = self.counts.get_mut(usize::from(*byte)) {
+                *count = count.saturating_add(1);
+            }
+        }
+    }
+
+    // Returns the value that the port seems to change, if there is one.
+    pub(crate) fn changed_byte(&self) -> Option<ChangedByte> {
+        if self.values() < FEWEST_VALUES {
+            return None;
+        }
+        for change in &CHANGES {
+            if self.count(change.lost) == 0 && self.count(change.read_as) >= FEWEST_OCCURRENCES {
+                return Some(*change);
+            }
+        }
+        None
+    }
+
+    // Returns how many different values occur.
+    fn values(&self) -> usize {
+        self.counts.iter().filter(|count| **count > 0).count()
+    }
+
+    fn count(&self, value: u8) -> u32 {
+        self.counts.get(usize::from(value)).copied().unwrap_or(0)
+    }
+}
