@@ -1,4 +1,4 @@
--- The faults of a job before its call, and those of a change or restore after its call.
+-- Lemmas on the faults of a job: before its call to the engine and, for a change or restore, after the call.
 use Rattle.std.proofs.Common.{◌≡◌, ℕ, Bool, List, Option, Result, Ok, Err, IfErr, IfOk, false, inl, inr, refl, true}
 use Rattle.std.specs.Borrow.{Bor}
 use Rattle.nor_model.specs.Bus.{BusState}
@@ -29,8 +29,9 @@ use Rattle.flashnor_serprog.specs.Restoring.{FailsRestore}
 use Rattle.flashnor_serprog.specs.declared.chip_faults.JobFault.{JobFault}
 use Rattle.flashnor_serprog.specs.declared.chip_faults.JobFault.TheVariants as ended
 
--- If `P` holds for the value that a call returned, it holds for the value of the run. If `Q` holds for the error of the
--- call, the run's fault is `Refused` with an error for which `Q` holds.
+-- Let `result` be the `outcome` of a call, with its error as a fault (`IsReportedAs`). If `P` holds for the value of
+-- `outcome`, then `P` holds for the value of `result`. If `Q` holds for the error of `outcome`, then the fault of
+-- `result` is `Refused` with an error for which `Q` holds.
 module _ {T : Type 0} (P : T → Type 0) (Q : Refusal → Type 0) where
   pub passes_ok : (outcome : Result T Refusal) (result : Result T Fault) → IsReportedAs outcome result
       → IfOk outcome P → IfOk result P
@@ -136,8 +137,9 @@ module _ (named : Option ChipName) (target : List ℕ) (old new : BusState) wher
   follows_no_rest found true outcome refusal fails = fails
   follows_no_rest found false outcome refusal fails = fails
 
--- A change with its journal in a file, and what follows its session: the result of the change, or the fault of the
--- comparison.
+-- Let the journal of a change be in `file`. If the session was run, and the comparison after it was made and succeeded
+-- where one is needed (`HasChangedAndCompared`), then `HasChangedBy` holds. If that comparison failed with a fault, the
+-- change failed with this fault.
 module _ (operation : Operation) (change : Change) (ranges : Option (List Span)) (bytes : List ℕ)
     (kept : JournalUse) (file : Bor Text) (is : kept ≡ uses.Journal file) (view : View) (after : FilesState)
     (old changed new : BusState) where

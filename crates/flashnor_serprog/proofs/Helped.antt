@@ -1,4 +1,4 @@
--- Which faults that end a run early are a request for the help or the version.
+-- Lemmas: a run ends early with a request for the help or the version only if its arguments ask for that.
 use Rattle.std.proofs.Common.{◌≡◌, arith, Bool, false, List, Some, inl, inr, subst}
 use Rattle.clap.specs.Words.{IsAmong}
 use Rattle.clap.specs.declared.error.Error.{Error}
@@ -34,7 +34,7 @@ not-words : (c d e f g h : Bool) (error : Error) → first_fault (cases false fa
     → ⊥
 not-words c d e f g h error is = grind arith
 
--- None of the faults 4 to 9 of the options is a request for the help or the version.
+-- None of the usage faults 4 to 9 is a request for the help or the version.
 no-help : (given : Texts) (fault : UsageFault) (reason : Reason) → first_fault (operation_faults given) ≡ Some fault
     → AsksForHelp (trouble.Fault (end.Usage fault reason)) → ⊥
 no-help given (usage.Words error) reason is help = not-words _ _ _ _ _ _ error is

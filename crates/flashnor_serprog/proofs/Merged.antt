@@ -1,5 +1,5 @@
--- The target of a change that is limited to regions: it combines the bytes that were read from the chip with those of
--- the image.
+-- Lemmas on the target of a change that is limited to regions. The target has bytes of the image in the regions, and
+-- bytes that were read from the chip outside them.
 use Rattle.std.proofs.Common.{◌≡◌, ◌<◌, ◌∙◌, ◌++◌, ℕ, List, Ok, Option, ap, arith, drop, length, refl, slice_index, take, true}
 use Rattle.std.proofs.Math.Seq.{take-append_seam}
 use Rattle.nor_journal.specs.Vault.{VaultState, new_vault}

@@ -1,4 +1,4 @@
--- The run of the operation that the arguments ask for.
+-- Lemmas on the run of the operation that the arguments ask for.
 use Rattle.std.proofs.Common.{◌≡◌, ℕ, IfSome, List, None, Option, Some, is_some, true}
 use Rattle.std.specs.Prelude.{IsSomeAnd}
 use Rattle.std.proofs.lemmas.Bool.{false≢true}
@@ -23,7 +23,7 @@ module _ (state : Connected → BusState) (files after : FilesState) (words : Li
   job_ran None ran = ran
   job_ran (Some connected) ran = record { name = name; operation = operation; asked = asked; run = ran }
 
--- If the run left a bus in `used`, and `P` holds for a bus in `used`, there is a bus in `used` for which `P` holds.
+-- If there is a bus in `used`, and `P` holds for each bus in `used`, then there is a bus in `used` for which `P` holds.
 pub is_used : (P : Connected → Type 0) (used : Option Connected) → is_some used ≡ true → IfSome used P
     → IsSomeAnd used P
 is_used P None none holds = absurd (false≢true none)

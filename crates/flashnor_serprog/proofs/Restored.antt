@@ -1,4 +1,4 @@
--- A restore with or without its comparison, composed of its steps.
+-- Lemmas that compose a restore from its steps, with or without the comparison after it.
 use Rattle.std.proofs.Common.{◌≡◌, ℕ, List, Result, IfErr, IfOk, inl}
 use Rattle.std.proofs.lemmas.Result.{IfOk-weaker, MatchResult-weaker}
 use Rattle.nor_model.specs.Bus.{BusState}

@@ -67,8 +67,9 @@ sends_before IsCode journal old mid new sends same = record {
   unknown = rw same sends.unknown;
 }
 
--- A session, before which no modifying command was sent (`same`), sends no modifying command before its journal is
--- sealed.
+-- Let no modifying command be sent before a session (`same`). Then none is sent up to its end if its journal isn't
+-- sealed. If the journal is sealed and the files obey the contract of `Store`, what is sent fits this journal
+-- (`SendsJournalled`).
 module _ (request : Request) (image : List ℕ) (file : Text) (before : View) (after : FilesState)
     (old found new : BusState) (outcome : Result Answer Refusal)
     (ran : HasRunInFile request image file before after found new outcome) (same : KeepsSent old found) where
@@ -107,7 +108,8 @@ buffer_reads named (wanted.Write file) ranges bytes old new image is =
 buffer_reads named wanted.Erase ranges bytes old new image is =
     made_reads named wanted.Erase ranges bytes old new image is
 
--- No modifying command was sent after the session, between `changed` and `new`.
+-- Let no modifying command be sent after the session, from `changed` to `new`. What holds for the commands sent up to
+-- `changed` then holds for those sent up to `new`.
 module _ (what : What) (file : Text) (old changed new : BusState) (after : FilesState)
     (same : KeepsSent changed new) where
   journalled_before : SendsJournalled what file old changed after → SendsJournalled what file old new after

@@ -33,8 +33,8 @@ whole_seconds_in micros = micros / 1000000
 abbrev pub millis_in : (micros : ℕ) → ℕ
 millis_in micros = micros % 1000000 / 1000
 
--- the number of 64 KiB erases among `erases`, if these are the fewest erases of 4 KiB and 64 KiB that cover `touched`
--- sectors
+-- the number of 64 KiB erases among `erases` erases, if they are erases of 4 KiB and 64 KiB that cover exactly
+-- `touched` sectors
 abbrev pub blocks_in : (touched erases : ℕ) → ℕ
 blocks_in touched erases = min erases ((touched - erases) / 15)
 

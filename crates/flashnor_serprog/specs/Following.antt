@@ -41,9 +41,9 @@ pub record IsMerged (named : Option ChipName) (spans : List Span) (image : List 
   pub bytes : (a : ℕ) → a < length chip
       → slice_index target a ≡ merged_byte (contains spans) (slice_index image) (slice_index chip) a
 
--- Holds if `target` has the bytes that the chip must have after a change. If the change is compared and limited to
--- regions, `ranges` are those of the regions: then the chip was read, and `target` has the bytes that were read at all
--- addresses outside the ranges. If `ranges` is `None`, nothing was sent, and `target` is `image`.
+-- Holds if `target` is the target of a change. If the change is compared and limited to regions, `ranges` are those of
+-- the regions: then the chip was read, and `target` has the bytes that were read at all addresses outside the ranges.
+-- If `ranges` is `None`, nothing was sent, and `target` is `image`.
 abbrev pub IsWholeTarget : Option ChipName → (ranges : Option (List Span)) → (image : List ℕ) → (old new : BusState)
     → (target : List ℕ) → Type 0
 IsWholeTarget named None image old new target = (new ≡ old) × (target ≡ image)
@@ -89,8 +89,9 @@ FailsToMerge named size (Some spans) image old new refusal = ((new ≡ old) × I
 
 -- ---- the comparison
 
--- What was sent after the session of a change. If the session succeeded and the change is compared, the whole chip was
--- compared with the target, and was equal to it (`HasVerified`). Otherwise nothing was sent.
+-- Holds if this was done after the session of a change: if the session succeeded and the change is compared, the whole
+-- chip was compared with the target, and no difference was found (`HasVerified`). Otherwise nothing was sent after the
+-- session.
 abbrev pub IsFollowed : (session : Result Answer Refusal) → (compared : Bool) → Option ChipName → (target : List ℕ)
     → (old new : BusState) → Type 0
 IsFollowed (Ok found) true named target old new =

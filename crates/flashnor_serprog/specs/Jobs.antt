@@ -67,20 +67,20 @@ HasReadBy true named file ranges before after old new outcome = HasBackedUpChip 
 HasReadBy false named file ranges before after old new outcome =
     HasReadChip named file ranges after.view old new outcome
 
--- Holds if a read or a backup failed with this fault before its call: in the identification, or when its file was
--- created.
+-- Holds if a read or a backup failed with this fault before its call to the engine: in the identification, or in
+-- creating or truncating its file.
 abbrev pub FailsToRead : Option ChipName → Text → View → (old new : BusState) → Fault → Type 0
 FailsToRead named file view old new fault =
     FailsToFind named old new fault ⊎ FailsToMake named file view old new fault
 
 -- ---- chips that may be protected
 
--- true if the chip has no row in the table, so that its block protection is unknown, and at least one of its status
--- bits 2 to 6 is set. On nearly every chip these bits protect sectors, which then ignore erases and programs.
+-- true if the chip has no row in the table, so that its block protection is unknown, and at least one of the bits 2 to
+-- 6 of its status 1 is set. On nearly every chip these bits protect sectors, which then ignore erases and programs.
 abbrev pub may_be_protected : Found → Bool
 may_be_protected chip = not chip.scheme && not (nat_eq (bit_and chip.status1 0x7C) 0)
 
--- Holds if the chip was identified, and its block protection is known or its status bits 2 to 6 are clear.
+-- Holds if the chip was identified, and its block protection is known or the bits 2 to 6 of its status 1 are clear.
 pub record IsChangeable (named : Option ChipName) (old new : BusState) (chip : Found) : Type 0 where
   pub identified : HasIdentified named old new (Ok chip)
   pub unprotected : may_be_protected chip ≡ false
@@ -170,8 +170,8 @@ pub record HasRunChange (operation : Operation) (change : Change) (ranges : Opti
   pub ran : HasRunInFile (request_for change operation.named ranges) image file before after found new outcome
 
 -- Holds if the session of a change was run with its journal in a new file. If the session succeeded and the change is
--- compared, the chip was then compared with the session's buffer, and was equal to it. Otherwise nothing was sent after
--- the session.
+-- compared, the chip was then compared with the session's buffer, and no difference was found. Otherwise nothing was
+-- sent after the session.
 pub record HasChangedAndCompared (operation : Operation) (change : Change) (ranges : Option (List Span))
     (bytes : List ℕ) (file : Text) (before : View) (after : FilesState) (old new : BusState)
     (outcome : Result Answer Refusal) : Type 0 where
@@ -278,8 +278,8 @@ abbrev pub FailsBefore : Option ChipName → Task → (bytes : List ℕ) → Vie
 FailsBefore named (task.Read file regions) bytes view old new fault = FailsToRead named file.now view old new fault
 FailsBefore named _ bytes view old new fault = ⊥
 
--- Holds if `perform` failed with this fault: for a read before its call; for a change before its session, or in the
--- comparison after it; for a restore before its call, or in the comparison after it.
+-- Holds if `perform` failed with this fault: for a read or a backup before its call; for a change before its session,
+-- or in the comparison after it; for a restore before its call, or in the comparison after it.
 abbrev pub FailsPerform : Operation → Task → (ranges : Option (List Span)) → (bytes : List ℕ) → (before : View)
     → (after : FilesState) → (old new : BusState) → JobFault → Type 0
 FailsPerform operation (task.Change change) ranges bytes before after old new fault =

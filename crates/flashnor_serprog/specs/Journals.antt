@@ -18,8 +18,8 @@ are_blank bytes = list_all (λ byte. nat_eq byte 255) bytes
 abbrev pub is_blank : SavedSector → Bool
 is_blank sector = are_blank sector.bytes
 
--- Holds for the address of the first byte of the first saved sector and the address of the last byte of the last one.
--- Holds for `None` if no sector is saved.
+-- Holds for the pair of the first and the last saved address: that of the first byte of the first saved sector, and
+-- that of the last byte of the last saved sector. Holds for `None` if no sector is saved.
 abbrev pub AreEnds : List SavedSector → Option (ℕ × ℕ) → Type 0
 AreEnds saved None = saved ≡ []
 AreEnds saved (Some ends) =

@@ -59,15 +59,16 @@ is_followed (Ok answer) = true
 is_followed (Err (Mismatch address)) = true
 is_followed (Err refusal) = false
 
--- Holds if the sectors that the journal doesn't save were read again, and each of their bytes was as before the restore
--- (`rest`).
+-- Holds if the sectors that the journal doesn't save were read again, and each byte that was read was as before the
+-- restore (`rest`).
 pub record HasKeptRest (journal : Journal) (rest : List ℕ) (old new : BusState) : Type 0 where
   pub again : List ℕ
   pub read : HasReadRest journal again old new
   pub equal : AllAgree rest again
 
--- What was sent after a restore. If `followed` is true, the sectors that the journal doesn't save were compared, and
--- were equal. Otherwise nothing was sent.
+-- Holds if this was done after a restore: if `followed` is true, the sectors that the journal doesn't save were
+-- compared with their bytes before the restore (`rest`), and no difference was found. Otherwise nothing was sent after
+-- the restore.
 abbrev pub FollowsRestore : (followed : Bool) → Journal → (rest : List ℕ) → (old new : BusState) → Type 0
 FollowsRestore true journal rest old new = HasKeptRest journal rest old new
 FollowsRestore false journal rest old new = new ≡ old

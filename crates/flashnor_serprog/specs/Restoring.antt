@@ -49,8 +49,8 @@ pub record HasRestoredAndCompared (operation : Operation) (journal : Journal) (o
   pub ran : HasRunRestore operation.is_quick journal found restored outcome
   pub followed : FollowsRestore (is_followed outcome) journal rest restored new
 
--- Holds if a restore from this journal was run: with the comparison of the other sectors if `compared` is true,
--- otherwise without it.
+-- Holds if a restore from this journal was run. If `compared` is true, the sectors that the journal doesn't save were
+-- read before the restore, and compared after it.
 abbrev pub HasRestoredBy : (compared : Bool) → Operation → Journal → (old new : BusState) → Result Answer Refusal
     → Type 0
 HasRestoredBy true operation journal old new outcome = HasRestoredAndCompared operation journal old new outcome
@@ -65,7 +65,7 @@ pub record HasRestored (operation : Operation) (bytes : List ℕ) (old new : Bus
   pub restored : HasRestoredBy operation.verifies_all operation journal old new outcome
 
 -- Holds if reading the sectors that the journal doesn't save failed with this error, after the chip was identified:
--- with error 16 if the chip lacks the journal's ID or size, or with error 12 if the bus stopped.
+-- with error 16 if the chip lacks the journal's ID or size (nothing was sent), or with error 12 if the bus stopped.
 abbrev pub FailsRestOf : Journal → Found → (old new : BusState) → Refusal → Type 0
 FailsRestOf journal chip old new OtherChip = (new ≡ old) × (¬ IsOfTypeFound journal chip)
 FailsRestOf journal chip old new Stopped = HasStoppedInRest journal old new
@@ -79,14 +79,14 @@ pub record HasNotReadRest (named : Option ChipName) (journal : Journal) (old new
   pub identified : HasIdentified named old found (Ok chip)
   pub fails : FailsRestOf journal chip found new refusal
 
--- Holds if a restore that is compared failed with this fault before its call: in the identification, or while the
--- sectors that the journal doesn't save were read.
+-- Holds if a restore without `-N` failed with this fault before its call to the engine: in the identification, or while
+-- the sectors that the journal doesn't save were read.
 abbrev pub FailsToReadRest : Option ChipName → Journal → (old new : BusState) → Fault → Type 0
 FailsToReadRest named journal old new fault = FailsToFind named old new fault
     ⊎ ((refusal : Refusal) × HasNotReadRest named journal old new refusal × (fault ≡ end.Refused refusal))
 
--- Holds if a restore that is compared was run with this outcome, and the comparison after it failed with this error
--- (`FailsRest`).
+-- Holds if a restore without `-N` was run with this outcome, and the comparison of the sectors that the journal doesn't
+-- save then failed with this error (`FailsRest`).
 pub record HasNotComparedRest (operation : Operation) (journal : Journal) (old new : BusState)
     (outcome : Result Answer Refusal) (refusal : Refusal) : Type 0 where
   pub rest : List ℕ
@@ -97,8 +97,8 @@ pub record HasNotComparedRest (operation : Operation) (journal : Journal) (old n
   pub followed : is_followed outcome ≡ true
   pub fails : FailsRest journal rest restored new refusal
 
--- Holds if a restore that is compared failed with this fault: memory ran out before anything was sent, the job failed
--- before the call (`FailsToReadRest`), or the comparison after the call failed (`HasNotComparedRest`).
+-- Holds if a restore without `-N` failed with this fault: memory ran out before anything was sent, the job failed
+-- before its call to the engine (`FailsToReadRest`), or the comparison after the call failed (`HasNotComparedRest`).
 abbrev pub FailsCompared : Operation → Journal → (old new : BusState) → JobFault → Type 0
 FailsCompared operation journal old new (ended.Fault fault) = ((new ≡ old) × (fault ≡ end.Refused Memory))
     ⊎ FailsToReadRest operation.named journal old new fault
@@ -106,12 +106,13 @@ FailsCompared operation journal old new (ended.RestNotCompared outcome refusal) 
     HasNotComparedRest operation journal old new outcome refusal
 FailsCompared operation journal old new _ = ⊥
 
--- Holds if a restore that isn't compared failed with this fault: the identification returned an error.
+-- Holds if a restore with `-N` failed with this fault: the identification returned an error.
 abbrev pub FailsUncompared : Operation → (old new : BusState) → JobFault → Type 0
 FailsUncompared operation old new (ended.Fault fault) = FailsToFind operation.named old new fault
 FailsUncompared operation old new _ = ⊥
 
--- Holds if a restore from this journal failed with this fault; `compared` says whether the other sectors are compared.
+-- Holds if a restore from this journal failed with this fault. `compared` is true without `-N`: the sectors that the
+-- journal doesn't save are then compared after the restore.
 abbrev pub FailsBy : (compared : Bool) → Operation → Journal → (old new : BusState) → JobFault → Type 0
 FailsBy true operation journal old new fault = FailsCompared operation journal old new fault
 FailsBy false operation journal old new fault = FailsUncompared operation old new fault

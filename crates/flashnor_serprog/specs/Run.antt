@@ -59,8 +59,8 @@ pub record IsPrepared (view : View) (device : Bor Text) (operation : Operation) 
   pub roles : HaveOneRole view.nature device operation.task
   pub sources : AreSources view operation.task ranges bytes
 
--- Holds if a job ended with this result: the answer or the error of its call, or a fault that occurred before the call
--- or in the comparison after it.
+-- Holds if a job ended with this result: the answer or the error of its call of the engine (such as `session` or
+-- `restore`), or a fault that occurred before that call or in the comparison of the chip after it.
 abbrev pub EndsJob : Operation → (ranges : Option (List Span)) → (bytes : List ℕ) → (before : View)
     → (after : FilesState) → (old new : BusState) → Result Answer JobFault → Type 0
 EndsJob operation ranges bytes before after old new (Ok found) =
@@ -85,13 +85,15 @@ is_unverified _ = false
 abbrev pub unverified_line : List ℕ
 unverified_line = line (codes "Nothing was verified (-n)." ∷ [])
 
--- Holds if `text` is the line with the name of the identified chip, or for any other answer the lines of this answer.
+-- Holds if `text` is what `--flash-name` prints: the line with the chip's name if the answer is an identified chip, and
+-- the lines of the answer otherwise.
 abbrev pub AreNameLines : Answer → List ℕ → Type 0
 AreNameLines (answer.Found found) text = text ≡ name_line found.name
 AreNameLines found text = AreLines found text
 
 -- Holds if `text` consists of the lines that are printed for this answer. If `named` is true (`--flash-name`), only the
--- chip's name is printed. Otherwise, if `unverified` is true, the answer's lines are followed by `unverified_line`.
+-- chip's name is printed (`AreNameLines`). Otherwise, if `unverified` is true, the answer's lines are followed by
+-- `unverified_line`.
 abbrev pub AreLinesBy : (named unverified : Bool) → Answer → List ℕ → Type 0
 AreLinesBy true unverified found text = AreNameLines found text
 AreLinesBy false false found text = AreLines found text
@@ -117,8 +119,8 @@ pub record HasRun (operation : Operation) (ranges : Option (List Span)) (bytes :
   pub few : status ≤ 1
   pub printed : status ≡ 0 → HasPrinted operation outcome out out'
 
--- Holds if the arguments ask for the help or the version: `clap` may then reject them with an error that contains this
--- text.
+-- Holds if the arguments ask for the help or the version, so that `clap` may reject them with the error that contains
+-- the help, or with the one that contains the version.
 abbrev pub ArgumentsAskForHelp : List Text → Type 0
 ArgumentsAskForHelp words = IsAmong kind.DisplayHelp (hardware_refusals_of program words)
     ⊎ IsAmong kind.DisplayVersion (hardware_refusals_of program words)
@@ -128,14 +130,14 @@ abbrev pub AsksForHelp : Trouble → Type 0
 AsksForHelp (trouble.Fault fault) = IsAnswered (Err fault) ⊎ AsksForVersion fault
 AsksForHelp _ = ⊥
 
--- Holds if the run did not end early because of a request for the help or the version, or if its arguments ask for the
--- help or the version.
+-- Holds if this is true of a run that ended early with the trouble `ended`: if `ended` is a request for the help or the
+-- version, then the arguments `words` ask for the help or the version.
 abbrev pub IsHelpAskedBy : List Text → Trouble → Type 0
 IsHelpAskedBy words ended = AsksForHelp ended → ArgumentsAskForHelp words
 
 -- Holds if an operation was prepared, and then run on a bus that had carried out no transaction before. The bus belongs
--- to the device `name`; `start` is the bus before the operation, and `last` is its state now. At the start the bus
--- expected no image, or the image that `MayExpectImage` allows.
+-- to the device `name`; `start` is the bus before the operation, and `last` is the state of the bus after it. At the
+-- start the bus expected no image, or the image that `MayExpectImage` allows.
 pub record HasRunOperation (state : Connected → BusState) (files after : FilesState) (name : Bor Text)
     (operation : Operation) (device : Text) (last : BusState) (out out' : Option (List ℕ)) (status : ℕ)
     : Type 0 where

@@ -18,8 +18,9 @@ KeepsSent old new = new.sent ≡ old.sent
 
 -- Holds if the file's content is a journal that a host crash does not lose, and what was sent fits this journal and the
 -- request (`SendsSaved`). Each sector that was targeted now, but not before, is saved, or lies past the end of a chip
--- that the journal saves whole. Each status write of bytes that had not been written before is one that `WritesOnly`
--- allows.
+-- that the journal saves whole. Each status write of bytes that had not been written before sends only what
+-- `WritesOnly` allows: protection bits that the session of this request may write, and every other non-volatile bit as
+-- the journal saves it.
 pub record SendsJournalled (what : What) (file : Text) (old new : BusState) (after : FilesState) : Type 0 where
   pub bytes : List ℕ
   pub journal : IsJournal bytes

@@ -21,8 +21,9 @@ use Rattle.nor_console.specs.declared.messages.FileFault.TheVariants as file
 
 -- ---- roles
 
--- Holds if the name of the device is apart from that of each file of the job. The name of the output or the journal
--- must be apart from those of all other files of the job. (No task has an output together with a journal or an image.)
+-- Holds if the name of the device is apart from that of each file of the job. (If files obey their contract, two names
+-- that are apart refer to different files.) The name of the output or the journal must be apart from those of all other
+-- files of the job. (No task has an output together with a journal or an image.)
 pub record HaveOneRole (nature : Nature) (device : Bor Text) (job : Task) : Type 0 where
   pub device_layout : AreTwo nature (Some device) (named_by job).layout
   pub device_wanted : AreTwo nature (Some device) (named_by job).wanted
@@ -59,7 +60,7 @@ abbrev pub IsThere : View → JournalUse → Fault → Type 0
 IsThere view (uses.Journal name) (end.File file.Exists of) = (of.now ≡ name.now) × Happens view (There name.now)
 IsThere view _ fault = ⊥
 
--- Holds if the fault is error 15: the bytes of the file of this name, from which a restore reads, are no journal.
+-- Holds if the fault is error 15: the bytes of the file of this name are no journal.
 abbrev pub IsInvalid : View → Text → Fault → Type 0
 IsInvalid view name (end.Refused (BadJournal why)) =
     (bytes : List ℕ) × IsRead view name 16793662 bytes × HasFault bytes why

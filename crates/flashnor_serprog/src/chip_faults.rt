@@ -69,8 +69,8 @@ impl JobFault<'_> {
         )
     }
 
-    /// Returns the line that follows the fault's own, if there is one: after a change or a restore that was made, the
-    /// comparison failed with another error than a difference.
+    /// Returns a last line for the fault, if the change or restore was performed, and the comparison after it failed
+    /// with another error than a difference. For any other fault returns `None`.
     pub fn note(&self) -> Option<&'static str> {
         match self {
             JobFault::NotCompared {
@@ -130,7 +130,7 @@ impl fmt::Display for JobFault<'_> {
     }
 }
 
-// Writes the line of an error, without its end.
+// Writes the line of an error, without the newline.
 fn write_error<W: fmt::Write>(f: &mut fmt::Formatter<W>, error: &Refusal) -> fmt::Result {
     write!(f, "Error {}: {error}.", error.number())
 }

@@ -9,16 +9,25 @@ use crate::trouble::ProgrammerFault;
 use nor_buses::{CheckedStatus, Paced, ReadAhead, ReadTwice, SplittingBus};
 use nor_chip::Bus;
 use nor_files::LockFile;
-use nor_serprog::{AnyProgrammer, BatchingBus, Command, HandshakeFault, Link};
+use nor_serprog::{AnyProgrammer, BatchingBus, Command, Failure, HandshakeFault, Link};
 use std::fs;
 use std::fs::{File, OpenOptions};
 use std::os::unix::fs::FileTypeExt;
 
-const RELEASE_POWER_DOWN: u8 = 0xAB;
+// The transaction that wakes the chip and shows whether the port changes bytes that are sent: ABh, and 12 bytes that
+// the chip ignores. If the port changes the length 0Dh in the frame to 0Ah, the programmer takes the last three of
+// these bytes as commands; 10h is SYNCNOP, to which it only replies NAK and ACK.
+const WAKE: [u8; 13] = [
+    0xAB, 0x10, 0x10, 0x10, 0x10, 0x10, 0x10, 0x10, 0x10, 0x10, 0x10, 0x10, 0x10,
+];
 
-/// The bus to a chip at a serial programmer. Its layers, from the outside to the programmer, show the progress on a
-/// terminal; read data ahead; read IDs, SFDP and data twice; read status registers twice and check them; split commands
-/// if the programmer needs that; pace polls, also those between the parts of a program; and send commands together.
+// The number of reply bytes that `WAKE` requests.
+const WAKE_REPLIES: u32 = 10;
+
+/// The bus to a chip at a serial programmer. Its layers, from the outside to the programmer: one shows the progress on
+/// standard error; one reads data ahead; one reads IDs, SFDP and data twice; one reads status registers twice and
+/// checks status writes; one splits commands that are too long for the programmer; one pauses between the polls of a
+/// busy chip, also between the parts of a split program; and one sends several commands in one write to the port.
 pub type ChipBus<'a> = Shown<'a, ReadAhead<ReadTwice<CheckedStatus<PartsBus<'a>>>>>;
 
 // The inner layers of `ChipBus`: the bus that splits commands, around the bus that paces polls, around the bus that
@@ -33,16 +42,20 @@ pub struct Connected<'a> {
 }
 
 /// Opens and locks the device, identifies the programmer, sets its clock if `spispeed=` is given, and sets its chip
-/// select if `cs=` is given. Then wakes the chip, and sends no other transaction. Before the first exchange, the
-/// terminal shows what to do if no reply ever arrives. Returns a programmer fault from 1 to 11 if one of these steps
-/// fails.
+/// select if `cs=` is given. Then wakes the chip, and sends no other transaction. If progress is shown, prints before
+/// the first exchange with the programmer what to do if no reply ever arrives. Returns a programmer fault from 1 to 12
+/// if one of these steps fails: fault 12 if the port changes bytes that are sent.
 ///
 /// The returned bus has carried out no transaction yet, and belongs to this device. The contract says nothing about the
 /// frames that were sent before the bus existed.
 ///
-/// If `image` is given, data that equals `image` is read once, and all other data twice. `image` must be the image with
-/// which the job compares the chip at its end. Then no data that was read only once gets into a journal. If a sector
-/// was misread as equal to `image`, the comparison after a write detects this. With `-v` it stays unnoticed.
+/// If `image` is given, data that equals `image` at the same address is read once, and all other data twice. `image`
+/// must be the image of a write whose result is compared, or the image of `-v`. Then no data that was read only once
+/// gets into a journal. If a sector was misread as equal to `image`, the comparison after a write detects the misread,
+/// unless it misreads the sector in the same way; `-v` doesn't detect it.
+///
+/// If `guards` is true and the port seems to change bytes that are received, the bus refuses the first modifying
+/// command (`CheckedStatus::guarding`). Set `guards` for a session, because a journal of changed bytes would be wrong.
 pub fn connect<'a>(
     rt: &'a HostRuntime,
     terminal: Terminal<'a>,
@@ -50,6 +63,7 @@ pub fn connect<'a>(
     hertz: Option<u32>,
     chip_select: Option<u8>,
     image: Option<Vec<u8>>,
+    guards: bool,
 ) -> Result<Connected<'a>, ProgrammerFault>
     ensures fresh { IfOk result (λ connected. IsUnused (⟦<ChipBus<'a> as Bus>⟧.state connected.bus)) }
     ensures named { IfOk result (λ connected. device_of connected ≡ string_bytes device) }
@@ -64,11 +78,16 @@ pub fn connect<'a>(
             .select_chip(&mut link, chip_select)
             .map_err(ProgrammerFault::Handshake)?;
     }
-    wake(&mut link).map_err(ProgrammerFault::Handshake)?;
+    wake(&mut link, &programmer)?;
     let longest_read = programmer.longest_read();
     let paced = Paced::new(BatchingBus::over(link, programmer), rt);
     let splitting = SplittingBus::new(paced, programmer.longest_part(), longest_read);
-    let bus = reading_twice(CheckedStatus::new(splitting), image);
+    let checked = if guards {
+        CheckedStatus::guarding(splitting)
+    } else {
+        CheckedStatus::new(splitting)
+    };
+    let bus = reading_twice(checked, image);
     Ok(Connected {
         device,
         bus: Shown::new(ReadAhead::new(bus, longest_read), terminal),
@@ -87,15 +106,51 @@ fn reading_twice<B: Bus + Drop>(bus: B, image: Option<Vec<u8>>) -> ReadTwice<B>
     }
 }
 
-// Sends ABh, which wakes a chip from deep power-down; a chip that is not in deep power-down ignores ABh. The chip is
-// awake after 3 microseconds, before the next frame can reach it (W25Q64FV datasheet, Release Power-down).
-fn wake(link: &mut Link<DevicePort>) -> Result<(), HandshakeFault<PortFault>> {
+// Sends ABh, which wakes a chip from deep power-down; a chip that is not in deep power-down returns its device ID. The
+// chip is awake after 3 microseconds, before the next frame can reach it (W25Q64FV datasheet, Release Power-down).
+//
+// The frame contains 0Dh, the length of its data, and 0Ah, the length of the reply, so it shows whether the port
+// changes one of these bytes (stty(1), output settings). If the port sends 0Ah in place of 0Dh (`ocrnl`), the
+// programmer takes the last three data bytes as commands. If the port sends 0Dh before 0Ah (`onlcr`), the programmer
+// returns more bytes. In both cases the version that is queried next is read wrongly. If the programmer's limits are
+// too low for this frame, only ABh is sent, and the port isn't checked.
+fn wake(link: &mut Link<DevicePort>, programmer: &AnyProgrammer) -> Result<(), ProgrammerFault> {
+    if programmer.longest_part() < WAKE.len() as u32 || programmer.longest_read() < WAKE_REPLIES {
+        let release = Command::Operate {
+            out: &WAKE[..1],
+            replies: 0,
+        };
+        return exchange(link, release, &mut []).map_err(ProgrammerFault::Handshake);
+    }
     let release = Command::Operate {
-        out: &[RELEASE_POWER_DOWN],
-        replies: 0,
+        out: &WAKE,
+        replies: WAKE_REPLIES,
     };
-    link.exchange(release, &mut [])
+    exchange(link, release, &mut [0; WAKE_REPLIES as usize]).map_err(|fault| of_changed(fault))?;
+    let mut version = [0; 2];
+    exchange(link, Command::QueryInterface, &mut version).map_err(|fault| of_changed(fault))?;
+    if version != [1, 0] {
+        return Err(ProgrammerFault::ChangesBytes);
+    }
+    Ok(())
+}
+
+fn exchange(
+    link: &mut Link<DevicePort>,
+    command: Command<'_>,
+    reply: &mut [u8],
+) -> Result<(), HandshakeFault<PortFault>> {
+    link.exchange(command, reply)
         .map_err(HandshakeFault::Failure)
+}
+
+// Returns the fault for an exchange of `wake` that failed: a failure of the port itself, or otherwise `ChangesBytes`,
+// since the programmer understood all commands before.
+fn of_changed(fault: HandshakeFault<PortFault>) -> ProgrammerFault {
+    match fault {
+        HandshakeFault::Failure(Failure::Port(_)) => ProgrammerFault::Handshake(fault),
+        _ => ProgrammerFault::ChangesBytes,
+    }
 }
 
 // Opens the device, and locks it against a second run. Returns `NoDevice` and opens nothing if the file is no character

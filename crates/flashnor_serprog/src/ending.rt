@@ -1,4 +1,4 @@
-//! The end of a run: prints its answer or its fault, and returns the exit status.
+//! The end of a run: prints an answer or a fault, and returns the exit status.
 ghost use Rattle.std.specs.Prelude.{◌≡◌, ◌≤◌, IsOk, OnOk, false};
 ghost use Rattle.std.specs.Io.KnownBytes.{Appends};
 ghost use Rattle.nor_console.specs.AnswerLines.{name_line};
@@ -20,8 +20,8 @@ pub fn end_badly<E: Write>(errors: &mut E, fault: &Fault<'_>) -> u8
     1
 }
 
-/// Returns the exit status after an answer or the help: 0 if it was printed. If not, prints file fault 2 of standard
-/// output to `errors`, and returns 1.
+/// Returns the exit status after something was printed to standard output with the result `printed`: 0 if printing
+/// succeeded. If it failed, prints file fault 2 of standard output to `errors`, and returns 1.
 pub fn status_of<E: Write>(printed: io::Result<()>, errors: &mut E) -> u8
     ensures few { result ≤ 1 }
     ensures printed { result ≡ 0 → IsOk printed }

@@ -15,8 +15,8 @@ pub fn percent(done: u64, total: u64) -> Option<u64>
     Some((u128::from(done) * 100 / u128::from(total)).min(100) as u64)
 }
 
-/// Returns how many tenths of a KiB a second were transferred: `bytes` in `micros` microseconds, rounded down and at
-/// most `u64::MAX`; or `None` if `micros` is 0.
+/// Returns the rate in tenths of a KiB per second if `bytes` were transferred in `micros` microseconds, rounded down
+/// and at most `u64::MAX`; or `None` if `micros` is 0.
 pub fn tenths_of_kib(bytes: u64, micros: u64) -> Option<u64>
     ensures { result ≡ tenths_of bytes micros }
 {
@@ -84,7 +84,7 @@ fn split_minutes(micros: u64) -> (u64, u64)
     (micros / 60_000_000, micros / 1_000_000 % 60)
 }
 
-/// A rate in tenths of a KiB a second, printed as `11.2 KiB/s` or, from 100 KiB/s on, as `950 KiB/s`.
+/// A rate in tenths of a KiB per second, printed as `11.2 KiB/s` or, from 100 KiB/s on, as `950 KiB/s`.
 #[derive(Clone, Copy, Drop)]
 pub struct Rate(pub u64);
 

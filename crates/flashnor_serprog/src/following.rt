@@ -1,4 +1,4 @@
-//! The target of a change, which the whole chip is compared with after a write or an erase, and that comparison.
+//! The target of a write or an erase, and the comparison of the whole chip with this target after the change.
 ghost use Rattle.std.specs.Prelude.{◌≡◌, ◌≢◌, ◌<◌, ◌^◌, ℕ, IfErr, IfOk, OnOk, length, option_copied, slice_index, true};
 ghost use Rattle.nor_journal.specs.MemVault.{held_by};
 ghost use Rattle.nor_journal.specs.Vault.{new_vault};
@@ -86,7 +86,8 @@ fn check_size(size: u32, len: usize) -> Result<(), Refusal>
     }
 }
 
-// Appends the bytes of the whole chip to a new vault. Returns error 18 (out of memory) if the vault refuses a piece.
+// Appends the bytes of the whole chip to a new vault in memory. Returns error 18 (out of memory) if the vault refuses a
+// piece.
 fn read_whole<B: Bus>(
     bus: &mut B,
     named: Option<ChipName>,
@@ -121,7 +122,7 @@ fn fill_rest(target: &mut [u8], chip: &[u8], included: &Ranges)
 }
 
 /// Returns the number of sectors that a change reads before it changes anything: those with an included address and, if
-/// the target has the chip's own bytes elsewhere, all of them once before.
+/// `merged` is true, before that all sectors of the chip once, for the target's bytes outside the regions.
 pub fn sectors_before_change(size: usize, included: Option<&Ranges>, merged: bool) -> usize {
     let scanned = sectors_to_read(size, included);
     if merged {
@@ -134,8 +135,9 @@ pub fn sectors_before_change(size: usize, included: Option<&Ranges>, merged: boo
 /// Returns the number of sectors with an included address on a chip of `size` bytes. If `included` is `None`, these are
 /// all sectors.
 pub fn sectors_to_read(size: usize, included: Option<&Ranges>) -> usize {
-    // `size` may be the length of an image that fits no chip. The call then returns its error before it reads a sector,
-    // so no line has this number.
+    // `size` may be the length of an image that fits no chip (`verify_chip` and `change_chip` pass the length before it
+    // is checked). `verify_image` or the session then returns an error before it reads a sector, so no progress line
+    // shows the number that is returned here.
     let sectors = u32::try_from(size / SECTOR_LEN as usize).unwrap_or(0);
     (0..sectors)
         .filter(|sector| includes_in_sector(included, *sector))

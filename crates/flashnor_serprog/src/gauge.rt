@@ -4,7 +4,8 @@ use crate::steps::{Step, StepLine, Tally, Total};
 use crate::terminal::Transfer;
 use std::time::Instant;
 
-// The shortest time in microseconds between two lines of a step, except that its last line comes at once.
+// The shortest time in microseconds between two drawings of the progress line. The line of a step that is complete is
+// drawn at once.
 const BETWEEN: u64 = 100_000;
 
 const READ_STATUS: u8 = 0x05;
@@ -55,9 +56,9 @@ pub struct Gauge {
     tallies: Tallies,
     // the operation that the chip performs, with the number of its data bytes
     running: Option<(Step, u64)>,
-    // when the last operation was done
+    // when the last operation was done, or when `restart` was called after that
     last: Option<Instant>,
-    // when the line was drawn last
+    // when the line was drawn last for a step that was not complete
     drawn: Option<Instant>,
 }
 
@@ -105,8 +106,8 @@ impl Gauge {
         }
     }
 
-    // Records a transaction that is no step. Returns the step of the operation that the chip performs, if this is a
-    // poll of it.
+    // Records a transaction that belongs to no step. If the transaction is a poll, and the chip was performing an
+    // operation, returns the step of this operation.
     fn record_poll(&mut self, out: &[u8], reply: &[u8], now: Option<Instant>) -> Option<Step> {
         let (step, bytes) = self.running?;
         let ([READ_STATUS, ..], Some(status)) = (out, reply.last()) else {
@@ -133,7 +134,7 @@ impl Gauge {
         }
     }
 
-    /// Returns the line of a step. If the chip performs an operation of this step, its time so far is included.
+    /// Returns the line of a step. If the chip performs an operation, the time of that operation so far is included.
     pub fn line(&self, step: Step, total: Total, now: Option<Instant>) -> StepLine {
         let mut tally = self.tallies.of(step);
         if self.running.is_some() {
@@ -143,7 +144,7 @@ impl Gauge {
         StepLine { step, tally, total }
     }
 
-    /// Returns whether the line may be drawn: whether it was not drawn in the last tenth of a second.
+    /// Returns whether the line may be drawn again: no drawing was recorded in the last tenth of a second.
     pub fn is_due(&self, now: Option<Instant>) -> bool {
         self.drawn.is_none() || micros_between(self.drawn, now) >= BETWEEN
     }
@@ -154,7 +155,8 @@ impl Gauge {
     }
 }
 
-// Returns the number of data bytes of a transaction of this step: for a program those after its opcode and address.
+// Returns the number of data bytes of a transaction of this step: for a program the bytes after its opcode and address,
+// for a read of data the reply bytes, and otherwise 0.
 fn data_len(step: Step, out: &[u8], reply: &[u8]) -> u64 {
     match step {
         Step::Program => (out.len() as u64).saturating_sub(4),

@@ -2,8 +2,7 @@
 
 use nor_args::Help;
 
-/// The parts of the help that differ between the two programs: the program's name and version, and the text before and
-/// after the list of options.
+/// The program's name and version, and the text of the help before and after the list of options.
 pub const HELP: Help = Help {
     program: "flashnor-serprog",
     version: "1.0",
@@ -18,7 +17,8 @@ TEXT of -p is serprog: and then KEY=VALUE, between commas, each key at most once
   spispeed=HZ   The clock in hertz, at most; without it the programmer's own
   cs=N          The chip select of the programmer, 0 to 255
 
-Set up the port before each run, or the run may hang:
+The command flashnor-serprog that is installed sets up the port. Before you run
+the program without it, set it up yourself, or the run may hang:
   stty -F PATH raw -echo clocal -hupcl min 0 time 50
 
 Data is read twice, unless it equals the image; a difference stops the run. A

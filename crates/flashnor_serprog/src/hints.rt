@@ -1,6 +1,8 @@
-//! The line that follows the line of a fault: it says what to do, or what was found and what was expected.
+//! The line that follows the line of a fault: it says what to do, what was found and what was expected, or which file
+//! has the regions.
 
 use crate::journals::{StatusBits, advice};
+use crate::trouble::Left;
 use nor_args::{Change, Operation, Task};
 use nor_console::{Escaped, Fault, FileFault, named_by};
 use nor_journal::Journal;
@@ -52,14 +54,32 @@ pub fn print_hint<E: Write>(errors: &mut E, fault: &Fault<'_>) {
     }
 }
 
-/// Prints the line that follows the line of a fault of an operation, if there is one. `saved` is what the journal of a
-/// restore says, and `replies` is what the chip replied.
+/// What is known when an operation failed.
+#[derive(Clone, Copy, Drop)]
+pub struct Known<'a> {
+    /// What the journal of a restore says.
+    pub saved: Option<Saved>,
+    pub replies: Replies,
+    pub left: Left<'a>,
+}
+
+impl Known<'_> {
+    /// Returns what is known before the first transaction of an operation.
+    pub fn before() -> Known<'static> {
+        Known {
+            saved: None,
+            replies: Replies::default(),
+            left: Left::Reading,
+        }
+    }
+}
+
+/// Prints the line that follows the line of a fault of an operation, if there is one.
 pub fn print_operation_hint<E: Write>(
     errors: &mut E,
     fault: &Fault<'_>,
     operation: &Operation<'_>,
-    saved: Option<Saved>,
-    replies: Replies,
+    known: &Known<'_>,
 ) {
     match fault {
         Fault::Layout(_) | Fault::Map(_) | Fault::NoRegion { .. } => print_layout(
@@ -72,7 +92,7 @@ pub fn print_operation_hint<E: Write>(
         } if reads(operation) => {
             let _ = writeln!(errors, "{IS_JOURNAL}");
         }
-        Fault::Refused(refusal) => match found_and_expected(*refusal, operation, saved, replies) {
+        Fault::Refused(refusal) => match found_and_expected(*refusal, operation, known) {
             Some(line) => {
                 let _ = writeln!(errors, "{line}");
             }
@@ -125,14 +145,26 @@ fn file_hint(fault: FileFault) -> Option<&'static str> {
 
 const IS_JOURNAL: &str = "It is a journal, which is never overwritten: choose a new name.";
 
-// Returns the line for an error that says what was found and what was expected, or which option helps.
-fn found_and_expected(
+// Returns the line for an error that says what was found and what was expected, or what to do.
+fn found_and_expected<'a>(
     refusal: Refusal,
     operation: &Operation<'_>,
-    saved: Option<Saved>,
-    replies: Replies,
-) -> Option<Line> {
+    known: &Known<'a>,
+) -> Option<Line<'a>> {
+    let Known {
+        saved,
+        replies,
+        left,
+    } = *known;
     match refusal {
+        Refusal::NoChip => Some(Line::NoChip),
+        Refusal::UnknownChip(_) => Some(Line::Unknown { id: replies.id? }),
+        Refusal::StatusLocked => Some(Line::Locked),
+        Refusal::Timeout { .. } => Some(Line::Busy { left }),
+        Refusal::Mismatch { .. } => match left {
+            Left::Changed { .. } => Some(Line::NotStored { left }),
+            _ => None,
+        },
         Refusal::OtherName => Some(Line::Name {
             named: operation.named?,
             id: replies.id?,
@@ -154,14 +186,19 @@ fn found_and_expected(
     }
 }
 
-// True for a change with `--unlock`.
-fn unlocks(task: &Task<'_>) -> bool {
+/// True for a change with `--unlock`.
+pub fn unlocks(task: &Task<'_>) -> bool {
     matches!(task, Task::Change(Change { unlock: true, .. }))
 }
 
-// A line that says what was found and what was expected, or which option helps.
+// A line that says what was found and what was expected, or what to do.
 #[derive(Clone, Copy, Drop)]
-enum Line {
+enum Line<'a> {
+    NoChip,
+    Unknown { id: [u8; 3] },
+    Locked,
+    Busy { left: Left<'a> },
+    NotStored { left: Left<'a> },
     Name { named: ChipName, id: [u8; 3] },
     Unlock,
     Chip { saved: Saved, id: [u8; 3] },
@@ -169,9 +206,29 @@ enum Line {
     Unique { saved: [u8; 8], found: [u8; 8] },
 }
 
-impl fmt::Display for Line {
+impl fmt::Display for Line<'_> {
     fn fmt<W: fmt::Write>(&self, f: &mut fmt::Formatter<W>) -> fmt::Result {
         match *self {
+            Line::NoChip => f.write_str(
+                "Check contacts, supply and wiring, and that cs= selects this chip.",
+            ),
+            Line::Unknown { id } => write!(
+                f,
+                "Its ID is {}. If another run finds another ID, check contacts, supply and wiring, or lower the clock \
+                (spispeed=).",
+                Hex(id)
+            ),
+            Line::Locked => f.write_str(
+                "SRP0 or SRP1 is set. Clear SRP0 while WP# is high (flashrom --wp-disable), or SRP1 by a power cycle.",
+            ),
+            Line::Busy { left } => write!(
+                f,
+                "The chip stayed busy. Check contacts and supply.{left}"
+            ),
+            Line::NotStored { left } => write!(
+                f,
+                "The chip did not store all bytes, or they were misread: lower the clock (spispeed=).{left}"
+            ),
             Line::Name {
                 named: ChipName::Other,
                 id,
@@ -217,11 +274,21 @@ struct ChipText([u8; 3]);
 
 impl fmt::Display for ChipText {
     fn fmt<W: fmt::Write>(&self, f: &mut fmt::Formatter<W>) -> fmt::Result {
-        let [maker, kind, capacity] = self.0;
         let name = match part_of(self.0) {
             Some(part) => part.name.as_str(),
             None => ChipName::Sfdp.as_str(),
         };
-        write!(f, "{name} ({maker:02x}{kind:02x}{capacity:02x})")
+        write!(f, "{name} ({})", Hex(self.0))
+    }
+}
+
+// An ID as six hexadecimal digits.
+#[derive(Clone, Copy, Drop)]
+struct Hex([u8; 3]);
+
+impl fmt::Display for Hex {
+    fn fmt<W: fmt::Write>(&self, f: &mut fmt::Formatter<W>) -> fmt::Result {
+        let [maker, kind, capacity] = self.0;
+        write!(f, "{maker:02x}{kind:02x}{capacity:02x}")
     }
 }

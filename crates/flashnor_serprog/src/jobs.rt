@@ -29,15 +29,15 @@ use std::alloc::{AllocError, Global};
 /// occurred before the job's call to the engine, or in the comparison after a write, an erase or a restore.
 ///
 /// The clauses hold on every bus: the promises of each call (`DoesTask`), and the faults with the commands sent until
-/// then (`FailsPerform`). If the files obey the contract of `Store`, each file is as it was whose
-/// name is apart from that of the file that the task creates or truncates.
+/// then (`FailsPerform`). If the files obey the contract of `Store`, only the file that the task creates or truncates
+/// is changed: each file whose name is apart from that file's name stays as it was.
 ///
 /// `terminal` receives the line that says what a session or restore will change.
 ///
-/// A read identifies the chip before it empties its file, so a file is kept if there is no chip. A backup identifies it
-/// before its file is created. A write or an erase identifies the chip before its journal is created: an erase to know
-/// the chip's size, and both because chip fault 1 refuses a chip that may be protected in a way that this program
-/// doesn't know.
+/// A read identifies the chip before it truncates its file, so the file is kept if there is no chip. A backup
+/// identifies the chip before its file is created. A write or an erase identifies the chip before its journal is
+/// created: an erase to know the chip's size, and both because chip fault 1 refuses a chip that may be protected in a
+/// way that this program doesn't know.
 pub fn perform<'a, R: Store, B: Progress>(
     rt: &mut R,
     bus: &mut B,
@@ -84,7 +84,7 @@ fn find_changeable<'a, B: Bus>(bus: &mut B, named: Option<ChipName>) -> Result<F
     Ok(found)
 }
 
-// True if the chip has no known block protection, and at least one of its status bits 2 to 6 is set.
+// True if the chip has no known block protection, and at least one of the bits 2 to 6 of its status 1 is set.
 fn may_be_protected(found: &Found) -> bool
     ensures { result ≡ may_be_protected found.now }
 {
@@ -123,9 +123,9 @@ fn verify_chip<B: Progress>(bus: &mut B, named: Option<ChipName>, sources: Sourc
     verify_image(bus, named, &bytes, included.as_ref())
 }
 
-// Changes the chip, with its journal in a new file. After a write or an erase, compares the whole chip with its target,
-// except with `-n` or `-N`. For a change with regions, the target has the bytes that the chip had before the session at
-// all addresses outside them.
+// Changes the chip, with its journal in a new file. After a write or an erase that succeeded, compares the whole chip
+// with the target, except with `-n` or `-N`. If the change is limited to regions, this target has outside them the
+// bytes that were read from the chip before the session.
 //
 // Returns a usage fault for a rehearsal, which this program doesn't perform, and chip fault 1 for a write or an erase
 // of a chip that may be protected in a way that isn't known.
@@ -190,10 +190,10 @@ pub fn changes_bytes(wanted: Wanted<'_>) -> bool
     !matches!(wanted, Wanted::Range { .. })
 }
 
-// Returns the target of a change, which is the buffer of its session. An erase has FFh for each byte of the chip, a
-// write the bytes of its image; with `ranges`, the bytes outside them are the chip's own. A protection range has no
-// target, so its buffer is `bytes`. For a write or an erase the chip is identified, and must be one that may be
-// changed.
+// Returns the bytes of the session's buffer. For a write or an erase they are the target of the change: the bytes of
+// the image, or FFh for each byte of the chip; with `ranges`, the chip's own bytes at all other addresses. For a change
+// of protection, returns `bytes`. Before a write or an erase, identifies the chip, and returns chip fault 1 if the chip
+// may be protected in a way that this program doesn't know.
 fn fill_buffer<'a, B: Progress>(
     bus: &mut B,
     named: Option<ChipName>,

@@ -7,7 +7,8 @@ ghost use Rattle.flashnor_serprog.specs.Journals.{are_blank, is_blank};
 
 use crate::ending::status_of;
 use crate::hints::print_hint;
-use nor_console::{Escaped, Fault, print_fault, read_journal};
+use crate::quoted::Quoted;
+use nor_console::{Fault, print_fault, read_journal};
 use nor_files::Store;
 use nor_geometry::SECTOR_LEN;
 use nor_journal::{Journal, JournalFault};
@@ -16,7 +17,7 @@ use nor_session::Refusal;
 use std::io::Write;
 use std::{fmt, io};
 
-/// What a journal says that is sealed and undamaged.
+/// What a sealed and undamaged journal says.
 #[derive(Drop)]
 pub struct Description {
     /// The three bytes of the chip's ID.
@@ -193,7 +194,7 @@ impl fmt::Display for Lines<'_> {
                  lost while it was saved: compare with another journal or image of the board."
             )?;
         }
-        let name = Escaped(self.name);
+        let name = Quoted(self.name);
         writeln!(
             f,
             "To restore: flashnor-serprog -p serprog:dev=PATH --restore {name}"
@@ -201,7 +202,7 @@ impl fmt::Display for Lines<'_> {
     }
 }
 
-// Returns the name of the chip with this ID and size in the table, or `SFDP` for a chip that it lacks.
+// Returns the name of the chip with this ID and size in the table, or `SFDP` for a chip that the table lacks.
 fn name_of(id: [u8; 3], size: u32) -> &'static str {
     match part_of(id) {
         Some(part) if part.size == size => part.name.as_str(),
@@ -209,7 +210,8 @@ fn name_of(id: [u8; 3], size: u32) -> &'static str {
     }
 }
 
-// The line about the unit from which the journal was saved.
+// The line that begins with `Unit:`, about the device from which the journal was saved. It has the device's unique ID,
+// if the journal contains it.
 #[derive(Drop)]
 struct Unit(Option<[u8; 8]>);
 

@@ -1,11 +1,12 @@
-//! The lines of `-V`: one for each modifying transaction, and one for each step that reads.
+//! The lines of `-V`: one for each modifying transaction, one for each step that reads, and one if the bus stops.
 ghost use Rattle.std.specs.Prelude.{◌≡◌, IfSome};
 ghost use Rattle.nor_buses.specs.ReadsAs.{address_in};
 ghost use Rattle.flashnor_serprog.specs.Estimates.{millis_in, whole_seconds_in};
 
 use std::fmt;
 
-/// The line of a modifying transaction that sends `out`, with its name and the time since the start of the run.
+/// The line of a modifying transaction that sends `out`, with the transaction's name, and the time in microseconds
+/// since just before the programmer's device was opened.
 #[derive(Clone, Copy, Drop)]
 pub struct CommandText<'a> {
     pub micros: u64,
@@ -27,7 +28,8 @@ pub fn command_name(out: &[u8]) -> Option<&'static str> {
     }
 }
 
-// Returns the address of a command, and the number of bytes that follow it.
+// Returns the three-byte address in the command `out`, and the number of bytes after this address. Returns `None` if
+// `out` has fewer than four bytes.
 fn address_and_len(out: &[u8]) -> Option<(u32, usize)>
     ensures { IfSome result (λ found. found.0 ≡ address_in out.now) }
 {
@@ -51,8 +53,8 @@ impl fmt::Display for CommandText<'_> {
     }
 }
 
-/// The line of an event that is no modifying transaction, with the time since the start of the run: a step begins that
-/// only reads, or the bus stopped.
+/// The line for the start of a step that only reads, or for a stop of the bus. It has the step's name or `stopped`, and
+/// the time in microseconds since just before the programmer's device was opened.
 #[derive(Clone, Copy, Drop)]
 pub struct EventText {
     pub micros: u64,

@@ -2,12 +2,14 @@
 //!
 //! It identifies, reads, verifies, writes, erases and write-protects a SPI NOR chip over the serprog protocol. Before a
 //! change it saves a journal in a new file, from which `--restore` restores the original chip. It uses the engine of
-//! `flashnor`, and prints the same lines and error numbers.
+//! `flashnor`, and prints the same error numbers and mostly the same lines.
 //!
 //! - `run.rt`: a run of the program, from its arguments to its exit status
-//! - `ending.rt`: the end of a run: prints its answer or its fault
+//! - `ending.rt`: the end of a run: prints an answer or a fault
+//! - `reports.rt`: what a run prints after an operation failed
 //! - `help.rt`: the text of the help that `-h` prints
-//! - `hints.rt`: the line after that of a fault, with what to do, or what was found and expected
+//! - `hints.rt`: the line after that of a fault, for example with what to do, or what was found and expected
+//! - `quoted.rt`: names of files in commands that you may copy
 //! - `setting.rt`: the value of `-p`
 //! - `roles.rt`: checks that neither the device nor a file that a job writes has a second role
 //! - `sources.rt`: reads the files that a job needs, before the programmer is used
@@ -15,8 +17,9 @@
 //! - `progress.rt`: a bus that shows the progress of a job on standard error
 //! - `terminal.rt`: standard error: the line that is rewritten, and the lines with what a change will do
 //! - `steps.rt`: the steps of a job, and the line that shows one
+//! - `step_lines.rt`: the lines of the steps if they are shown below each other, and how long a change took
 //! - `gauge.rt`: counts and times the operations of a job
-//! - `log.rt`: the lines of `-V`, for each modifying transaction and each step that reads
+//! - `log.rt`: the lines of `-V`, for each modifying transaction, each step that reads, and a stop of the bus
 //! - `estimates.rt`: percent, rate and time left, and about how long a change takes
 //! - `connect.rt`: opens the device and identifies the programmer
 //! - `jobs.rt`: performs a job on the chip
@@ -25,9 +28,10 @@
 //! - `restoring.rt`: restores the chip from a journal
 //! - `rest.rt`: the sectors that a restore's journal does not save, and the comparison of them after the restore
 //! - `following.rt`: the target of a change, and the comparison of the whole chip with it
-//! - `status_line.rt`: the lines for a status write that was refused, or that the chip did not store
+//! - `status_line.rt`: the lines for replies that differ, for a lost chip, for a status write that was refused or not
+//!   stored, and for a port that changes bytes
 //! - `chip_faults.rt`: the faults with which a job ends, and the lines of those that `flashnor` lacks
-//! - `trouble.rt`: the reasons why a run ends early, and their printed lines
+//! - `trouble.rt`: the reasons why a run ends early, their printed lines, and the line after error 12
 #![tactic(auto)]
 
 mod backups;
@@ -44,6 +48,7 @@ mod journals;
 mod log;
 mod port;
 mod progress;
+mod quoted;
 mod reports;
 mod rest;
 mod restoring;

@@ -1,4 +1,4 @@
-//! A port over the device of a programmer.
+//! The serial port of a programmer: its device, such as /dev/ttyACM0, as a `Port` of nor_serprog.
 ghost use Rattle.std.proofs.lemmas.Bool.{false≢true};
 ghost use Rattle.nor_serprog.specs.Device.{unknown_port};
 

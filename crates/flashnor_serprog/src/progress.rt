@@ -1,10 +1,10 @@
-//! The progress of a job on standard error: a bus that prints the steps, and the line with what a change will do.
+//! A bus that shows the progress of a job on standard error: its steps, and lines before the first modifying command.
 ghost use Rattle.std.specs.Prelude.{◌≡◌};
 
 use crate::estimates::Minutes;
 use crate::gauge::{Gauge, micros_between};
 use crate::hints::Replies;
-use crate::status_line::protects;
+use crate::status_line::{are_equally_protected, protects};
 use crate::step_lines::{Counts, StepCount, StepOf, Took};
 use crate::steps::{Phase, Step, Total, step_of};
 use crate::terminal::Look;
@@ -35,42 +35,46 @@ const QUAD: &str =
 
 /// A bus that shows the progress of a job.
 pub trait Progress: Bus {
-    /// Records how many sectors the scan of the job will read, for its progress lines: all from its begin on, or some
-    /// of them. If those that were named before are read, the others are shown as a second scan. The state of the bus,
-    /// as contracts see it, stays the same.
+    /// Records how many sectors the job reads before it changes anything, for the progress lines of its scan. `sectors`
+    /// counts all these reads since the start of the job, or only a part of them; the greatest number counts. If the
+    /// sectors that were recorded before have been read, and `sectors` is greater, the further ones are shown as a
+    /// second scan. The state of the bus, as contracts see it, stays the same.
     fn expect_reads(&mut self, sectors: usize)
         ensures { Self.state self.new ≡ Self.state self.old };
 
-    /// Records that the comparison after a change begins, and how many sectors it will read, for its progress lines.
-    /// The state of the bus, as contracts see it, stays the same.
+    /// Records that the comparison after a change or restore begins, and how many sectors it will read, for its
+    /// progress lines. The state of the bus, as contracts see it, stays the same.
     fn expect_comparison(&mut self, sectors: usize)
         ensures { Self.state self.new ≡ Self.state self.old };
 
-    /// Keeps reads ahead below this address. `u32::MAX` lifts this limit. The state of the bus, as contracts see it,
-    /// stays the same.
+    /// Sets the address at which each further block that is read ahead ends at the latest, unless the read itself needs
+    /// more bytes. `u32::MAX` removes this limit. The state of the bus, as contracts see it, stays the same.
     fn end_blocks_at(&mut self, address: u32)
         ensures { Self.state self.new ≡ Self.state self.old };
 }
 
-/// A bus that shows the progress of a job on a terminal.
+/// A bus that shows the progress of a job on standard error, as the `Look` of its `Terminal` says.
 ///
-/// On a terminal it is one line, which is rewritten at most ten times a second: the step, the operations that are done,
-/// the rate and, if their number is known, the percentage and the time that is left. The line of a step is ended if all
-/// its operations are done. Before any other line is printed it is ended or cleared. On another character device there
-/// is a line for the first transaction of each step, and then one for each `Step::stride` further transactions of that
-/// step. Otherwise nothing is shown.
+/// With `Look::Line` the progress is one line, which is rewritten at most ten times a second, but at once if a step is
+/// complete. It has the step, how many of its operations are done, the rate of data, and the time that is left or
+/// passed; if the total number of operations is known, also the percentage. The line is ended if the step is complete
+/// (`StepLine::is_complete`). It is ended or cleared before any other line is printed.
 ///
-/// A step is recognized by the opcode of a transaction. Before the first modifying command a line says that the chip is
-/// changed from here on. In a session that line begins with `SEALED`, since a session sends no modifying command before
-/// its journal is sealed. If SRP1 is set without SRP0, or QE is set and the job may write the status, a line before it
-/// says what a loss of power would mean. In contracts, the state of this bus is that of the bus inside.
+/// With `Look::Plain` there is a line for the first transaction of each step, and then one after each `Step::stride`
+/// further transactions of that step. With `Look::Hidden` nothing is shown, except the lines of `-V`.
+///
+/// A step is recognized by the opcode of a transaction and, for a read of data, by the phase of the job. Before the
+/// first modifying command a line says that the chip is changed from here on. In a session this line begins with
+/// `SEALED`, since a session sends no modifying command before its journal is sealed. If SRP1 is set without SRP0, or
+/// if QE is set and the job may write the status, an earlier line says what a loss of power would mean. In contracts,
+/// the state of this bus is that of the bus inside.
 #[derive(Drop)]
 pub struct Shown<'a, B> {
     bus: B,
     terminal: Terminal<'a>,
     in_session: bool,
     phase: Phase,
-    // the number of sectors that the job reads before it changes anything, or in the comparison after a change, if that
+    // the number of sectors that the present scan reads (a job may have two), or the comparison after a change, if that
     // number is known
     expected: Option<usize>,
     counts: Counts,
@@ -87,10 +91,12 @@ pub struct Shown<'a, B> {
 #[derive(Clone, Copy)]
 pub enum StatusWrite {
     Never,
-    /// Only if the chip has set protection bits.
+    /// Only on a chip whose protection bits may protect an address.
     IfProtected,
-    /// It may write them on any chip.
+    /// On any chip, whatever its protection bits are.
     OnAnyChip,
+    /// Only on a chip whose protection bits may protect an address, or differ from those of these status bytes.
+    Restoring([u8; 2]),
 }
 
 impl<'a, B: Bus + Drop> Shown<'a, B> {
@@ -136,8 +142,9 @@ impl<'a, B: Bus + Drop> Shown<'a, B> {
         self.status_write = status_write;
     }
 
-    /// Ends the line of the progress, after the last transaction of the job and before any other line is printed. If a
-    /// change succeeded that is not compared, says how long it took.
+    /// Ends the line of the progress. Must be called after the last transaction of the job, before any other line is
+    /// printed. If the job was a change that succeeded and isn't compared, first shows the final numbers of its steps
+    /// and, with `Look::Line`, how long the change took.
     pub fn end_progress(&self, succeeded: bool) {
         if succeeded {
             self.show_duration();
@@ -147,8 +154,9 @@ impl<'a, B: Bus + Drop> Shown<'a, B> {
 }
 
 impl<B> Shown<'_, B> {
-    // Prints lines if this transaction is the first modifying command, and with `-V` one if it is the first read of its
-    // step. On plain lines prints another if it is number 1, 1 + `stride`, 1 + 2 * `stride`, .. of its step.
+    // Prints what is shown before this transaction: the lines of `begin_change` if it is the first modifying command;
+    // with `-V`, a line if it is the first transaction of a step that reads; and with `Look::Plain`, a line if it is
+    // number 1, 1 + `stride`, 1 + 2 * `stride` and so on of its step.
     fn show(&mut self, out: &[u8])
         ensures { self.new.bus ≡ self.old.bus }
     {
@@ -196,6 +204,9 @@ impl<B> Shown<'_, B> {
             StatusWrite::Never => false,
             StatusWrite::IfProtected => protects(self.replies.status),
             StatusWrite::OnAnyChip => true,
+            StatusWrite::Restoring(saved) => {
+                protects(self.replies.status) || !are_equally_protected(self.replies.status, saved)
+            }
         };
         writes && self.replies.status[1] & QE != 0
     }
@@ -230,8 +241,8 @@ impl<B> Shown<'_, B> {
         }
     }
 
-    // Records a transaction that was carried out, and draws the line of its step if a tenth of a second passed, or if
-    // the step is complete.
+    // With `Look::Line`, records a transaction that was carried out, and draws the line of its step if the last drawing
+    // is a tenth of a second old, or if the step is complete.
     fn measure(&mut self, out: &[u8], reply: &[u8])
         ensures { self.new.bus ≡ self.old.bus }
     {
@@ -265,8 +276,8 @@ impl<B> Shown<'_, B> {
         }
     }
 
-    // If a change began and its comparison did not, shows how many pages were programmed and sectors were read back. On
-    // a line that is rewritten also says how long the change took.
+    // If a change began and its comparison did not, shows how many pages were programmed and how many sectors were read
+    // back; with `Look::Plain` also how many erases were sent, with `Look::Line` also how long the change took.
     fn show_duration(&self) {
         if self.phase != Phase::Changing {
             return;
@@ -289,14 +300,15 @@ impl<B> Shown<'_, B> {
         }
     }
 
-    // Prints the last plain line of a step with this number of transactions, unless its last line has that number.
+    // Prints the last plain line of a step with `count` transactions, unless there are none, or a line with this number
+    // was printed before.
     fn show_last(&self, step: Step, count: u64) {
         if count > 0 && count % step.stride() != 1 {
             self.show_step(step, count);
         }
     }
 
-    // Prints the last line of a step, if it has an operation that is done.
+    // Prints the last line of a step, if at least one of its operations is done.
     fn draw_last(&self, step: Step, now: Option<Instant>) {
         let line = self.gauge.line(step, Total::Done, now);
         if line.tally.done > 0 {
@@ -332,12 +344,12 @@ impl<B: Bus + Drop> Progress for Shown<'_, ReadAhead<B>> {
     fn expect_reads(&mut self, sectors: usize) {
         let known = self.expected.unwrap_or(0);
         if known > 0 && self.counts.scan >= known as u64 && sectors > known {
-            // The reads that were named before are done. The others are a scan of their own.
+            // The reads that were recorded before are done. The further ones are a scan of their own.
             self.expected = Some(sectors - known);
             self.counts.scan = 0;
             self.gauge.restart_scan();
         } else {
-            // A job may name the same reads again after it did some of them, or only those that are left.
+            // A job may record the same reads again after it did some of them, or only those that are left.
             self.expected = Some(sectors.max(known));
         }
     }

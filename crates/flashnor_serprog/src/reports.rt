@@ -1,24 +1,28 @@
-//! What a run prints after it failed: the line of the fault, its hint, the cause of error 12, and a note.
-ghost use Rattle.std.specs.Prelude.{◌≡◌, true};
+//! What a run prints after an operation failed: the line of the fault, its hint, the cause of error 12, the line for a
+//! port that changes bytes, and a note.
+ghost use Rattle.std.specs.Prelude.{◌≡◌, ◌≤◌, true};
 ghost use Rattle.flashnor_serprog.specs.declared.trouble.Left.TheVariants.{Unchanged};
 
 use crate::chip_faults::JobFault;
 use crate::connect::ChipBus;
-use crate::hints::{Replies, Saved, print_operation_hint};
+use crate::hints::{Known, Saved, print_operation_hint, unlocks};
+use crate::status_line::{ChangedLine, protects};
 use crate::trouble::{Left, StopLine, Trouble};
 use nor_args::{Operation, Task};
+use nor_console::named_by;
 use std::io::Write;
 
-/// Prints the lines of a fault that ended a run before the first transaction.
+/// Prints the lines of a fault that ended a run before its job began.
 pub fn print_trouble<E: Write>(errors: &mut E, trouble: &Trouble<'_>, operation: &Operation<'_>) {
     let _ = writeln!(errors, "{trouble}");
     if let Trouble::Fault(fault) = trouble {
-        print_operation_hint(errors, fault, operation, None, Replies::default());
+        print_operation_hint(errors, fault, operation, &Known::before());
     }
 }
 
-/// Prints the lines of a fault with which a job ended: its own and, if there are such lines, its hint, the cause of
-/// error 12, and a note.
+/// Prints the line of the fault with which a job ended, and after it, if there are such lines: the fault's hint; after
+/// error 12 its cause, after any other fault the line for a port that changes bytes; and the fault's note. `saved` is
+/// what the journal of a restore says about its chip.
 pub fn print_job_fault<E: Write>(
     errors: &mut E,
     fault: &JobFault<'_>,
@@ -27,42 +31,74 @@ pub fn print_job_fault<E: Write>(
     saved: Option<Saved>,
 ) {
     let _ = writeln!(errors, "{fault}");
+    let left = left_after(fault, bus, &operation.task);
     if let JobFault::Fault(fault) = fault {
-        print_operation_hint(errors, fault, operation, saved, bus.replies());
+        let known = Known {
+            saved,
+            replies: bus.replies(),
+            left,
+        };
+        print_operation_hint(errors, fault, operation, &known);
     }
     if fault.is_stop() {
-        print_cause(errors, bus, fault, &operation.task);
+        print_cause(errors, bus, left);
+    } else {
+        report_changed_byte(errors, bus, 1);
     }
     if let Some(note) = fault.note() {
         let _ = writeln!(errors, "{note}");
     }
 }
 
-// Prints the line that follows error 12: the cause, and advice.
-fn print_cause<E: Write>(errors: &mut E, bus: &ChipBus<'_>, fault: &JobFault<'_>, task: &Task<'_>) {
+/// If the port seems to change bytes that are received, prints the line for this fault. Returns the exit status of the
+/// run: 1 if the line was printed, and otherwise `status`.
+pub fn report_changed_byte<E: Write>(errors: &mut E, bus: &ChipBus<'_>, status: u8) -> u8
+    ensures few { status ≤ 1 → result ≤ 1 }
+    ensures failed { result ≡ 0 → status ≡ 0 }
+{
+    match bus.inner().inner().inner().changed_byte() {
+        Some(changed) => {
+            let _ = writeln!(errors, "{}", ChangedLine(changed));
+            1
+        }
+        None => status,
+    }
+}
+
+// Prints the line that follows error 12: the cause, and what the job left.
+fn print_cause<E: Write>(errors: &mut E, bus: &ChipBus<'_>, left: Left<'_>) {
     let twice = bus.inner().inner();
     let checked = twice.inner();
     let line = StopLine {
         failure: checked.inner().inner().inner().cause(),
         status: checked.fault(),
         differed: twice.differed(),
-        left: if fault.follows_completion() {
-            Left::Completed
-        } else {
-            left_by(task, checked.has_begun())
-        },
+        left,
     };
     let _ = writeln!(errors, "{line}");
 }
 
-// Returns what a task left that stopped. `begun` is true if a modifying command was sent. A restore that sent none may
-// follow a session or a restore that sent some.
-fn left_by(task: &Task<'_>, begun: bool) -> Left
+// Returns in which state a job that ended with this fault left the chip.
+fn left_after<'a>(fault: &JobFault<'_>, bus: &ChipBus<'_>, task: &Task<'a>) -> Left<'a> {
+    if fault.follows_completion() {
+        return Left::Completed;
+    }
+    let is_lifted = unlocks(task) && protects(bus.replies().status);
+    left_by(task, bus.inner().inner().inner().has_begun(), is_lifted)
+}
+
+// Returns in which state a task that failed left the chip. `begun` is true if a modifying command may have been sent,
+// and `is_lifted` if the task may have lifted protection of this chip (`--unlock`). After a restore the chip counts as
+// changed even if `begun` is false, because an earlier session or restore may have changed it.
+fn left_by<'a>(task: &Task<'a>, begun: bool, is_lifted: bool) -> Left<'a>
     ensures { begun ≡ true → result ≡ Unchanged → ⊥ }
 {
     match task {
         Task::Change(_) if !begun => Left::Unchanged,
-        Task::Change(_) | Task::Restore { .. } => Left::Changed,
+        Task::Change(_) | Task::Restore { .. } => Left::Changed {
+            journal: named_by(task).journal,
+            may_be_unprotected: is_lifted,
+        },
         _ => Left::Reading,
     }
 }

@@ -1,4 +1,4 @@
-//! Reads the sectors that a restore's journal does not save before the restore, and compares them after it.
+//! The sectors that a restore's journal doesn't save: reads them before the restore, and compares them after it.
 ghost use Rattle.std.specs.Prelude.{◌≡◌, ◌≤◌, ◌<◌, ◌/◌, ◌^◌, IfErr, OnErr, OnOk, length, replicate};
 ghost use Rattle.nor_journal.specs.Saved.{is_saved};
 ghost use Rattle.flashnor_serprog.specs.Rest.{AreUnsaved, FailsRest, HasKeptRest, HasReadRest};

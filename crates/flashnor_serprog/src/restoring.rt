@@ -19,13 +19,15 @@ use nor_probe::Found;
 use nor_session::Refusal;
 use std::alloc::Global;
 
-/// Restores the chip from the bytes of a journal: erases and programs every saved sector, whatever it reads, or with
-/// `--quick` each one that differs. If `-c` is given, the chip must have that name.
+/// Restores the chip from the bytes of a journal. Erases every saved sector without reading it before, and programs its
+/// saved bytes. With `--quick`, reads the saved sectors and writes only those that differ; a sector is then erased only
+/// if some bit has to go from 0 to 1. If `-c` is given, the chip must have that name.
 ///
 /// Without `-N`, the sectors that the journal doesn't save are read before the restore, and after it if it succeeded or
-/// returned error 14. They must be the same. An error is one that occurred before the restore, or in this comparison.
-/// Returns error 15 if the bytes are no journal. Without `-N`, also returns 16 (a chip of another type), 18 (out of
-/// memory) or 12 (the bus stopped) before the restore.
+/// returned error 14. They must be the same. Returns a fault that occurred before the restore, or in this comparison;
+/// an error of the restore itself is in the `Outcome`. The faults before the restore are error 15 if the bytes are no
+/// journal, and the errors of the identification. Without `-N` they are also error 16 (a chip of another type), 18 (out
+/// of memory) and 12 (the bus stopped).
 pub fn restore_chip<'a, B: Progress>(
     bus: &mut B,
     terminal: Terminal<'_>,
@@ -45,7 +47,7 @@ pub fn restore_chip<'a, B: Progress>(
     restore_from(bus, terminal, operation, &journal, alloc)
 }
 
-// Restores the chip from a journal. Without `-N`, compares the sectors that it doesn't save.
+// Restores the chip from a journal. Without `-N`, compares the sectors that the journal doesn't save.
 fn restore_from<'a, B: Progress>(
     bus: &mut B,
     terminal: Terminal<'_>,
@@ -65,7 +67,7 @@ fn restore_from<'a, B: Progress>(
     }
 }
 
-// Restores the chip, and compares the sectors that the journal doesn't save with those before the restore.
+// Restores the chip, and compares the sectors that the journal doesn't save with their bytes before the restore.
 fn restore_compared<'a, B: Progress>(
     bus: &mut B,
     terminal: Terminal<'_>,
@@ -84,7 +86,7 @@ fn restore_compared<'a, B: Progress>(
     follow_restore(bus, outcome, journal, &rest, &mut again)
 }
 
-// Restores the chip, after the check of its name if one is given.
+// If `-c` gives a name, checks that the chip has this name. Then restores the chip.
 fn restore_uncompared<'a, B: Progress>(
     bus: &mut B,
     terminal: Terminal<'_>,
@@ -168,7 +170,9 @@ fn follow_restore<'a, B: Progress>(
     }
 }
 
-// Erases and programs every saved sector; or, if the restore is `quick`, those that differ.
+// Restores the saved sectors and the protection bits. Erases every saved sector and programs its saved bytes; or, if
+// the restore is `quick`, writes only the saved sectors that differ, and erases one only if some bit has to go from 0
+// to 1.
 fn restore_saved<B: Progress>(
     bus: &mut B,
     terminal: Terminal<'_>,

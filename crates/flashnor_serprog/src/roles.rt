@@ -6,11 +6,13 @@ use nor_args::Task;
 use nor_console::{Fault, Named, apart, named_by, unprinted};
 use nor_files::Store;
 
-/// Checks that the device, and each file that the job writes, have no second role, and that the program does not print
-/// to the output file or to a journal. A layout and an image, which a job only reads, may be the same file.
+/// Checks that the device has no second role, that the output and the journal have none either, and that neither of
+/// them is a regular file to which the program prints. A layout and an image, which a job only reads, may be the same
+/// file.
 ///
-/// Returns file fault 5 with the name in the later of two roles (device, layout, image to write or compare, output,
-/// journal), or with the name of a file to which the program prints. Returns file fault 1 if a name can't be looked up.
+/// If a check fails, returns file fault 5 with the name of the file to which the program prints, or with the name in
+/// that of the two roles which is later in this list: device, layout, image to write or compare, output, journal.
+/// Returns file fault 1 if a name can't be looked up.
 pub fn have_one_role<'a, R: Store>(
     rt: &R,
     device: &'a str,

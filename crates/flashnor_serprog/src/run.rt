@@ -17,11 +17,10 @@ use crate::hints::Saved;
 use crate::jobs::{changes_bytes, perform};
 use crate::journals::check_journal;
 use crate::progress::{Progress, StatusWrite, Terminal};
-use crate::reports::{print_job_fault, print_trouble};
+use crate::reports::{print_job_fault, print_trouble, report_changed_byte};
 use crate::roles::have_one_role;
 use crate::setting::Setting;
 use crate::sources::{image_of, prepare_sources};
-use crate::status_line::protects;
 use crate::terminal::Screen;
 use crate::trouble::Trouble;
 use clap::Error as WordsError;
@@ -42,8 +41,8 @@ use std::io::Write;
 /// The first of the arguments is the program's name, which is skipped. If the system could not provide the arguments,
 /// `given` is an error, which is printed as a fault too.
 ///
-/// `used`, which must be `None`, receives the bus to the chip after the run, if the programmer was identified. The
-/// clauses `done` and `ran` are about this bus.
+/// `used`, which must be `None`, receives the bus to the chip after the run, if `connect` succeeded. The clauses `done`
+/// and `ran` are about this bus.
 pub fn run_words<'b, O: Write, E: Write>(
     rt: &'b HostRuntime,
     screen: &'b Screen,
@@ -219,6 +218,7 @@ fn prepare<'a, 'b, R: Store>(
         setting.hertz,
         setting.chip_select,
         image,
+        is_session(&operation.task),
     ) {
         Ok(connected) => Ok(Prepared { sources, connected }),
         Err(fault) => Err(Trouble::Programmer {
@@ -286,7 +286,8 @@ fn run_prepared<'b, R: Store, O: Write, E: Write>(
     match end_job(files, bus, terminal, operation, sources) {
         Ok(answer) => {
             bus.end_progress(true);
-            end_well(output, errors, answer, operation)
+            let status = end_well(output, errors, answer, operation);
+            report_changed_byte(errors, bus, status)
         }
         Err(fault) => {
             bus.end_progress(false);
@@ -296,7 +297,8 @@ fn run_prepared<'b, R: Store, O: Write, E: Write>(
     }
 }
 
-// Returns what the journal of a restore says about its chip, or `None` if it is no journal, or for another task.
+// Returns what the journal of a restore says about its chip. Returns `None` if the file is no journal, or if the task
+// is no restore.
 fn saved_by(task: &Task<'_>, sources: &Sources) -> Option<Saved> {
     match task {
         Task::Restore { .. } => Saved::read(&sources.bytes),
@@ -304,8 +306,8 @@ fn saved_by(task: &Task<'_>, sources: &Sources) -> Option<Saved> {
     }
 }
 
-// Marks the transactions of a session, whose journal is sealed before the first change, and those of a job that may
-// write the status.
+// Records in the bus, for its progress lines, whether the task is a session, whose journal is sealed before the first
+// change, and whether the task may write the status.
 fn mark_job<'b>(bus: &mut ChipBus<'b>, task: &Task<'_>, saved: Option<Saved>)
     ensures { ⟦<ChipBus<'b> as Bus>⟧.state bus.new ≡ ⟦<ChipBus<'b> as Bus>⟧.state bus.old }
 {
@@ -322,8 +324,8 @@ fn status_write_of(task: &Task<'_>, saved: Option<Saved>) -> StatusWrite {
         Task::Change(change) if !changes_bytes(change.wanted) => StatusWrite::OnAnyChip,
         Task::Change(change) if change.unlock => StatusWrite::IfProtected,
         Task::Restore { .. } => match saved {
-            Some(saved) if protects(saved.status) => StatusWrite::OnAnyChip,
-            _ => StatusWrite::IfProtected,
+            Some(saved) => StatusWrite::Restoring(saved.status),
+            None => StatusWrite::IfProtected,
         },
         _ => StatusWrite::Never,
     }

@@ -40,8 +40,9 @@ impl<'a> Setting<'a> {
     /// Parses the value of `-p`. A `KEY=VALUE` pair ends at the next comma, and its key at the first `=`.
     ///
     /// Returns `NoPrefix` if the text doesn't begin with `serprog:`. If a setting has a flaw, returns `Network` if the
-    /// first such setting is `ip=..`, and otherwise `Flawed`. If no setting has a flaw, returns `NoDevice` if `dev=` is
-    /// missing, and `BaudRate` if the device ends with a colon and a decimal number (at most 20 digits, below 2^64).
+    /// key of the first such setting is `ip`, and otherwise `Flawed`. If no setting has a flaw, returns `NoDevice` if
+    /// `dev=` is missing, and `BaudRate` if the device ends with a colon and a decimal number (at most 20 digits, below
+    /// 2^64).
     pub fn read(text: &'a str) -> Result<Setting<'a>, WrongSetting<'a>>
         ensures { MatchResult result (IsSetting text.now) (IsWrongSetting text.now) }
     {

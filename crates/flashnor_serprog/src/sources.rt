@@ -13,11 +13,12 @@ use nor_jobs::{Sources, read_sources};
 use nor_journal::Journal;
 use nor_session::Refusal;
 
-/// Returns a copy of the image that a job compares the whole chip with: that of `-v`, and that of `-w` except with `-n`
-/// or `-N`. Returns `None` for any other job, or if memory runs out.
+/// Returns a copy of the job's image if the job ends with a comparison of the chip with an image: `-v`, and `-w`
+/// without `-n` and `-N`. Returns `None` for any other job, or if memory runs out.
 ///
-/// Data that equals this image is read once. A sector that was misread as equal is then found in the comparison after
-/// `-w`. Without that comparison it would stay unwritten, with `Done`.
+/// The bus reads data that equals this image only once. If a sector is misread as equal to the image, `-w` doesn't
+/// write it, but the comparison at the end detects this, unless it misreads the sector in the same way. Without the
+/// comparison the run would end with `Done`.
 pub fn image_of(sources: &Sources, operation: &Operation<'_>) -> Option<Vec<u8>>
     ensures { MayExpectImage operation.now sources.now.bytes.items (option_map (λ image. image.items) result) }
 {
@@ -28,7 +29,7 @@ pub fn image_of(sources: &Sources, operation: &Operation<'_>) -> Option<Vec<u8>>
     }
 }
 
-// True for a job that compares the whole chip with its image at its end: `-v`, and `-w` without `-n` and `-N`.
+// True for a job that ends with a comparison of the chip with an image: `-v`, and `-w` without `-n` and `-N`.
 fn ends_with_image(operation: &Operation<'_>) -> bool
     ensures { result ≡ ends_with_image operation.now operation.now.task }
 {
@@ -56,7 +57,7 @@ pub fn prepare_sources<'a, R: Store>(rt: &mut R, task: &Task<'a>) -> Result<Sour
     Ok(sources)
 }
 
-// Checks that the journal of a change doesn't exist, and that a restore reads from a journal.
+// Checks that the journal of a change doesn't exist yet, and that the file of a restore is a valid journal.
 fn check<'a, R: Store>(rt: &R, task: &Task<'a>, sources: &Sources) -> Result<(), Fault<'a>>
     requires { AreSources (R.state rt.now).view task.now sources.now.included sources.now.bytes.items }
     ensures { IfErr result (FailsCheck (R.state rt.now).view task.now) }

@@ -1,10 +1,11 @@
-//! The lines for a chip that is lost, and for a status write that was refused or that the chip did not store.
+//! The lines for two replies that differ, for a chip that is lost, for a status write that was refused or that the chip
+//! did not store, and for a port that seems to change bytes.
 
-use nor_buses::CheckFault;
+use nor_buses::{ChangedByte, CheckFault};
 use std::fmt;
 
-/// The line that follows the line of error 12 if a `CheckedStatus` stopped: two replies differ, the chip is lost, or a
-/// status write was refused or is not what the chip has.
+/// The line after that of error 12 if a `CheckedStatus` stopped because two replies differ, the chip is lost, a status
+/// write was refused or not stored, or the port seems to change bytes.
 #[derive(Clone, Copy, Drop)]
 pub struct StatusLine(pub CheckFault);
 
@@ -21,7 +22,24 @@ impl fmt::Display for StatusLine {
                 Hex(id),
                 Hex(found)
             ),
+            CheckFault::ChangedByte(changed) => write!(f, "{}", ChangedLine(changed)),
         }
+    }
+}
+
+/// The line for a port that seems to change bytes that are received.
+#[derive(Clone, Copy, Drop)]
+pub struct ChangedLine(pub ChangedByte);
+
+impl fmt::Display for ChangedLine {
+    fn fmt<W: fmt::Write>(&self, f: &mut fmt::Formatter<W>) -> fmt::Result {
+        let ChangedByte { lost, read_as } = self.0;
+        write!(
+            f,
+            "Programmer fault 13: {read_as:02X}h was often read, {lost:02X}h never. The port probably changes \
+            {lost:02X}h to {read_as:02X}h: then throw away what was read (also a journal), set up the port with stty, \
+            and repeat the run."
+        )
     }
 }
 
@@ -80,12 +98,18 @@ pub fn protects(status: [u8; 2]) -> bool {
     status[0] & 0x1C != 0 || status[1] & 0x40 != 0
 }
 
-// The names of the bits that are set here, each after a space. The first byte is status 1. BUSY, WEL and SUS are left
-// out.
+/// Returns whether the status bytes of two chips have the same protection bits: BP0 to BP2, TB, SEC and CMP.
+pub fn are_equally_protected(one: [u8; 2], other: [u8; 2]) -> bool {
+    (one[0] ^ other[0]) & 0x7C == 0 && (one[1] ^ other[1]) & 0x40 == 0
+}
+
+// Two bytes, the first for status 1 and the second for status 2, displayed as the names of the bits that are set in
+// them, each after a space. BUSY, WEL and SUS are left out.
 #[derive(Clone, Copy, Drop)]
 struct Differing([u8; 2]);
 
-// The non-volatile bits of status 1 and of status 2, the highest first (W25Q64FV datasheet, status registers).
+// The bits of status 1 and of status 2 except BUSY, WEL and SUS, the highest first (W25Q64FV datasheet, status
+// registers).
 const ONE: [(u8, &str); 6] = [
     (0x80, "SRP0"),
     (0x40, "SEC"),

@@ -1,9 +1,10 @@
-//! The plain lines of the progress, and the number of transactions that they show for each step.
+//! The lines of the steps if they are shown below each other, the numbers of transactions in them, and the line that
+//! says how long a change took.
 use crate::estimates::Minutes;
 use crate::steps::Step;
 use std::fmt;
 
-/// The number of transactions sent so far for each step, if the progress is shown.
+/// How many transactions of each step the bus was asked to carry out so far. A second scan is counted from 0.
 #[derive(Clone, Copy, Default)]
 pub struct Counts {
     pub identify: u64,
@@ -32,7 +33,7 @@ impl Counts {
     }
 }
 
-/// The plain line of a step whose number of transactions is known.
+/// The line of a scan or a comparison with `Look::Plain`, if the number of its sectors is known.
 #[derive(Clone, Copy, Drop)]
 pub struct StepOf {
     pub text: &'static str,
@@ -46,7 +47,7 @@ impl fmt::Display for StepOf {
     }
 }
 
-/// The plain line of another step.
+/// The line of any other step with `Look::Plain`, without a total number of transactions.
 #[derive(Clone, Copy, Drop)]
 pub struct StepCount {
     pub text: &'static str,
@@ -59,7 +60,7 @@ impl fmt::Display for StepCount {
     }
 }
 
-/// The line that says how long a change took.
+/// The line that says how long a change took, with `Look::Line`.
 #[derive(Clone, Copy, Drop)]
 pub struct Took(pub Minutes);
 

@@ -4,9 +4,9 @@ ghost use Rattle.std.specs.Prelude.{◌≤◌};
 use crate::estimates::{Minutes, Rate, percent, tenths_of_kib, time_for};
 use std::fmt;
 
-/// The steps of a job. A job may omit a step, and the order varies: `--unlock` sends a status write before the erases,
+/// The steps of a job. A job may omit a step, and the order varies: `--unlock` may write the status before the erases,
 /// and some sectors are read again before they are programmed. After the first modifying command each read of a sector
-/// counts as `ReadBack`, and in the comparison after a change as `Compare`.
+/// counts as `ReadBack`, and in the comparison after a change or restore as `Compare`.
 #[derive(Clone, Copy, PartialEq)]
 pub enum Step {
     Identify,
@@ -25,7 +25,7 @@ pub enum Phase {
     Before,
     /// A modifying command was sent.
     Changing,
-    /// The change ended, and the chip is compared with its target.
+    /// The change or restore ended, and the comparison after it began.
     After,
 }
 
@@ -47,7 +47,8 @@ pub fn step_of(out: &[u8], phase: Phase) -> Option<Step> {
 }
 
 impl Step {
-    /// Returns the beginning of the step's plain lines. Its count follows.
+    /// Returns the text of the step's lines if lines are shown below each other (`Look::Plain`). In a line, the number
+    /// of the step's transactions follows.
     pub fn plain_text(self) -> &'static str {
         match self {
             Step::Identify => "identify",
@@ -60,8 +61,9 @@ impl Step {
         }
     }
 
-    /// Returns the number of transactions from one plain line to the next. An erase takes longer than a read or a page
-    /// program (a 64 KiB erase up to 2 seconds, W25Q64FV datasheet), so erases have more lines.
+    /// Returns after how many transactions of this step its next line is printed if lines are shown below each other
+    /// (`Look::Plain`). Erases have a line more often than other steps, because one erase can take seconds (64 KiB: up
+    /// to 2 seconds, W25Q64FV datasheet).
     pub fn stride(self) -> u64
         ensures { 1 ≤ result }
     {
@@ -101,7 +103,7 @@ impl Step {
     }
 }
 
-/// How many operations of a step are done, of how many data bytes, and how long they took.
+/// How many operations of a step are done, how many data bytes they transferred, and how many microseconds they took.
 #[derive(Clone, Copy, Default)]
 pub struct Tally {
     pub done: u64,
@@ -147,7 +149,7 @@ pub struct StepLine {
 }
 
 impl StepLine {
-    /// Returns whether all operations of the step are done, if their number is known.
+    /// Returns whether the number of operations of the step is known exactly, and all of them are done.
     pub fn is_complete(&self) -> bool {
         self.total == Total::Exactly(self.tally.done)
     }
@@ -193,8 +195,8 @@ impl fmt::Display for StepLine {
     }
 }
 
-// The end of the line of a step: the time that is left (at most, if the total is `AtMost`) or, if that isn't known, the
-// time that passed.
+// The end of the line of a step: the time that is left (at most, if the total is `AtMost`); or the time that passed, if
+// the step is complete or the time that is left isn't known.
 #[derive(Clone, Copy, Drop)]
 struct TimeText {
     done: u64,

@@ -71,13 +71,13 @@ pub enum Look {
     Line,
 }
 
-/// Standard error, on which progress is shown if it is a character device.
+/// Standard error, with how the progress of a job is shown on it (`Look`).
 #[derive(Clone, Copy)]
 pub struct Terminal<'a> {
     rt: &'a HostRuntime,
     screen: &'a Screen,
     look: Look,
-    // true if each modifying transaction has a line
+    // true if the lines of `-V` are printed
     is_verbose: bool,
     // when the terminal was made
     started: Option<Instant>,
@@ -87,7 +87,7 @@ impl<'a> Terminal<'a> {
     /// Returns the terminal at standard error. With `Auto`, the progress is one line that is rewritten, if standard
     /// error is a terminal; if it is another character device, there are lines below each other, and otherwise nothing.
     /// With `Plain` there are lines below each other in any case, and with `Hidden` nothing is shown. With
-    /// `is_verbose`, each modifying transaction has a line in any case.
+    /// `is_verbose`, the lines of `-V` (log.rt) are printed in any case.
     pub fn new(
         rt: &'a HostRuntime,
         screen: &'a Screen,
@@ -120,7 +120,7 @@ impl<'a> Terminal<'a> {
         Instant::now(self.rt).ok()
     }
 
-    /// Returns what was announced last, if anything was.
+    /// Returns the numbers of touched sectors and of erases that were announced last, or `None` if none were.
     pub fn announced(&self) -> Option<Announcement> {
         self.screen.known.get().announced
     }
@@ -142,7 +142,7 @@ impl<'a> Terminal<'a> {
         self.set_open(true);
     }
 
-    /// Ends the line that may be rewritten, if there is one. Then the next line begins at the start of a line.
+    /// Ends the line that may be rewritten, if there is one, so that the next output begins on a new line.
     pub fn end_line(&self) {
         if self.screen.known.get().is_line_open {
             let _ = eprintln!(self.rt);
@@ -150,8 +150,9 @@ impl<'a> Terminal<'a> {
         }
     }
 
-    /// With `-V`, prints a line for this transaction if it is a modifying one. The line says that it was passed to the
-    /// programmer's bus, which sends it at the latest with the next poll.
+    /// With `-V`, prints a line for this transaction if it is a modifying one. The line is printed before the
+    /// transaction is passed to the programmer's bus. The bus may refuse the transaction, or send it only with the next
+    /// poll.
     pub fn log_command(&self, out: &[u8]) {
         if self.is_verbose
             && let Some(name) = command_name(out)
@@ -189,7 +190,7 @@ impl<'a> Terminal<'a> {
         let _ = eprintln!(self.rt; "{text}");
     }
 
-    /// Clears the line that may be rewritten, if there is one. Then the next line begins in its place.
+    /// Clears the line that may be rewritten, if there is one, so that the next output takes its place.
     pub fn clear_line(&self) {
         if self.screen.known.get().is_line_open {
             let _ = eprint!(self.rt; "\r{ERASE_TO_END}");
@@ -221,21 +222,21 @@ impl<'a> Terminal<'a> {
         }
     }
 
-    /// If progress is shown, prints what a session will change, and the length of its journal; on a line that is
-    /// rewritten, also about how long the change takes.
+    /// If progress is shown, prints what a session will change, and the length of its journal. With `Look::Line`, also
+    /// prints about how long the change takes if it touches a sector.
     pub fn print_session(&self, announcement: Announcement) {
         self.print(&SessionText(announcement));
         self.announce(announcement);
     }
 
-    /// If progress is shown, prints what a restore will change; on a line that is rewritten, also about how long the
-    /// change takes.
+    /// If progress is shown, prints what a restore will change. With `Look::Line`, also prints about how long the
+    /// change takes if it touches a sector.
     pub fn print_restore(&self, announcement: Announcement) {
         self.print(&RestoreText(announcement));
         self.announce(announcement);
     }
 
-    // Records what will change and, if the progress is a line that is rewritten, prints about how long that takes.
+    // Records what will change. With `Look::Line`, also prints about how long the change takes if it touches a sector.
     fn announce(&self, announcement: Announcement) {
         let known = self.screen.known.get();
         self.screen.known.set(Known {

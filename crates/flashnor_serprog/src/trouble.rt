@@ -1,7 +1,9 @@
-//! The reasons why a run ends early, the advice for each programmer fault, and the lines that are printed for them.
+//! The reasons why a run ends early, the advice for each programmer fault, the cause of error 12, what a job that
+//! failed left, and the lines that are printed for all of these.
 ghost use Rattle.std.specs.Prelude.{◌≡◌};
 
 use crate::port::PortFault;
+use crate::quoted::Quoted;
 use crate::setting::WrongSetting;
 use crate::status_line::{DIFFERED, StatusLine};
 use nor_args::{Reason, WrongArguments};
@@ -10,10 +12,10 @@ use nor_console::{Escaped, Fault, text_of_flaw};
 use nor_serprog::{Failure, HandshakeFault};
 use std::fmt;
 
-/// The reason why a run ends before the first transaction.
+/// The reason why a run ends before its job begins.
 #[derive(Drop)]
 pub enum Trouble<'a> {
-    /// A fault that `flashnor` reports too, with the same line; or that the arguments ask for help.
+    /// A fault that `flashnor` reports too, with the same numbered line; or a request for the help or the version.
     Fault(Fault<'a>),
     /// The value of `-p` describes no programmer.
     Setting(WrongSetting<'a>),
@@ -119,7 +121,8 @@ impl fmt::Display for WrongSetting<'_> {
 /// The arguments with which `stty` sets up a serial port for this program.
 pub const MODES: &str = "raw -echo clocal -hupcl min 0 time 50";
 
-/// The reason why the programmer can't be used. It occurs before the first transaction.
+/// The reason why the programmer can't be used. It occurs before the job begins: at most the transaction that wakes the
+/// chip (ABh) was sent to the chip.
 #[derive(Drop)]
 pub enum ProgrammerFault {
     /// 1: the device is missing, or the system can't open or lock it.
@@ -131,6 +134,8 @@ pub enum ProgrammerFault {
     /// 4 to 11: the port fails, or the programmer replies wrongly, refuses a command, speaks another version, or lacks
     /// a command, SPI, or a length that is needed.
     Handshake(HandshakeFault<PortFault>),
+    /// 12: the port changes bytes that are sent.
+    ChangesBytes,
 }
 
 /// The advice that is printed for a programmer fault.
@@ -143,13 +148,14 @@ enum Remedy {
 }
 
 impl ProgrammerFault {
-    /// Returns the number of the fault, as printed: 1 to 11.
+    /// Returns the number of the fault, as printed: 1 to 12.
     pub fn number(&self) -> u8 {
         match self {
             ProgrammerFault::NotOpened => 1,
             ProgrammerFault::NoDevice => 2,
             ProgrammerFault::InUse => 3,
             ProgrammerFault::Handshake(fault) => number_of(fault),
+            ProgrammerFault::ChangesBytes => 12,
         }
     }
 
@@ -161,6 +167,7 @@ impl ProgrammerFault {
             ProgrammerFault::NoDevice => "is not a character device",
             ProgrammerFault::InUse => "is in use by another program",
             ProgrammerFault::Handshake(_) => "cannot be used",
+            ProgrammerFault::ChangesBytes => "changes bytes that are sent to the programmer",
         }
     }
 
@@ -172,6 +179,9 @@ impl ProgrammerFault {
             ProgrammerFault::NoDevice => Remedy::Do("Name the serial port of the programmer."),
             ProgrammerFault::InUse => Remedy::Do("Wait until that program has ended."),
             ProgrammerFault::Handshake(fault) => help_for(fault),
+            ProgrammerFault::ChangesBytes => Remedy::DoAndSetUp(
+                "Disconnect the programmer from power for a second, connect it again, and set up the port:",
+            ),
         }
     }
 }
@@ -250,7 +260,7 @@ impl fmt::Display for FailureText<'_> {
     }
 }
 
-/// The line that follows the line of error 12. It has the reason why the bus stopped, and advice.
+/// The line that follows the line of error 12. It has the reason why the bus stopped, advice, and what the job left.
 #[derive(Drop)]
 pub struct StopLine<'a> {
     /// The reason why a transaction failed, if one did.
@@ -260,20 +270,49 @@ pub struct StopLine<'a> {
     /// True if two reads of the same bytes differed.
     pub differed: bool,
     /// What the job left.
-    pub left: Left,
+    pub left: Left<'a>,
 }
 
-/// What a job that stopped left.
-#[derive(Clone, Copy)]
-pub enum Left {
+/// What a job that failed left, displayed as one or two sentences, each after a space, or as nothing.
+#[derive(Clone, Copy, Drop)]
+pub enum Left<'a> {
     /// The job changes no chip.
     Reading,
     /// A session that sent no modifying command.
     Unchanged,
-    /// A session that sent one, or a restore: the chip may be changed.
-    Changed,
-    /// A session or a restore that was completed. Only the comparison after it stopped, which another line says.
+    /// A session that may have sent a modifying command, or a restore: the chip may be changed, and can be restored
+    /// from this journal.
+    Changed {
+        journal: Option<&'a str>,
+        /// True for a session with `--unlock` if the status of the chip may have protected an address. The session then
+        /// may have lifted the protection.
+        may_be_unprotected: bool,
+    },
+    /// A session or a restore that was completed. Only the comparison after it failed, which another line says.
     Completed,
+}
+
+impl fmt::Display for Left<'_> {
+    fn fmt<W: fmt::Write>(&self, f: &mut fmt::Formatter<W>) -> fmt::Result {
+        let Left::Changed {
+            journal,
+            may_be_unprotected,
+        } = *self
+        else {
+            return match self {
+                Left::Unchanged => f.write_str(" The chip was not changed."),
+                _ => Ok(()),
+            };
+        };
+        match journal {
+            Some(name) => write!(f, " Then restore the chip with --restore {}.", Quoted(name))?,
+            None => f.write_str(" Then restore the chip with --restore and the journal.")?,
+        }
+        if may_be_unprotected {
+            f.write_str(" Until then it may be unprotected.")?;
+        }
+        Ok(())
+    }
 }
 
 impl fmt::Display for StopLine<'_> {
@@ -284,11 +323,7 @@ impl fmt::Display for StopLine<'_> {
             (None, None) if self.differed => f.write_str(DIFFERED)?,
             (None, None) => f.write_str("Cause: unknown.")?,
         }
-        f.write_str(match self.left {
-            Left::Reading | Left::Completed => "",
-            Left::Unchanged => " The chip was not changed.",
-            Left::Changed => " Then restore the chip with --restore and the journal.",
-        })
+        write!(f, "{}", self.left)
     }
 }
 

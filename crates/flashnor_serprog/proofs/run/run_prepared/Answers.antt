@@ -7,8 +7,8 @@ returns-in-Ok g c = record {
   outcome = Ok c.in-Ok.answer;
   ends = rw c.mark_job.ensures at c.in-Ok.ensures.ends;
   sends = rw c.mark_job.ensures at c.end_job.ensures.sends;
-  few = c.end_well.ensures.few;
-  printed = c.end_well.ensures.printed;
+  few = c.report_changed_byte.ensures.few c.end_well-status.ensures.few;
+  printed = λ zero. c.end_well-status.ensures.printed (c.report_changed_byte.ensures.failed zero);
 }
 
 pub returns-in-Err : goal.returns-in-Err
