@@ -21,11 +21,13 @@ BUILT_HARDWARE := $(subst $(blank),\ ,$(HARDWARE))
 is_new = @newer=$$(find $(SOURCES) -maxdepth 0 -newer '$(1)' -print -quit) && \
 	if [ -n "$$newer" ]; then echo "$(1) is older than $$newer" >&2; exit 1; fi
 
-# The directories of `make install`, below DESTDIR if that is given. Both programs go to bin: flashnor works only on
-# files, and flashnor-serprog on a serial port, which the members of a group (often `dialout`) may open.
+# The directories of `make install`, below DESTDIR if that is given. Both commands go to bin: flashnor works only on
+# files, and flashnor-serprog on a serial port, which the members of a group (often `dialout`) may open. The latter is a
+# script that sets up the port and runs the program in libexec.
 PREFIX ?= /usr/local
 INTO = $(DESTDIR)$(PREFIX)
 IN_BIN = $(INTO)/bin
+IN_LIBEXEC = $(INTO)/libexec
 IN_MAN = $(INTO)/share/man
 IN_COMPLETIONS = $(INTO)/share/bash-completion/completions
 
@@ -124,7 +126,8 @@ compare: $(BUILT) ## compares both programs with flashrom and with a chip of QEM
 
 install: $(BUILT) $(BUILT_HARDWARE) ## installs programs, manual pages and completion below PREFIX and DESTDIR
 	install -D -m 755 '$(PROGRAM)' '$(IN_BIN)/flashnor'
-	install -D -m 755 '$(HARDWARE)' '$(IN_BIN)/flashnor-serprog'
+	install -D -m 755 '$(HARDWARE)' '$(IN_LIBEXEC)/flashnor_serprog'
+	install -D -m 755 scripts/flashnor-serprog.sh '$(IN_BIN)/flashnor-serprog'
 	install -D -m 644 man/flashnor.8 '$(IN_MAN)/man8/flashnor.8'
 	install -D -m 644 man/flashnor-serprog.8 '$(IN_MAN)/man8/flashnor-serprog.8'
 	install -D -m 644 man/flashnor-journal.5 '$(IN_MAN)/man5/flashnor-journal.5'
@@ -132,7 +135,7 @@ install: $(BUILT) $(BUILT_HARDWARE) ## installs programs, manual pages and compl
 	ln -sf flashnor '$(IN_COMPLETIONS)/flashnor-serprog'
 
 uninstall: ## removes these files again
-	rm -f '$(IN_BIN)/flashnor' '$(IN_BIN)/flashnor-serprog'
+	rm -f '$(IN_BIN)/flashnor' '$(IN_BIN)/flashnor-serprog' '$(IN_LIBEXEC)/flashnor_serprog'
 	rm -f '$(IN_MAN)/man8/flashnor.8' '$(IN_MAN)/man8/flashnor-serprog.8' '$(IN_MAN)/man5/flashnor-journal.5'
 	rm -f '$(IN_COMPLETIONS)/flashnor' '$(IN_COMPLETIONS)/flashnor-serprog'
 
@@ -147,9 +150,9 @@ sweep: $(BUILT) ## runs the program with each of its allocations refused in turn
 kill: $(BUILT) ## kills the program at its calls on files, and makes them fail (with a C compiler)
 	@tests/kill/run.sh '$(PROGRAM)'
 
-# An archive for users without a prover: both proved programs, PROVED-WITH, the pages in their directories, and the
-# checksum of each file. PROVED-WITH contains the lines of both programs. If a program's own PROVED-WITH is missing, or
-# belongs to another program, that program is proved and built first.
+# An archive for users without a prover: both proved programs, the script flashnor-serprog, PROVED-WITH, the pages in
+# their directories, and the checksum of each file. PROVED-WITH contains the lines of both programs. If a program's own
+# PROVED-WITH is missing, or belongs to another program, that program is proved and built first.
 dist: $(BUILT) $(BUILT_HARDWARE) ## packs an archive with both programs, their pages and PROVED-WITH
 	@cd '$(dir $(PROGRAM))' && tail -n 1 PROVED-WITH 2> /dev/null | sha256sum --check --status 2> /dev/null || \
 	  $(MAKE) --no-print-directory -C '$(CURDIR)' build
@@ -157,9 +160,9 @@ dist: $(BUILT) $(BUILT_HARDWARE) ## packs an archive with both programs, their p
 	  $(MAKE) --no-print-directory -C '$(CURDIR)' hardware
 	@rm -rf $(DIST) && mkdir -p $(DIST)
 	@cp '$(PROGRAM)' $(DIST)/flashnor
-	@cp '$(HARDWARE)' $(DIST)/flashnor-serprog
-	@cat '$(dir $(PROGRAM))PROVED-WITH' > $(DIST)/PROVED-WITH
-	@sed 's/  flashnor_serprog$$/  flashnor-serprog/' '$(dir $(HARDWARE))PROVED-WITH' >> $(DIST)/PROVED-WITH
+	@cp '$(HARDWARE)' $(DIST)/flashnor_serprog
+	@cp scripts/flashnor-serprog.sh $(DIST)/flashnor-serprog
+	@cat '$(dir $(PROGRAM))PROVED-WITH' '$(dir $(HARDWARE))PROVED-WITH' > $(DIST)/PROVED-WITH
 	@cp --parents $(MANUALS) $(COMPLETION) $(sort $(PAGES)) $(DIST)
 	@cd $(DIST) && find * -type f -exec sha256sum -- {} + > ../SHA256SUMS && mv ../SHA256SUMS .
 	@tar --sort=name --owner=0 --group=0 --numeric-owner -C out -czf $(DIST).tar.gz flashnor-$(VERSION)

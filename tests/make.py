@@ -128,9 +128,9 @@ class Tree:
                                     "sha256sum --check --quiet")
         page = (folder / "PROVED-WITH").read_text(encoding="utf-8").splitlines()
         named = [page[at].partition("  ")[2] for at in (2, 5)]
-        printed = [self.run(folder / name)[1].strip() for name in named]
+        printed = [self.run(folder / name)[1].strip() for name in ("flashnor", "flashnor-serprog")]
         shutil.rmtree(folder)
-        if sums != (0, "") or named != ["flashnor", "flashnor-serprog"]:
+        if sums != (0, "") or named != ["flashnor", "flashnor_serprog"]:
             return sums[1], named
         return [[*page[:2], printed[0]], [*page[3:5], printed[1]]]
 
@@ -333,7 +333,7 @@ def packed(tree, expect):
 
 def lacking(folder):
     """Returns the files that an archive needs and lacks: pages to which its pages link, and checksums."""
-    needed = {"flashnor", "flashnor-serprog", "PROVED-WITH", "README.md", "completion/flashnor.bash", *MANUALS}
+    needed = {"flashnor", "flashnor-serprog", "flashnor_serprog", "PROVED-WITH", "README.md", "completion/flashnor.bash", *MANUALS}
     for page in ("README.md", *MANUALS):
         text = (folder / page).read_text(encoding="utf-8") if (folder / page).exists() else ""
         needed |= {*re.findall(r"\]\(([^):#]+)\)", text), *re.findall(r"\bdocs/\w+\.md", text)}

@@ -1,0 +1,45 @@
+#!/bin/sh
+# flashnor-serprog OPTION..: sets up the serial port that dev= names, and runs the program flashnor_serprog.
+#
+# `make install` installs this script as flashnor-serprog, since the program itself can't set up a port. The port has to
+# be raw: a terminal that changes bytes, such as 0Dh to 0Ah, would change what is read from the chip and what is sent to
+# it. If the port can't be set up, stty prints why, and nothing is run. If its settings can't be read, the program is
+# run, and prints its own fault. The environment variable FLASHNOR_SERPROG_STTY=no leaves the port as it is.
+
+# The program is where `make install` puts it, or beside this script, as in the archive of `make dist`.
+here=$(dirname "$(readlink -f "$0")")
+program=$here/../libexec/flashnor_serprog
+[ -x "$program" ] || program=$here/flashnor_serprog
+
+# Prints the device that a value of -p names, if it names one.
+device_of() {
+    case ,${1#serprog:} in
+        *,dev=*)
+            device=${1##*dev=}
+            printf '%s\n' "${device%%,*}"
+            ;;
+    esac
+}
+
+device=
+previous=
+for word in "$@"; do
+    case $previous in
+        -p | --programmer) device=$(device_of "$word") ;;
+    esac
+    case $word in
+        --programmer=*) device=$(device_of "${word#*=}") ;;
+        -p?*) device=$(device_of "${word#-p}") ;;
+    esac
+    previous=$word
+done
+
+if [ -c "$device" ] && [ "${FLASHNOR_SERPROG_STTY-}" != no ] && before=$(stty -F "$device" -a 2> /dev/null); then
+    stty -F "$device" raw -echo clocal -hupcl min 0 time 50 || exit 1
+    # Many Arduino boards restart if a port that isn't set up is opened, and reply only afterwards.
+    case $before in
+        *-hupcl*) ;;
+        *) sleep 2 ;;
+    esac
+fi
+exec "$program" "$@"
