@@ -75,7 +75,7 @@ def restores_a_locked_chip(start):
         # Sector 0 is not in the protected range, which is the end of the chip.
         bench.chip.data[:] = damaged
         if is_protected:
-            bench.expect("--restore", "whole", err=["Error 9: status locked."])
+            bench.expect("--restore", "whole", err=reference.LOCKED)
             check_unchanged(bench, damaged, status)
             check("the quick restore", bench.run("--restore", "whole", "--quick").status, 0)
         else:
@@ -120,7 +120,7 @@ def makes_a_new_file(start):
     bench.check_frames(reference.probe("TINY64"))
     bench.check_absent("whole")
     bench.chip.transfer = lambda out, replies: (b"\0" if out == b"\x05" else b"\xff") * replies
-    bench.expect(*BACKUP, err=["Error 1: no chip."])
+    bench.expect(*BACKUP, err=reference.NO_CHIP)
     bench.check_absent("whole")
 
 
@@ -157,11 +157,14 @@ def check_begun(bench, old):
 
 
 def saves_no_wrong_bit(start):
-    """One wrong bit in a reply stops a backup. What is left of its journal is refused (error 15)."""
+    """One wrong bit in a reply stops a backup. What is left of its journal is refused (error 15).
+
+    The reply to ABh, which wakes the chip, is not used.
+    """
     old, _ = images("saves_no_wrong_bit")
     wire = reference.carried(reference.backup("TINY64"))
     bench = start(data=old)
-    for number, (out, replies) in enumerate(wire, 1):
+    for number, (out, replies) in enumerate(wire[1:], 2):
         for byte in {0, replies // 2, replies - 1} if replies else ():
             # A wrong BUSY bit of a poll costs one more poll, and nothing else.
             bench.server.traits.wrong_bits = {number: (byte, 3)}

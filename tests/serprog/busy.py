@@ -201,7 +201,7 @@ def stop(bench, words, event, at, seconds):
 def check_waiting(bench):
     """Checks that the chip was busy when the last run began. The first poll may be the rest of what was sent before."""
     waits = 0
-    for out, reply in (it for it in bench.server.log if it != (bytes([WAKE]), b"")):
+    for out, reply in (it for it in bench.server.log if it[0][0] != WAKE):
         if out != POLL or not reply[0] & 1:
             break
         waits += 1

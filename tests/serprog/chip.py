@@ -134,7 +134,7 @@ class Chip:
         opcode = out[0] if out else None
         if opcode == WAKE or self.is_asleep:
             self.is_asleep = self.is_asleep and opcode != WAKE
-            return b"\xff" * replies
+            return bytes([0xFF if self.is_asleep else self.part.id[2] - 1]) * replies
         if opcode == 0x05:
             self.polls += 1
             # The chip repeats its status as long as it is read.

@@ -118,6 +118,8 @@ def check_cause(got, work, at, seal, byte):
             cause += " " + RESTORE
         elif work.words[0] in ("-w", "-E", "--wp-range"):
             cause += " " + (UNCHANGED if at <= seal else RESTORE)
+            # The chip of this job is protected at the start.
+            cause += " Until then it may be unprotected." * ("--unlock" in work.words and at > seal)
     check("the cause", (got.err[:2], got.out), ([STOPPED, cause], []))
 
 

@@ -19,7 +19,7 @@ FIRMWARE = "Disconnect the programmer from power for a second, connect it again,
 # The time-out for tests of silence, in tenths of a second.
 SOON = 10
 UNPLUG = "Disconnect the programmer from power for a second before the next run."
-RESTORE = "Then restore the chip with --restore and the journal."
+RESTORE = "Then restore the chip with --restore j."
 UNCHANGED = "The chip was not changed."
 LOST = "Cause: the chip did not reply its ID any more: "
 DIFFER = "Cause: two reads of the same bytes differ. Lower the clock (spispeed=), shorten the wires, and try again."

@@ -34,6 +34,9 @@ def describes_a_journal(start):
         "Unit: unique ID 0000000000000000, so it fits any chip with this ID and size that has no unique ID.",
         "Saves 4 of 16 sectors, from 0x001000 to 0x00ffff.", "Status: 00 00.", "Sealed and undamaged.", RESTORE], [])
     bench.check_file("j", before)
+    for name, quoted in ("old board", "'old board'"), ("b$x", "'b$x'"), ("a+b_1,2=c-d.j", "a+b_1,2=c-d.j"), ("./-j", "./-j"):
+        bench.write(name, before)
+        check("the command", describe(bench, name).out[-1], RESTORE[:-1] + quoted)
 
 
 def describes_status_and_unit(start):

@@ -466,7 +466,8 @@ def shows_what_a_power_loss_means(start):
             "identify 1", "Sectors to change: 0. Erases: 0. Bytes of journal: 61.", *lines, sealed,
             "protect: status writes sent 1"])
     # A restore that needs no status write has no line on QE.
-    for status, after, lines in (b"\0\2", b"\0\2", []), (b"\x1c\2", b"\0\2", [quad]), (b"\0\2", b"\x1c\2", [quad]):
+    for status, after, lines in ((b"\0\2", b"\0\2", []), (b"\x1c\2", b"\0\2", [quad]), (b"\x20\2", b"\0\2", [quad]),
+                                 (b"\0\2", b"\x1c\2", [quad])):
         bench = start("W25Q64FV", data=large, status=after)
         bench.write("j", reference.journal("W25Q64FV", large, (3,), status))
         bench.expect_at_terminal("--restore", "j", "-N", lines=[

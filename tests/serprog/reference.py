@@ -10,10 +10,14 @@ from chip import CMP, ERASES, PAGE, PARTS, READ_DATA, READ_ID, READ_SFDP, READ_U
 
 POLL = (b"\x05", 1)
 READ_STATUS_2 = (b"\x35", 1)
-# Over the wire: the command that is sent before each run, a poll with two bytes of the status, and the opcodes whose
+# Over the wire: the command that is sent before each run, with the 12 bytes and 10 reply bytes that show whether the port
+# changes 0Dh or 0Ah, and what a programmer with lower limits gets; the query of the version that follows the former; a
+# poll with two bytes of the status, and the opcodes whose
 # replies are received twice. After each of these replies, except to the ID itself, `CONFIRM` reads the ID once more, and
 # the same after data and after a status that counts: a chip that is lost does not reply its ID.
-WAKES = (bytes([WAKE]), 0)
+WAKES = (bytes([WAKE]) + b"\x10" * 12, 10)
+ONLY_WAKES = (bytes([WAKE]), 0)
+QUERY_VERSION = b"\x01"
 STATUS_TWICE = (b"\x05", 2)
 TWICE = (READ_ID, READ_SFDP, READ_UNIQUE, 0x35)
 CONFIRM = (bytes([READ_ID]), 3)
@@ -35,8 +39,26 @@ UNSEALED = [
     "error: the journal was never sealed, or was cut off later", "Error 15: journal fault 1.",
     "If the terminal showed the progress of its run, but not SEALED, the run never changed the chip. Otherwise the "
     "file may have lost its end: look for another copy, and don't write or erase anything."]
+# The lines after errors.
+NO_CHIP = ["Error 1: no chip.", "Check contacts, supply and wiring, and that cs= selects this chip."]
+LOCKED = ["Error 9: status locked.",
+          "SRP0 or SRP1 is set. Clear SRP0 while WP# is high (flashrom --wp-disable), or SRP1 by a power cycle."]
 # The lines if -c names a chip of the table, and the chip is TINY64.
 OTHER_NAME = ["Error 3: another chip than named.", "-c names W25Q64FV. The chip is SFDP (fe1010)."]
+
+
+def unknown_chip(chip_id):
+    """Returns the lines of a chip with this ID that has no SFDP."""
+    return ["Error 2: unknown chip, SFDP fault 1.",
+            f"Its ID is {chip_id.hex()}. If another run finds another ID, check contacts, supply and wiring, or lower the "
+            "clock (spispeed=)."]
+
+
+def not_stored(address, journal="j"):
+    """Returns the lines of a change or a restore whose first wrong byte is at this address."""
+    return [f"Error 14: bytes differ at 0x{address:06x}.",
+            "The chip did not store all bytes, or they were misread: lower the clock (spispeed=). Then restore the chip "
+            f"with --restore {journal}."]
 
 
 def file_fault(number, name):
@@ -127,6 +149,7 @@ def frames(transactions):
     found = bytearray()
     for out, replies in transactions:
         found += b"\x13" + len(out).to_bytes(3, "little") + replies.to_bytes(3, "little") + out
+        found += QUERY_VERSION * ((out, replies) == WAKES)
     return bytes(found)
 
 
@@ -145,6 +168,8 @@ def writes(plan, buffer):
         if replies or out[0] not in CHANGING or length > buffer:
             found.append(waiting)
             waiting = 0
+        if (out, replies) == WAKES:
+            found.append(len(QUERY_VERSION))
     return found
 
 

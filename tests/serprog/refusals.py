@@ -54,8 +54,8 @@ def refuses_locked(start):
         bench.write("new", new)
         bench.write("layout", LAYOUT)
         bench.expect("-w", "new", "--unlock", "-l", "layout", "-i", "last", "--journal", "j",
-                     err=["Error 9: status locked."])
-        bench.expect("--wp-range", "0,0", "--journal", "k", err=["Error 9: status locked."])
+                     err=reference.LOCKED)
+        bench.expect("--wp-range", "0,0", "--journal", "k", err=reference.LOCKED)
         bench.check_chip(old, status)
 
 
@@ -175,10 +175,10 @@ def needs_a_chip(start):
     """No chip is error 1, and a chip with neither a known ID nor SFDP is error 2."""
     bench = start(data=FREE)
     bench.chip.transfer = lambda out, replies: (b"\0" if out == b"\x05" else b"\xff") * replies
-    bench.expect(err=["Error 1: no chip."])
-    bench.expect("-E", "--journal", "j", err=["Error 1: no chip."])
+    bench.expect(err=reference.NO_CHIP)
+    bench.expect("-E", "--journal", "j", err=reference.NO_CHIP)
     bench.chip.transfer = lambda out, replies: (b"\x01\x02\x03" if out == b"\x9f" else b"\0" * replies)
-    bench.expect(err=["Error 2: unknown chip, SFDP fault 1."])
+    bench.expect(err=reference.unknown_chip(b"\x01\x02\x03"))
 
 
 def waits_for_the_chip(start):

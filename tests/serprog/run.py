@@ -2,8 +2,8 @@
 """tests/serprog/run.py PROGRAM: the program flashnor-serprog with a serial programmer at a pseudo-terminal.
 
 The programmer is server.py, and its chip is a model from the datasheets (chip.py). The cases are in options.py,
-journals.py, maps.py, terminal.py, backups.py, refusals.py, faults.py, wire.py, contact.py and rest.py; manual.py and
-rescue.py play the manual page. bits.py tries each single wrong bit of each reply, and misses each single frame. losses.py kills the
+journals.py, maps.py, terminal.py, backups.py, refusals.py, faults.py, wire.py, contact.py, rest.py, narrow.py and
+ports.py; manual.py and rescue.py play the manual page. bits.py tries each single wrong bit of each reply, and misses each single frame. losses.py kills the
 program, and loses replies, at each transaction of a session and of its restores; busy.py does so while the chip is
 busy. What the program must send and print is computed by reference.py, without the program.
 
@@ -30,6 +30,7 @@ import manual
 import maps
 import narrow
 import options
+import ports
 import refusals
 import rescue
 import rest
@@ -38,7 +39,8 @@ import wire
 from bench import Bench, Differs
 
 MODULES = (
-    options, journals, maps, terminal, backups, refusals, faults, wire, contact, rest, narrow, busy, manual, rescue,
+    options, journals, maps, terminal, backups, refusals, faults, wire, contact, rest, narrow, busy, ports, manual,
+    rescue,
 )
 CASES = {case.__name__: case for module in MODULES for case in module.CASES}
 

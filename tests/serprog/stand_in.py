@@ -13,7 +13,6 @@ import reference
 from chip import CMP, PARTS, SECTOR, SRP0, SRP1, protected_range
 from stand_in_link import HELP, LOST, MISTAKE, Fault, Link, Stopped, arguments, check_usage, chip_text, probe
 
-RESTORE = " Then restore the chip with --restore and the journal."
 UNCHANGED = " The chip was not changed."
 # The bits of both status bytes that protect.
 PROTECTION = 0x7C40
@@ -190,7 +189,7 @@ class Job:
         try:
             self.verify_sectors(target, reads)
         except Fault as why:
-            address = str(why).rpartition(" ")[2]
+            address = why.args[0].rpartition(" ")[2]
             raise Fault(f"Chip fault 4: the chip differs from its target at {address}") from None
 
     def check_protection(self, saved, status):
@@ -206,7 +205,7 @@ class Job:
     @staticmethod
     def check_locked(status):
         if status[0] & SRP0 or status[1] & SRP1:
-            raise Fault("Error 9: status locked.")
+            raise Fault(*reference.LOCKED)
 
     def put_journal(self, old, saved, status):
         whole = reference.journal(self.part, old, saved, status, self.unique)
@@ -258,7 +257,7 @@ class Job:
         try:
             self.compare_rest(rest, before)
         except Fault as why:
-            raise Fault(*failed * (MISTAKE != "hides the error of a restore"), *why.args) from None
+            raise Fault(*failed[:1] * (MISTAKE != "hides the error of a restore"), *why.args) from None
         if failed:
             raise Fault(*failed)
         return lines
@@ -338,7 +337,7 @@ class Job:
             got = self.link.transfer(out, length)
             if got != target[at : at + length] and MISTAKE != "verifies anything":
                 first = next(i for i in range(length) if got[i] != target[at + i])
-                raise Fault(f"Error 14: bytes differ at 0x{at + first:06x}.")
+                raise Fault(*reference.not_stored(at + first, self.given.get("--restore", self.given.get("--journal"))))
 
     def protection(self):
         """--wp-status, --wp-list and --wp-range."""
@@ -421,13 +420,19 @@ def run(words):
         raise Fault(*reference.file_fault(4, journal))
     job = Job(Link(keys["dev"], keys), given)
     job.link.image = image
+    job.link.guards = bool(journal) and MISTAKE != "changes a chip with wrong data"
     if "--wp-range" in given:
         Path(journal).touch()
     try:
-        return job_of(given)(job)
+        lines, line = job_of(given)(job), job.link.changed_byte()
+        if not line:
+            return lines
+        print(*lines, sep="\n", flush=True)
+    except Fault as why:
+        raise Fault(*why.args, *filter(None, [job.link.changed_byte()])) from None
     except Stopped as why:
-        after = RESTORE if "--restore" in given else after_change(job.link) if journal else ""
-        if str(why).startswith("Chip fault"):
+        after = restores(given["--restore"]) if "--restore" in given else after_change(job, journal) if journal else ""
+        if str(why).startswith(("Chip fault", "Programmer fault")):
             raise Fault("Error 12: stopped.", f"{why}{after}") from None
         if "two reads" in str(why):
             advice = "Lower the clock (spispeed=), shorten the wires, and try again."
@@ -436,12 +441,18 @@ def run(words):
         else:
             advice = UNPLUG
         raise Fault("Error 12: stopped.", f"Cause: {why}. {advice}{after}") from None
+    raise Fault(line)
 
 
-def after_change(link):
+def restores(journal):
+    return f" Then restore the chip with --restore {journal}."
+
+
+def after_change(job, journal):
     """Returns what the line of the cause says at its end if a change stopped."""
-    begun = link.has_changed and MISTAKE != "calls each chip unchanged" or MISTAKE == "always restores"
-    return RESTORE if begun else UNCHANGED
+    begun = job.link.has_changed and MISTAKE != "calls each chip unchanged" or MISTAKE == "always restores"
+    unprotected = " Until then it may be unprotected." * getattr(job, "lifts", False)
+    return restores(journal) + unprotected if begun else UNCHANGED
 
 
 def main():

@@ -3,6 +3,7 @@ import fcntl
 import os
 import re
 import stat
+from collections import Counter
 
 import reference
 from chip import CMP, ERASES, PARTS, READ_DATA, READ_ID, SECTOR
@@ -138,15 +139,35 @@ class Link:
         self.waiting, self.frames, self.buffer, self.longest, self.image = b"", 0, 0, BLOCK, b""
         # The first ID that was received.
         self.id = b""
+        # How often each value was received as data, and whether a session stops if the port seems to change one.
+        self.values, self.guards = [0] * 256, False
         self.forget()
         self.device = self.open(path)
         try:
             self.synchronize()
             self.identify(keys)
             if MISTAKE != "does not wake":
-                self.operate(*reference.WAKES)
+                self.wake()
         except Stopped as why:
             self.refuse(str(why))
+
+    def wake(self):
+        """Wakes the chip, and checks that the port sends 0Dh and 0Ah as they are."""
+        if self.sends < len(reference.WAKES[0]) or self.receives < reference.WAKES[1]:
+            self.operate(*reference.ONLY_WAKES)
+            return
+        try:
+            self.operate(*reference.WAKES)
+            self.send(reference.QUERY_VERSION)
+            is_right = self.receive(3) == b"\x06\x01\x00"
+        except Stopped as why:
+            if not re.search("refused|answered", str(why)):
+                raise
+            is_right = False
+        if not is_right and MISTAKE != "ignores a changed length":
+            raise Fault(f"Programmer fault 12: {self.path} changes bytes that are sent to the programmer. Disconnect the "
+                        "programmer from power for a second, connect it again, and set up the port: "
+                        + STTY.format(self.path))
 
     @staticmethod
     def open(path):
@@ -298,6 +319,8 @@ class Link:
             self.check_status(out[1:])
             out = out[:2] + bytes([out[2] | 0x08 * (MISTAKE == "writes other bits")])
         if out[0] in reference.CHANGING:
+            if self.guards and not self.has_changed and self.changed_byte():
+                raise Stopped(self.changed_byte())
             self.last, self.has_changed = out, True
         if out == b"\x35":
             self.seen[1] = self.read_second()
@@ -311,11 +334,24 @@ class Link:
     def confirmed(self, out, length):
         """Makes a transaction, and reads the ID after one that reads data, SFDP or the unique ID."""
         reply = self.operate(out, length)
+        if out[0] == READ_DATA:
+            for value, count in Counter(reply).items():
+                self.values[value] += count
         if out[0] == READ_ID:
             self.check_id(reply)
         elif out[0] in reference.TWICE or out[0] == READ_DATA and MISTAKE != "confirms no data":
             self.confirm()
         return reply
+
+    def changed_byte(self):
+        """Returns the line for a port that seems to change 0Dh or 0Ah, or nothing."""
+        if sum(it > 0 for it in self.values) >= 192 and MISTAKE != "believes changed data":
+            for lost, found in (0x0D, 0x0A), (0x0A, 0x0D):
+                if not self.values[lost] and self.values[found] >= 64:
+                    return f"Programmer fault 13: {found:02X}h was often read, {lost:02X}h never. The port probably " \
+                        f"changes {lost:02X}h to {found:02X}h: then throw away what was read (also a journal), set up the " \
+                        "port with stty, and repeat the run."
+        return ""
 
     def confirm(self):
         """Reads the ID, which must be the first one."""
@@ -464,12 +500,12 @@ def probe(link, name=None):
     link.status = (link.transfer(*poll) if MISTAKE == "begins while busy" else link.run([poll]))[0] & 0xFC
     found = link.transfer(b"\x9f", 3)
     if found in (b"\xff" * 3, b"\0" * 3):
-        raise Fault("Error 1: no chip.")
+        raise Fault(*reference.NO_CHIP)
     part = next((it for it in PARTS if PARTS[it].id == found), None)
     if part is None or not PARTS[part].has_row:
         headers = [link.transfer(*it) for it in reference.probe("TINY64")[2:]]
         if headers[0][:4] != b"SFDP":
-            raise Fault("Error 2: unknown chip, SFDP fault 1.")
+            raise Fault(*reference.unknown_chip(found))
     if name not in (None, part if PARTS[part].has_row else "SFDP"):
         raise Fault("Error 3: another chip than named.", f"-c names {name}. The chip is {chip_text(found)}.")
     return part

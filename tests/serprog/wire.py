@@ -128,6 +128,26 @@ def reports_an_unprotected_chip(start):
         bench.check_chip(old, b"\x04\x02")
 
 
+def says_that_the_chip_may_be_unprotected(start):
+    """If a session with --unlock stops after it lifted the protection, the advice says so. Otherwise it does not."""
+    old, new = large_images()
+    for status, ends in (b"\x04\x02", "--restore j. Until then it may be unprotected."), (b"\0\x02", "--restore j."):
+        bench = start("W25Q64FV", data=old, status=status)
+        bench.write("new", new)
+        bench.write("layout", LAYOUT)
+        check("the run", bench.run(*UNLOCK).status, 0)
+        number = numbers_of(bench, 0x02)[0]
+        bench.chip.data[:] = old
+        bench.path("j").unlink()
+        got = bench.run(*UNLOCK, events={number: "nak"})
+        begins("the session", got, [STOPPED])
+        check("the end of the advice", got.err[-1][-len(ends) :], ends)
+        check("status 1", bench.chip.status[0], 0)
+        bench.plug()
+        check("the restore", bench.run("--restore", "j").status, 0)
+        bench.check_chip(old, status)
+
+
 def finds_torn_status_writes(start):
     """A loss of the chip's power in a status write leaves any mixture of old and new bits: chip fault 3, or none."""
     blank, differing = b"\xff" * LARGE, int.from_bytes(BEFORE, "big") ^ int.from_bytes(AFTER, "big")
@@ -185,7 +205,7 @@ def finds_a_wrong_erase(start):
     check("the erase", wire[number - 1][0].hex(), "20002000")
     bench.write("new", new)
     bench.expect("-w", "new", "--journal", "j",
-                 err=[f"Error 14: bytes differ at 0x{first_difference(chip.data, new, (1, 2, 7, 15)):06x}."])
+                 err=reference.not_stored(first_difference(chip.data, new, (1, 2, 7, 15))))
     bench.server.traits.wrong_address = ()
     check("the restore", bench.run("--restore", "j").status, 0)
     bench.check_chip(old[: 6 * SECTOR] + b"\xff" * SECTOR + old[7 * SECTOR :])
@@ -345,6 +365,6 @@ def loses_the_power_lock(start):
 
 
 CASES = [compares_replies, believes_busy, reads_status_writes_back, reports_an_unprotected_chip,
-         finds_torn_status_writes, restores_marginal_bytes, finds_a_wrong_erase, compares_the_rest,
-         leaves_the_rest_out, compares_excluded_sectors, refuses_unknown_protection, finds_lost_programs, wakes_the_chip,
-         loses_the_power_lock]
+         says_that_the_chip_may_be_unprotected, finds_torn_status_writes, restores_marginal_bytes, finds_a_wrong_erase,
+         compares_the_rest, leaves_the_rest_out, compares_excluded_sectors, refuses_unknown_protection,
+         finds_lost_programs, wakes_the_chip, loses_the_power_lock]

@@ -1,0 +1,153 @@
+"""Cases of a serial port that isn't raw, and of the command that sets it up.
+
+The flags are those of stty(1) and termios(3). The terminal device of the programmer has them for both directions.
+"""
+import os
+import shutil
+import subprocess
+import termios
+from pathlib import Path
+
+import reference
+from bench import check
+from faults import SOON, STTY, UNCHANGED
+from losses import FEW, chip_images
+from options import images
+
+SCRIPT = Path(__file__).resolve().parents[2] / "scripts" / "flashnor-serprog.sh"
+# The terminal settings of a program that talks to a person.
+COOKED = (termios.ICRNL | termios.IXON, termios.OPOST | termios.ONLCR, termios.ICANON | termios.ISIG | termios.ECHO)
+CHANGES_SENT = f"Programmer fault 12: DEV changes bytes that are sent to the programmer. Disconnect the programmer from " \
+    f"power for a second, connect it again, and set up the port: {STTY}"
+
+
+def changes_received(lost, read_as):
+    return f"Programmer fault 13: {read_as} was often read, {lost} never. The port probably changes {lost} to {read_as}: " \
+        "then throw away what was read (also a journal), set up the port with stty, and repeat the run."
+
+
+def set_flags(bench, received=0, sent=0, local=0, control=0):
+    """Adds flags to the settings of the programmer's port."""
+    settings = termios.tcgetattr(bench.server.device)
+    for at, flags in enumerate((received, sent, control, local)):
+        settings[at] |= flags
+    termios.tcsetattr(bench.server.device, termios.TCSANOW, settings)
+
+
+def refuses_a_port_that_changes_what_is_sent(start):
+    """A port that changes 0Dh or 0Ah on their way to the programmer is a fault, before the chip is identified."""
+    old, new = images("refuses_a_port_that_changes_what_is_sent")
+    for flags in termios.ONLCR, termios.OCRNL, termios.ONLCR | termios.OCRNL:
+        bench = start(data=old, timeout=SOON)
+        set_flags(bench, sent=termios.OPOST | flags)
+        bench.write("new", new)
+        for words in ("-w", "new", "--journal", "j"), ("-r", "out"), ():
+            bench.expect(*words, err=[bench.device(CHANGES_SENT)])
+            check("transactions", len(bench.server.log), 1)
+            bench.plug(timeout=SOON)
+            set_flags(bench, sent=termios.OPOST | flags)
+        bench.check_absent("j")
+        bench.check_absent("out")
+        bench.check_chip(old)
+
+
+def notices_a_port_that_changes_what_is_received(start):
+    """If 0Dh is received as 0Ah, or the reverse, a read, a backup and a comparison are reported, and fail."""
+    old, _ = images("notices_a_port_that_changes_what_is_received")
+    for flag, lost, read_as in (termios.ICRNL, 0x0D, 0x0A), (termios.INLCR, 0x0A, 0x0D):
+        bench = start(data=old)
+        bench.write("old", old)
+        set_flags(bench, received=flag)
+        line = changes_received(f"{lost:02X}h", f"{read_as:02X}h")
+        for words in ("-r", "out"), ("--backup", "whole"), ("-v", "out"):
+            got = bench.run(*words)
+            check(f"{words}, lines of the fault", (got.err, got.status), ([line], 1))
+        bench.check_file("out", old.replace(bytes([lost]), bytes([read_as])))
+        bench.expect("-v", "old", err=[f"Error 14: bytes differ at 0x{old.index(lost):06x}.", line])
+        check("transactions that change the chip",
+              [it for it in bench.server.log if it[0][0] in reference.CHANGING], [])
+    text = (b"A text with lines, but without 0Dh.\n" * 4096)[: len(old)]
+    bench = start(data=text)
+    check("a chip with text", bench.run("-r", "out").status, 0)
+    bench.check_file("out", text)
+
+
+def changes_nothing_with_wrong_data(start):
+    """A session whose data was changed on its way stops before the chip is changed. A restore is not stopped."""
+    old, new = chip_images(FEW)
+    for flag, lost, read_as in (termios.ICRNL, 0x0D, 0x0A), (termios.INLCR, 0x0A, 0x0D):
+        line = changes_received(f"{lost:02X}h", f"{read_as:02X}h")
+        bench = start(data=old)
+        bench.write("new", new)
+        set_flags(bench, received=flag)
+        for at, words in enumerate((("-w", "new"), ("-w", "new", "-N"), ("-E",))):
+            got = bench.run(*words, "--journal", f"j{at}")
+            bench.compare(got, [], ["Error 12: stopped.", f"{line} {UNCHANGED}"])
+            bench.check_chip(old)
+        bench.plug()
+        check("a session with a raw port", bench.run("-w", "new", "--journal", "j").status, 0)
+        bench.check_chip(new)
+        set_flags(bench, received=flag)
+        got = bench.run("--restore", "j")
+        address = next(at for at in range(len(old)) if at // 4096 in FEW and old[at] == lost)
+        bench.compare(got, [], [*reference.not_stored(address), line])
+        bench.check_chip(old)
+
+
+def installed(bench):
+    """Installs the script and the program, as `make install` does, and returns the script."""
+    script, program = bench.path("bin/flashnor-serprog"), bench.path("libexec/flashnor_serprog")
+    for it in script, program:
+        it.parent.mkdir()
+    shutil.copy(SCRIPT, script)
+    # The stand-in has to be run where its modules are.
+    program.write_text(f'#!/bin/sh\nexec "{bench.program}" "$@"\n')
+    program.chmod(0o755)
+    return script
+
+
+def raw_settings(bench):
+    """Returns whether the port has the settings that the program needs: its flags, and how long a read waits."""
+    found = termios.tcgetattr(bench.server.device)
+    flags = found[0] & (COOKED[0] | termios.ISTRIP | termios.INLCR | termios.IGNCR) == 0 and found[1] & termios.OPOST == 0 \
+        and found[3] & COOKED[2] == 0 and found[2] & (termios.HUPCL | termios.CLOCAL) == termios.CLOCAL
+    return flags, found[6][termios.VMIN], found[6][termios.VTIME]
+
+
+def sets_up_the_port(start):
+    """The command flashnor-serprog makes the port raw, whatever its settings were, and then runs the program."""
+    old, _ = images("sets_up_the_port")
+    dev = "serprog:dev={},spispeed=1000000"
+    for words in ("-p", dev), (f"--programmer={dev}",), (f"-p{dev}",):
+        bench = start(data=old)
+        set_flags(bench, *COOKED, control=termios.HUPCL)
+        script = installed(bench)
+        command = [it.format(bench.path("dev")) for it in words]
+        bench.server.begin({})
+        done = subprocess.run([script, *command, "-r", "out"], cwd=bench.folder, capture_output=True, text=True, timeout=60,
+                              check=False)
+        check("the run", (done.stderr, done.returncode), ("", 0))
+        bench.check_file("out", old)
+        check("raw, and the least bytes and tenths of a second of a read", raw_settings(bench), (True, 0, 50))
+
+
+def leaves_the_port(start):
+    """FLASHNOR_SERPROG_STTY=no leaves the port as it is. Without a port the program is run, and prints its own fault."""
+    old, _ = images("leaves_the_port")
+    bench = start(data=old)
+    script = installed(bench)
+    set_flags(bench, received=termios.ICRNL)
+    for variable, status in ("no", 1), ("yes", 0):
+        bench.server.begin({})
+        env = dict(os.environ, FLASHNOR_SERPROG_STTY=variable)
+        done = subprocess.run([script, "-p", f"serprog:dev={bench.path('dev')}", "-r", "out"], cwd=bench.folder, env=env,
+                              capture_output=True, text=True, timeout=60, check=False)
+        check(f"the exit status with {variable}", done.returncode, status)
+    for name, number in ("missing", 1), ("libexec/flashnor_serprog", 2):
+        done = subprocess.run([script, "-p", f"serprog:dev={bench.path(name)}"], cwd=bench.folder, capture_output=True,
+                              text=True, timeout=60, check=False)
+        check(f"the fault of {name}", done.stderr.startswith(f"Programmer fault {number}: "), True)
+
+
+CASES = [refuses_a_port_that_changes_what_is_sent, notices_a_port_that_changes_what_is_received,
+         changes_nothing_with_wrong_data, sets_up_the_port, leaves_the_port]
