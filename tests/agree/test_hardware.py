@@ -56,7 +56,7 @@ PLANTS = {
     "a programmer fault that HARDWARE invents": (
         "docs/HARDWARE.md", "programmer fault 8", "programmer fault 18", "HARDWARE has '18', the program hasn't"),
     "another number of a programmer fault": (
-        "crates/flashnor_serprog/src/trouble.rt", r"Version\(_\) => 6", "Version(_) => 12", "sources has '12', manual"),
+        "crates/flashnor_serprog/src/trouble.rt", r"Version\(_\) => 6", "Version(_) => 14", "sources has '14', manual"),
     "an exit status that the program lacks": (PAGE, r"(?m)^1\tT\{\nThere was", "2\tT{\nThere was", "manual has '2'"),
 }
 
