@@ -9,7 +9,7 @@ import termios
 from pathlib import Path
 
 import reference
-from bench import check
+from bench import Differs, check
 from faults import SOON, STTY, UNCHANGED
 from losses import FEW, chip_images
 from options import images
@@ -106,6 +106,16 @@ def installed(bench):
     return script
 
 
+def run_script(bench, script, words, variables=None):
+    """Runs the script with these arguments, and returns how it ended. A run that takes a minute hangs."""
+    bench.server.begin({})
+    try:
+        return subprocess.run([script, *words], cwd=bench.folder, env={**os.environ, **(variables or {})},
+                              capture_output=True, text=True, timeout=60, check=False)
+    except subprocess.TimeoutExpired:
+        raise Differs(f"the script with {words} did not end in a minute") from None
+
+
 def raw_settings(bench):
     """Returns whether the port has the settings that the program needs: its flags, and how long a read waits."""
     found = termios.tcgetattr(bench.server.device)
@@ -122,10 +132,7 @@ def sets_up_the_port(start):
         bench = start(data=old)
         set_flags(bench, *COOKED, control=termios.HUPCL)
         script = installed(bench)
-        command = [it.format(bench.path("dev")) for it in words]
-        bench.server.begin({})
-        done = subprocess.run([script, *command, "-r", "out"], cwd=bench.folder, capture_output=True, text=True, timeout=60,
-                              check=False)
+        done = run_script(bench, script, [*(it.format(bench.path("dev")) for it in words), "-r", "out"])
         check("the run", (done.stderr, done.returncode), ("", 0))
         bench.check_file("out", old)
         check("raw, and the least bytes and tenths of a second of a read", raw_settings(bench), (True, 0, 50))
@@ -137,17 +144,28 @@ def leaves_the_port(start):
     bench = start(data=old)
     script = installed(bench)
     set_flags(bench, received=termios.ICRNL)
+    words = "-p", f"serprog:dev={bench.path('dev')}", "-r", "out"
     for variable, status in ("no", 1), ("yes", 0):
-        bench.server.begin({})
-        env = dict(os.environ, FLASHNOR_SERPROG_STTY=variable)
-        done = subprocess.run([script, "-p", f"serprog:dev={bench.path('dev')}", "-r", "out"], cwd=bench.folder, env=env,
-                              capture_output=True, text=True, timeout=60, check=False)
+        done = run_script(bench, script, words, {"FLASHNOR_SERPROG_STTY": variable})
         check(f"the exit status with {variable}", done.returncode, status)
     for name, number in ("missing", 1), ("libexec/flashnor_serprog", 2):
-        done = subprocess.run([script, "-p", f"serprog:dev={bench.path(name)}"], cwd=bench.folder, capture_output=True,
-                              text=True, timeout=60, check=False)
+        done = run_script(bench, script, ("-p", f"serprog:dev={bench.path(name)}"))
         check(f"the fault of {name}", done.stderr.startswith(f"Programmer fault {number}: "), True)
 
 
+def runs_nothing_if_the_port_stays_as_it_is(start):
+    """If stty can read the settings of the port, but not set them, its message is printed, and nothing is run."""
+    bench = start()
+    script, stty = installed(bench), bench.path("own/stty")
+    stty.parent.mkdir()
+    stty.write_text("#!/bin/sh\ncase $* in *-a) echo -hupcl ;; *) echo 'stty: no' >&2; exit 2 ;; esac\n")
+    stty.chmod(0o755)
+    done = run_script(bench, script, ("-p", f"serprog:dev={bench.path('dev')}"),
+                      {"PATH": f"{stty.parent}:{os.environ['PATH']}"})
+    check("the run", (done.stdout, done.stderr, done.returncode), ("", "stty: no\n", 1))
+    bench.check_nothing_sent()
+
+
 CASES = [refuses_a_port_that_changes_what_is_sent, notices_a_port_that_changes_what_is_received,
-         changes_nothing_with_wrong_data, sets_up_the_port, leaves_the_port]
+         changes_nothing_with_wrong_data, sets_up_the_port, leaves_the_port,
+         runs_nothing_if_the_port_stays_as_it_is]
