@@ -3,8 +3,9 @@
 #
 # `make install` installs this script as flashnor-serprog, since the program itself can't set up a port. The port has to
 # be raw: a terminal that changes bytes, such as 0Dh to 0Ah, would change what is read from the chip and what is sent to
-# it. If the port can't be set up, stty prints why, and nothing is run. If its settings can't be read, the program is
-# run, and prints its own fault. The environment variable FLASHNOR_SERPROG_STTY=no leaves the port as it is.
+# it. If the port can't be set up, stty prints why, and nothing is run; nor if there is no stty. If stty can't read the
+# settings of the device, it is no terminal or may not be opened: then the program is run, and prints its own fault. The
+# environment variable FLASHNOR_SERPROG_STTY=no leaves the port as it is.
 
 # The program is where `make install` puts it, or beside this script, as in the archive of `make dist`.
 here=$(dirname "$(readlink -f "$0")")
@@ -34,6 +35,10 @@ for word in "$@"; do
     previous=$word
 done
 
+if [ -c "$device" ] && [ "${FLASHNOR_SERPROG_STTY-}" != no ] && ! command -v stty > /dev/null; then
+    echo "flashnor-serprog: there is no stty, which sets up the port" >&2
+    exit 1
+fi
 if [ -c "$device" ] && [ "${FLASHNOR_SERPROG_STTY-}" != no ] && before=$(stty -F "$device" -a 2> /dev/null); then
     stty -F "$device" raw -echo clocal -hupcl min 0 time 50 || exit 1
     # Many Arduino boards restart if a port that isn't set up is opened, and reply only afterwards.

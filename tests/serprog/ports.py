@@ -154,7 +154,7 @@ def leaves_the_port(start):
 
 
 def runs_nothing_if_the_port_stays_as_it_is(start):
-    """If stty can read the settings of the port, but not set them, its message is printed, and nothing is run."""
+    """If stty can read the settings of the port, but not set them, or if there is no stty, nothing is run."""
     bench = start()
     script, stty = installed(bench), bench.path("own/stty")
     stty.parent.mkdir()
@@ -163,6 +163,14 @@ def runs_nothing_if_the_port_stays_as_it_is(start):
     done = run_script(bench, script, ("-p", f"serprog:dev={bench.path('dev')}"),
                       {"PATH": f"{stty.parent}:{os.environ['PATH']}"})
     check("the run", (done.stdout, done.stderr, done.returncode), ("", "stty: no\n", 1))
+    bench.check_nothing_sent()
+    # Without stty, the commands that the script needs are all that there is.
+    stty.unlink()
+    for name in "dirname", "readlink":
+        (stty.parent / name).symlink_to(shutil.which(name))
+    done = run_script(bench, script, ("-p", f"serprog:dev={bench.path('dev')}"), {"PATH": str(stty.parent)})
+    check("the run without stty", (done.stdout, done.stderr, done.returncode),
+          ("", "flashnor-serprog: there is no stty, which sets up the port\n", 1))
     bench.check_nothing_sent()
 
 
