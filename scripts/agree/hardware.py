@@ -95,10 +95,9 @@ def take_names(page):
 def take_lines(page):
     """Compares the lines of errors, of programmer faults and of progress."""
     same("lines of all errors", sources=refusals(), manual={line_of(*row) for row in rows(page, "Errors").items()})
-    same("steps of a job", sources=set(re.findall(r'Step::\w+ => "(.*?)"', code("flashnor_serprog/src/steps.rt"))),
-         manual={re.sub(r"(?: N(?: of N)?)$", "", text) for text in re.findall(
-             r'"([a-z][a-z ]+(?:: [a-z ]+)? N(?: of N)?)"', " ".join("".join(
-                 part.text for part in page if part.section == "OUTPUT").split()))})
+    steps = re.findall(r'Step::\w+ => "(.*?)(?::.*?)?"', code("flashnor_serprog/src/steps.rt"))
+    output = " ".join("".join(part.text for part in page if part.section == "OUTPUT").split())
+    same("steps of a job", sources=steps, manual=re.search(r"each step \((.*?)\)", output)[1].split(", "))
     trouble = code("flashnor_serprog/src/trouble.rt")
     derived = [(name, text) for path in ("link", "programmer") for text, name in re.findall(
         r'#\[error\("(.*?)"\)\]\s*(\w+)', code(f"nor_serprog/src/{path}.rt"))]
