@@ -1,5 +1,6 @@
 pub mod Pauses
 pub mod SameReply
+pub mod ReturnedData
 pub mod ReadParts
 pub mod Held
 pub mod StatusRead
