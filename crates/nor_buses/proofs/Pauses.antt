@@ -1,4 +1,5 @@
--- Lemmas: the pauses of a wait are long enough in total, and have a bound.
+-- Lemmas on the pauses between the polls of a chip that stays busy: each pause is at most 150 ms, and the pauses of all
+-- 65,536 polls of a wait add up to at least 400 s and at most 410 s.
 use Rattle.std.proofs.Common.{ℕ, zero, suc, ◌≡◌, ◌≤◌, ◌+◌, ◌*◌, ◌-◌, arith}
 use Rattle.std.proofs.lemmas.Bool.Decides.{nat_tests}
 use Rattle.nor_buses.specs.Pace.{pauses, pause_before}

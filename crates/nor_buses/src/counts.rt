@@ -30,7 +30,8 @@ const CHANGES: [ChangedByte; 2] = [
 const FEWEST_VALUES: usize = 192;
 
 // How often `read_as` must occur at least. Since most data is read twice, these are at least 32 bytes of the chip. If
-// `lost` and `read_as` are equally likely in the data, the first 32 of these bytes are all `read_as` in 1 of 2^32 cases.
+// `lost` and `read_as` are equally likely in the data, the first 32 of these bytes are all `read_as` in 1 of 2^32
+// cases.
 const FEWEST_OCCURRENCES: u32 = 64;
 
 // How often each value occurs in the data that was read. A count that reaches 2^32 - 1 stays there.
