@@ -4,6 +4,7 @@ use Rattle.nor_model.specs.Bus.{BusState, unknown_bus}
 use Rattle.nor_model.specs.Exchange.{Exchange}
 use Rattle.nor_model.specs.declared.bus.Bus.{Ghosts}
 use Rattle.nor_buses.specs.declared.status.CheckedStatus.{CheckedStatus}
+use Rattle.nor_buses.specs.declared.known.CheckFault.{CheckFault}
 use Rattle.nor_buses.specs.declared.known.Known.{Known}
 
 -- The bus inside, which carries out the transactions of a `CheckedStatus`.
@@ -26,6 +27,10 @@ has_begun checked = checked.known.is_changing
 -- The bytes of a status write that was passed on and is not read back yet, if there is one.
 abbrev pub written_of : {B : Type 0} {over : Ghosts B} → CheckedStatus B over → Option (List ℕ)
 written_of checked = checked.known.written
+
+-- The reason of the last stop that the bus inside did not cause, if there was one.
+abbrev pub check_fault_of : {B : Type 0} {over : Ghosts B} → CheckedStatus B over → Option CheckFault
+check_fault_of checked = checked.fault
 
 -- The transactions that the bus was asked to carry out, each with its reply, the last one first.
 abbrev pub history_of : {B : Type 0} {over : Ghosts B} → CheckedStatus B over → List Exchange

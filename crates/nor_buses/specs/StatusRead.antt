@@ -72,6 +72,32 @@ has_read opcode byte exchange = begins_with opcode exchange.out && begins_with b
 abbrev pub has_read_id : Exchange → Bool
 has_read_id exchange = begins_with 0x9F exchange.out
 
+-- True if one of the first two bytes of a reply shows BUSY (bit 0).
+abbrev pub shows_busy : (reply : List ℕ) → Bool
+shows_busy (first ∷ last ∷ rest) = first % 2 == 1 || last % 2 == 1
+shows_busy _ = false
+
+-- True if a reply has at least one byte.
+abbrev pub is_replied : (reply : List ℕ) → Bool
+is_replied [] = false
+is_replied (first ∷ rest) = true
+
+-- True if the last transaction is a poll that has a reply.
+abbrev pub ends_in_poll : (history : List Exchange) → Bool
+ends_in_poll [] = false
+ends_in_poll (last ∷ earlier) = begins_with 0x05 last.out && is_replied (bytes_or_none last.reply)
+
+-- True if the last transaction is a poll whose reply shows BUSY.
+abbrev pub ends_busy : (history : List Exchange) → Bool
+ends_busy [] = false
+ends_busy (last ∷ earlier) = begins_with 0x05 last.out && shows_busy (bytes_or_none last.reply)
+
+-- True if the last transaction is a read of the ID, and the one before it is a poll that shows BUSY. A busy chip ignores
+-- a read of its ID.
+abbrev pub read_id_while_busy : (history : List Exchange) → Bool
+read_id_while_busy [] = false
+read_id_while_busy (last ∷ earlier) = has_read_id last && ends_busy earlier
+
 -- True if the history has four transactions in a row, of which the first and third begin with `opcode` and have replies
 -- that begin with `byte`, and the second and fourth are reads of the ID.
 abbrev pub was_read_twice : (opcode byte : ℕ) → List Exchange → Bool

@@ -12,7 +12,8 @@ const WRITE_STATUS: u8 = 0x01;
 #[derive(Clone, Copy, Debug, PartialEq, Eq)]
 pub enum CheckFault {
     /// Two reads of the same status register (05h or 35h) had different replies, or the two reply bytes of one poll
-    /// differed although both showed that the chip is ready.
+    /// differed although both showed that the chip is ready. This also covers a poll that showed that the chip is ready
+    /// and a second one that showed BUSY.
     Differs,
     /// A status write was not sent, because it could change a bit that is not a protection bit, and some of these bits
     /// can be set only once. The reason is one of these: status 1 or status 2 was not read yet; such a bit differs from

@@ -45,8 +45,8 @@ const BUSY: u8 = 0x01;
 /// - A poll (05h with one reply byte) is carried out with two reply bytes, since a chip repeats its status (W25Q64FV
 ///   datasheet, Read Status Register). If one of them shows BUSY, that byte is returned. If both show that the chip is
 ///   ready, they must be equal. Before the first modifying command, and until a status write is read back, the poll is
-///   then repeated and must have the same reply, and the ID is read after each of the two polls. Other polls are
-///   believed at once.
+///   then repeated and must have the same reply, and the ID is read after each of the two polls. If the repeated poll
+///   shows BUSY, the replies differ (`Differs`), and no ID is read after it. Other polls are believed at once.
 /// - Status 2 (35h with one reply byte) is read twice, and the ID is read after each read. Both replies must be equal.
 /// - A status write (01h) is passed on only if both status registers were read in this way before. Outside the
 ///   protection bits it must have the bits that were read: SRP0, SRP1, QE, the reserved bit, and the one-time bits LB1,

@@ -1,10 +1,11 @@
 //! How a `CheckedStatus` reads IDs and status registers. Each ID must equal the first one, and an ID is read after each
 //! read of a status register that must be confirmed.
-ghost use Rattle.std.specs.Prelude.{◌≡◌, ◌%◌, ◌∷◌, Some, OnOk, IfOk};
+ghost use Rattle.std.specs.Prelude.{◌≡◌, ◌%◌, ◌∷◌, true, false, Some, OnOk, OnErr, IfOk};
 ghost use Rattle.nor_model.specs.History.{exchange_of};
 ghost use Rattle.nor_model.specs.Sent.{with_sent};
 ghost use Rattle.nor_buses.specs.KnownStatus.{KeepsStatus};
 ghost use Rattle.nor_buses.specs.StatusRead.{IsReadTwice, KeepsId, confirmed, pair, second};
+ghost use Rattle.nor_buses.specs.StatusRead.{ends_busy, ends_in_poll, read_id_while_busy};
 
 use super::CheckedStatus;
 use crate::known::CheckFault;
@@ -19,7 +20,7 @@ const READ_ID: u8 = 0x9F;
 const BUSY: u8 = 0x01;
 
 impl<B: Bus + Drop> CheckedStatus<B> {
-    ghost use Rattle.nor_buses.specs.Checked.{history_of, inner_state, known_of};
+    ghost use Rattle.nor_buses.specs.Checked.{check_fault_of, history_of, inner_state, known_of};
 
     // Passes one transaction on to the bus inside. The knowledge about the chip does not change.
     pub(super) fn pass(&mut self, out: &[u8], reply: &mut [u8]) -> Result<(), Stopped>
@@ -37,6 +38,7 @@ impl<B: Bus + Drop> CheckedStatus<B> {
         ensures history { history_of self.new ≡ history_of self.old }
         ensures known { known_of self.new ≡ known_of self.old }
         ensures inside { inner_state self.new ≡ inner_state self.old }
+        ensures fault { check_fault_of self.new ≡ Some fault }
     {
         self.fault = Some(fault);
         Stopped
@@ -52,6 +54,9 @@ impl<B: Bus + Drop> CheckedStatus<B> {
         ensures known { IfOk result (λ id. (known_of self.new).id ≡ Some id) }
         ensures reads { OnOk result ((inner_state self.new).history
             ≡ confirmed (known_of self.new).id (inner_state self.old).history) }
+        ensures last { ends_in_poll (inner_state self.new).history ≡ false }
+        ensures ready { ends_busy (inner_state self.old).history ≡ false
+            → read_id_while_busy (inner_state self.new).history ≡ false }
     {
         let mut found = [0; 3];
         self.pass(&[READ_ID], &mut found)?;
@@ -71,6 +76,9 @@ impl<B: Bus + Drop> CheckedStatus<B> {
         ensures status { KeepsStatus (known_of self.old) (known_of self.new) }
         ensures id { KeepsId (known_of self.old).id (known_of self.new).id }
         ensures sent { (inner_state self.new).sent ≡ (inner_state self.old).sent }
+        ensures last { ends_in_poll (inner_state self.new).history ≡ false }
+        ensures ready { ends_busy (inner_state self.old).history ≡ false
+            → read_id_while_busy (inner_state self.new).history ≡ false }
     {
         match self.read_id() {
             Ok(_) => self.stop(CheckFault::Differs),
@@ -88,6 +96,8 @@ impl<B: Bus + Drop> CheckedStatus<B> {
         ensures sent { (inner_state self.new).sent ≡ (inner_state self.old).sent }
         ensures ready { IfOk result (λ status. status % 2 ≡ 0
             → (inner_state self.new).history ≡ pair status ∷ (inner_state self.old).history) }
+        ensures idle { read_id_while_busy (inner_state self.new).history ≡ false }
+        ensures last { OnErr result (ends_in_poll (inner_state self.new).history ≡ false) }
     {
         let mut bytes = [0; 2];
         self.pass(&[READ_STATUS1], &mut bytes)?;
@@ -105,7 +115,8 @@ impl<B: Bus + Drop> CheckedStatus<B> {
     }
 
     // Polls twice, and reads the ID after each poll. If a byte of the first poll shows BUSY, returns it at once.
-    // Otherwise all reply bytes must be equal, and the function returns their value.
+    // Otherwise all reply bytes must be equal, and the function returns their value. If the second poll shows BUSY, the
+    // two replies differ, and no ID is read: a busy chip would ignore the read, and would count as lost.
     pub(super) fn poll_twice(&mut self) -> Result<u8, Stopped>
         ensures history { history_of self.new ≡ history_of self.old }
         ensures status { KeepsStatus (known_of self.old) (known_of self.new) }
@@ -113,6 +124,9 @@ impl<B: Bus + Drop> CheckedStatus<B> {
         ensures sent { (inner_state self.new).sent ≡ (inner_state self.old).sent }
         ensures twice { IfOk result (λ status. status % 2 ≡ 0 → IsReadTwice (pair status) (known_of self.new).id
             (inner_state self.old).history (inner_state self.new).history) }
+        ensures idle { read_id_while_busy (inner_state self.new).history ≡ false }
+        ensures differs { OnErr result (ends_in_poll (inner_state self.new).history ≡ true
+            → check_fault_of self.new ≡ Some CheckFault.Differs) }
     {
         let status = self.poll_once()?;
         if status & BUSY != 0 {
@@ -120,6 +134,9 @@ impl<B: Bus + Drop> CheckedStatus<B> {
         }
         self.read_id()?;
         let again = self.poll_once()?;
+        if again & BUSY != 0 {
+            return Err(self.stop(CheckFault::Differs));
+        }
         if again != status {
             return Err(self.differ());
         }
