@@ -84,12 +84,13 @@ fn is_there<R: Files>(files: &R, name: &str) -> Result<bool, LockFault> {
     }
 }
 
-// Checks that neither a file nor a link of this name exists, and then returns false. Otherwise the error is `Unheld`,
-// for example for a dangling link.
+// Checks that neither a file nor a link of this name exists, and then returns false. The error is `Unheld` if there is
+// one, for example a dangling link, and `Unread` if the look-up fails, for example because memory ran out.
 fn is_nowhere<R: Files>(files: &R, name: &str) -> Result<bool, LockFault> {
     match fs::symlink_metadata(files, name) {
+        Ok(_) => Err(LockFault::Unheld),
         Err(error) if error.kind() == ErrorKind::NotFound => Ok(false),
-        _ => Err(LockFault::Unheld),
+        Err(error) => Err(LockFault::Unread(error)),
     }
 }
 

@@ -275,6 +275,9 @@ impl Store for Memory {
     }
 
     fn vault_in_new(&mut self, name: &str) -> Result<MemVault, CreateFault> {
+        if self.bytes_of(name).is_some() {
+            return Err(CreateFault::There);
+        }
         let borrowed = copy(self.alloc, name.as_bytes())?;
         self.lend(name, true)?;
         self.borrowed = Some(borrowed);

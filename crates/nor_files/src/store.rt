@@ -118,7 +118,8 @@ pub enum Stream {
 ///   log in that file is borrowed
 /// - after any `sync`, a host crash can leave of each name only what it could leave before
 pub trait Store: AllocGlobal {
-    ghost use Rattle.std.specs.Prelude.{◌≡◌, ◌⊎◌, false, true, None, IfErr, IfOk, IfSome, Ok, OnErr, OnOk, option_map};
+    ghost use Rattle.std.specs.Prelude.{◌≡◌, ◌⊎◌, false, true, None, Err, IfErr, IfOk, IfSome, Ok, OnErr, OnOk};
+    ghost use Rattle.std.specs.Prelude.{is_some, option_map};
     ghost use Rattle.nor_journal.specs.Vault.{IsFresh};
     ghost use Rattle.nor_files.specs.Files.{AreApart, AreUntouched, FilesState, IsKnownFile, KnownStay, Name};
     ghost use Rattle.nor_files.specs.Files.{OthersStay, KeepsFile, is_lawful};
@@ -271,7 +272,10 @@ pub trait Store: AllocGlobal {
         ensures fails { OnErr result ((state self.old).view.nature.fails (Unwritten name.now) ≡ true) };
 
     /// Creates the named file, which must not exist, and lends a vault in it. Give the vault to `return_vault` when it
-    /// is complete. `Disk` returns `There` if the file exists, and syncs the directory of the file.
+    /// is complete. `Disk` syncs the directory of the file.
+    ///
+    /// If the file exists, `Disk` returns `There`, unless the program is out of memory. Lawful files always return
+    /// `There` if the file exists and no vault or log in it is borrowed.
     ///
     /// Let a call fail on lawful files, and let no vault or log in the file be borrowed before. Then a host crash can
     /// leave only what it could leave of the file before, or an empty file if the file was missing.
@@ -282,6 +286,8 @@ pub trait Store: AllocGlobal {
             → OnOk result (Borrows name.now (state self.old) (state self.new)) }
         ensures missing { IsKnownFile name.now (state self.old).view
             → OnOk result ((state self.old).view.seen name.now ≡ None) }
+        ensures exists { IsKnownFile name.now (state self.old).view
+            → is_some ((state self.old).view.seen name.now) ≡ true → result ≡ Err CreateFault.There }
         ensures fails { is_lawful (state self.old).view ≡ true
             → OnErr result (BorrowsNone name.now (state self.old) (state self.new)) }
         ensures others { is_lawful (state self.old).view ≡ true
