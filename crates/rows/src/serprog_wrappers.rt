@@ -1,8 +1,8 @@
-//! `Paced`, which waits between polls that show BUSY, and `ReadTwice`, which stops if two reads of the same bytes
-//! differ.
+//! `Paced`, which waits between polls that show BUSY, `ReadTwice`, which stops if two reads of the same bytes differ, and
+//! `CheckedStatus`, which stops if two polls differ or the chip is lost.
 
 use crate::serprog_model::{Fault, Model};
-use nor_buses::{Paced, ReadTwice};
+use nor_buses::{CheckFault, CheckedStatus, Paced, ReadTwice};
 use nor_chip::{Bus, Config, Delays, Meter, SimBus, Spoil, SpoiltBus};
 use nor_serprog::{Link, Programmer, SerprogBus};
 use std::alloc::Global;
@@ -156,5 +156,33 @@ fn readings_that_differ_stop_the_bus(rt: HostRuntime) {
         assert!(rt; read.is_err() == flipped);
         assert!(rt; bus.differed() == flipped);
         assert!(rt; bus.inner().port().operations == 3);
+    }
+}
+
+// A poll is transactions 2 to 5 of the bus inside: a poll, the ID, a poll and the ID again. In the second row the chip is
+// lost at the first of these IDs. In the third row it begins an operation after this ID: the second poll shows BUSY, and
+// the chip would ignore a read of its ID after that. The cause then is that the polls differ, not that the chip is lost.
+#[test]
+fn a_busy_chip_is_not_lost(rt: HostRuntime) {
+    let id = [0xFE, 0x10, 0x10];
+    let lost = CheckFault::Lost {
+        id,
+        found: [0xFF; 3],
+    };
+    let rows = [
+        ([0, 0], None),
+        ([3, 0], Some(lost)),
+        ([4, 4], Some(CheckFault::Differs)),
+    ];
+    for ([first, second], fault) in rows {
+        let chip = tiny64(&rt, rt.alloc(), Delays { now: 0, each: 0 });
+        let chip = SpoiltBus::new(chip, Spoil::Drop(second));
+        let mut bus = CheckedStatus::new(SpoiltBus::new(chip, Spoil::Drop(first)));
+        let mut found = [0; 3];
+        assert!(rt; bus.transfer(&[0x9F], &mut found).is_ok());
+        assert!(rt; found == id);
+        let polled = bus.transfer(&[0x05], &mut [0]);
+        assert!(rt; polled.is_ok() == fault.is_none());
+        assert!(rt; bus.fault() == fault);
     }
 }
