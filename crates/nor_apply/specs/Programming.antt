@@ -5,6 +5,7 @@ use Rattle.nor_model.specs.Bus.{BusState}
 use Rattle.nor_driver.specs.Reads.{IsSectorOf}
 use Rattle.nor_driver.specs.ReadsInTurn.{HasOnlyRead}
 use Rattle.nor_driver.specs.Limits.{programming, SendsExactly, Leaves}
+use Rattle.nor_driver.specs.Operations.{most_operation}
 use Rattle.nor_apply.specs.declared.tally.Tally.{Tally}
 use Rattle.nor_geometry.specs.Below.{count_below}
 use Rattle.nor_geometry.specs.Counts.{sector_count}
@@ -15,13 +16,13 @@ use Rattle.nor_apply.specs.Spending.{Tallies}
 
 -- ---- one sector
 
--- a bound on the transactions for programming one sector: one read, and the page programs (`most_pages`)
-abbrev pub most_sector : ℕ
-most_sector = 1048609
-
--- a bound on the transactions of a sector's page programs: 65,538 for each of its sixteen pages
+-- A bound on the transactions of a sector's page programs: an operation for each of its sixteen pages.
 abbrev pub most_pages : ℕ
-most_pages = 1048608
+most_pages = 16 * most_operation
+
+-- A bound on the transactions for programming one sector: one read, and the page programs.
+abbrev pub most_sector : ℕ
+most_sector = 1 + most_pages
 
 -- Holds if the sector can be changed (`CanChange`), has the bytes `old` on the chip, and needs no bit to go from 0 to
 -- 1.
