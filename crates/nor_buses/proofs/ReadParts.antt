@@ -1,7 +1,7 @@
 -- Lemmas on the parts of a reply that a `ReadTwice` reads again: which transactions these second reads are, and that a
 -- well-behaved bus returns the same data again.
-use Rattle.std.proofs.Common.{◌≡◌, ◌∙◌, ◌<◌, ◌≤◌, ◌+◌, ◌-◌, ◌*◌, ◌/◌, ◌%◌, ◌++◌, ◌⊎◌, ℕ, suc, Bool, true, false, List, [], ◌∷◌, length, ltb, refl, sym, ap, subst, arith, inl, inr, length-take-le, length-drop}
-use Rattle.std.specs.Prelude.{◌==◌, if◌then◌else◌, slice_index, slice_range, take, drop, Result, Ok, Err, IfOk, Option, None, Some}
+use Rattle.std.proofs.Common.{◌≡◌, ◌∙◌, ◌<◌, ◌≤◌, ◌+◌, ◌-◌, ◌*◌, ◌/◌, ◌++◌, ◌⊎◌, ℕ, suc, Bool, true, false, List, [], ◌∷◌, length, ltb, refl, sym, ap, subst, arith, inl, inr, length-take-le, length-drop}
+use Rattle.std.specs.Prelude.{slice_index, slice_range, take, drop, Result, Ok, Err, IfOk, Option, None, Some}
 use Rattle.std.proofs.Common.{Vec, Global}
 use Rattle.std.proofs.lemmas.Bool.{cases_Bool, cases_eq, ltb-true, ltb-false, eqb-true, false≢true}
 use Rattle.std.proofs.lemmas.List.{ext_get_or, get_or-take, get_or-drop, length-take}

@@ -8,7 +8,7 @@ ghost use Rattle.nor_model.specs.History.{replied};
 ghost use Rattle.nor_model.specs.Sent.{with_sent};
 ghost use Rattle.nor_buses.specs.KnownStatus.{BelievesStatus, IsWritten, KeepsTask, PollAgrees, SendsKept};
 ghost use Rattle.nor_buses.specs.StatusRead.{HasStored, IsConfirmed, IsReadTwice, IsStatusKept, KeepsId};
-ghost use Rattle.nor_buses.specs.StatusRead.{begins_confirmed, second, was_read_twice};
+ghost use Rattle.nor_buses.specs.StatusRead.{begins_confirmed, ends_in_poll, read_id_while_busy, second, was_read_twice};
 
 mod reads;
 
@@ -82,7 +82,7 @@ pub struct CheckedStatus<B: Bus + Drop> {
 }
 
 impl<B: Bus + Drop> CheckedStatus<B> {
-    ghost use Rattle.nor_buses.specs.Checked.{bus_of, history_of, has_begun, written_of};
+    ghost use Rattle.nor_buses.specs.Checked.{bus_of, check_fault_of, history_of, has_begun, written_of};
 
     /// Returns a bus over `bus` that checks the status registers. It sends modifying commands even if the port seems to
     /// change bytes: a restore writes what its journal saved, not data that was read.
@@ -136,7 +136,9 @@ impl<B: Bus + Drop> CheckedStatus<B> {
     }
 
     /// Returns the reason of the last stop that the bus inside did not cause, or `None` if there was none.
-    pub fn fault(&self) -> Option<CheckFault> {
+    pub fn fault(&self) -> Option<CheckFault>
+        ensures { result ≡ check_fault_of self.now }
+    {
         self.fault
     }
 
@@ -155,7 +157,7 @@ impl<B: Bus + Drop> CheckedStatus<B> {
 }
 
 impl<B: Bus + Drop> CheckedStatus<B> {
-    ghost use Rattle.nor_buses.specs.Checked.{has_begun, history_of, inner_state, known_of, written_of};
+    ghost use Rattle.nor_buses.specs.Checked.{check_fault_of, has_begun, history_of, inner_state, known_of, written_of};
 
     // Reads status 2 twice. If both replies are equal, the byte is known from now on.
     #[tactic(auto, using(crate::proofs::StatusRead::second_read))]
@@ -166,6 +168,8 @@ impl<B: Bus + Drop> CheckedStatus<B> {
         ensures sent { (inner_state self.new).sent ≡ (inner_state self.old).sent }
         ensures twice { IfOk result (λ status. IsReadTwice (second status) (known_of self.new).id
             (inner_state self.old).history (inner_state self.new).history) }
+        ensures idle { read_id_while_busy (inner_state self.new).history ≡ false }
+        ensures last { ends_in_poll (inner_state self.new).history ≡ false }
     {
         let status = self.second_twice()?;
         self.known.two = Some(status);
@@ -184,6 +188,9 @@ impl<B: Bus + Drop> CheckedStatus<B> {
         ensures agrees { IfOk result (λ status. status % 2 ≡ 0 → PollAgrees (known_of self.old) (known_of self.new)
             status (inner_state self.old).history (inner_state self.new).history) }
         ensures waits { IfOk result (λ status. status % 2 ≡ 1 → written_of self.new ≡ written_of self.old) }
+        ensures idle { read_id_while_busy (inner_state self.new).history ≡ false }
+        ensures differs { OnErr result (ends_in_poll (inner_state self.new).history ≡ true
+            → check_fault_of self.new ≡ Some CheckFault.Differs) }
     {
         if self.known.is_changing && self.known.written.is_none() {
             return self.poll_once();
@@ -207,6 +214,9 @@ impl<B: Bus + Drop> CheckedStatus<B> {
         ensures none { written_of self.old ≡ None → OnOk result (self.new ≡ self.old) }
         ensures stored { (sent : List ℕ) → written_of self.old ≡ Some sent → OnOk result
             (HasStored sent one (known_of self.new).id (inner_state self.old).history (inner_state self.new).history) }
+        ensures idle { read_id_while_busy (inner_state self.old).history ≡ false
+            → read_id_while_busy (inner_state self.new).history ≡ false }
+        ensures last { OnErr result (ends_in_poll (inner_state self.new).history ≡ false) }
     {
         let Some(sent) = self.known.written else {
             return Ok(());
@@ -244,7 +254,7 @@ impl<B: Bus + Drop> CheckedStatus<B> {
 }
 
 impl<B: Bus + Drop> CheckedStatus<B> {
-    ghost use Rattle.nor_buses.specs.Checked.{history_of, inner_state, known_of};
+    ghost use Rattle.nor_buses.specs.Checked.{check_fault_of, history_of, inner_state, known_of};
 
     // Makes one transaction, and does not add it to the history.
     fn carry(&mut self, out: &[u8], reply: &mut [u8]) -> Result<(), Stopped>
@@ -257,6 +267,11 @@ impl<B: Bus + Drop> CheckedStatus<B> {
             → OnOk result ((known_of self.new).id ≡ Some reply.new) }
         ensures read { begins_confirmed out.now ≡ true → OnOk result (IsConfirmed (replied out.now reply.new)
             (known_of self.new).id (inner_state self.old).history (inner_state self.new).history) }
+        ensures idle { out.now ≡ 0x05 ∷ [] → length reply.new ≡ 1
+            → read_id_while_busy (inner_state self.new).history ≡ false }
+        ensures differs { out.now ≡ 0x05 ∷ [] → length reply.new ≡ 1
+            → OnErr result (ends_in_poll (inner_state self.new).history ≡ true
+            → check_fault_of self.new ≡ Some CheckFault.Differs) }
     {
         match (out, reply.len()) {
             ([READ_STATUS1], 1) => {
@@ -274,7 +289,9 @@ impl<B: Bus + Drop> CheckedStatus<B> {
 
     // Returns why `out` is refused: it would be the first modifying command over a bus that `guarding` made, and the
     // port seems to change bytes. Returns `None` if it isn't refused for this reason.
-    fn refusal(&self, out: &[u8]) -> Option<CheckFault> {
+    fn refusal(&self, out: &[u8]) -> Option<CheckFault>
+        ensures { begins_change out.now ≡ false → result ≡ None }
+    {
         if !self.guards || self.known.is_changing || !is_changing(out) {
             return None;
         }
@@ -327,7 +344,7 @@ impl<B: Bus + Drop> CheckedStatus<B> {
 }
 
 impl<B: Bus + Drop> Bus for CheckedStatus<B> {
-    ghost use Rattle.nor_buses.specs.Checked.{checked_state, inner_state, known_of};
+    ghost use Rattle.nor_buses.specs.Checked.{check_fault_of, checked_state, inner_state, known_of};
 
     ghost state = { checked_state };
 
@@ -350,6 +367,11 @@ impl<B: Bus + Drop> Bus for CheckedStatus<B> {
             → OnOk result ((known_of self.new).id ≡ Some reply.new) }
         ensures read { begins_confirmed out.now ≡ true → OnOk result (IsConfirmed (replied out.now reply.new)
             (known_of self.new).id (inner_state self.old).history (inner_state self.new).history) }
+        ensures idle { out.now ≡ 0x05 ∷ [] → length reply.new ≡ 1
+            → read_id_while_busy (inner_state self.new).history ≡ false }
+        ensures differs { out.now ≡ 0x05 ∷ [] → length reply.new ≡ 1
+            → OnErr result (ends_in_poll (inner_state self.new).history ≡ true
+            → check_fault_of self.new ≡ Some CheckFault.Differs) }
     {
         let carried = match self.refusal(out) {
             Some(fault) => Err(self.stop(fault)),

@@ -153,6 +153,8 @@ impl<B: Bus + Drop> CheckedStatus<B> {
         ensures sent { (inner_state self.new).sent ≡ (inner_state self.old).sent }
         ensures twice { IfOk result (λ status. IsReadTwice (second status) (known_of self.new).id
             (inner_state self.old).history (inner_state self.new).history) }
+        ensures idle { read_id_while_busy (inner_state self.new).history ≡ false }
+        ensures last { ends_in_poll (inner_state self.new).history ≡ false }
     {
         let mut first = [0];
         let mut last = [0];
