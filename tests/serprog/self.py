@@ -78,15 +78,15 @@ MISTAKES = {
     "knows no long names": "takes_long_names",
 }
 RIGHT = sorted(set(MISTAKES.values()))
-# Cases that interrupt a job at each transaction take each ninth with the right program, each fifth with this mistake,
-# and each one with the other mistakes, which they detect at one of the first.
-STRIDES = {"": "9", "seals a backup first": "5"}
+# Cases that interrupt a job at each transaction take each ninth, with the right program and with each mistake. All
+# mistakes are detected at one of these.
+STRIDE = "9"
 
 
 def run(mistake, names):
     """Runs cases with a mistake of the program, and returns the exit status and the lines."""
     words = [sys.executable, HERE / "run.py", HERE / "stand_in.py", *names]
-    env = dict(os.environ, MISTAKE=mistake, STRIDE=STRIDES.get(mistake, "1"))
+    env = dict(os.environ, MISTAKE=mistake, STRIDE=STRIDE)
     done = subprocess.run(words, env=env, stdout=subprocess.PIPE, text=True, check=False)
     return done.returncode, done.stdout.splitlines()
 
