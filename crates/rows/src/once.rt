@@ -33,7 +33,7 @@ enum Command {
 }
 
 impl Command {
-    // Calls the function, and returns whether it returned that the bus stopped.
+    // Calls the function, and returns whether it returned that the bus stopped, and left its buffer as it was.
     fn is_stopped(self, bus: &mut OnceBus) -> bool {
         match self {
             Command::Poll => poll(bus) == Err(Stopped),
@@ -41,8 +41,15 @@ impl Command {
             Command::Id => read_id(bus) == Err(Stopped),
             Command::Status2 => read_status2(bus) == Err(Stopped),
             Command::Unique => read_unique(bus) == Err(Stopped),
-            Command::Sfdp => read_parameters(bus, 8, &mut [0; 8]) == Err(Stopped),
-            Command::Sector => read_sector(bus, 15, &mut [0; SECTOR_LEN as usize]) == Err(Stopped),
+            Command::Sfdp => {
+                let mut bytes = [0x5A; 8];
+                read_parameters(bus, 8, &mut bytes) == Err(Stopped) && bytes == [0x5A; 8]
+            }
+            Command::Sector => {
+                let mut bytes = [0x5A; SECTOR_LEN as usize];
+                read_sector(bus, 15, &mut bytes) == Err(Stopped)
+                    && bytes.iter().all(|byte| *byte == 0x5A)
+            }
             Command::Erase(unit) => erase(bus, Erase { unit, sector: 0 })
                 == Err(OperationError::Stopped),
             Command::Program => program_page(bus, 0x1080, &[0xA5; 128])
@@ -54,7 +61,8 @@ impl Command {
     }
 
     // Calls the function on a chip with these delays, with a stop at each of its `length` transactions in turn, and at
-    // last without a stop. Asserts that the function returns the stop, and sends nothing after it.
+    // last without a stop. Asserts that the function returns the stop, leaves its buffer as it was, and sends nothing
+    // after the stop.
     fn stop_at_each(self, rt: &impl Abort, alloc: Global, delays: Delays, length: u64) {
         for n in 0..=length {
             let bus = erased(rt, alloc, Config::tiny64(), [0x00, 0x00], delays);
