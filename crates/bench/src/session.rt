@@ -121,6 +121,13 @@ fn saved(alloc: Global, bytes: &[u8]) -> Result<MemVault, Fault> {
     Ok(vault)
 }
 
+// Writes a copy of the image in a session, because a session overwrites its image. Returns the number of transactions.
+fn write(alloc: Global, bus: &mut SimBus, image: &[u8]) -> Result<u64, Fault> {
+    let mut copy = image.to_vec(alloc)?;
+    let mut vault = MemVault::new(alloc);
+    Ok(session(bus, &mut vault, copy.as_mut_slice(), &WRITE)?.transactions)
+}
+
 // Work that erases the chip, and then writes a whole image in a session. The time of both is measured.
 #[derive(Drop)]
 struct Writing {
@@ -136,9 +143,7 @@ impl Work for Writing {
             sector: 0,
         };
         erase(&mut self.bus, whole)?;
-        let mut vault = MemVault::new(self.alloc);
-        let report = session(&mut self.bus, &mut vault, self.image.as_mut_slice(), &WRITE)?;
-        Ok(report.transactions)
+        write(self.alloc, &mut self.bus, &self.image)
     }
 }
 
@@ -174,12 +179,10 @@ struct Touching {
 
 impl Work for Touching {
     fn run(&mut self) -> Result<u64, Fault> {
-        let mut vault = MemVault::new(self.alloc);
         if let Some(byte) = self.image.get_mut(CHIP / 2) {
             *byte ^= self.flips;
         }
-        let report = session(&mut self.bus, &mut vault, self.image.as_mut_slice(), &WRITE)?;
-        Ok(report.transactions)
+        write(self.alloc, &mut self.bus, &self.image)
     }
 }
 
