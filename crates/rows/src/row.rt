@@ -331,9 +331,9 @@ fn on_w25q64fv(image: Bytes, unlock: bool, length: u32, operations: u32) -> Writ
 }
 
 fn each_page_is_programmed() -> Written {
-    // After the identification and the scan (23 transactions), the session sends three transactions for each operation.
-    // It also reads the only sector that it doesn't erase before it programs this sector, and all sixteen sectors to
-    // verify them.
+    // The identification and the scan take 23 transactions. Then 15 sectors are erased, and the 16 pages of each of 16
+    // sectors are programmed. Each of these operations takes three transactions. The last sector needs no erase, so the
+    // session reads it once before it programs it. At the end, the session reads all 16 sectors to verify them.
     let operations = 15 + 16 * 16;
     let length = 23 + 3 * operations + 1 + 16;
     let old = first(61_440, 0x00);

@@ -66,8 +66,10 @@ impl Stops {
     }
 }
 
-// Stops a row's session after each number of transactions from `first` on, for each start and each number of sent
-// bytes. After each stop, restores as `Runs::stop_sessions` does. Returns the numbers of stopped sessions.
+// Stops the session of `row` after `first` transactions, after one more, and so on up to its last transaction but one.
+// Does this for each start, with each number in `counts`: the number of bytes of the next transaction that the bus
+// still sends at the stop. Restores the chip after each stop that follows the seal. Returns how many sessions it
+// stopped.
 fn stop_sessions(
     rt: &impl Abort,
     alloc: Global,
