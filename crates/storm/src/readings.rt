@@ -287,22 +287,19 @@ struct Copied {
     sent: Vec<u8>,
 }
 
-// Checks a readout into a vault that refuses one of the calls that it receives. The readout must return error 19 with
-// the number of bytes in the vault, including those that the vault kept of the refused piece. The only other error that
-// it may return is the one that it must return into a vault that refuses nothing.
+// Checks a readout into a vault that refuses one of its calls. If the readout must fail even into a vault that refuses
+// nothing, it must return the same error here. Otherwise it must return error 19 with the number of bytes in the vault,
+// including those that the vault kept of the refused piece.
 fn check_refused_copy(alloc: Global, dice: &mut Dice, case: &Case) -> Result<(), Fault> {
     let nth = u64::from(dice.below(case.chip.sectors() / 16)).saturating_add(1);
     let kept = dice.pick(0, &[1, 4095, 65_535]);
     let bus = case.chip.bus(alloc, Stop::NEVER)?;
     let copied = copy_out(alloc, case, bus, (nth, kept));
-    if let Err(Refusal::Output { written }) = copied.answer {
-        return check_part(alloc, case, written, &copied);
+    match (Reading::Copy.refusal(case), &copied.answer) {
+        (None, Err(Refusal::Output { written })) => check_part(alloc, case, *written, &copied),
+        (Some(refusal), Err(other)) => agree(refusal == *other, "the refusal of a copy"),
+        _ => Err(Fault::Differs("the refusal of a copy")),
     }
-    let refusal = Reading::Copy.refusal(case);
-    agree(
-        refusal.is_some() && copied.answer.err() == refusal,
-        "the refusal of a copy",
-    )
 }
 
 // Reads out into a vault that refuses its `nth` call, counted from 1. The vault keeps the first `kept` bytes of that
