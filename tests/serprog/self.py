@@ -7,7 +7,9 @@ fail. The last line is `N passed, M failed`.
 import os
 import subprocess
 import sys
+import tempfile
 from concurrent.futures import ThreadPoolExecutor
+from functools import partial
 from pathlib import Path
 
 HERE = Path(__file__).resolve().parent
@@ -83,18 +85,26 @@ RIGHT = sorted(set(MISTAKES.values()))
 STRIDE = "9"
 
 
-def run(mistake, names):
+def make_program(folder):
+    """Makes a script that runs the stand-in, and returns its path. Without site-packages (-S) Python starts faster."""
+    program = Path(folder) / "stand_in"
+    program.write_text(f'#!/bin/sh\nexec "{sys.executable}" -S "{HERE / "stand_in.py"}" "$@"\n', encoding="utf-8")
+    program.chmod(0o755)
+    return program
+
+
+def run(program, mistake, names):
     """Runs cases with a mistake of the program, and returns the exit status and the lines."""
-    words = [sys.executable, HERE / "run.py", HERE / "stand_in.py", *names]
+    words = [sys.executable, HERE / "run.py", program, *names]
     env = dict(os.environ, MISTAKE=mistake, STRIDE=STRIDE)
     done = subprocess.run(words, env=env, stdout=subprocess.PIPE, text=True, check=False)
     return done.returncode, done.stdout.splitlines()
 
 
-def detects(mistake):
+def detects(program, mistake):
     """Returns whether the case of a mistake fails, or a sweep of bits.py, and no other thing does."""
     name = MISTAKES[mistake]
-    status, lines = run(mistake, [name])
+    status, lines = run(program, mistake, [name])
     failures = [it for it in lines if it.startswith("FAILED: ")]
     if name.startswith("bits_"):
         return status == 1 and all(it.startswith("FAILED: bits_") for it in failures) and len(failures) > 0
@@ -102,18 +112,25 @@ def detects(mistake):
         and lines[-1] == "0 passed, 1 failed"
 
 
-def main():
-    status, lines = run("", RIGHT)
+def test_all(program):
+    """Tests the right program and each mistake, and returns how many passed and failed."""
+    status, lines = run(program, "", RIGHT)
     passed = int(status == 0 and lines[-1].endswith(" passed, 0 failed") and int(lines[-1].split()[0]) >= len(RIGHT))
     failed = 1 - passed
     if failed:
         print(*lines, "FAILED: the right program", sep="\n")
     with ThreadPoolExecutor(os.cpu_count()) as pool:
-        for mistake, is_detected in zip(MISTAKES, pool.map(detects, MISTAKES)):
+        for mistake, is_detected in zip(MISTAKES, pool.map(partial(detects, program), MISTAKES)):
             passed += is_detected
             failed += not is_detected
             if not is_detected:
                 print(f"FAILED: the case {MISTAKES[mistake]} doesn't detect a program that {mistake}")
+    return passed, failed
+
+
+def main():
+    with tempfile.TemporaryDirectory() as folder:
+        passed, failed = test_all(make_program(folder))
     print(f"{passed} passed, {failed} failed")
     return int(failed > 0)
 
