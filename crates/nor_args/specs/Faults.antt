@@ -1,9 +1,11 @@
 -- The usage faults: which of the faults 2 to 9 the options have, provided that `clap` accepts the arguments, and the
 -- number and the message of each fault.
-use Rattle.std.specs.Prelude.{◌&&◌, ◌||◌, ◌++◌, ℕ, Bool, false, Option, Some, None, List, [], ◌∷◌, codes, decimal, drop, is_some, nat_eq, nat_lt, not, if◌then◌else◌}
+use Rattle.std.specs.Prelude.{◌&&◌, ◌||◌, ◌++◌, ℕ, Bool, false, Option, Some, None, List, [], ◌∷◌, codes, decimal}
+use Rattle.std.specs.Prelude.{drop, is_some, nat_eq, nat_lt, not, if◌then◌else◌}
 use Rattle.std.specs.Option.{option_map_or}
 use Rattle.nor_args.specs.Text.{Text, reads}
-use Rattle.nor_args.specs.Given.{Texts, asks_change, has_two_layouts, how_many, is_new_content, layout_file, operations, progress_of, takes_regions}
+use Rattle.nor_args.specs.Given.{Texts, asks_change, has_two_layouts, how_many, is_new_content, layout_file}
+use Rattle.nor_args.specs.Given.{operations, progress_of, takes_regions}
 use Rattle.nor_args.specs.Numbers.{range_of}
 use Rattle.nor_args.specs.Programmer.{has_stop, is_programmer_text}
 use Rattle.nor_args.specs.Stops.{stops_of}
@@ -38,7 +40,8 @@ has_wrong_value given = is_no (reads range_of) given.wp_range || is_no (reads pr
 -- layout of `-l`.
 abbrev pub has_wrong_regions : Texts → Bool
 has_wrong_regions given = (is_some (layout_file given) || is_some given.names)
-    && not (is_some (layout_file given) && (is_some given.names && (takes_regions given && not (has_two_layouts given))))
+    && not (is_some (layout_file given)
+    && (is_some given.names && (takes_regions given && not (has_two_layouts given))))
 
 -- true if `-N` is given without any of `-w`, `-E` and `--restore`, or `--quick` without `--restore`; flashnor has
 -- neither option

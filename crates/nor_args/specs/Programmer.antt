@@ -1,5 +1,6 @@
 -- The value of `-p` of flashnor: `dummy:` and settings.
-use Rattle.std.specs.Prelude.{◌≡◌, ◌&&◌, Bool, true, List, [], ◌∷◌, Option, Some, length, drop, find, codes, is_some, nat_eq, nat_lt, nat_le, option_map, option_and_then}
+use Rattle.std.specs.Prelude.{◌≡◌, ◌&&◌, Bool, true, List, [], ◌∷◌, Option, Some, length, drop, find, codes, is_some}
+use Rattle.std.specs.Prelude.{nat_eq, nat_lt, nat_le, option_map, option_and_then}
 use Rattle.std.specs.List.{count_by, list_all, list_any, starts_with}
 use Rattle.std.specs.Str.{bytes_eq}
 use Rattle.nor_model.specs.declared.config.Config.{Config}

@@ -1,6 +1,7 @@
 -- The reasons of usage faults: for each fault that the options may have (specs/Faults.antt), what is wrong with the
 -- options.
-use Rattle.std.specs.Prelude.{◌≡◌, ◌&&◌, ◌||◌, ℕ, Bool, true, false, ⊤, List, [], ◌∷◌, Option, Some, None, codes, find, is_some, nat_eq, not, option_map, reverse, if◌then◌else◌}
+use Rattle.std.specs.Prelude.{◌≡◌, ◌&&◌, ◌||◌, ℕ, Bool, true, false, ⊤, List, [], ◌∷◌, Option, Some, None, codes}
+use Rattle.std.specs.Prelude.{find, is_some, nat_eq, not, option_map, reverse, if◌then◌else◌}
 use Rattle.std.specs.List.{list_any, starts_with}
 use Rattle.nor_args.specs.Text.{Text, pieces_of, reads}
 use Rattle.nor_args.specs.Given.{Texts, asks_change, has_two_layouts, is_new_content, progress_of}
@@ -84,7 +85,8 @@ Choosing = Bool × OptionName
 abbrev pub operation_choices : Texts → List Choosing
 operation_choices given =
     (given.list, option.List) ∷ (given.flash_size, option.FlashSize) ∷ (given.flash_name, option.FlashName)
-    ∷ (given.wp_status, option.WpStatus) ∷ (given.wp_list, option.WpList) ∷ (is_some given.read, option.Read) ∷ (is_some given.verify, option.Verify)
+    ∷ (given.wp_status, option.WpStatus) ∷ (given.wp_list, option.WpList) ∷ (is_some given.read, option.Read)
+    ∷ (is_some given.verify, option.Verify)
     ∷ (is_some given.write, option.Write) ∷ (given.erase, option.Erase)
     ∷ (is_some given.wp_range, option.WpRange) ∷ (is_some given.restore, option.Restore)
     ∷ (is_some given.backup, option.Backup) ∷ (is_some given.check_journal, option.CheckJournal) ∷ []

@@ -2,7 +2,8 @@
 ghost use Rattle.std.specs.Prelude.{◌≡◌, ◌≤◌, option_map};
 ghost use Rattle.std.specs.Char.{is_digit};
 ghost use Rattle.std.specs.List.{list_all};
-ghost use Rattle.nor_args.specs.Numbers.{numeral, decimal_number, polls_of, number_or_length, range_of, unique_number, byte_number};
+ghost use Rattle.nor_args.specs.Numbers.{numeral, decimal_number, polls_of, number_or_length, range_of};
+ghost use Rattle.nor_args.specs.Numbers.{unique_number, byte_number};
 
 use hex::FromHex;
 

@@ -1,7 +1,9 @@
 //! The usage faults 2 to 9 that the options may have.
 ghost use Rattle.std.specs.Prelude.{◌≡◌, ◌&&◌, ◌||◌, is_some, not};
-ghost use Rattle.nor_args.specs.Given.{asks_change, has_two_layouts, is_new_content, operations, progress_of, takes_regions};
-ghost use Rattle.nor_args.specs.Faults.{first_fault, has_unneeded, has_wrong_journal, has_wrong_regions, is_no, passes_test, usage_faults};
+ghost use Rattle.nor_args.specs.Given.{asks_change, has_two_layouts, is_new_content, operations, progress_of};
+ghost use Rattle.nor_args.specs.Given.{takes_regions};
+ghost use Rattle.nor_args.specs.Faults.{first_fault, has_unneeded, has_wrong_journal, has_wrong_regions, is_no};
+ghost use Rattle.nor_args.specs.Faults.{passes_test, usage_faults};
 ghost use Rattle.nor_args.specs.Numbers.{range_of};
 ghost use Rattle.nor_args.specs.Programmer.{has_stop, is_programmer_text};
 ghost use Rattle.nor_args.specs.Stops.{stops_of};

@@ -4,7 +4,8 @@ ghost use Rattle.nor_args.specs.Given.{texts_of};
 ghost use Rattle.nor_args.specs.Reasons.{IsProgrammerReason, IsReason, IsWrongMode, IsWrongRange, IsWrongStops};
 ghost use Rattle.nor_args.specs.Reasons.{change_option, first_given, first_layout, last_layout};
 ghost use Rattle.nor_args.specs.declared.words.UsageFault.TheVariants.{Range};
-ghost use Rattle.nor_args.specs.Reasons.{journal_reason, operation_choices, operations_reason, regions_reason, unneeded_reason};
+ghost use Rattle.nor_args.specs.Reasons.{journal_reason, operation_choices, operations_reason, regions_reason};
+ghost use Rattle.nor_args.specs.Reasons.{unneeded_reason};
 
 use crate::flaws::programmer_reason;
 use crate::given::Given;
