@@ -29,7 +29,8 @@ given_text (Some text) is same = same
 -- Let the options ask for the job `on_chip` on an emulated chip. A program for hardware is then asked for the operation
 -- with the same name and task; its other fields have the values of their options.
 pub operation-asked : (given : Texts) (on_chip : ChipJob) (backup : Bool)
-    (progress : ProgressMode) → backup ≡ is_some given.backup → progress ≡ progress_mode given
+    (progress : ProgressMode) (log : Option (Bor Text)) → backup ≡ is_some given.backup
+    → progress ≡ progress_mode given → option_map (λ (file : Bor Text). file.now) log ≡ given.log
     → (first_fault (usage_faults (emulated given)) ≡ None) × IsAsked (emulated given) (job.Chip on_chip)
     → IsOperation given (record {
       named = on_chip.named;
@@ -39,6 +40,7 @@ pub operation-asked : (given : Texts) (on_chip : ChipJob) (backup : Bool)
       is_flash_name = given.flash_name;
       progress = progress;
       is_verbose = given.verbose;
+      log = log;
       task = on_chip.task;
     })
-operation-asked given on_chip backup progress same shown is = search task-same
+operation-asked given on_chip backup progress log same shown logged is = search task-same

@@ -1,5 +1,6 @@
 -- The values of the options in the arguments.
-use Rattle.std.specs.Prelude.{◌&&◌, ◌||◌, ℕ, Bool, false, Option, Some, None, List, [], ◌∷◌, codes, is_some, option_and_then, option_map, unwrap_or, if◌then◌else◌}
+use Rattle.std.specs.Prelude.{◌&&◌, ◌||◌, ℕ, Bool, false, Option, Some, None, List, [], ◌∷◌, codes, is_some}
+use Rattle.std.specs.Prelude.{option_and_then, option_map, unwrap_or, if◌then◌else◌}
 use Rattle.std.specs.List.{count_by}
 use Rattle.std.specs.Option.{option_map_or, option_or}
 use Rattle.std.specs.Str.{bytes_eq}
@@ -52,6 +53,8 @@ pub record Texts : Type 0 where
   -- The value of `--progress MODE`, and whether `-V` is set.
   pub progress : Option Text
   pub verbose : Bool
+  -- The value of `-o FILE`.
+  pub log : Option Text
 
 -- true if the value is the text `true`, which `clap` gives a flag that is set
 abbrev pub is_flag_set : Option Text → Bool
@@ -95,6 +98,7 @@ given_in rows = record {
   unlock = is_set_in rows (codes "unlock");
   progress = None;
   verbose = false;
+  log = None;
 }
 
 -- the options that flashnor's arguments contain, as `clap` parses them
@@ -116,6 +120,7 @@ hardware_given_in rows = record (given_in rows) {
   no_verify_all = is_set_in rows (codes "noverify-all");
   progress = text_in rows (codes "progress");
   verbose = is_set_in rows (codes "verbose");
+  log = text_in rows (codes "output");
 }
 
 -- the options that the arguments of a program for hardware contain, as `clap` parses them; `program` is the program's
@@ -153,6 +158,7 @@ texts_of given = record {
   unlock = given.unlock;
   progress = option_map (λ text. text.now) given.progress;
   verbose = given.verbose;
+  log = option_map (λ text. text.now) given.log;
 }
 
 -- the number of elements of the list that are true

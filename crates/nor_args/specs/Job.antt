@@ -1,6 +1,7 @@
 -- The job that the options ask for, and its parts. For programs for hardware also: the fault of options that ask for no
 -- job or no operation.
-use Rattle.std.specs.Prelude.{◌≡◌, ◌⊎◌, [], ◌∷◌, true, false, MatchResult, Option, Some, None, is_some, not, option_and_then, option_map}
+use Rattle.std.specs.Prelude.{◌≡◌, ◌⊎◌, [], ◌∷◌, true, false, MatchResult, Option, Some, None, is_some, not}
+use Rattle.std.specs.Prelude.{option_and_then, option_map}
 use Rattle.std.specs.Borrow.{Bor}
 use Rattle.std.specs.Option.{IsSomeAnd}
 use Rattle.nor_probe.specs.Table.{name_of}
@@ -98,6 +99,7 @@ pub record IsOperation (given : Texts) (operation : Operation) : Type 0 where
   pub is_flash_name : operation.is_flash_name ≡ given.flash_name
   pub progress : operation.progress ≡ progress_mode given
   pub is_verbose : operation.is_verbose ≡ given.verbose
+  pub log : option_map (λ (file : Bor Text). file.now) operation.log ≡ given.log
   pub task : IsTask given operation.task
 
 -- Holds if `wrong` has the first of the faults 4 to 9 that the options have, and a reason for this fault.

@@ -1,5 +1,6 @@
 -- The options of flashnor and of programs for hardware, as rules of `clap`.
-use Rattle.std.specs.Prelude.{◌≡◌, ◌&&◌, Bool, true, false, List, [], ◌∷◌, ◌++◌, None, Some, codes, fold, is_some, map, not, slice_get, if◌then◌else◌}
+use Rattle.std.specs.Prelude.{◌≡◌, ◌&&◌, Bool, true, false, List, [], ◌∷◌, ◌++◌, None, Some, codes, fold, is_some}
+use Rattle.std.specs.Prelude.{map, not, slice_get, if◌then◌else◌}
 use Rattle.std.specs.List.{filter}
 use Rattle.std.specs.Str.{bytes_eq}
 use Rattle.clap.specs.Words.{App, Rule, new_app, new_rule, rule_of, with_rule}
@@ -114,6 +115,7 @@ own_rules =
     ∷ by_name (valued (codes "ifd-file"))
     ∷ by_name (valued (codes "progress"))
     ∷ by_letter (codes "V") (flag (codes "verbose"))
+    ∷ by_letter (codes "o") (valued (codes "output"))
     ∷ []
 
 -- the `clap` command of a program for hardware with this name, without options. It has a version, and `clap`'s own

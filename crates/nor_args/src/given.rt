@@ -1,12 +1,16 @@
 //! The values of the options in the arguments, and the job that these options ask for or the first usage fault that
 //! they have.
-ghost use Rattle.std.specs.Prelude.{◌≡◌, None, Some, codes, false, is_some, true, option_map, option_and_then, MatchOption, MatchResult};
+ghost use Rattle.std.specs.Prelude.{◌≡◌, None, Some, codes, false, is_some, true, option_map, option_and_then};
+ghost use Rattle.std.specs.Prelude.{MatchOption, MatchResult};
 ghost use Rattle.std.specs.Option.{IsSomeAnd};
 ghost use Rattle.clap.specs.Words.{found_of, rows_of};
-ghost use Rattle.nor_args.specs.Given.{given_in, hardware_given_in, operations, is_new_content, asks_change, takes_regions};
+ghost use Rattle.nor_args.specs.Given.{given_in, hardware_given_in, operations, is_new_content, asks_change};
+ghost use Rattle.nor_args.specs.Given.{takes_regions};
 ghost use Rattle.nor_args.specs.Given.{has_two_layouts, layout_file, layout_form, progress_mode, progress_of};
-ghost use Rattle.nor_args.specs.Faults.{first_fault, has_unneeded, has_wrong_journal, has_wrong_regions, is_no, operation_faults, passes_test, usage_faults};
-ghost use Rattle.nor_args.specs.Job.{IsAsked, IsHardwareAsked, IsJournalUse, IsOperation, IsRegions, IsTask, IsWantedByArguments, IsWrongForHardware, IsWrongOperation};
+ghost use Rattle.nor_args.specs.Faults.{first_fault, has_unneeded, has_wrong_journal, has_wrong_regions, is_no};
+ghost use Rattle.nor_args.specs.Faults.{operation_faults, passes_test, usage_faults};
+ghost use Rattle.nor_args.specs.Job.{IsAsked, IsHardwareAsked, IsJournalUse, IsOperation, IsRegions, IsTask};
+ghost use Rattle.nor_args.specs.Job.{IsWantedByArguments, IsWrongForHardware, IsWrongOperation};
 ghost use Rattle.nor_args.specs.Numbers.{range_of};
 ghost use Rattle.nor_args.specs.Programmer.{IsProgrammer, has_stop, is_programmer_text};
 ghost use Rattle.nor_args.specs.Stops.{stops_of};
@@ -65,6 +69,7 @@ pub struct Given<'a> {
     rehearse: Option<&'a str>,
     progress: Option<&'a str>,
     verbose: bool,
+    log: Option<&'a str>,
 }
 
 impl<'a> Given<'a> {
@@ -103,6 +108,7 @@ impl<'a> Given<'a> {
             rehearse: matches.get_str("rehearse"),
             progress: None,
             verbose: false,
+            log: None,
         }
     }
 
@@ -123,6 +129,7 @@ impl<'a> Given<'a> {
             no_verify_all: is_set(matches, "noverify-all"),
             progress: matches.get_str("progress"),
             verbose: is_set(matches, "verbose"),
+            log: matches.get_str("output"),
             ..Given::of(matches)
         }
     }
@@ -155,7 +162,8 @@ impl<'a> Given<'a> {
     /// `-p` and `--check-journal` are missing. The options must not include `-L`.
     pub fn hardware_job(self) -> Result<HardwareJob<'a>, WrongArguments<'a>>
         requires { self.list ≡ false }
-        ensures { MatchResult result (IsHardwareAsked (texts_of self.entry)) (IsWrongForHardware (texts_of self.entry)) }
+        ensures { MatchResult result (IsHardwareAsked (texts_of self.entry))
+            (IsWrongForHardware (texts_of self.entry)) }
     {
         match (self.check_journal, self.programmer) {
             (Some(file), _) => match self.emulated().fault() {
@@ -185,6 +193,7 @@ impl<'a> Given<'a> {
                 is_flash_name: self.flash_name,
                 progress: self.progress_mode(),
                 is_verbose: self.verbose,
+                log: self.log,
                 task,
             }),
             Ok(Job::List) => Err(self.explained(UsageFault::TwoOperations)),
@@ -330,9 +339,9 @@ impl<'a> Given<'a> {
         }
     }
 
-    // Returns an operation other than `Change`: a read or a backup, a comparison, a report, a restore, or only the
-    // identification. The options must not have fault 7, and must include none of `-L`, `--check-journal`, `-w`, `-E`
-    // and `--wp-range`.
+    // Returns the operation on the chip if the options ask for no change of it. Then the operation is `Probe` if they
+    // name no operation. The options must not have fault 7, and must include none of `-L`, `--check-journal`, `-w`,
+    // `-E` and `--wp-range`.
     fn plain_task(&self) -> Task<'a>
         requires { ((texts_of self.now).list ≡ false) × ((texts_of self.now).check_journal ≡ None)
             × (asks_change (texts_of self.now) ≡ false)

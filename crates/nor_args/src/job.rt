@@ -65,6 +65,8 @@ pub struct Operation<'a> {
     pub progress: ProgressMode,
     /// True with `-V`: the program prints more about the run.
     pub is_verbose: bool,
+    /// `-o FILE`: the name of the file into which the log of the run is written.
+    pub log: Option<&'a str>,
     /// The operation on the chip.
     pub task: Task<'a>,
 }

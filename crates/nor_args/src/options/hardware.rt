@@ -6,7 +6,7 @@ use crate::options::Choice;
 
 // The options that only programs for hardware have, except `-R`, in the order of the help. The help prints them after
 // the options of `CHOICES`, and before `-R` and `-h`.
-static HARDWARE_CHOICES: [Choice; 9] = [
+static HARDWARE_CHOICES: [Choice; 10] = [
     Choice {
         letter: None,
         name: "backup",
@@ -61,10 +61,16 @@ static HARDWARE_CHOICES: [Choice; 9] = [
         value: None,
         help: "Print more about the run",
     },
+    Choice {
+        letter: Some('o'),
+        name: "output",
+        value: Some("FILE"),
+        help: "Write all that the run prints and -V into this file",
+    },
 ];
 
 // Returns the table `HARDWARE_CHOICES`. Its rows describe the options that the specification lists as `own_rules`.
-pub(super) fn hardware_choices() -> &'static [Choice; 9]
+pub(super) fn hardware_choices() -> &'static [Choice; 10]
     ensures { map chosen result.now ≡ own_rules }
 {
     &HARDWARE_CHOICES
