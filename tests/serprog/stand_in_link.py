@@ -392,7 +392,7 @@ class Link:
         for again in range(1 if is_enough else 2):
             other = self.operate(b"\x05", 2) if again else status
             if (status[0] != status[1] or other != status) and not believes:
-                raise self.differ()
+                raise Stopped(DIFFER) if (other[0] | other[1]) & 1 else self.differ()
             if not is_enough and MISTAKE != "confirms no status 1":
                 self.confirm()
         self.seen[0] = status[0]
