@@ -134,6 +134,7 @@ _flashnor_letter() {
         --noverify) letter=-n ;;
         --noverify-all) letter=-N ;;
         --verbose) letter=-V ;;
+        --output) letter=-o ;;
         --version) letter=-R ;;
         --help) letter=-h ;;
         *) letter=$1 ;;
@@ -209,7 +210,7 @@ _flashnor_serprog() {
         -p) _flashnor_serprog_programmer "$word" ;;
         -c) _flashnor_answer "$word" "${_flashnor_chips[@]}" SFDP ;;
         -w | -v | -l | --restore | --check-journal | --fmap-file | --ifd-file) _flashnor_files "$word" "" -f ;;
-        -r | --journal | --backup) _flashnor_files "$word" "" -d ;;
+        -o | -r | --journal | --backup) _flashnor_files "$word" "" -d ;;
         --progress) _flashnor_answer "$word" auto plain none ;;
         -i) _flashnor_regions "$word" ;;
         --wp-range) ;;
@@ -218,13 +219,13 @@ _flashnor_serprog() {
                 --write=* | --verify=* | --layout=* | --restore=* | --check-journal=* | --fmap-file=* | --ifd-file=*)
                     _flashnor_files "$word" "${word%%=*}=" -f
                     ;;
-                --read=* | --journal=* | --backup=*) _flashnor_files "$word" "${word%%=*}=" -d ;;
+                --output=* | --read=* | --journal=* | --backup=*) _flashnor_files "$word" "${word%%=*}=" -d ;;
                 --progress=*) _flashnor_answer "$word" --progress={auto,plain,none} ;;
                 *)
                     _flashnor_options "$word" -p --programmer -r --read -w --write -v --verify -E --erase --backup \
                         --restore --check-journal --flash-name --flash-size --wp-status --wp-list --wp-range -c --chip \
                         -l --layout --fmap-file --ifd-file -i --include --journal --unlock -n --noverify -N \
-                        --noverify-all --quick --progress -V --verbose -R --version -h --help
+                        --noverify-all --quick --progress -V --verbose -o --output -R --version -h --help
                     ;;
             esac
             ;;

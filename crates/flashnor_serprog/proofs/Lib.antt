@@ -9,3 +9,4 @@ pub mod Estimated
 pub mod Described
 pub mod Named
 pub mod Ran
+pub mod LogMade

@@ -7,6 +7,7 @@ pub mod Restoring
 pub mod Jobs
 pub mod Sends
 pub mod Sources
+pub mod Logging
 pub mod Journals
 pub mod Run
 pub mod Estimates

@@ -23,6 +23,7 @@ use Rattle.nor_request.specs.declared.refusal.Refusal.{Refusal}
 use Rattle.flashnor_serprog.specs.Connected.{MayExpectImage, IsUnused, device_of, expected_by}
 use Rattle.flashnor_serprog.specs.Journals.{IsSealedIn}
 use Rattle.flashnor_serprog.specs.Jobs.{DoesTask, FailsPerform, changes_bytes}
+use Rattle.flashnor_serprog.specs.Logging.{HasOwnLog, StayButLog}
 use Rattle.flashnor_serprog.specs.Sends.{SendsOnly}
 use Rattle.flashnor_serprog.specs.Setting.{IsDeviceOf}
 use Rattle.nor_jobs.specs.Sources.{AreSources}
@@ -53,10 +54,11 @@ IsAskedByArguments words (asked.Description file) = IsHardwareJob program words 
 IsAskedByArguments words (asked.Chip setting operation) = IsAskedFor words setting.device operation
 
 -- Holds if a job is prepared, before the programmer is used: neither the device nor a file that the job writes has a
--- second role (`HaveOneRole`), and the job's ranges and bytes were read.
+-- second role (`HaveOneRole`), nor does the log (`HasOwnLog`), and the job's ranges and bytes were read.
 pub record IsPrepared (view : View) (device : Bor Text) (operation : Operation) (ranges : Option (List Span))
     (bytes : List ℕ) : Type 0 where
   pub roles : HaveOneRole view.nature device operation.task
+  pub own_log : HasOwnLog view.nature device operation.task operation.log
   pub sources : AreSources view operation.task ranges bytes
 
 -- Holds if a job ended with this result: the answer or the error of its call of the engine (such as `session` or
@@ -135,9 +137,10 @@ AsksForHelp _ = ⊥
 abbrev pub IsHelpAskedBy : List Text → Trouble → Type 0
 IsHelpAskedBy words ended = AsksForHelp ended → ArgumentsAskForHelp words
 
--- Holds if an operation was prepared, and then run on a bus that had carried out no transaction before. The bus belongs
--- to the device `name`; `start` is the bus before the operation, and `last` is the state of the bus after it. At the
--- start the bus expected no image, or the image that `MayExpectImage` allows.
+-- Holds if an operation was prepared, its log was created, and then the operation was run on a bus that had carried out
+-- no transaction before. `made` are the files after the log was created; without `-o` each file is as it was. The bus
+-- belongs to the device `name`; `start` is the bus before the operation, and `last` is the state of the bus after it.
+-- At the start the bus expected no image, or the image that `MayExpectImage` allows.
 pub record HasRunOperation (state : Connected → BusState) (files after : FilesState) (name : Bor Text)
     (operation : Operation) (device : Text) (last : BusState) (out out' : Option (List ℕ)) (status : ℕ)
     : Type 0 where
@@ -149,7 +152,9 @@ pub record HasRunOperation (state : Connected → BusState) (files after : Files
   pub bytes : List ℕ
   pub expected : MayExpectImage operation bytes (expected_by start)
   pub prepared : IsPrepared files.view name operation ranges bytes
-  pub ran : HasRun operation ranges bytes files.view after (state start) last out out' status
+  pub made : View
+  pub logged : StayButLog operation.log files.view made
+  pub ran : HasRun operation ranges bytes made after (state start) last out out' status
 
 -- Holds if the operation that the arguments ask for was run on the device that `dev=` names (`HasRunOperation`).
 pub record HasRunJob (state : Connected → BusState) (files after : FilesState) (words : List Text) (device : Text)

@@ -88,8 +88,8 @@ pub fn print_operation_hint<E: Write>(
         ),
         Fault::File {
             fault: FileFault::Exists,
-            ..
-        } if reads(operation) => {
+            name,
+        } if reads(operation) || operation.log == Some(*name) => {
             let _ = writeln!(errors, "{IS_JOURNAL}");
         }
         Fault::Refused(refusal) => match found_and_expected(*refusal, operation, known) {

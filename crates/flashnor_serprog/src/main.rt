@@ -19,6 +19,7 @@
 //! - `steps.rt`: the steps of a job, and the line that shows one
 //! - `step_lines.rt`: the lines of the steps if they are shown below each other, and how long a change took
 //! - `gauge.rt`: counts and times the operations of a job
+//! - `run_log.rt`: the log of a run, for `-o`
 //! - `log.rt`: the lines of `-V`, for each modifying transaction, each step that reads, and a stop of the bus
 //! - `estimates.rt`: percent, rate and time left, and about how long a change takes
 //! - `connect.rt`: opens the device and identifies the programmer
@@ -54,6 +55,7 @@ mod rest;
 mod restoring;
 mod roles;
 mod run;
+mod run_log;
 mod setting;
 mod sources;
 mod status_line;
@@ -64,15 +66,16 @@ mod trouble;
 
 use nor_console::{by_line, keep_streams};
 use run::{end_without_streams, run_words};
+use run_log::Logged;
 use std::env;
 use std::process::ExitCode;
 use terminal::Screen;
 
 fn main(rt: HostRuntime) -> ExitCode {
     let streams = keep_streams(&rt);
-    let mut output = by_line(rt.alloc(), rt.stdout());
-    let mut errors = by_line(rt.alloc(), rt.stderr());
     let screen = Screen::new();
+    let mut output = Logged::new(by_line(rt.alloc(), rt.stdout()), screen.log());
+    let mut errors = Logged::new(by_line(rt.alloc(), rt.stderr()), screen.log());
     let mut used = None;
     let status = match &streams {
         Ok(_) => run_words(

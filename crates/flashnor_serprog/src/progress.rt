@@ -61,7 +61,8 @@ pub trait Progress: Bus {
 /// (`StepLine::is_complete`). It is ended or cleared before any other line is printed.
 ///
 /// With `Look::Plain` there is a line for the first transaction of each step, and then one after each `Step::stride`
-/// further transactions of that step. With `Look::Hidden` nothing is shown, except the lines of `-V`.
+/// further transactions of that step. With `Look::Hidden` nothing is shown, except the lines of `-V`. The log (`-o`)
+/// receives the lines of `Look::Plain` and of `-V` with any look.
 ///
 /// A step is recognized by the opcode of a transaction and, for a read of data, by the phase of the job. Before the
 /// first modifying command a line says that the chip is changed from here on. In a session this line begins with
@@ -154,9 +155,9 @@ impl<'a, B: Bus + Drop> Shown<'a, B> {
 }
 
 impl<B> Shown<'_, B> {
-    // Prints what is shown before this transaction: the lines of `begin_change` if it is the first modifying command;
-    // with `-V`, a line if it is the first transaction of a step that reads; and with `Look::Plain`, a line if it is
-    // number 1, 1 + `stride`, 1 + 2 * `stride` and so on of its step.
+    // Prints and logs what is shown before this transaction: the lines of `begin_change` if it is the first modifying
+    // command; with `-V`, a line if it is the first transaction of a step that reads; and with `Look::Plain`, a line if
+    // it is number 1, 1 + `stride`, 1 + 2 * `stride` and so on of its step.
     fn show(&mut self, out: &[u8])
         ensures { self.new.bus ≡ self.old.bus }
     {
@@ -170,7 +171,7 @@ impl<B> Shown<'_, B> {
         if count == 1 && step.is_reading() {
             self.terminal.log_step(step.name());
         }
-        if self.terminal.look() == Look::Plain && count % step.stride() == 1 {
+        if count % step.stride() == 1 {
             self.show_step(step, count);
         }
     }
@@ -228,16 +229,16 @@ impl<B> Shown<'_, B> {
         }
     }
 
-    // Prints the plain line of a step. `count` is the number of its transactions so far.
+    // Prints and logs the plain line of a step. `count` is the number of its transactions so far.
     fn show_step(&self, step: Step, count: u64) {
         let text = step.plain_text();
         match (step, self.expected) {
-            (Step::Scan | Step::Compare, Some(expected)) => self.terminal.print(&StepOf {
+            (Step::Scan | Step::Compare, Some(expected)) => self.terminal.print_plain(&StepOf {
                 text,
                 count,
                 expected,
             }),
-            _ => self.terminal.print(&StepCount { text, count }),
+            _ => self.terminal.print_plain(&StepCount { text, count }),
         }
     }
 
@@ -277,31 +278,27 @@ impl<B> Shown<'_, B> {
     }
 
     // If a change began and its comparison did not, shows how many pages were programmed and how many sectors were read
-    // back; with `Look::Plain` also how many erases were sent, with `Look::Line` also how long the change took.
+    // back; with `Look::Plain` and in the log also how many erases were sent, with `Look::Line` also how long the change
+    // took.
     fn show_duration(&self) {
         if self.phase != Phase::Changing {
             return;
         }
-        match self.terminal.look() {
-            Look::Hidden => {}
-            Look::Plain => {
-                self.show_last(Step::Erase, self.counts.erase);
-                self.show_last(Step::Program, self.counts.program);
-                self.show_last(Step::ReadBack, self.counts.read_back);
-            }
-            Look::Line => {
-                let now = self.terminal.now();
-                self.terminal.clear_line();
-                self.draw_last(Step::Program, now);
-                self.draw_last(Step::ReadBack, now);
-                self.terminal
-                    .print(&Took(Minutes(micros_between(self.changed, now))));
-            }
+        self.show_last(Step::Erase, self.counts.erase);
+        self.show_last(Step::Program, self.counts.program);
+        self.show_last(Step::ReadBack, self.counts.read_back);
+        if self.terminal.look() == Look::Line {
+            let now = self.terminal.now();
+            self.terminal.clear_line();
+            self.draw_last(Step::Program, now);
+            self.draw_last(Step::ReadBack, now);
+            self.terminal
+                .print(&Took(Minutes(micros_between(self.changed, now))));
         }
     }
 
-    // Prints the last plain line of a step with `count` transactions, unless there are none, or a line with this number
-    // was printed before.
+    // Prints and logs the last plain line of a step with `count` transactions, unless there are none, or a line with
+    // this number was printed before.
     fn show_last(&self, step: Step, count: u64) {
         if count > 0 && count % step.stride() != 1 {
             self.show_step(step, count);

@@ -1,8 +1,9 @@
-//! Checks that neither the device nor a file that a job writes has a second role in a run.
+//! Checks that neither the device nor a file that a run writes has a second role in it.
 ghost use Rattle.std.specs.Prelude.{IfErr, OnOk};
+ghost use Rattle.flashnor_serprog.specs.Logging.{FailsLogRole, HasOwnLog};
 ghost use Rattle.flashnor_serprog.specs.Sources.{FailsRoles, HaveOneRole};
 
-use nor_args::Task;
+use nor_args::{Operation, Task};
 use nor_console::{Fault, Named, apart, named_by, unprinted};
 use nor_files::Store;
 
@@ -37,4 +38,34 @@ pub fn have_one_role<'a, R: Store>(
     apart(rt, wanted, journal)?;
     unprinted(rt, output)?;
     unprinted(rt, journal)
+}
+
+/// Checks that the log, if `-o` names one, is neither the device nor a file of the job nor a regular file to which the
+/// program prints.
+///
+/// If a check fails, returns file fault 5 with the name of the log, or file fault 1 with the name that can't be looked
+/// up.
+pub fn has_own_log<'a, R: Store>(
+    rt: &R,
+    device: &'a str,
+    operation: &Operation<'a>,
+) -> Result<(), Fault<'a>>
+    ensures ok { OnOk result
+        (HasOwnLog (R.state rt.now).view.nature device.entry operation.now.task operation.now.log) }
+    ensures err { IfErr result
+        (FailsLogRole (R.state rt.now).view.nature device.entry operation.now.task operation.now.log) }
+{
+    let log = operation.log;
+    let Named {
+        layout,
+        wanted,
+        output,
+        journal,
+    } = named_by(&operation.task);
+    apart(rt, Some(device), log)?;
+    apart(rt, layout, log)?;
+    apart(rt, wanted, log)?;
+    apart(rt, output, log)?;
+    apart(rt, journal, log)?;
+    unprinted(rt, log)
 }

@@ -6,6 +6,7 @@ ghost use Rattle.nor_args.specs.Words.{arguments_of};
 ghost use Rattle.flashnor_serprog.specs.Connected.{MayExpectImage, IsUnused, device_of, expected_by};
 ghost use Rattle.flashnor_serprog.specs.Run.{AsksForHelp, EndsJob, HasRun, HasRunJob, HasRunOperation};
 ghost use Rattle.flashnor_serprog.specs.Run.{HasSucceeded, IsAskedByArguments, IsEndedAs, IsHelpAskedBy, IsPrepared};
+ghost use Rattle.flashnor_serprog.specs.Logging.{CreatesLog};
 ghost use Rattle.flashnor_serprog.specs.Sends.{SendsOnly};
 
 use crate::backups::check_new;
@@ -18,7 +19,8 @@ use crate::jobs::{changes_bytes, perform};
 use crate::journals::check_journal;
 use crate::progress::{Progress, StatusWrite, Terminal};
 use crate::reports::{print_job_fault, print_trouble, report_changed_byte};
-use crate::roles::have_one_role;
+use crate::roles::{has_own_log, have_one_role};
+use crate::run_log::{end_log, start_log};
 use crate::setting::Setting;
 use crate::sources::{image_of, prepare_sources};
 use crate::terminal::Screen;
@@ -27,11 +29,12 @@ use clap::Error as WordsError;
 use nor_args::{HardwareJob, Operation, Task, operation_of};
 use nor_chip::Bus;
 use nor_console::{Answer, DIRECTORY, Fault, Outcome, help_of, print_help, unread, version_of};
-use nor_files::{Disk, Store};
+use nor_files::{Disk, LogFile, Store};
 use nor_jobs::{Sources, arguments_after_name};
 use nor_session::Refusal;
 use std::alloc::Global;
 use std::env::Args;
+use std::fs::File;
 use std::io;
 use std::io::Write;
 
@@ -89,7 +92,7 @@ pub fn end_without_streams<E: Write>(errors: &mut E) -> u8
 }
 
 // Performs the job given by the arguments, without the program's name, over any store of files.
-fn run_over<'b, R: Store, O: Write, E: Write>(
+fn run_over<'b, R: Store<Log = LogFile<File>>, O: Write, E: Write>(
     rt: &'b HostRuntime,
     screen: &'b Screen,
     files: &mut R,
@@ -119,7 +122,7 @@ fn run_over<'b, R: Store, O: Write, E: Write>(
 }
 
 // Performs an operation on the chip of a programmer.
-fn run_on_chip<'b, R: Store, O: Write, E: Write>(
+fn run_on_chip<'b, R: Store<Log = LogFile<File>>, O: Write, E: Write>(
     rt: &'b HostRuntime,
     screen: &'b Screen,
     files: &mut R,
@@ -151,7 +154,7 @@ fn run_on_chip<'b, R: Store, O: Write, E: Write>(
         }
         Err(trouble) => {
             print_trouble(errors, &trouble, operation);
-            1
+            end_log(errors, screen.log(), operation.log, 1)
         }
     }
 }
@@ -189,15 +192,16 @@ struct Prepared<'b> {
     connected: Connected<'b>,
 }
 
-// Reads the files that the operation needs, and identifies the programmer.
-fn prepare<'a, 'b, R: Store>(
+// Reads the files that the operation needs, starts the log, and identifies the programmer.
+#[tactic(auto, using(crate::proofs::LogMade::log_unstarted, crate::proofs::LogMade::log_started))]
+fn prepare<'a, 'b, R: Store<Log = LogFile<File>>>(
     rt: &'b HostRuntime,
     screen: &'b Screen,
     files: &mut R,
     setting: &Setting<'a>,
     operation: &Operation<'a>,
 ) -> Result<Prepared<'b>, Trouble<'a>>
-    ensures same { AreUntouched (R.state files.old) (R.state files.new) }
+    ensures logged { CreatesLog operation.now.log (R.state files.old) (R.state files.new) }
     ensures ok { IfOk result (λ prepared. IsPrepared (R.state files.old).view setting.now.device operation.now
         prepared.sources.included prepared.sources.bytes.items) }
     ensures named { IfOk result (λ prepared. device_of prepared.connected ≡ setting.now.device.now) }
@@ -206,9 +210,11 @@ fn prepare<'a, 'b, R: Store>(
         (expected_by prepared.connected)) }
 {
     have_one_role(files, setting.device, &operation.task)?;
+    has_own_log(files, setting.device, operation)?;
     check_new(files, operation)?;
     let sources = prepare_sources(files, &operation.task)?;
     let image = image_of(&sources, operation);
+    start_log(files, screen.log(), operation.log)?;
     let name = name_of(rt.alloc(), setting.device)?;
     let terminal = Terminal::new(rt, screen, operation.progress, operation.is_verbose);
     match connect(
@@ -286,13 +292,14 @@ fn run_prepared<'b, R: Store, O: Write, E: Write>(
     match end_job(files, bus, terminal, operation, sources) {
         Ok(answer) => {
             bus.end_progress(true);
-            let status = end_well(output, errors, answer, operation);
-            report_changed_byte(errors, bus, status)
+            let printed = end_well(output, errors, answer, operation);
+            let status = report_changed_byte(errors, bus, printed);
+            end_log(errors, terminal.log(), operation.log, status)
         }
         Err(fault) => {
             bus.end_progress(false);
             print_job_fault(errors, &fault, bus, operation, saved);
-            1
+            end_log(errors, terminal.log(), operation.log, 1)
         }
     }
 }

@@ -1,8 +1,9 @@
-//! Standard error, on which the progress of a job is shown.
+//! Standard error, on which the progress of a job is shown, and the log of the run.
 
 use crate::estimates::{Minutes, Rate, change_micros, tenths_of_kib, time_for};
 use crate::gauge::micros_between;
 use crate::log::{CommandText, EventText, command_name};
+use crate::run_log::RunLog;
 use crate::trouble::MODES;
 use nor_args::ProgressMode;
 use nor_console::Escaped;
@@ -27,10 +28,11 @@ const WAITING: &str =
     from power for a second, connect it again, and run:";
 
 /// What all copies of a `Terminal` know: whether a line that may be rewritten is on the screen, what was announced, and
-/// how fast data was read.
+/// how fast data was read. Also the log of the run, which they share.
 #[derive(Drop)]
 pub struct Screen {
     known: Cell<Known>,
+    log: RunLog,
 }
 
 #[derive(Clone, Copy)]
@@ -48,7 +50,7 @@ pub struct Transfer {
 }
 
 impl Screen {
-    /// Returns a screen without a line that may be rewritten.
+    /// Returns a screen without a line that may be rewritten, and with a log without a file.
     pub fn new() -> Screen {
         Screen {
             known: Cell::new(Known {
@@ -56,7 +58,13 @@ impl Screen {
                 announced: None,
                 read: Transfer::default(),
             }),
+            log: RunLog::new(),
         }
+    }
+
+    /// Returns the log of the run.
+    pub fn log(&self) -> &RunLog {
+        &self.log
     }
 }
 
@@ -71,7 +79,8 @@ pub enum Look {
     Line,
 }
 
-/// Standard error, with how the progress of a job is shown on it (`Look`).
+/// Standard error, with how the progress of a job is shown on it (`Look`), and the log of the run. The log receives each
+/// line of the progress and of `-V`, whether or not the line is shown on standard error.
 #[derive(Clone, Copy)]
 pub struct Terminal<'a> {
     rt: &'a HostRuntime,
@@ -108,6 +117,11 @@ impl<'a> Terminal<'a> {
             is_verbose,
             started: Instant::now(rt).ok(),
         }
+    }
+
+    /// Returns the log of the run.
+    pub fn log(&self) -> &'a RunLog {
+        self.screen.log()
     }
 
     /// Returns how the progress is shown.
@@ -150,32 +164,32 @@ impl<'a> Terminal<'a> {
         }
     }
 
-    /// With `-V`, prints a line for this transaction if it is a modifying one. The line is printed before the
+    /// Logs a line for this transaction if it is a modifying one (`-V`, `-o`). The line is printed before the
     /// transaction is passed to the programmer's bus. The bus may refuse the transaction, or send it only with the next
     /// poll.
     pub fn log_command(&self, out: &[u8]) {
-        if self.is_verbose
+        if self.is_logging()
             && let Some(name) = command_name(out)
         {
             let micros = self.elapsed();
-            self.log(&CommandText { micros, name, out });
+            self.log_line(&CommandText { micros, name, out });
         }
     }
 
-    /// With `-V`, prints that a step begins that only reads.
+    /// Logs that a step begins that only reads (`-V`, `-o`).
     pub fn log_step(&self, name: &'static str) {
-        if self.is_verbose {
+        if self.is_logging() {
             let micros = self.elapsed();
-            self.log(&EventText { micros, name });
+            self.log_line(&EventText { micros, name });
         }
     }
 
-    /// With `-V`, prints that the bus stopped.
+    /// Logs that the bus stopped (`-V`, `-o`).
     pub fn log_stop(&self) {
-        if self.is_verbose {
+        if self.is_logging() {
             let micros = self.elapsed();
             let name = "stopped";
-            self.log(&EventText { micros, name });
+            self.log_line(&EventText { micros, name });
         }
     }
 
@@ -184,10 +198,18 @@ impl<'a> Terminal<'a> {
         micros_between(self.started, self.now())
     }
 
-    // Prints a line, after the line that may be rewritten is cleared.
-    fn log<T: fmt::Display>(&self, text: &T) {
-        self.clear_line();
-        let _ = eprintln!(self.rt; "{text}");
+    // Returns whether the lines of `-V` are printed, or written to the log.
+    fn is_logging(&self) -> bool {
+        self.is_verbose || self.log().is_open()
+    }
+
+    // Writes a line to the log. With `-V`, also prints it, after the line that may be rewritten is cleared.
+    fn log_line<T: fmt::Display>(&self, text: &T) {
+        if self.is_verbose {
+            self.clear_line();
+            let _ = eprintln!(self.rt; "{text}");
+        }
+        self.log().write_line(text);
     }
 
     /// Clears the line that may be rewritten, if there is one, so that the next output takes its place.
@@ -206,31 +228,38 @@ impl<'a> Terminal<'a> {
         });
     }
 
-    /// Prints a line, after the line that may be rewritten is ended. Prints nothing if no progress is shown.
+    /// Writes a line to the log. If progress is shown, also prints it, after the line that may be rewritten is ended.
     pub fn print<T: fmt::Display>(&self, text: &T) {
         if self.look != Look::Hidden {
             self.end_line();
             let _ = eprintln!(self.rt; "{text}");
         }
+        self.log().write_line(text);
     }
 
-    /// If progress is shown, prints what to do if the programmer at this device never replies. A read from a port that
-    /// isn't set up waits without a limit, and std has no call that ends it.
-    pub fn print_waiting(&self, device: &str) {
-        if self.look != Look::Hidden {
-            let _ = eprintln!(self.rt; "{WAITING} stty -F {} {MODES}", Escaped(device));
+    /// Writes a line to the log. With `Look::Plain`, also prints it.
+    pub fn print_plain<T: fmt::Display>(&self, text: &T) {
+        if self.look == Look::Plain {
+            let _ = eprintln!(self.rt; "{text}");
         }
+        self.log().write_line(text);
     }
 
-    /// If progress is shown, prints what a session will change, and the length of its journal. With `Look::Line`, also
-    /// prints about how long the change takes if it touches a sector.
+    /// Prints what to do if the programmer at this device never replies (`print`). A read from a port that isn't set up
+    /// waits without a limit, and std has no call that ends it.
+    pub fn print_waiting(&self, device: &str) {
+        self.print(&WaitingText { device });
+    }
+
+    /// Prints what a session will change, and the length of its journal (`print`). With `Look::Line`, also prints about
+    /// how long the change takes if it touches a sector.
     pub fn print_session(&self, announcement: Announcement) {
         self.print(&SessionText(announcement));
         self.announce(announcement);
     }
 
-    /// If progress is shown, prints what a restore will change. With `Look::Line`, also prints about how long the
-    /// change takes if it touches a sector.
+    /// Prints what a restore will change (`print`). With `Look::Line`, also prints about how long the change takes if it
+    /// touches a sector.
     pub fn print_restore(&self, announcement: Announcement) {
         self.print(&RestoreText(announcement));
         self.announce(announcement);
@@ -265,6 +294,18 @@ fn is_device(rt: &HostRuntime) -> bool {
     match fs::metadata(rt, "/proc/self/fd/2") {
         Ok(metadata) => metadata.file_type().is_char_device(),
         Err(_) => false,
+    }
+}
+
+// The line before the first exchange with the programmer at this device.
+#[derive(Clone, Copy, Drop)]
+struct WaitingText<'a> {
+    device: &'a str,
+}
+
+impl fmt::Display for WaitingText<'_> {
+    fn fmt<W: fmt::Write>(&self, f: &mut fmt::Formatter<W>) -> fmt::Result {
+        write!(f, "{WAITING} stty -F {} {MODES}", Escaped(self.device))
     }
 }
 

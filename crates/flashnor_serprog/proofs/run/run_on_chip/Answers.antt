@@ -1,4 +1,5 @@
 use Rattle.std.proofs.Common.{refl}
+use Rattle.flashnor_serprog.proofs.LogMade.{log_seen}
 use Rattle.flashnor_serprog.proofs.run.run_on_chip.Goals as goal
 
 pub returns-in-Ok-clause-ran : goal.returns-in-Ok-clause-ran
@@ -11,5 +12,8 @@ returns-in-Ok-clause-ran g c = record {
   bytes = c.in-Ok.field-0.sources.bytes.items;
   expected = c.in-Ok.ensures.expected;
   prepared = c.in-Ok.ensures.ok;
-  ran = rw c.prepare.ensures.same.view at c.run_prepared-status.ensures;
+  made = (g.R.Store.state c.prepare.new.files).view;
+  logged = log_seen c.args.operation.now.log (g.R.Store.state c.args.files.now)
+      (g.R.Store.state c.prepare.new.files) c.prepare.ensures.logged;
+  ran = c.run_prepared-status.ensures;
 }

@@ -7,8 +7,9 @@ returns-in-Ok g c = record {
   outcome = Ok c.in-Ok.answer;
   ends = rw c.mark_job.ensures at c.in-Ok.ensures.ends;
   sends = rw c.mark_job.ensures at c.end_job.ensures.sends;
-  few = c.report_changed_byte.ensures.few c.end_well-status.ensures.few;
-  printed = λ zero. c.end_well-status.ensures.printed (c.report_changed_byte.ensures.failed zero);
+  few = c.end_log.ensures.few (c.report_changed_byte-status.ensures.few c.end_well-printed.ensures.few);
+  printed = λ zero. c.end_well-printed.ensures.printed
+      (c.report_changed_byte-status.ensures.failed (c.end_log.ensures.failed zero));
 }
 
 pub returns-in-Err : goal.returns-in-Err
@@ -16,6 +17,6 @@ returns-in-Err g c = record {
   outcome = Err c.in-Err.fault;
   ends = ends_from _ _ _ _ _ _ _ _ (Err c.in-Err.fault) c.mark_job.ensures c.in-Err.ensures.ends;
   sends = rw c.mark_job.ensures at c.in-Err.ensures.sends;
-  few = omega arith;
-  printed = λ zero. absurd (omega (arith, zero));
+  few = c.end_log-in-Err.ensures.few (omega arith);
+  printed = λ zero. absurd (omega (arith, c.end_log-in-Err.ensures.failed zero));
 }

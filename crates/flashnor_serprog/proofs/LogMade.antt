@@ -1,0 +1,48 @@
+-- The files after the log of a run was created, compared with those before the files of the job were read.
+use Rattle.std.proofs.Common.{◌≡◌, ◌∙◌, None, Option, Some, ap}
+use Rattle.std.specs.Borrow.{Bor}
+use Rattle.nor_files.specs.Files.{AreUntouched, FilesState, KeepsFile, Name, Nature, View}
+use Rattle.nor_args.specs.Text.{Text}
+use Rattle.flashnor_serprog.specs.Logging.{CreatesLog, StayButLog}
+
+untouched_keeps : {old new : FilesState} (name : Name) → AreUntouched old new → KeepsFile name old new
+untouched_keeps name same = record {
+  out = ap (λ (view : View). view.out name) same.view;
+  seen = ap (λ (view : View). view.seen name) same.view;
+  leaves = same.leaves name;
+}
+
+-- If no file was touched, no file except the log was touched.
+pub log_unstarted : (log : Option (Bor Text)) {old new : FilesState} → AreUntouched old new → CreatesLog log old new
+log_unstarted None same = same
+log_unstarted (Some name) same = (
+  ap (λ (view : View). view.nature) same.view,
+  λ lawful other apart. untouched_keeps other same,
+)
+
+-- If no file was touched before the log was created, creating it touched no other file of those before.
+pub log_started : (log : Option (Bor Text)) (old read new : FilesState) → AreUntouched old read
+    → CreatesLog log read new → CreatesLog log old new
+log_started None old read new same made = record {
+  view = made.view ∙ same.view;
+  leaves = λ name left may. same.leaves name left (made.leaves name left may);
+}
+log_started (Some name) old read new same made = (
+  made.0 ∙ ap (λ (view : View). view.nature) same.view,
+  λ lawful other apart.
+      let kept = made.1 (rw same.view lawful) other (rw same.view apart) in record {
+        out = kept.out ∙ ap (λ (view : View). view.out other) same.view;
+        seen = kept.seen ∙ ap (λ (view : View). view.seen other) same.view;
+        leaves = λ left may. same.leaves other left (kept.leaves left may);
+      },
+)
+
+-- Creating the log changes what reads return only for the file of the log.
+pub log_seen : (log : Option (Bor Text)) (old new : FilesState) → CreatesLog log old new
+    → StayButLog log old.view new.view
+log_seen None old new made = made.view
+log_seen (Some name) old new made = (
+  made.0,
+  λ lawful other apart.
+      let kept = made.1 lawful other apart in (kept.out, kept.seen),
+)

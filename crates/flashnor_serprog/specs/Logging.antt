@@ -1,0 +1,42 @@
+-- The log of a run (`-o`): its file has no second role, and creating it changes no other file.
+use Rattle.std.specs.Prelude.{◌≡◌, ◌⊎◌, Option, None, Some, true}
+use Rattle.std.specs.Borrow.{Bor}
+use Rattle.nor_files.specs.Files.{AreApart, AreUntouched, FilesState, Name, Nature, OthersStay, View, is_lawful}
+use Rattle.nor_args.specs.Text.{Text}
+use Rattle.nor_args.specs.declared.job.Task.{Task}
+use Rattle.nor_console.specs.Roles.{FailsApart, FailsUnprinted}
+use Rattle.nor_console.specs.Stored.{AreTwo}
+use Rattle.nor_console.specs.Tasks.{named_by}
+use Rattle.nor_console.specs.declared.messages.Fault.{Fault}
+
+-- Holds if the name of the log, if `-o` gives one, is apart from the name of the device and of each file of the job.
+pub record HasOwnLog (nature : Nature) (device : Bor Text) (job : Task) (log : Option (Bor Text)) : Type 0 where
+  pub device_log : AreTwo nature (Some device) log
+  pub layout_log : AreTwo nature (named_by job).layout log
+  pub wanted_log : AreTwo nature (named_by job).wanted log
+  pub output_log : AreTwo nature (named_by job).output log
+  pub journal_log : AreTwo nature (named_by job).journal log
+
+-- Holds if the check of the log's file may fail with this fault. It compares the log with the device, with the files of
+-- the job, and with the files to which the program prints.
+abbrev pub FailsLogRole : Nature → Bor Text → Task → Option (Bor Text) → Fault → Type 0
+FailsLogRole nature device job log fault = FailsApart nature (Some device) log fault
+    ⊎ (FailsApart nature (named_by job).layout log fault
+    ⊎ (FailsApart nature (named_by job).wanted log fault
+    ⊎ (FailsApart nature (named_by job).output log fault
+    ⊎ (FailsApart nature (named_by job).journal log fault ⊎ FailsUnprinted nature log fault))))
+
+-- Holds if the file of the log, if a name is given, may have been created, truncated or lent between these two states,
+-- and no other file was touched. Without a name, each file is as it was.
+abbrev pub CreatesLog : Option (Bor Text) → (old new : FilesState) → Type 0
+CreatesLog None old new = AreUntouched old new
+CreatesLog (Some name) old new = (new.view.nature ≡ old.view.nature)
+    × (is_lawful old.view ≡ true → OthersStay name.now old new)
+
+-- Holds if `old` and `new` may be the files before and after the log was created: reads of each file that is not the log
+-- return the same. Without a name of the log, all files are the same.
+abbrev pub StayButLog : Option (Bor Text) → (old new : View) → Type 0
+StayButLog None old new = new ≡ old
+StayButLog (Some name) old new = (new.nature ≡ old.nature)
+    × (is_lawful old ≡ true → (other : Name) → AreApart old.nature name.now other
+    → (new.out other ≡ old.out other) × (new.seen other ≡ old.seen other))

@@ -1,0 +1,174 @@
+//! The log of a run, for `-o`: a file that receives, line by line, what the run prints and the lines of `-V`.
+ghost use Rattle.std.specs.Prelude.{◌≡◌, ◌≤◌, IfErr, IsSomeAnd};
+ghost use Rattle.nor_console.specs.Files.{IsMaking};
+ghost use Rattle.flashnor_serprog.specs.Logging.{CreatesLog};
+
+use nor_console::{Fault, create_log, print_fault, unmade};
+use nor_files::{LogFile, Store};
+use std::cell::{Cell, RefCell};
+use std::fs::File;
+use std::io::{BufWriter, Write};
+use std::{fmt, io};
+
+// The line after file fault 2 of the log.
+const INCOMPLETE: &str =
+    "The log is incomplete, but the job went on: free disk space, or choose another file.";
+
+/// A buffered writer to the file of a log.
+pub type LogWriter = BufWriter<LogFile<File>>;
+
+/// The log of a run. All parts of the run that print share it. A log without a file drops each line.
+///
+/// If a line can't be written, the log ends before it, and the job goes on (`end_log`).
+#[derive(Drop)]
+pub struct RunLog {
+    file: RefCell<Option<LogWriter>>,
+    has_lost_line: Cell<bool>,
+}
+
+impl RunLog {
+    /// Returns a log without a file.
+    pub fn new() -> RunLog {
+        RunLog {
+            file: RefCell::new(None),
+            has_lost_line: Cell::new(false),
+        }
+    }
+
+    /// Truncates the file, and writes each further line to it.
+    pub fn start(&self, file: LogWriter) {
+        let mut file = file;
+        let emptied = file.flush();
+        let _ = self.file.try_replace(Some(file));
+        self.end_if_failed(emptied);
+    }
+
+    /// Returns whether there is a file to which lines are written.
+    pub fn is_open(&self) -> bool {
+        match self.file.try_borrow() {
+            Ok(file) => file.is_some(),
+            Err(_) => false,
+        }
+    }
+
+    /// Writes a line to the file, so that it stays even if the run is killed afterwards.
+    pub fn write_line<T: fmt::Display>(&self, text: &T) {
+        self.end_if_failed(self.try_line(text));
+    }
+
+    /// Writes a piece of a line to the file, or all of it. The end of a line is written to the file at once.
+    pub fn write_piece(&self, bytes: &[u8]) {
+        self.end_if_failed(self.try_piece(bytes));
+    }
+
+    fn try_line<T: fmt::Display>(&self, text: &T) -> io::Result<()> {
+        let Ok(mut file) = self.file.try_borrow_mut() else {
+            return Ok(());
+        };
+        let Some(file) = &mut *file else {
+            return Ok(());
+        };
+        writeln!(file, "{text}")?;
+        file.flush()
+    }
+
+    fn try_piece(&self, bytes: &[u8]) -> io::Result<()> {
+        let Ok(mut file) = self.file.try_borrow_mut() else {
+            return Ok(());
+        };
+        let Some(file) = &mut *file else {
+            return Ok(());
+        };
+        file.write_all(bytes)?;
+        if bytes.ends_with(b"\n") {
+            file.flush()
+        } else {
+            Ok(())
+        }
+    }
+
+    // Ends the log if a line couldn't be written.
+    fn end_if_failed(&self, written: io::Result<()>) {
+        if written.is_err() {
+            self.has_lost_line.set(true);
+            let _ = self.file.try_replace(None);
+        }
+    }
+}
+
+/// A writer that writes to another one, and also to the log of the run. In contracts its contents are those of the
+/// other one.
+#[derive(Drop)]
+pub struct Logged<'a, W> {
+    inner: W,
+    log: &'a RunLog,
+}
+
+impl<'a, W> Logged<'a, W> {
+    /// Returns a writer that writes to `inner` and to `log`.
+    pub fn new(inner: W, log: &'a RunLog) -> Logged<'a, W>
+        ensures { result.inner ≡ inner }
+    {
+        Logged { inner, log }
+    }
+}
+
+impl<W: Write> Write for Logged<'_, W> {
+    ghost contents = { λ logged. W.contents logged.inner };
+
+    // The log receives the bytes that were written, or all bytes if none could be written: then the log is the only
+    // place where they can be found.
+    fn write(&mut self, bytes: &[u8]) -> io::Result<usize> {
+        let written = self.inner.write(bytes);
+        match &written {
+            Ok(count) => self.log.write_piece(bytes.get(..*count).unwrap_or(bytes)),
+            Err(_) => self.log.write_piece(bytes),
+        }
+        written
+    }
+
+    fn flush(&mut self) -> io::Result<()> {
+        self.inner.flush()
+    }
+}
+
+/// If `name` is given, creates or truncates this file, and starts the log in it.
+///
+/// Returns the faults of `create_log`: file fault 4 if the file is a journal, file fault 5 if another run has locked
+/// it, file fault 2 if it can't be created or truncated for another reason, or error 18 if memory runs out.
+pub fn start_log<'a, R: Store<Log = LogFile<File>>>(
+    files: &mut R,
+    log: &RunLog,
+    name: Option<&'a str>,
+) -> Result<(), Fault<'a>>
+    ensures creates { CreatesLog name.entry (R.state files.old) (R.state files.new) }
+    ensures err { IfErr result (λ fault.
+        IsSomeAnd name.entry (λ name. IsMaking (R.state files.old).view name.now fault)) }
+{
+    let Some(name) = name else {
+        return Ok(());
+    };
+    match create_log(files, name) {
+        Ok(file) => {
+            log.start(file);
+            Ok(())
+        }
+        Err(fault) => Err(fault),
+    }
+}
+
+/// Ends a run whose exit status would be `status`. If a line of the log was lost, prints file fault 2 with the name of
+/// the log, and returns 1. Otherwise returns `status`.
+pub fn end_log<E: Write>(errors: &mut E, log: &RunLog, name: Option<&str>, status: u8) -> u8
+    ensures few { status ≤ 1 → result ≤ 1 }
+    ensures failed { result ≡ 0 → status ≡ 0 }
+{
+    match name {
+        Some(name) if log.has_lost_line.get() => {
+            print_fault(errors, &unmade(name));
+            let _ = writeln!(errors, "{INCOMPLETE}");
+            1
+        }
+        _ => status,
+    }
+}

@@ -1,0 +1,201 @@
+"""Cases of the log of a run (-o): which lines its file has, and which files are refused."""
+import fcntl
+import os
+import re
+
+import reference
+from bench import WAITING, check
+from losses import session_wire
+from options import images, last_lines
+from terminal import logged, run, with_read_back
+
+TIMED = re.compile(r"\d+\.\d{3} (.*)")
+TAKEN = "It has two roles in this run, or another program uses it: give each role its own file."
+INCOMPLETE = "The log is incomplete, but the job went on: free disk space, or choose another file."
+SEALED = "SEALED: the chip is changed from here on."
+
+
+def lines_of(bench, name="log"):
+    """Returns the lines of a log. A log has no control characters except the ends of lines."""
+    text = bench.path(name).read_bytes()
+    check("bytes of the log that aren't printable", re.sub(rb"[ -~\n]", b"", text), b"")
+    check("the end of the log", text[-1:], b"\n")
+    return text.decode().splitlines()
+
+
+def split(lines):
+    """Returns the lines of -V without their times, and the other lines."""
+    timed = [found[1] for found in map(TIMED.fullmatch, lines) if found]
+    return timed, [it for it in lines if not TIMED.fullmatch(it)]
+
+
+def logs_a_run(start):
+    """The log has what is printed, the plain lines of the progress and the lines of -V; the screen has no more."""
+    old, new = images("logs_a_run")
+    bench = start(data=old)
+    bench.write("new", new)
+    bench.write("log", b"an old log, which is longer than the new one\n" * 999)
+    plan = reference.session("TINY64", old, new)
+    got = bench.run("-w", "new", "--journal", "j", "-o", "log")
+    check("standard error", got.err, [])
+    check("status", got.status, 0)
+    timed, plain = split(lines_of(bench))
+    check("lines of -V", timed, ["identify", "scan", *with_read_back(logged(bench.server.log)), "compare"])
+    journal = 25 + 4 * 4100 + 36
+    check("other lines", plain, [
+        bench.device(WAITING), "identify 1", "scan: sector 1 of 16",
+        f"Sectors to change: 4. Erases: 3. Bytes of journal: {journal}.", SEALED, "erase: erases sent 1",
+        "read back: sectors read 1", "program: pages sent 1", *last_lines(plan), "compare: sector 1 of 16", *got.out])
+    check("the order of the lines", lines_of(bench)[:3], [bench.device(WAITING), lines_of(bench)[1], "identify 1"])
+    got = bench.run("--restore", "j", "--output=log", "-V")
+    check("lines of -V on the screen", got.err, [it for it in lines_of(bench) if TIMED.fullmatch(it)])
+    check("the last lines", lines_of(bench)[-2:], got.out)
+    bench.check_chip(old)
+
+
+def logs_plain_lines(start):
+    """On a terminal the line that is rewritten isn't logged: the log has the plain lines, whatever the screen shows."""
+    old, _ = images("logs_plain_lines")
+    bench = start(data=old)
+    bench.write("image", old)
+    wanted = [bench.device(WAITING), "identify 1", "scan: sector 1 of 16", reference.found("TINY64"), "Verified."]
+    for mode in "auto", "plain", "none":
+        status, printed, _ = run(bench, "-v", "image", "--progress", mode, "-o", "log")
+        check("status", status, 0)
+        check("lines that are shown", bool(printed), mode != "none")
+        timed, plain = split(lines_of(bench))
+        check("lines of -V", timed, ["identify", "scan"])
+        check("other lines", plain, wanted)
+
+
+def logs_faults(start):
+    """The log has the lines of a fault and its hint, also if the programmer can't be used."""
+    old, new = images("logs_faults")
+    bench = start(data=old)
+    bench.write("new", new)
+    got = bench.run("-w", "new", "--journal", "j", "-c", "W25Q64FV", "-o", "log")
+    check("status", got.status, 1)
+    check("the last lines", lines_of(bench)[-len(got.err):], got.err)
+    bench.check_absent("j")
+    got = bench.run("-w", "new", "--journal", "j", "-o", "log", events={40: "nak"})
+    check("the last lines", lines_of(bench)[-len(got.err) - 1:][1:], got.err)
+    check("the line before", TIMED.fullmatch(lines_of(bench)[-len(got.err) - 1])[1], "stopped")
+    bench.plug()
+    bench.path("dev").unlink()
+    got = bench.run("-r", "out", "-o", "log")
+    check("the log", lines_of(bench), got.err)
+    check("status", got.status, 1)
+
+
+def logs_until_a_kill(start):
+    """A killed run leaves the lines of each transaction that it had sent."""
+    old, new = images("logs_until_a_kill")
+    bench = start(data=old)
+    bench.write("new", new)
+    programs = [at for at, (out, _) in enumerate(session_wire(old, new), 1) if out[0] == 0x02]
+    bench.run("-w", "new", "--journal", "j", "-o", "log", events={programs[2]: "kill"})
+    timed, plain = split(lines_of(bench))
+    sent = logged(bench.server.log)
+    check("programs that were sent", sum(it.startswith("program ") for it in sent) >= 2, True)
+    check("lines of -V", [it for it in timed if it not in ("identify", "scan", "read back")][: len(sent)], sent)
+    check("the line before the change", SEALED in plain, True)
+
+
+def needs_a_file_of_its_own(start):
+    """A log that is the device, a file of the job, or one to which the program prints is file fault 5."""
+    old, new = images("needs_a_file_of_its_own")
+    bench = start(data=old)
+    bench.write("new", new)
+    bench.write("layout", b"0:ffff all\n")
+    for name in "j", "new", "layout", "dev", "out":
+        if name != "j":
+            bench.path("link").unlink(missing_ok=True)
+            os.symlink(name, bench.path("link"))
+        for log in (name, f"./{name}") if name == "j" else (name, "link"):
+            if name == "out":
+                bench.write("out", b"old")
+                words = ["-r", "out"]
+            else:
+                words = ["-w", "new", "--journal", "j", "-l", "layout", "-i", "all"]
+            bench.expect(*words, "-o", log, err=[f"File fault 5: {log}.", TAKEN])
+            bench.check_nothing_sent()
+            bench.check_absent("j")
+    bench.check_file("new", new)
+    bench.check_file("layout", b"0:ffff all\n")
+    bench.check_file("out", b"old")
+    bench.server.begin({})
+    with open(bench.path("errors"), "wb") as errors:
+        process = bench.start(["-r", "out", "-o", "errors"], err=errors)
+        process.communicate()
+    check("status", process.returncode, 1)
+    bench.check_file("errors", f"File fault 5: errors.\n{TAKEN}\n".encode())
+    bench.check_nothing_sent()
+
+
+def overwrites_no_journal(start):
+    """A log that is a journal is file fault 4, and the journal stays as it is. A directory is file fault 2."""
+    old, new = images("overwrites_no_journal")
+    bench = start(data=old)
+    journal = reference.journal("TINY64", old, [1])
+    bench.write("log", journal)
+    bench.write("new", new)
+    for words in ("-w", "new", "--journal", "j"), ("-r", "out"), ():
+        bench.expect(*words, "-o", "log", err=[
+            "File fault 4: log.", "It is a journal, which is never overwritten: choose a new name."])
+        bench.check_nothing_sent()
+    bench.check_file("log", journal)
+    bench.check_absent("out")
+    hint = "It can't be created, written or locked: free disk space, or correct its permissions."
+    bench.path("place").mkdir()
+    for log in "place", "missing/log":
+        bench.expect("-r", "out", "-o", log, err=[f"File fault 2: {log}.", hint])
+        bench.check_nothing_sent()
+    if os.geteuid():
+        bench.path("place").chmod(0o555)
+        bench.expect("-r", "out", "-o", "place/log", err=["File fault 2: place/log.", hint])
+        bench.path("place").chmod(0o755)
+
+
+def waits_for_no_other_run(start):
+    """A log that another run writes is file fault 5, and stays as it is."""
+    bench = start()
+    with open(bench.path("log"), "wb") as log:
+        log.write(b"another run\n")
+        log.flush()
+        fcntl.flock(log, fcntl.LOCK_EX)
+        bench.expect("-r", "out", "-o", "log", err=["File fault 5: log.", TAKEN])
+    bench.check_nothing_sent()
+    bench.check_file("log", b"another run\n")
+
+
+def goes_on_without_its_log(start):
+    """If the log can't be written, the job is done, and the run ends with file fault 2."""
+    old, new = images("goes_on_without_its_log")
+    bench = start(data=old)
+    bench.write("new", new)
+    got = bench.run("-w", "new", "--journal", "j", "-o", "/dev/full")
+    check("status and standard error", (got.status, got.err), (1, ["File fault 2: /dev/full.", INCOMPLETE]))
+    check("the answer", got.out[-1].partition(":")[0], "Done")
+    bench.check_chip(new)
+    got = bench.run("-v", "new", "-c", "W25Q64FV", "-o", "/dev/full")
+    check("the last lines", got.err[-2:], ["File fault 2: /dev/full.", INCOMPLETE])
+    check("the first line", got.err[0], reference.OTHER_NAME[0])
+
+
+def logs_only_jobs(start):
+    """A description of a journal, the help and the version aren't logged, and a usage fault creates no log."""
+    old, _ = images("logs_only_jobs")
+    bench = start(data=old)
+    bench.write("j", reference.journal("TINY64", old, [1]))
+    for words in ("--check-journal", "j"), ("-h",), ("-R",), ("--flash-size", "-E", "--journal", "k"):
+        got = bench.run(*words, "-o", "log")
+        check("the output", bool(got.out or got.err), True)
+        bench.check_absent("log")
+        bench.check_nothing_sent()
+    got = bench.run("-r", "missing/out", "-w", "x", "-o", "log")
+    check("status", got.status, 1)
+    bench.check_absent("log")
+
+
+CASES = [logs_a_run, logs_plain_lines, logs_faults, logs_until_a_kill, needs_a_file_of_its_own,
+         overwrites_no_journal, waits_for_no_other_run, goes_on_without_its_log, logs_only_jobs]
