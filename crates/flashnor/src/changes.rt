@@ -31,7 +31,7 @@ use std::alloc::{AllocError, Global};
 /// Returns the result of the session or rehearsal, or the fault that occurred before it: a fault of creating the
 /// journal's file, or error 18 if memory runs out.
 #[tactic(auto, using(crate::proofs::Doing::does_change))]
-pub fn change_chip<'a, R: Store, B: Meter>(
+pub fn change_or_rehearse<'a, R: Store, B: Meter>(
     rt: &mut R,
     bus: &mut B,
     chip: Emulated,

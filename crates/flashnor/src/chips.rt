@@ -21,15 +21,15 @@ pub struct Content {
 }
 
 /// Reads the chip's files. If an image is missing or not named, all bytes are FFh. If a status file is missing or not
-/// named, both status bytes are 0. Returns the faults of `read_whole`, or error 18 if memory runs out.
+/// named, both status bytes are 0. Returns the faults of `read_chip_file`, or error 18 if memory runs out.
 pub fn read_content<'a, R: Store>(rt: &R, programmer: &Programmer<'a>) -> Result<Content, Fault<'a>>
     ensures len { IfOk result (λ content. vec_len content.bytes ≡ (emulated_part programmer.now.chip).size) }
     ensures ok { IfOk result (IsContentOf (R.state rt.now).view programmer.now) }
     ensures err { IfErr result (FailsToOpen (R.state rt.now).view programmer.now) }
 {
     let size = programmer.chip.size();
-    let image = read_whole(rt, programmer.image, size)?;
-    let status = read_whole(rt, programmer.status, 2)?;
+    let image = read_chip_file(rt, programmer.image, size)?;
+    let status = read_chip_file(rt, programmer.status, 2)?;
     Ok(content_of(rt.alloc(), size, image, status)?)
 }
 
@@ -70,7 +70,7 @@ pub fn content_of(
 /// - file fault 3 if the file has another length
 /// - error 18 if memory runs out
 #[tactic(auto, using(nor_console::proofs::FileFaults::unread_opening))]
-pub fn read_whole<'a, R: Store>(
+pub fn read_chip_file<'a, R: Store>(
     rt: &R,
     name: Option<&'a str>,
     len: u32,

@@ -13,7 +13,7 @@ ghost use Rattle.flashnor.specs.Holding.{LeavesAmid, LeavesFileAmid, MakesDurabl
 ghost use Rattle.nor_console.specs.Stored.{AreTwo, Happens, IsFileFound, IsNot, IsRead, IsReportedOf};
 ghost use Rattle.flashnor.specs.Tasks.{journal_by};
 
-use crate::chips::{Content, content_of, read_whole};
+use crate::chips::{Content, content_of, read_chip_file};
 use crate::tasks::journal_by;
 use nor_args::{Programmer, Task};
 use nor_chip::{Bus, SimBus};
@@ -114,7 +114,7 @@ fn read_held<'a, R: Store>(rt: &mut R, name: &'a str, len: u32) -> Result<Vec<u8
     ensures no_more { AreAtRest (R.state rt.old) → LeaveNoMore (R.state rt.old) (R.state rt.new) }
     ensures err { IfErr result (IsLockingFault (R.state rt.old).view name.now len) }
 {
-    let Some(bytes) = read_whole(rt, Some(name), len)? else {
+    let Some(bytes) = read_chip_file(rt, Some(name), len)? else {
         return Err(unread(name));
     };
     match rt.sync(name) {

@@ -12,10 +12,10 @@ ghost use Rattle.flashnor.specs.Roles.{FailsFileRoles};
 ghost use Rattle.flashnor.specs.Run.{DoesJob, DoesStarted, FailsTask, FailsTraced};
 ghost use Rattle.flashnor.specs.Tasks.{journal_by};
 
-use crate::changes::{change_chip, restore_chip};
+use crate::changes::{change_or_rehearse, restore_chip};
 use crate::chips::{Content, start};
 use crate::existing::create_trace;
-use crate::roles::have_one_role;
+use crate::roles::files_have_one_role;
 use nor_args::{ChipJob, Task};
 use nor_chip::{Bus, Meter, SimBus, TraceBus};
 use nor_console::{Fault, Outcome, list_ranges, read_to_file, report_protection, verify_image};
@@ -96,7 +96,7 @@ fn open_trace<'a, R: Store>(
 {
     let log = create_trace(rt, job.programmer.trace)?;
     if log.is_some() {
-        have_one_role(rt, job)?;
+        files_have_one_role(rt, job)?;
     }
     Ok(log)
 }
@@ -167,7 +167,7 @@ fn do_task<'a, R: Store, B: Meter>(
             Ok(verify_image(bus, named, &bytes, included.as_ref()))
         }
         Task::Change(change) => {
-            change_chip(rt, bus, job.programmer.chip, named, change, sources)
+            change_or_rehearse(rt, bus, job.programmer.chip, named, change, sources)
         }
         Task::Restore { .. } => restore_chip(bus, named, &sources.bytes),
     }

@@ -42,16 +42,16 @@ pub fn print_end<O: Write, E: Write>(
     match answer {
         Ok(answer) => {
             let printed = print_answer(output, answer).is_ok();
-            end_well(errors, printed, unwritten)
+            end_after_answer(errors, printed, unwritten)
         }
         Err(fault) => match help_of(&fault) {
             Some(help) => {
                 let printed = print_help(output, help).is_ok();
-                end_well(errors, printed, unwritten)
+                end_after_answer(errors, printed, unwritten)
             }
             None => match to {
-                Reports::Errors => end_badly(errors, &fault, unwritten),
-                Reports::Output => end_badly(output, &fault, unwritten),
+                Reports::Errors => end_after_fault(errors, &fault, unwritten),
+                Reports::Output => end_after_fault(output, &fault, unwritten),
                 Reports::Nowhere => Ending {
                     status: 1,
                     printed: false,
@@ -64,7 +64,7 @@ pub fn print_end<O: Write, E: Write>(
 
 // Prints the message of the run's fault, and a message for each file that could not be written. The status is 1.
 #[tactic(auto, using(crate::proofs::Printed::appends_both))]
-fn end_badly<W: Write>(errors: &mut W, fault: &Fault<'_>, unwritten: Unwritten<'_>) -> Ending
+fn end_after_fault<W: Write>(errors: &mut W, fault: &Fault<'_>, unwritten: Unwritten<'_>) -> Ending
     ensures { EndsBadly fault.now unwritten.entry (W.contents errors.old) (W.contents errors.new) result }
 {
     let first = print_fault(errors, fault);
@@ -80,7 +80,7 @@ fn end_badly<W: Write>(errors: &mut W, fault: &Fault<'_>, unwritten: Unwritten<'
 // for each file that could not be written. The status is 0 if the answer or the help was printed and all files were
 // written, and otherwise 1.
 #[tactic(auto, using(nor_console::proofs::Printed::appends_then))]
-fn end_well<W: Write>(errors: &mut W, printed: bool, unwritten: Unwritten<'_>) -> Ending
+fn end_after_answer<W: Write>(errors: &mut W, printed: bool, unwritten: Unwritten<'_>) -> Ending
     ensures { EndsWell printed unwritten.entry (W.contents errors.old) (W.contents errors.new) result }
 {
     let first = print_lost(errors, printed);

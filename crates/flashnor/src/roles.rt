@@ -24,7 +24,7 @@ pub enum Role {
 }
 
 /// Checks that the trace's file is none of the other files of a session: image, status file, layout, image to write and
-/// journal. Returns the faults of `have_one_role`.
+/// journal. Returns the faults of `files_have_one_role`.
 pub fn has_own_trace<'a, R: Store>(rt: &R, job: &ChipJob<'a>) -> Result<(), Fault<'a>>
     ensures ok { OnOk result (HasOwnTrace (R.state rt.now).view.nature job.now) }
     ensures err { IfErr result (FailsFileRoles (R.state rt.now).view.nature job.now) }
@@ -45,7 +45,7 @@ pub fn has_own_trace<'a, R: Store>(rt: &R, job: &ChipJob<'a>) -> Result<(), Faul
 /// Returns file fault 5 if two roles share a file that they may not share. The fault names the file of the later role,
 /// in this order: image, status, trace, layout, image to write or compare, output, journal. Returns file fault 1 if a
 /// name can't be looked up.
-pub fn have_one_role<'a, R: Store>(rt: &R, job: &ChipJob<'a>) -> Result<(), Fault<'a>>
+pub fn files_have_one_role<'a, R: Store>(rt: &R, job: &ChipJob<'a>) -> Result<(), Fault<'a>>
     ensures ok { OnOk result (FilesHaveOneRole (R.state rt.now).view.nature job.now) }
     ensures err { IfErr result (FailsFileRoles (R.state rt.now).view.nature job.now) }
 {

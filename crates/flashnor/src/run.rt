@@ -17,7 +17,7 @@ use crate::holding::{Held, Unwritten, hold_content, lost_journal, write_back};
 use crate::jobs::{Called, call_on};
 use crate::laws::runs_restore_original;
 use crate::printing::{Ending, print_end};
-use crate::roles::{have_one_role, look_at_sources};
+use crate::roles::{files_have_one_role, look_at_sources};
 use crate::streams::{Reports, StreamFault, are_unprinted};
 use crate::tasks::writes_back;
 use nor_args::{ChipJob, Job, WrongArguments, explained_request_of};
@@ -146,7 +146,7 @@ fn run<'a, R: Store>(rt: &mut R, words: &'a [String]) -> (Work<'a>, Reports)
 {
     match explained_request_of(rt.alloc(), words) {
         Ok(Job::List) => (Work::before(Ok(Answer::Chips)), Reports::Errors),
-        Ok(Job::Chip(job)) => run_on_chip(rt, &job),
+        Ok(Job::Chip(job)) => run_chip_job(rt, &job),
         Err(WrongArguments { fault, reason }) => {
             let wrong = Fault::Usage { fault, reason };
             (Work::before(Err(wrong)), Reports::Errors)
@@ -157,7 +157,7 @@ fn run<'a, R: Store>(rt: &mut R, words: &'a [String]) -> (Work<'a>, Reports)
 // Performs a job on a chip, unless standard output or standard error prints to one of the job's files. Returns the
 // job's result, and where a fault is printed.
 #[tactic(auto, using(crate::proofs::Ended::failed_ends, crate::proofs::Ended::failed_holds, crate::proofs::Ended::printed_at, crate::proofs::Ended::printed_there, crate::proofs::Before::keeps_still))]
-fn run_on_chip<'a, R: Store>(rt: &mut R, job: &ChipJob<'a>) -> (Work<'a>, Reports)
+fn run_chip_job<'a, R: Store>(rt: &mut R, job: &ChipJob<'a>) -> (Work<'a>, Reports)
     ensures ends { EndsChipJob (R.state rt.old) (R.state rt.new) job.now result.0.unwritten result.0.answer }
     ensures keeps { AreAtRest (R.state rt.old)
         → KeepsFiles job.now.programmer job.now.task (R.state rt.old) (R.state rt.new) }
@@ -189,7 +189,7 @@ fn work_on_chip<'a, R: Store>(rt: &mut R, job: &ChipJob<'a>) -> Result<Work<'a>,
     if let Some(name) = existing_journal(rt, &job.task) {
         return Err(fault_before(rt, job, name));
     }
-    have_one_role(rt, job)?;
+    files_have_one_role(rt, job)?;
     look_at_sources(rt, job)?;
     if writes_back(&job.task) {
         change_files(rt, job)

@@ -106,9 +106,9 @@ abbrev pub AreJobLines : Operation → Answer → List ℕ → Type 0
 AreJobLines operation found text = AreLinesBy operation.is_flash_name (is_unverified operation.task) found text
 
 -- Holds if the job ended with an answer, and the answer's lines were printed.
-abbrev pub HasPrinted : Operation → Result Answer JobFault → (out out' : Option (List ℕ)) → Type 0
-HasPrinted operation (Ok found) out out' = Prints (AreJobLines operation found) out out'
-HasPrinted operation (Err fault) out out' = ⊥
+abbrev pub HasPrintedAnswer : Operation → Result Answer JobFault → (out out' : Option (List ℕ)) → Type 0
+HasPrintedAnswer operation (Ok found) out out' = Prints (AreJobLines operation found) out out'
+HasPrintedAnswer operation (Err fault) out out' = ⊥
 
 -- Holds for a run of a job on a chip; `old` and `new` are the states of the bus before and after it. The run sent only
 -- what its job may send (`SendsOnly`). Its exit status is 0 or 1, and 0 only if the job ended with an answer and the
@@ -119,7 +119,7 @@ pub record HasRun (operation : Operation) (ranges : Option (List Span)) (bytes :
   pub ends : EndsJob operation ranges bytes before after old new outcome
   pub sends : SendsOnly operation.task bytes old new after
   pub few : status ≤ 1
-  pub printed : status ≡ 0 → HasPrinted operation outcome out out'
+  pub printed : status ≡ 0 → HasPrintedAnswer operation outcome out out'
 
 -- Holds if the arguments ask for the help or the version, so that `clap` may reject them with the error that contains
 -- the help, or with the one that contains the version.

@@ -65,7 +65,7 @@ mod terminal;
 mod trouble;
 
 use nor_console::{by_line, keep_streams};
-use run::{end_without_streams, run_words};
+use run::{end_without_descriptors, run_words};
 use run_log::Logged;
 use std::env;
 use std::process::ExitCode;
@@ -86,7 +86,7 @@ fn main(rt: HostRuntime) -> ExitCode {
             &mut output,
             &mut errors,
         ),
-        Err(_) => end_without_streams(&mut errors),
+        Err(_) => end_without_descriptors(&mut errors),
     };
     ExitCode::from(status)
 }

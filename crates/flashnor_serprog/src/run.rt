@@ -68,7 +68,7 @@ pub fn run_words<'b, O: Write, E: Write>(
 {
     match given {
         Ok(args) => match arguments_after_name(rt.alloc(), args) {
-            Ok(words) => run_over(
+            Ok(words) => run_arguments(
                 rt,
                 screen,
                 &mut Disk::new(rt),
@@ -85,14 +85,14 @@ pub fn run_words<'b, O: Write, E: Write>(
 
 /// Ends a run that could not keep descriptors 0, 1 and 2 open. Opens no file, prints file fault 1, and returns the exit
 /// status, which is 1.
-pub fn end_without_streams<E: Write>(errors: &mut E) -> u8
+pub fn end_without_descriptors<E: Write>(errors: &mut E) -> u8
     ensures { result ≡ 1 }
 {
     end_badly(errors, &unread(DIRECTORY))
 }
 
 // Performs the job given by the arguments, without the program's name, over any store of files.
-fn run_over<'b, R: Store<Log = LogFile<File>>, O: Write, E: Write>(
+fn run_arguments<'b, R: Store<Log = LogFile<File>>, O: Write, E: Write>(
     rt: &'b HostRuntime,
     screen: &'b Screen,
     files: &mut R,

@@ -47,20 +47,20 @@ returns-in-Verify g c =
       err = tt;
     })
 
-pub change_chip-requires : goal.change_chip-requires
-change_chip-requires g c =
+pub change_or_rehearse-requires : goal.change_or_rehearse-requires
+change_or_rehearse-requires g c =
     let read = rw c.in-Change.is at c.requires in
     record { ranges = read.0; image = read.1 }
 
 pub returns-in-Change : goal.returns-in-Change
 returns-in-Change g c =
-    let change = c.change_chip.ensures in
+    let change = c.change_or_rehearse.ensures in
     rw c.in-Change.is (record {
       nature = change.nature;
       others = change.others;
       unmade = change.unmade;
       ok = λ ready. change.ok (modelled_ready _ _ ready) (steady_or_idle-ready _ _ ready);
-      err = IfErr-weaker c.change_chip.result _ _ (λ fault fails. inr fails) change.err;
+      err = IfErr-weaker c.change_or_rehearse.result _ _ (λ fault fails. inr fails) change.err;
     })
 
 pub returns : goal.returns

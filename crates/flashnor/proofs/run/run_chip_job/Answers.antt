@@ -1,6 +1,6 @@
 use Rattle.std.proofs.Common.{inl}
 use Rattle.flashnor.proofs.Ended.{failed_ends}
-use Rattle.flashnor.proofs.run.run_on_chip.Goals as goal
+use Rattle.flashnor.proofs.run.run_chip_job.Goals as goal
 
 pub returns-in-Err-work_on_chip-clause-ends : goal.returns-in-Err-work_on_chip-clause-ends
 returns-in-Err-work_on_chip-clause-ends g c =
