@@ -58,3 +58,8 @@ FailsToFind named old new fault =
 abbrev pub IsNamedFirst : Option ChipName → (old new : BusState) → Type 0
 IsNamedFirst None old new = new ≡ old
 IsNamedFirst (Some name) old new = (chip : Found) × HasIdentified (Some name) old new (Ok chip)
+
+-- Holds if a check of the chip's name returned this error. Without a name, the check returns none.
+abbrev pub FailsToName : Option ChipName → (old new : BusState) → Refusal → Type 0
+FailsToName None old new refusal = ⊥
+FailsToName (Some name) old new refusal = HasIdentified (Some name) old new (Err refusal)

@@ -1,17 +1,28 @@
 -- The results of restores, on every bus.
-use Rattle.std.specs.Prelude.{◌≡◌, Bool, true, false, Result, OnOk}
+use Rattle.std.specs.Prelude.{◌≡◌, ◌⊎◌, ℕ, Bool, true, false, List, Option, Result, Err, OnOk}
 use Rattle.nor_model.specs.Bus.{BusState}
 use Rattle.nor_apply.specs.Applying.{ErasesFirst}
+use Rattle.nor_journal.specs.Fault.{HasFault}
 use Rattle.nor_journal.specs.Saved.{is_saved}
 use Rattle.nor_journal.specs.Text.{Content as Journal}
 use Rattle.nor_probe.specs.Known.{IsModelled}
+use Rattle.nor_probe.specs.declared.table.ChipName.{ChipName}
 use Rattle.nor_request.specs.declared.refusal.Refusal.{Refusal}
+use Rattle.nor_request.specs.declared.refusal.Refusal.TheVariants.{BadJournal}
 use Rattle.nor_request.specs.declared.report.Report.{Report}
 use Rattle.nor_session.specs.Headline.{RestoresOriginal, RewritesOriginal}
 use Rattle.nor_session.specs.Restore.{AlwaysBy, Choice, HonestBy, ModelledBy, differing, every_saved}
 use Rattle.nor_console.specs.Readings.{AnswersCall}
 use Rattle.nor_console.specs.Sessions.{ReportsDone}
 use Rattle.nor_console.specs.declared.answers.Answer.{Answer}
+use Rattle.nor_console.specs.declared.messages.Fault.{Fault}
+use Rattle.nor_console.specs.declared.messages.Fault.TheVariants as end
+use Rattle.nor_jobs.specs.Finding.{FailsToName, IsNamedFirst}
+
+-- Holds if `bytes` are no journal and the fault is error 15, which contains the first fault of the bytes.
+abbrev pub IsNoJournal : (bytes : List ℕ) → Fault → Type 0
+IsNoJournal bytes (end.Refused (BadJournal why)) = HasFault bytes why
+IsNoJournal bytes _ = ⊥
 
 -- The choice of the sectors that a restore writes: the saved sectors that differ if the restore is quick, and otherwise
 -- every saved sector.
@@ -37,3 +48,17 @@ pub record HasRunRestore (quick : Bool) (journal : Journal) (old new : BusState)
   pub modelled : IsModelled old → ModelledBy (choice_of quick) journal old new result
   pub thorough : quick ≡ false → OnOk result (ErasesFirst (is_saved journal) old new)
   pub returned : AnswersCall ReportsDone result outcome
+
+-- Holds if a restore from the journal was run. If a name is given, the chip was identified before, and has this name.
+pub record HasRunNamed (quick : Bool) (named : Option ChipName) (journal : Journal) (old new : BusState)
+    (outcome : Result Answer Refusal) : Type 0 where
+  pub found : BusState
+  pub first : IsNamedFirst named old found
+  pub ran : HasRunRestore quick journal found new outcome
+
+-- Holds after a restore for which a name may be given: the restore was run (`HasRunNamed`); or the outcome is the error
+-- of the check of the name, and nothing else was sent.
+abbrev pub HasRestoredNamed : (quick : Bool) → Option ChipName → Journal → (old new : BusState) → Result Answer Refusal
+    → Type 0
+HasRestoredNamed quick named journal old new outcome = HasRunNamed quick named journal old new outcome
+    ⊎ ((refusal : Refusal) × FailsToName named old new refusal × (outcome ≡ Err refusal))

@@ -1,7 +1,8 @@
 -- The contents of the files that a job reads before its call to the engine.
-use Rattle.std.specs.Prelude.{◌≡◌, ◌⊎◌, [], ℕ, List, Option, ⊤}
+use Rattle.std.specs.Prelude.{◌≡◌, ◌⊎◌, [], ℕ, List, Option, replicate, ⊤}
 use Rattle.nor_files.specs.Files.{View}
 use Rattle.nor_layout.specs.declared.ranges.Span.{Span}
+use Rattle.nor_args.specs.Text.{Text}
 use Rattle.nor_args.specs.declared.job.Task.{Task}
 use Rattle.nor_args.specs.declared.job.Task.TheVariants as task
 use Rattle.nor_args.specs.declared.job.Wanted.{Wanted}
@@ -10,12 +11,24 @@ use Rattle.nor_console.specs.Files.{IsReadingFault, IsSharingFault}
 use Rattle.nor_console.specs.Requests.{AreRangesOf, FailsToInclude}
 use Rattle.nor_console.specs.Stored.{IsRead}
 use Rattle.nor_console.specs.declared.messages.Fault.{Fault}
+use Rattle.nor_jobs.specs.Restoring.{IsNoJournal}
 
 -- Holds if `bytes` are those that were read of the image that a change writes. At most one byte more is read than the
 -- largest chip has. For an erase or a protection range, `bytes` must be empty.
 abbrev pub IsImage : View → Wanted → List ℕ → Type 0
 IsImage view (wanted.Write image) bytes = IsRead view image.now 16777217 bytes
 IsImage view _ bytes = bytes ≡ []
+
+-- Returns the bytes that a change of a chip of this size asks for, if `bytes` are those of its image: FFh for each byte
+-- of the chip for an erase, and otherwise `bytes`.
+abbrev pub asked_bytes : Wanted → (size : ℕ) → (bytes : List ℕ) → List ℕ
+asked_bytes wanted.Erase size bytes = replicate size 255
+asked_bytes _ size bytes = bytes
+
+-- Holds if a change of a chip of this size asks for `asked`, with the image that was read (`IsImage`).
+abbrev pub IsAskedOf : View → Wanted → (size : ℕ) → (asked : List ℕ) → Type 0
+IsAskedOf view wanted size asked =
+    (bytes : List ℕ) × IsImage view wanted bytes × (asked ≡ asked_bytes wanted size bytes)
 
 -- Holds if `ranges` are the addresses of the job's regions, and `bytes` are those of its image or of the journal that
 -- it restores from, as far as the job has them. At most one byte more is read than the largest chip or the longest
@@ -43,3 +56,7 @@ FailsSources view (task.Change change) fault =
     FailsToInclude view change.regions fault ⊎ FailsImage view change.wanted fault
 FailsSources view (task.Restore journal) fault = IsSharingFault view journal.now 16793662 fault
 FailsSources view _ fault = ⊥
+
+-- Holds if the fault is error 15: the bytes that were read of the file of this name are no journal.
+abbrev pub IsInvalid : View → Text → Fault → Type 0
+IsInvalid view name fault = (bytes : List ℕ) × IsRead view name 16793662 bytes × IsNoJournal bytes fault

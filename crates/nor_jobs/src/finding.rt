@@ -1,7 +1,7 @@
 //! The jobs that only identify the chip, and the identification that precedes a further call to the engine.
-ghost use Rattle.std.specs.Prelude.{Err, IfErr, IfOk, Ok, OnOk};
-ghost use Rattle.nor_jobs.specs.Finding.{FailsToFind, HasIdentified, HasLookedUp, IsNamedFirst, ReportsFound};
-ghost use Rattle.nor_jobs.specs.Finding.{ReportsSize};
+ghost use Rattle.std.specs.Prelude.{IfErr, IfOk, Ok, OnOk};
+ghost use Rattle.nor_jobs.specs.Finding.{FailsToFind, FailsToName, HasIdentified, HasLookedUp};
+ghost use Rattle.nor_jobs.specs.Finding.{IsNamedFirst, ReportsFound, ReportsSize};
 
 use nor_console::{Answer, Fault, Outcome, or_fault};
 use nor_model::Bus;
@@ -48,7 +48,7 @@ pub fn find_first<'a, B: Bus>(bus: &mut B, named: Option<ChipName>) -> Result<Fo
 /// Returns the errors of `find`.
 pub fn check_name<B: Bus>(bus: &mut B, named: Option<ChipName>) -> Result<(), Refusal>
     ensures ok { OnOk result (IsNamedFirst named (B.state bus.old) (B.state bus.new)) }
-    ensures err { IfErr result (λ refusal. HasIdentified named (B.state bus.old) (B.state bus.new) (Err refusal)) }
+    ensures err { IfErr result (FailsToName named (B.state bus.old) (B.state bus.new)) }
 {
     if named.is_some() {
         find(bus, named)?;

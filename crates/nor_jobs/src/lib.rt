@@ -3,7 +3,7 @@
 //! a chip.
 //!
 //! - `arguments.rt`: the arguments that follow the program's name
-//! - `sources.rt`: the layout, image or journal of a job
+//! - `sources.rt`: the layout, image or journal of a job, and the bytes that a change asks for
 //! - `finding.rt`: identifies the chip
 //! - `restoring.rt`: restores from a journal
 //!
@@ -16,6 +16,6 @@ mod restoring;
 mod sources;
 
 pub use arguments::arguments_after_name;
-pub use finding::{check_name, find, find_chip, find_first, report_size};
-pub use restoring::run_restore;
-pub use sources::{Sources, read_sources};
+pub use finding::{find_chip, find_first, report_size};
+pub use restoring::{journal_in, restore_named};
+pub use sources::{Sources, asked_bytes, read_sources};

@@ -1,18 +1,49 @@
 //! Restores from a journal.
-ghost use Rattle.std.specs.Prelude.{false, true};
-ghost use Rattle.nor_jobs.specs.Restoring.{HasRunRestore};
+ghost use Rattle.std.specs.Prelude.{◌≡◌, IfErr, IfOk, false, true};
+ghost use Rattle.nor_journal.specs.Text.{IsContent, text};
+ghost use Rattle.nor_jobs.specs.Restoring.{HasRestoredNamed, HasRunRestore, IsNoJournal};
 
-use nor_console::{Answer, Outcome};
+use crate::finding::check_name;
+use nor_console::{Answer, Fault, Outcome};
 use nor_journal::Journal;
 use nor_model::Bus;
-use nor_session::{Announcement, restore_announced, rewrite_announced};
+use nor_probe::ChipName;
+use nor_session::{Announcement, Refusal, restore_announced, rewrite_announced};
+
+/// Returns the journal that `bytes` encode, or error 15 with the first fault of the bytes.
+pub fn journal_in<'a, 'b>(bytes: &'b [u8]) -> Result<Journal<'b>, Fault<'a>>
+    ensures ok { IfOk result (λ journal. IsContent journal × (bytes.now ≡ text journal)) }
+    ensures err { IfErr result (IsNoJournal bytes.now) }
+{
+    match Journal::read(bytes) {
+        Ok(journal) => Ok(journal),
+        Err(fault) => Err(Fault::Refused(Refusal::BadJournal(fault))),
+    }
+}
 
 /// Restores the chip from a journal. If `quick` is true, reads the saved sectors and writes only those that differ
 /// (`restore`). Otherwise erases every saved sector without reading it first, and programs its saved bytes (`rewrite`).
+/// If a name is given, identifies the chip first, and restores it only if it has this name.
 ///
 /// `announce` receives the numbers of touched sectors and of erases before the first change (see `restore_announced`
-/// and `rewrite_announced`). It must accept every announcement. Returns an error of `restore` or `rewrite`.
-pub fn run_restore<B: Bus, F: FnOnce(Announcement) + Drop>(
+/// and `rewrite_announced`). It must accept every announcement. Returns an error of the identification (1, 2, 3, 12 or
+/// 13), after which nothing else was sent, or an error of `restore` or `rewrite`.
+pub fn restore_named<B: Bus, F: FnOnce(Announcement) + Drop>(
+    bus: &mut B,
+    named: Option<ChipName>,
+    journal: &Journal<'_>,
+    quick: bool,
+    announce: F,
+) -> Outcome
+    requires { F.IsAlwaysCallable announce }
+    ensures { HasRestoredNamed quick named journal.now (B.state bus.old) (B.state bus.new) result }
+{
+    check_name(bus, named)?;
+    run_restore(bus, journal, quick, announce)
+}
+
+// Restores the chip from a journal: calls `restore` if `quick` is true, and otherwise `rewrite`.
+fn run_restore<B: Bus, F: FnOnce(Announcement) + Drop>(
     bus: &mut B,
     journal: &Journal<'_>,
     quick: bool,

@@ -1,13 +1,15 @@
 //! The files that a job needs, which are read before its call to the engine.
-ghost use Rattle.std.specs.Prelude.{◌≡◌, ◌⊎◌, IfErr, IfOk};
+ghost use Rattle.std.specs.Prelude.{◌≡◌, ◌⊎◌, IfErr, IfOk, OnErr};
 ghost use Rattle.nor_files.specs.Files.{AreUntouched};
 ghost use Rattle.nor_console.specs.Requests.{AreRangesOf, FailsToInclude};
-ghost use Rattle.nor_jobs.specs.Sources.{AreSources, FailsImage, FailsSources, IsImage};
+ghost use Rattle.nor_args.specs.declared.job.Wanted.TheVariants.{Erase};
+ghost use Rattle.nor_jobs.specs.Sources.{AreSources, FailsImage, FailsSources, IsImage, asked_bytes};
 
 use nor_args::{Change, Task, Wanted};
-use nor_console::{Fault, MOST_IMAGE_BYTES, read_file, read_included, read_journal};
+use nor_console::{Fault, MOST_IMAGE_BYTES, erased, read_file, read_included, read_journal};
 use nor_files::Store;
 use nor_layout::Ranges;
+use std::alloc::{AllocError, Global};
 
 /// The contents of the files that a job reads.
 #[derive(Drop)]
@@ -75,5 +77,23 @@ fn read_image<'a, R: Store>(rt: &R, wanted: Wanted<'a>) -> Result<Vec<u8>, Fault
     match wanted {
         Wanted::Write { image } => read_file(rt, image, MOST_IMAGE_BYTES),
         _ => Ok(Vec::new(rt.alloc())),
+    }
+}
+
+/// Returns the bytes that a change asks for. `bytes` are those that were read of its image, and `size` is the size of
+/// the chip. For an erase, the bytes asked for are FFh for each byte of the chip; otherwise they are `bytes`. Returns an
+/// error only for an erase, if memory runs out.
+pub fn asked_bytes(
+    alloc: Global,
+    wanted: Wanted<'_>,
+    size: u32,
+    bytes: Vec<u8>,
+) -> Result<Vec<u8>, AllocError>
+    ensures ok { IfOk result (λ asked. asked.items ≡ asked_bytes wanted.entry size bytes.items) }
+    ensures err { OnErr result (wanted.entry ≡ Erase) }
+{
+    match wanted {
+        Wanted::Erase => erased(alloc, size),
+        _ => Ok(bytes),
     }
 }
