@@ -338,7 +338,7 @@ SUBJECTS = {
     "Jobs": "nor_args: specs/Text src/programmer specs/Programmer src/job",
     "A chip in files":
         "flashnor: specs/Found src/chips nor_console: specs/Stored flashnor: specs/Chips nor_console: specs/Tasks "
-        "flashnor: specs/Tasks nor_console: specs/Requests flashnor: specs/Requests specs/Changes src/holding "
-        "specs/Endings nor_chip: specs/Start",
+        "flashnor: specs/Tasks nor_console: specs/Requests nor_jobs: specs/Sources flashnor: specs/Changes "
+        "src/holding specs/Endings nor_chip: specs/Start",
     "What a run leaves": "flashnor: specs/Left specs/Run src/run",
 }

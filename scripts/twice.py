@@ -19,8 +19,6 @@ ALLOWED = {
     *"cause_of is_ready link_of polled_ready_of port_in sent_of serprog_state".split(),
     # the history of each kind of bus
     "history_of",
-    # the same notion of the two programs, which differ in their chips and arguments
-    "IsBufferOf",
 }
 
 

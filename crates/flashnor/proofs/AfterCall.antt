@@ -12,7 +12,6 @@ use Rattle.nor_layout.specs.declared.ranges.Span.{Span}
 use Rattle.nor_args.specs.declared.job.Regions.{Regions}
 use Rattle.nor_args.specs.declared.job.Wanted.{Wanted}
 use Rattle.nor_args.specs.declared.job.Wanted.TheVariants as wanted
-use Rattle.nor_args.specs.declared.programmer.Emulated.{Emulated}
 use Rattle.nor_args.specs.declared.job.JournalUse.{JournalUse}
 use Rattle.nor_args.specs.declared.job.Task.{Task}
 use Rattle.nor_args.specs.declared.job.Task.TheVariants as task
@@ -20,8 +19,8 @@ use Rattle.nor_args.specs.declared.programmer.Programmer.{Programmer}
 use Rattle.flashnor.specs.Changes.{IsKeptIn}
 use Rattle.nor_console.specs.Stored.{IsKeptFile, AreTwo}
 use Rattle.nor_console.specs.Requests.{AreRangesOf}
-use Rattle.flashnor.specs.Requests.{IsBufferOf}
 use Rattle.nor_console.specs.Tasks.{image_of, layout_of, named_by, journal_of}
+use Rattle.nor_jobs.specs.Sources.{IsAskedOf}
 use Rattle.flashnor.specs.Run.{DoesJob, IsViewBut}
 use Rattle.flashnor.specs.Tasks.{writes_back}
 use Rattle.nor_console.specs.declared.answers.Answer.{Answer}
@@ -87,9 +86,12 @@ ranges_before trace old amid (Some regions) (Some ranges) two but are = record {
   included = are.included;
 }
 
-pub buffer_before : (trace : Option (Bor Text)) (old amid : View) (chip : Emulated) (what : Wanted)
-    (bytes : List ℕ) → AreTwo old.nature trace (image_of what) → IsViewBut trace old amid
-    → IsBufferOf amid chip what bytes → IsBufferOf old chip what bytes
-buffer_before trace old amid chip (wanted.Write image) bytes two but is =
-    reads_before trace image.now 16777217 _ old amid (not_that old.nature trace image two) but is
-buffer_before trace old amid chip _ bytes two but is = is
+pub buffer_before : (trace : Option (Bor Text)) (old amid : View) (what : Wanted) (size : ℕ) (asked : List ℕ)
+    → AreTwo old.nature trace (image_of what) → IsViewBut trace old amid → IsAskedOf amid what size asked
+    → IsAskedOf old what size asked
+buffer_before trace old amid (wanted.Write image) size asked two but is = (
+  is.0,
+  reads_before trace image.now 16777217 _ old amid (not_that old.nature trace image two) but is.1,
+  is.2,
+)
+buffer_before trace old amid _ size asked two but is = is

@@ -27,18 +27,25 @@ use Rattle.flashnor.specs.Changes.{FailsSession, HasKeptChange, HasMadeChange, R
 use Rattle.nor_console.specs.Readings.{AnswersCall, HasReadOut}
 use Rattle.nor_console.specs.Requests.{AreRangesOf, request_for}
 use Rattle.nor_console.specs.Sessions.{HasRunInFile, ReportsDone}
-use Rattle.flashnor.specs.Requests.{IsBufferOf}
+use Rattle.nor_jobs.specs.Sources.{IsImage, asked_bytes}
+use Rattle.flashnor.specs.Found.{emulated_part}
 use Rattle.flashnor.specs.Run.{ChangesChip, DoesRead}
 use Rattle.nor_console.specs.declared.answers.Answer.{Answer}
 use Rattle.nor_console.specs.declared.answers.Answer.TheVariants as answer
 use Rattle.nor_console.specs.declared.messages.Fault.{Fault}
 
 pub does_change : (view : View) (after : FilesState) (chip : Emulated) (named : Option ChipName) (change : Change) (request : Request)
-    (ranges : Option (List Span)) (image : List ℕ) (old new : BusState) (outcome : Result Answer Refusal)
-    → request ≡ request_for change named ranges → AreRangesOf view change.regions ranges → IsBufferOf view chip change.wanted image
+    (ranges : Option (List Span)) (bytes image : List ℕ) (size : ℕ) (old new : BusState) (outcome : Result Answer Refusal)
+    → request ≡ request_for change named ranges → AreRangesOf view change.regions ranges → IsImage view change.wanted bytes
+    → size ≡ (emulated_part chip).size → image ≡ asked_bytes change.wanted size bytes
     → HasMadeChange request image change.journal_use old new view after outcome → ChangesChip view after chip named change old new outcome
-does_change view after chip named change request ranges image old new outcome same included buffer changed =
-    record { ranges = ranges; included = included; image = image; buffer = buffer; changed = rw same at changed }
+does_change view after chip named change request ranges bytes image size old new outcome same included read sized asked changed = record {
+  ranges = ranges;
+  included = included;
+  image = image;
+  buffer = (bytes, read, rw sized at asked);
+  changed = rw same at changed;
+}
 
 pub does_read : (view after : View) (named : Option ChipName) (file : Text) (regions : Option Regions)
     (ranges : Option (List Span)) (old new : BusState) (result : Result (Result Answer Refusal) Fault)

@@ -24,11 +24,12 @@ use Rattle.nor_args.specs.declared.job.Task.TheVariants as task
 use Rattle.flashnor.specs.Changes.{HasMadeChange}
 use Rattle.nor_console.specs.Stored.{IsKeptFile, AreTwo, IsNot}
 use Rattle.flashnor.specs.Chips.{AreWrittenBack, IsContentOf, OpensChip}
+use Rattle.nor_jobs.specs.Sources.{IsAskedOf}
 use Rattle.flashnor.specs.Endings.{all_written}
+use Rattle.flashnor.specs.Found.{emulated_part}
 use Rattle.flashnor.specs.Holding.{AreAmid, AreHeld, AreReady, IsReadyIfNamed, MakesDurable, FillsMissing, was}
 use Rattle.flashnor.specs.Left.{IsNoFileOf, IsOpenedFrom, IsRestorableFrom, LeavesAsLong, MayFind, Opened}
 use Rattle.nor_console.specs.Requests.{AreRangesOf, request_for}
-use Rattle.flashnor.specs.Requests.{IsBufferOf}
 use Rattle.flashnor.specs.Roles.{FilesHaveOneRole}
 use Rattle.nor_console.specs.Tasks.{image_of, layout_of, named_by, journal_of, made_by}
 use Rattle.flashnor.specs.Run.{DoesJob, HoldsChange, HoldsTask, IsViewBut, KeepsChange, KeepsFiles}
@@ -232,7 +233,7 @@ module _ (job : ChipJob) (held : Held) (s0 s1 s2 : FilesState) (bus bus' : BusSt
           → AreTwo s0.view.nature job.programmer.image (journal_of kept)
           → AreTwo s0.view.nature job.programmer.status (journal_of kept) → (ranges : Option (List Span))
           → AreRangesOf amid change.regions ranges → (image : List ℕ)
-          → IsBufferOf amid job.programmer.chip change.wanted image
+          → IsAskedOf amid change.wanted (emulated_part job.programmer.chip).size image
           → HasMadeChange (request_for change named ranges) image kept bus bus' amid s2 (Ok found)
           → HoldsChange job.programmer named change kept found s0 s3
       holds_change change named found (uses.Journal file) keeps two_layout two_image one other ranges are image is made =
@@ -245,8 +246,7 @@ module _ (job : ChipJob) (held : Held) (s0 s1 s2 : FilesState) (bus bus' : BusSt
             ranges = ranges;
             included = ranges_before job.programmer.trace s0.view amid change.regions ranges two_layout but are;
             image = image;
-            buffer = buffer_before job.programmer.trace s0.view amid job.programmer.chip change.wanted image two_image
-                but is;
+            buffer = buffer_before job.programmer.trace s0.view amid change.wanted _ image two_image but is;
             target = made.done.returned;
             held = put_all;
             restorable = restorable.0;

@@ -1,5 +1,5 @@
 -- The result of a restore on a modelled bus that is steady or whose chip is idle. It is derived from the promises of
--- the restore (`HasRunRestore`).
+-- the restore on every bus (`HasRestoredNamed`).
 use Rattle.std.proofs.Common.{◌∙◌, Option, None, Some, Result, Ok, Err, inl, inr, true}
 use Rattle.nor_model.specs.Bus.{BusState}
 use Rattle.nor_driver.specs.OnlyReads.{IsSteadyOrIdle, OnlyReads}
@@ -14,13 +14,13 @@ use Rattle.nor_session.proofs.WrittenBack.{restore_over}
 use Rattle.nor_session.specs.Headline.{RestoresOriginal}
 use Rattle.nor_session.specs.Restore.{RestoreAlways, RestoreModelled}
 use Rattle.nor_jobs.specs.Finding.{HasIdentified, IsNamedFirst}
-use Rattle.nor_jobs.specs.Restoring.{HasRunRestore}
+use Rattle.nor_jobs.specs.Restoring.{HasRestoredNamed}
 use Rattle.nor_jobs.proofs.Identified.{has_failed, has_found}
 use Rattle.nor_console.specs.Readings.{AnswersCall}
 use Rattle.nor_console.specs.Sessions.{ReportsDone}
 use Rattle.nor_console.specs.declared.answers.Answer.{Answer}
 use Rattle.nor_console.specs.declared.answers.Answer.TheVariants as answer
-use Rattle.flashnor.specs.Changes.{HasRestoredNamed, Passes}
+use Rattle.flashnor.specs.Changes.{HasRestoredEmulated, Passes}
 use Rattle.flashnor.proofs.Ready.{only_reads_none, passes_none, passes_probe, same_after_reads}
 
 reads_named : (named : Option ChipName) (old found : BusState) → IsNamedFirst named old found
@@ -38,10 +38,10 @@ passes_named (Some name) old found modelled steady_or_idle is =
 
 module _ (journal : Journal) (named : Option ChipName) (old new : BusState) (modelled : IsModelled old)
     (steady_or_idle : IsSteadyOrIdle old) where
-  -- If the check of the name returned an error, `HasRestoredNamed` holds with this error.
-  pub restored_unnamed : (refusal : Refusal) → HasIdentified named old new (Err refusal)
-      → HasRestoredNamed journal named old new (Err refusal)
-  restored_unnamed refusal failed =
+  -- If the check of the name returned an error, `HasRestoredEmulated` holds with this error.
+  unnamed : (refusal : Refusal) → HasIdentified named old new (Err refusal)
+      → HasRestoredEmulated journal named old new (Err refusal)
+  unnamed refusal failed =
       let has = has_failed named old new refusal failed in
       let same = same_after_reads most_probe old new has.always.only_reads modelled.honest steady_or_idle in
       record {
@@ -59,7 +59,7 @@ module _ (journal : Journal) (named : Option ChipName) (old new : BusState) (mod
   ran : (found : BusState) (result : Result Report Refusal) (outcome : Result Answer Refusal)
       → OnlyReads most_probe old found → Passes named old found → RestoresOriginal journal found new result
       → RestoreAlways journal found new result → RestoreModelled journal found new result
-      → AnswersCall ReportsDone result outcome → HasRestoredNamed journal named old new outcome
+      → AnswersCall ReportsDone result outcome → HasRestoredEmulated journal named old new outcome
   ran found (Ok report) (Ok (answer.Done returned)) only_reads passes original always done passed = record {
     found = found;
     only_reads = only_reads;
@@ -91,9 +91,14 @@ module _ (journal : Journal) (named : Option ChipName) (old new : BusState) (mod
   })
   ran found _ _ only_reads passes original always done passed = absurd passed
 
-  pub restored_named : (found : BusState) (outcome : Result Answer Refusal) → IsNamedFirst named old found
-      → HasRunRestore true journal found new outcome → HasRestoredNamed journal named old new outcome
-  restored_named found outcome first has =
-      let passes = passes_named named old found modelled steady_or_idle first in
-      ran found has.result outcome (reads_named named old found first) passes
-      (has.restores_original passes.modelled) has.always (has.modelled passes.modelled) has.returned
+pub restored_emulated : (journal : Journal) (named : Option ChipName) (old new : BusState) → IsModelled old
+    → IsSteadyOrIdle old → (outcome : Result Answer Refusal) → HasRestoredNamed true named journal old new outcome
+    → HasRestoredEmulated journal named old new outcome
+restored_emulated journal named old new modelled steady_or_idle outcome (inl has) =
+    let passes = passes_named named old has.found modelled steady_or_idle has.first in
+    ran journal named old new modelled steady_or_idle has.found has.ran.result outcome
+    (reads_named named old has.found has.first) passes (has.ran.restores_original passes.modelled) has.ran.always
+    (has.ran.modelled passes.modelled) has.ran.returned
+restored_emulated journal None old new modelled steady_or_idle outcome (inr failed) = absurd failed.1
+restored_emulated journal (Some name) old new modelled steady_or_idle outcome (inr failed) =
+    rw failed.2 (unnamed journal (Some name) old new modelled steady_or_idle failed.0 failed.1)

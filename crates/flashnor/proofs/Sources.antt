@@ -17,17 +17,13 @@ image_fails view (wanted.Write image) fault fails = fails
 image_fails view wanted.Erase fault fails = absurd fails
 image_fails view (wanted.Range start len) fault fails = absurd fails
 
-journal_fails : (view : View) (name : Text) (fault : Fault) → IsSharingFault view name 16793662 fault
-    → FailsToRestore view name fault
-journal_fails view name fault fails = grind arith
-
 -- A fault of reading the files of a task is a fault that the task may have before its call (`FailsTask`).
 pub task_fails : (view : View) (done : Task) (fault : Fault) → FailsSources view done fault → FailsTask view done fault
 task_fails view (task.Read file regions) fault fails = inl fails
 task_fails view (task.Verify file regions) fault fails = fails
 task_fails view (task.Change change) fault (inl fails) = inl fails
 task_fails view (task.Change change) fault (inr fails) = inr (inl (image_fails view change.wanted fault fails))
-task_fails view (task.Restore journal) fault fails = journal_fails view journal.now fault fails
+task_fails view (task.Restore journal) fault fails = inl fails
 task_fails view _ fault fails = absurd fails
 
 pub untouched_keeps : {old new : FilesState} (name : Name) → AreUntouched old new → KeepsFile name old new

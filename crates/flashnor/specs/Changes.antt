@@ -175,7 +175,7 @@ pub record Passes (named : Option ChipName) (old new : BusState) : Type 0 where
 -- restore. Suppose that the journal could restore an original chip before. If writing to the chip's files is
 -- interrupted, the journal can still restore that original chip from each chip that may be left. If the restore
 -- succeeded, the chip is that original chip.
-pub record HasRestoredNamed (journal : Journal) (named : Option ChipName) (old new : BusState)
+pub record HasRestoredEmulated (journal : Journal) (named : Option ChipName) (old new : BusState)
     (outcome : Result Answer Refusal) : Type 0 where
   -- the bus after the identification that checks the name or, if no name is given, the bus before the restore
   pub found : BusState

@@ -7,7 +7,6 @@ pub mod Found
 pub mod Tasks
 pub mod Roles
 pub mod Streams
-pub mod Requests
 pub mod Readings
 pub mod Changes
 pub mod Run

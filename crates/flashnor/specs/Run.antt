@@ -8,12 +8,11 @@ use Rattle.nor_model.specs.Chip.{Chip, IsSame}
 use Rattle.nor_session.specs.Headline.{CanRestore}
 use Rattle.nor_chip.specs.Sim.{sim_state}
 use Rattle.nor_chip.specs.declared.sim.SimBus.{SimBus}
-use Rattle.nor_journal.specs.Fault.{HasFault}
 use Rattle.nor_journal.specs.Text.{Content as Journal, IsContent, text}
 use Rattle.nor_layout.specs.declared.ranges.Span.{Span}
 use Rattle.nor_probe.specs.declared.table.ChipName.{ChipName}
 use Rattle.nor_request.specs.declared.refusal.Refusal.{Refusal}
-use Rattle.nor_request.specs.declared.refusal.Refusal.TheVariants.{Memory, BadJournal}
+use Rattle.nor_request.specs.declared.refusal.Refusal.TheVariants.{Memory}
 use Rattle.nor_args.specs.Text.{Text}
 use Rattle.clap.specs.Words.{IsAmong}
 use Rattle.clap.specs.declared.error.kind.ErrorKind.TheVariants as kind
@@ -32,9 +31,10 @@ use Rattle.nor_args.specs.declared.job.Wanted.TheVariants as wanted
 use Rattle.nor_args.specs.declared.programmer.Emulated.{Emulated}
 use Rattle.nor_args.specs.declared.programmer.Programmer.{Programmer}
 use Rattle.nor_console.specs.AnswerLines.{AreLines}
-use Rattle.flashnor.specs.Changes.{HasMadeChange, HasRestoredNamed, ReportsChange, ReportsRestore}
+use Rattle.flashnor.specs.Changes.{HasMadeChange, HasRestoredEmulated, ReportsChange, ReportsRestore}
 use Rattle.flashnor.specs.Chips.{AreWrittenBack, FailsToHold, FailsToOpen, IsContentOf, StartsBus}
 use Rattle.flashnor.specs.Endings.{HasPrinted, all_written}
+use Rattle.flashnor.specs.Found.{emulated_part}
 use Rattle.nor_console.specs.Printing.{Prints}
 use Rattle.nor_console.specs.Stored.{IsNot, IsRead, IsReportedOf, StaysOf}
 use Rattle.flashnor.specs.Left.{KeepsOriginalFiles, KeepsRestorable, IsRestorableFrom, Opened}
@@ -47,7 +47,7 @@ use Rattle.nor_console.specs.Files.{IsMaking, IsReadingFault, IsSharingFault}
 use Rattle.flashnor.specs.Readings.{IdentifiesEmulated, ReportsEmulated, ReportsEmulatedSize}
 use Rattle.nor_console.specs.Readings.{HasReadOut, HasReported, HasVerified, ListsRanges, ReportsProtection}
 use Rattle.nor_console.specs.Requests.{AreRangesOf, FailsToInclude, request_for}
-use Rattle.flashnor.specs.Requests.{IsBufferOf}
+use Rattle.nor_jobs.specs.Sources.{IsAskedOf, IsInvalid}
 use Rattle.nor_console.specs.declared.answers.Answer.{Answer}
 use Rattle.nor_console.specs.declared.answers.Answer.TheVariants as answer
 use Rattle.flashnor.specs.declared.chips.Content.{Content}
@@ -61,13 +61,13 @@ use Rattle.flashnor.specs.declared.streams.Reports.TheVariants as at
 -- ---- calls to the engine
 
 -- Holds for the result of a change or rehearsal. `ranges` has the addresses of the change's regions, or is `None` for
--- the whole chip. `image` is the session's buffer (`IsBufferOf`).
+-- the whole chip. `image` is the session's buffer: the bytes that the change asks for (`IsAskedOf`).
 pub record ChangesChip (view : View) (after : FilesState) (chip : Emulated) (named : Option ChipName)
     (change : Change) (old new : BusState) (outcome : Result Answer Refusal) : Type 0 where
   pub ranges : Option (List Span)
   pub included : AreRangesOf view change.regions ranges
   pub image : List ℕ
-  pub buffer : IsBufferOf view chip change.wanted image
+  pub buffer : IsAskedOf view change.wanted (emulated_part chip).size image
   pub changed : HasMadeChange (request_for change named ranges) image change.journal_use old new view after outcome
 
 -- Holds for the result of reading the chip out into the file. If regions are given, only their addresses are read out.
@@ -94,7 +94,7 @@ pub record DoesRestore (view : View) (named : Option ChipName) (file : Text) (ol
   pub journal : Journal
   pub sound : IsContent journal
   pub read : IsRead view file 16793662 (text journal)
-  pub restored : HasRestoredNamed journal named old new outcome
+  pub restored : HasRestoredEmulated journal named old new outcome
 
 -- Holds for the result of the call that a task makes to the engine, on a bus to the emulated chip. `old` and `new` are
 -- the bus before and after the call.
@@ -178,9 +178,7 @@ FailsToKeep view (uses.Rehearse stops) fault = ⊥
 
 -- Holds for the faults of locking and reading a journal, and for error 15 if it is invalid.
 abbrev pub FailsToRestore : View → Text → Fault → Type 0
-FailsToRestore view name (end.Refused (BadJournal fault)) =
-    (bytes : List ℕ) × IsRead view name 16793662 bytes × HasFault bytes fault
-FailsToRestore view name fault = IsSharingFault view name 16793662 fault
+FailsToRestore view name fault = IsSharingFault view name 16793662 fault ⊎ IsInvalid view name fault
 
 -- Holds for the faults of a task that occur before its call to the engine.
 abbrev pub FailsTask : View → Task → Fault → Type 0
@@ -251,7 +249,7 @@ pub record HoldsTarget (programmer : Programmer) (named : Option ChipName) (chan
   pub ranges : Option (List Span)
   pub included : AreRangesOf old.view change.regions ranges
   pub image : List ℕ
-  pub buffer : IsBufferOf old.view programmer.chip change.wanted image
+  pub buffer : IsAskedOf old.view change.wanted (emulated_part programmer.chip).size image
   pub target : ReportsChange (request_for change named ranges) image first.bus last found
   -- the files hold the target chip and the journal
   pub held : AreWrittenBack programmer last.chip None None new

@@ -1,29 +1,25 @@
-//! The jobs that change a chip: changes (a write, an erase or a protection range), which run as sessions with a
-//! journal, and restores. Also rehearsals of changes.
+//! The changes of a chip (a write, an erase or a protection range), which run as sessions with a journal, and their
+//! rehearsals.
 ghost use Rattle.std.specs.Prelude.{◌≡◌, ◌≤◌, ◌⊎◌, true, IfOk, IfErr, OnErr, length};
-ghost use Rattle.nor_files.specs.Files.{Name, KeepsFile, View, is_lawful};
+ghost use Rattle.nor_files.specs.Files.{Name, KeepsFile, is_lawful};
 ghost use Rattle.nor_driver.specs.OnlyReads.{IsSteadyOrIdle};
 ghost use Rattle.nor_journal.specs.Vault.{IsFresh};
 ghost use Rattle.nor_probe.specs.Known.{IsModelled};
-ghost use Rattle.nor_args.specs.declared.job.Wanted.TheVariants.{Erase};
-ghost use Rattle.flashnor.specs.Changes.{HasMadeChange, HasRehearsed, HasRestoredNamed};
+ghost use Rattle.flashnor.specs.Changes.{HasMadeChange, HasRehearsed};
 ghost use Rattle.nor_jobs.specs.Sources.{IsImage};
 ghost use Rattle.nor_console.specs.Requests.{AreRangesOf};
-ghost use Rattle.flashnor.specs.Requests.{IsBufferOf};
-ghost use Rattle.flashnor.specs.Run.{ChangesChip, DoesRestore, FailsToKeep, FailsToReadImage, FailsToRestore};
+ghost use Rattle.flashnor.specs.Run.{ChangesChip, FailsToKeep, FailsToReadImage};
 ghost use Rattle.nor_console.specs.Tasks.{journal_of};
-ghost use Rattle.nor_console.specs.Stored.{IsNot, IsRead, MakesNothing};
-ghost use Rattle.nor_args.specs.Text.{Text};
+ghost use Rattle.nor_console.specs.Stored.{IsNot, MakesNothing};
 
 use nor_args::{Change, Emulated, JournalUse, Wanted};
-use nor_chip::{Bus, Meter};
-use nor_console::{Answer, Fault, Outcome, erased, request_for, session_in_file};
+use nor_chip::Meter;
+use nor_console::{Answer, Fault, Outcome, request_for, session_in_file};
 use nor_files::Store;
-use nor_jobs::{Sources, check_name, run_restore};
-use nor_journal::{Journal, MemVault, Vault};
+use nor_jobs::{Sources, asked_bytes};
+use nor_journal::{MemVault, Vault};
 use nor_probe::ChipName;
-use nor_session::{Refusal, Request, rehearse};
-use std::alloc::{AllocError, Global};
+use nor_session::{Request, rehearse};
 
 /// Changes the chip, with the journal in a new file, or rehearses the change on `bus`, with the journal in memory.
 /// `sources` has what the change reads from its files.
@@ -55,26 +51,8 @@ pub fn change_or_rehearse<'a, R: Store, B: Meter>(
 {
     let Sources { included, bytes } = sources;
     let request = request_for(change, named, included);
-    let mut image = buffer_of(rt.alloc(), chip, change.wanted, bytes)?;
+    let mut image = asked_bytes(rt.alloc(), change.wanted, chip.size(), bytes)?;
     change_with(rt, bus, &mut image, &request, &change.journal_use)
-}
-
-// Returns the buffer of a session. For an erase this is FFh for each byte of the chip. Otherwise it is the given bytes:
-// the image of a write, or no bytes for a protection range. Returns an error only for an erase, if memory runs out.
-fn buffer_of(
-    alloc: Global,
-    chip: Emulated,
-    wanted: Wanted<'_>,
-    bytes: Vec<u8>,
-) -> Result<Vec<u8>, AllocError>
-    ensures ok { (view : View) → IsImage view wanted.entry bytes.items
-        → IfOk result (λ image. IsBufferOf view chip wanted.entry image.items) }
-    ensures err { OnErr result (wanted.entry ≡ Erase) }
-{
-    match wanted {
-        Wanted::Erase => erased(alloc, chip.size()),
-        _ => Ok(bytes),
-    }
 }
 
 // Runs a session with its journal in a file, or rehearses it with its journal in memory.
@@ -122,33 +100,4 @@ fn rehearse_change<B: Meter>(
 {
     let rehearsal = rehearse(bus, vault, image, request, stops)?;
     Ok(Answer::Rehearsed(rehearsal))
-}
-
-/// Restores the chip from the bytes of a journal. If `named` is given, the chip must have that name.
-///
-/// Returns the result of the restore. If the bytes are no valid journal, returns error 15 before it uses the chip.
-pub fn restore_chip<'a, B: Bus>(
-    bus: &mut B,
-    named: Option<ChipName>,
-    bytes: &[u8],
-) -> Result<Outcome, Fault<'a>>
-    ensures ok { (view : View) (file : Text) → IsRead view file 16793662 bytes.now
-        → IsModelled (B.state bus.old) → IsSteadyOrIdle (B.state bus.old)
-        → IfOk result (DoesRestore view named file (B.state bus.old) (B.state bus.new)) }
-    ensures err { (view : View) (file : Text) → IsRead view file 16793662 bytes.now
-        → IfErr result (FailsToRestore view file) }
-{
-    match Journal::read(bytes) {
-        Ok(journal) => Ok(restore_named(bus, named, &journal)),
-        Err(fault) => Err(Fault::Refused(Refusal::BadJournal(fault))),
-    }
-}
-
-// Restores the chip from a journal. If `named` is given, the chip must have that name, which is checked first.
-fn restore_named<B: Bus>(bus: &mut B, named: Option<ChipName>, journal: &Journal<'_>) -> Outcome
-    ensures { IsModelled (B.state bus.old) → IsSteadyOrIdle (B.state bus.old)
-        → HasRestoredNamed journal.now named (B.state bus.old) (B.state bus.new) result }
-{
-    check_name(bus, named)?;
-    run_restore(bus, journal, true, |_| ())
 }

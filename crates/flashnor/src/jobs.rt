@@ -12,7 +12,7 @@ ghost use Rattle.flashnor.specs.Roles.{FailsFileRoles};
 ghost use Rattle.flashnor.specs.Run.{DoesJob, DoesStarted, FailsTask, FailsTraced};
 ghost use Rattle.flashnor.specs.Tasks.{journal_by};
 
-use crate::changes::{change_or_rehearse, restore_chip};
+use crate::changes::change_or_rehearse;
 use crate::chips::{Content, start};
 use crate::existing::create_trace;
 use crate::roles::files_have_one_role;
@@ -20,7 +20,7 @@ use nor_args::{ChipJob, Task};
 use nor_chip::{Bus, Meter, SimBus, TraceBus};
 use nor_console::{Fault, Outcome, list_ranges, read_to_file, report_protection, verify_image};
 use nor_files::Store;
-use nor_jobs::{Sources, find_chip, read_sources, report_size};
+use nor_jobs::{Sources, find_chip, journal_in, read_sources, report_size, restore_named};
 use std::io::{BufWriter, Write};
 
 /// A call to the engine that was made: the bus after the call, the result, and the trace's name if the trace lost a
@@ -169,6 +169,9 @@ fn do_task<'a, R: Store, B: Meter>(
         Task::Change(change) => {
             change_or_rehearse(rt, bus, job.programmer.chip, named, change, sources)
         }
-        Task::Restore { .. } => restore_chip(bus, named, &sources.bytes),
+        Task::Restore { .. } => {
+            let journal = journal_in(&sources.bytes)?;
+            Ok(restore_named(bus, named, &journal, true, |_| ()))
+        }
     }
 }

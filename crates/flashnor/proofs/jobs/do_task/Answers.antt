@@ -1,8 +1,9 @@
 use Rattle.std.proofs.Common.{inr, refl, rules}
-use Rattle.std.proofs.lemmas.Result.{IfErr-weaker, on_err_weaker}
+use Rattle.std.proofs.lemmas.Result.{IfErr-weaker, err_from_is_err_and, on_err_weaker}
 use Rattle.flashnor.proofs.Doing.{does_read}
 use Rattle.flashnor.proofs.Looked.{found_chip, found_size}
 use Rattle.flashnor.proofs.Ready.{steady_or_idle-ready, modelled_ready}
+use Rattle.flashnor.proofs.Restored.{restored_emulated}
 use Rattle.nor_console.proofs.Lent.{stays_same}
 use Rattle.flashnor.proofs.jobs.do_task.Goals as goal
 
@@ -63,14 +64,32 @@ returns-in-Change g c =
       err = IfErr-weaker c.change_or_rehearse.result _ _ (λ fault fails. inr fails) change.err;
     })
 
-pub returns : goal.returns
-returns g c =
+pub returns-in_err-journal-in-Restore : goal.returns-in_err-journal-in-Restore
+returns-in_err-journal-in-Restore g c =
+    let p = err_from_is_err_and c.from_residual.result c.from_residual.ensures.1 in
     let read = rw c.in-Restore.is at c.requires in
-    let restore = rw c.deref-in-Restore.ensures.value at c.restore_chip.ensures in
-    rw c.in-Restore.is (record {
+    rw (p.1, p.2, c.in-Restore.is) (record {
       nature = refl;
       others = λ is name not. stays_same name (g.R.Store.state c.args.rt.now);
       unmade = λ is. search rules;
-      ok = λ ready. restore.ok _ _ read (modelled_ready _ _ ready) (steady_or_idle-ready _ _ ready);
-      err = restore.err _ _ read;
+      ok = λ ready. tt;
+      err = inr (_, read, rw c.deref-in-Restore.ensures.value at c.in_err-journal-in-Restore.ensures.err);
+    })
+
+pub returns : goal.returns
+returns g c =
+    let read = rw c.in-Restore.is at c.requires in
+    let journal = rw c.deref-in-Restore.ensures.value at c.in_ok-journal-in-Restore.ensures.ok in
+    rw c.in-Restore.is (record {
+      nature = refl;
+      others = λ is name not. stays_same name (g.R.Store.state c.args.rt.now);
+      unmade = λ is. tt;
+      ok = λ ready. record {
+        journal = c.in_ok-journal-in-Restore.journal;
+        sound = journal.0;
+        read = rw journal.1 at read;
+        restored = restored_emulated _ c.args.job.now.named _ _ (modelled_ready _ _ ready) (steady_or_idle-ready _ _ ready) _
+            c.restore_named.ensures;
+      };
+      err = tt;
     })
