@@ -23,8 +23,8 @@ use Rattle.nor_console.specs.declared.messages.Fault.TheVariants as end
 use Rattle.flashnor_serprog.specs.Jobs.{DoesTask, FailsChange, FailsComparison, FailsPerform, FailsToChange}
 use Rattle.flashnor_serprog.specs.Following.{FailsToFollow}
 use Rattle.flashnor_serprog.specs.Jobs.{FailsToFill, FailsToTarget, HasChangedAndCompared, HasChangedBy}
-use Rattle.flashnor_serprog.specs.Jobs.{HasNotCompared, HasRunChange, IsBufferOf, IsProtected}
-use Rattle.flashnor_serprog.specs.Jobs.{IsRefusedAsProtected, is_compared, ranges_of}
+use Rattle.flashnor_serprog.specs.Jobs.{HasNotCompared, HasRunChange, HasTarget, IsBufferOf, IsProtected}
+use Rattle.flashnor_serprog.specs.Jobs.{IsRefusedAsProtected, changes_bytes, is_compared, ranges_of}
 use Rattle.flashnor_serprog.specs.Restoring.{FailsRestore}
 use Rattle.flashnor_serprog.specs.declared.chip_faults.JobFault.{JobFault}
 use Rattle.flashnor_serprog.specs.declared.chip_faults.JobFault.TheVariants as ended
@@ -55,19 +55,13 @@ module _ (named : Option ChipName) (old new : BusState) where
       (after : FilesState) (byte : ℕ) → after.view ≡ view
       → FailsToFill named target ranges bytes old new (ended.Protected byte)
       → IsRefusedAsProtected named target (uses.Journal file) view after old new byte
-  refuses (wanted.Write image) ranges bytes file view after byte same fails = record {
-    changes = refl;
-    journalled = refl;
-    protected = refused (wanted.Write image) ranges bytes byte fails;
-    unmade = same;
-  }
-  refuses wanted.Erase ranges bytes file view after byte same fails = record {
-    changes = refl;
-    journalled = refl;
-    protected = refused wanted.Erase ranges bytes byte fails;
-    unmade = same;
-  }
   refuses (wanted.Range start len) ranges bytes file view after byte same fails = absurd fails
+  refuses target ranges bytes file view after byte same fails = record {
+    changes = refl;
+    journalled = refl;
+    protected = refused target ranges bytes byte fails;
+    unmade = same;
+  }
 
   targets_none : (target : Wanted) (ranges : Option (List Span)) (bytes : List ℕ) (refusal : Refusal)
       → FailsToTarget named target ranges bytes old new (ended.NotCompared refusal) → ⊥
@@ -76,10 +70,8 @@ module _ (named : Option ChipName) (old new : BusState) where
 
   compares_none : (target : Wanted) (ranges : Option (List Span)) (bytes : List ℕ) (refusal : Refusal)
       → FailsToFill named target ranges bytes old new (ended.NotCompared refusal) → ⊥
-  compares_none (wanted.Write image) ranges bytes refusal fails =
-      targets_none (wanted.Write image) ranges bytes refusal fails
-  compares_none wanted.Erase ranges bytes refusal fails = targets_none wanted.Erase ranges bytes refusal fails
   compares_none (wanted.Range start len) ranges bytes refusal fails = fails
+  compares_none target ranges bytes refusal fails = targets_none target ranges bytes refusal fails
 
   targets_no_rest : (target : Wanted) (ranges : Option (List Span)) (bytes : List ℕ) (outcome : Result Answer Refusal)
       (refusal : Refusal) → FailsToTarget named target ranges bytes old new (ended.RestNotCompared outcome refusal) → ⊥
@@ -88,11 +80,25 @@ module _ (named : Option ChipName) (old new : BusState) where
 
   fills_no_rest : (target : Wanted) (ranges : Option (List Span)) (bytes : List ℕ) (outcome : Result Answer Refusal)
       (refusal : Refusal) → FailsToFill named target ranges bytes old new (ended.RestNotCompared outcome refusal) → ⊥
-  fills_no_rest (wanted.Write image) ranges bytes outcome refusal fails =
-      targets_no_rest (wanted.Write image) ranges bytes outcome refusal fails
-  fills_no_rest wanted.Erase ranges bytes outcome refusal fails =
-      targets_no_rest wanted.Erase ranges bytes outcome refusal fails
   fills_no_rest (wanted.Range start len) ranges bytes outcome refusal fails = fails
+  fills_no_rest target ranges bytes outcome refusal fails = targets_no_rest target ranges bytes outcome refusal fails
+
+-- The buffer of a write or an erase is its target. For a change of protection, `bytes` are the buffer.
+module _ (named : Option ChipName) (ranges : Option (List Span)) (bytes : List ℕ) (old new : BusState) where
+  pub target_filled : (target : Wanted) (image : List ℕ) → changes_bytes target ≡ true
+      → HasTarget named target ranges bytes old new image → IsBufferOf named target ranges bytes old new image
+  target_filled (wanted.Range start len) image is has = absurd (cc is)
+  target_filled _ image is has = has
+
+  pub target_fails : (target : Wanted) (fault : JobFault) → changes_bytes target ≡ true
+      → FailsToTarget named target ranges bytes old new fault → FailsToFill named target ranges bytes old new fault
+  target_fails (wanted.Range start len) fault is fails = absurd (cc is)
+  target_fails _ fault is fails = fails
+
+  pub protection_filled : (target : Wanted) → new ≡ old → changes_bytes target ≡ false
+      → IsBufferOf named target ranges bytes old new bytes
+  protection_filled (wanted.Range start len) same is = (same, refl)
+  protection_filled _ same is = absurd (cc is)
 
 module _ (operation : Operation) (old new : BusState) (change : Change) (ranges : Option (List Span))
     (bytes : List ℕ) (file : Bor Text) (view : View) (after : FilesState) where

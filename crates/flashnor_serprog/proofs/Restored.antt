@@ -1,5 +1,5 @@
 -- Lemmas that compose a restore from its steps, with or without the comparison after it.
-use Rattle.std.proofs.Common.{◌≡◌, ℕ, List, Result, IfErr, IfOk, inl}
+use Rattle.std.proofs.Common.{◌≡◌, ℕ, Bool, List, None, Result, IfErr, IfOk, inl, inr}
 use Rattle.std.proofs.lemmas.Result.{IfOk-weaker, MatchResult-weaker}
 use Rattle.nor_model.specs.Bus.{BusState}
 use Rattle.nor_journal.specs.Text.{Content as Journal, IsContent, text}
@@ -7,7 +7,7 @@ use Rattle.nor_request.specs.declared.refusal.Refusal.{Refusal}
 use Rattle.nor_args.specs.declared.job.Operation.{Operation}
 use Rattle.nor_console.specs.declared.answers.Answer.{Answer}
 use Rattle.flashnor_serprog.specs.Rest.{FailsToFollowRestore, FollowsRestore, is_followed}
-use Rattle.nor_jobs.specs.Restoring.{HasRunRestore}
+use Rattle.nor_jobs.specs.Restoring.{HasRestoredNamed, HasRunRestore}
 use Rattle.flashnor_serprog.specs.Restoring.{FailsBy, FailsCompared, FailsRestore, HasReadBefore, HasRestored}
 use Rattle.flashnor_serprog.specs.Restoring.{HasRestoredAndCompared, HasRestoredBy}
 use Rattle.flashnor_serprog.specs.declared.chip_faults.JobFault.{JobFault}
@@ -26,6 +26,12 @@ module _ (operation : Operation) (bytes : List ℕ) (journal : Journal) (sound :
       → IfErr result (FailsRestore operation bytes old new)
   fails_from fails = MatchResult-weaker result fails (λ outcome is. is)
       (λ fault is. inl (record { journal = journal; sound = sound; read = read; fails = is }))
+
+-- Without a name, the restore was run in each case.
+pub ran_unnamed : (quick : Bool) (journal : Journal) (old new : BusState) (outcome : Result Answer Refusal)
+    → HasRestoredNamed quick None journal old new outcome → HasRunRestore quick journal old new outcome
+ran_unnamed quick journal old new outcome (inl has) = rw has.first at has.ran
+ran_unnamed quick journal old new outcome (inr failed) = absurd failed.1
 
 -- Let the sectors that the journal doesn't save be read (`first`), and then the restore be run (`ran`). The result of
 -- the job then follows from what is sent after the restore.

@@ -2,7 +2,7 @@
 use Rattle.std.proofs.Common.{◌≡◌, ◌⊎◌, ◌∙◌, ℕ, Bool, List, Option, None, Some, Result, Ok, Err, ap, false, inl, inr, refl, subst, true}
 use Rattle.nor_model.specs.Bus.{BusState}
 use Rattle.nor_files.specs.Files.{FilesState, View, is_lawful}
-use Rattle.nor_journal.specs.Text.{Content as Journal}
+use Rattle.nor_journal.specs.Text.{Content as Journal, IsContent, text}
 use Rattle.nor_layout.specs.declared.ranges.Span.{Span}
 use Rattle.nor_probe.specs.declared.probes.Found.{Found}
 use Rattle.nor_probe.specs.declared.table.ChipName.{ChipName}
@@ -28,8 +28,10 @@ use Rattle.nor_console.specs.declared.messages.Fault.TheVariants as end
 use Rattle.flashnor_serprog.specs.Following.{FailsToFollow, FailsToMerge, IsFollowed, IsWholeTarget}
 use Rattle.flashnor_serprog.specs.Jobs.{DoesTask, FailsBefore, FailsComparison, FailsPerform, FailsToChange}
 use Rattle.flashnor_serprog.specs.Jobs.{FailsToFill, FailsToTarget, HasChangedBy, HasReadBy, HasRunChange, HasTarget}
-use Rattle.flashnor_serprog.specs.Jobs.{IsBufferOf, asked_bytes, is_compared}
+use Rattle.flashnor_serprog.specs.Jobs.{IsBufferOf, is_compared}
 use Rattle.nor_jobs.specs.Finding.{IsNamedFirst}
+use Rattle.nor_jobs.specs.Restoring.{HasRestoredNamed}
+use Rattle.nor_jobs.specs.Sources.{asked_bytes}
 use Rattle.flashnor_serprog.specs.Run.{EndsJob, IsEndedAs}
 use Rattle.flashnor_serprog.specs.declared.chip_faults.JobFault.{JobFault}
 use Rattle.flashnor_serprog.specs.declared.chip_faults.JobFault.TheVariants as ended
@@ -103,10 +105,7 @@ made_reads named target ranges bytes old new image is =
 buffer_reads : (named : Option ChipName) (target : Wanted) (ranges : Option (List Span)) (bytes : List ℕ)
     (old new : BusState) (image : List ℕ) → IsBufferOf named target ranges bytes old new image → KeepsSent old new
 buffer_reads named (wanted.Range start len) ranges bytes old new image is = same_keeps_sent old new is.0
-buffer_reads named (wanted.Write file) ranges bytes old new image is =
-    made_reads named (wanted.Write file) ranges bytes old new image is
-buffer_reads named wanted.Erase ranges bytes old new image is =
-    made_reads named wanted.Erase ranges bytes old new image is
+buffer_reads named target ranges bytes old new image is = made_reads named target ranges bytes old new image is
 
 -- Let no modifying command be sent after the session, from `changed` to `new`. What holds for the commands sent up to
 -- `changed` then holds for those sent up to `new`.
@@ -156,10 +155,6 @@ change_sends operation change ranges bytes (uses.Journal file) before after old 
     (run_sends operation change ranges bytes file.now before after old does.changed outcome does.session)
 change_sends operation change ranges bytes (uses.Rehearse stops) before after old new outcome does = absurd does
 
-named_reads : (named : Option ChipName) (old new : BusState) → IsNamedFirst named old new → KeepsSent old new
-named_reads None old new same = same_keeps_sent old new same
-named_reads (Some name) old new found = found.1.always.only_reads.sent
-
 read_sends : (backup : Bool) (named : Option ChipName) (file : Text) (ranges : Option (List Span)) (before : View)
     (after : FilesState) (old new : BusState) (outcome : Result Answer Refusal)
     → HasReadBy backup named file ranges before after old new outcome → KeepsSent old new
@@ -180,15 +175,27 @@ rest_follows : (followed : Bool) (journal : Journal) (rest : List ℕ) (old new 
 rest_follows true journal rest old new kept = kept.read.only_reads.sent
 rest_follows false journal rest old new same = same_keeps_sent old new same
 
+named_reads : (named : Option ChipName) (old new : BusState) → IsNamedFirst named old new → KeepsSent old new
+named_reads None old new same = same_keeps_sent old new same
+named_reads (Some name) old new found = found.1.always.only_reads.sent
+
+-- If the check of the name fails, no modifying command is sent. Otherwise what was sent fits the journal.
+named_sends : (quick : Bool) (named : Option ChipName) (journal : Journal) (old new : BusState)
+    (outcome : Result Answer Refusal) → HasRestoredNamed quick named journal old new outcome
+    → KeepsSent old new ⊎ SendsSaved (IsSavedCode journal) 1 journal old new
+named_sends quick named journal old new outcome (inl does) =
+    inr (sends_after _ _ old does.found new (named_reads named old does.found does.first) does.ran.always.sends)
+named_sends quick None journal old new outcome (inr failed) = absurd failed.1
+named_sends quick (Some name) journal old new outcome (inr failed) = inl failed.1.always.only_reads.sent
+
 restored_sends : (operation : Operation) (journal : Journal) (old new : BusState) (outcome : Result Answer Refusal)
     (compared : Bool) → HasRestoredBy compared operation journal old new outcome
-    → SendsSaved (IsSavedCode journal) 1 journal old new
+    → KeepsSent old new ⊎ SendsSaved (IsSavedCode journal) 1 journal old new
 restored_sends operation journal old new outcome false does =
-    sends_after _ _ old does.found new (named_reads operation.named old does.found does.first) does.ran.always.sends
-restored_sends operation journal old new outcome true does =
-    sends_before _ _ old does.restored new
+    named_sends operation.is_quick operation.named journal old new outcome does
+restored_sends operation journal old new outcome true does = inr (sends_before _ _ old does.restored new
     (sends_after _ _ old does.found does.restored (before_reads operation.named journal does.rest old does.found does.first)
-    does.ran.always.sends) (rest_follows (is_followed outcome) journal does.rest does.restored new does.followed)
+    does.ran.always.sends) (rest_follows (is_followed outcome) journal does.rest does.restored new does.followed))
 
 rest_fails : (journal : Journal) (rest : List ℕ) (old new : BusState) (refusal : Refusal)
     → FailsRest journal rest old new refusal → KeepsSent old new
@@ -218,20 +225,20 @@ restore_fails operation journal old new true (ended.RestNotCompared outcome refu
     (before_reads operation.named journal has.rest old has.found has.first) has.ran.always.sends)
     (rest_fails journal has.rest has.restored new refusal has.fails))
 restore_fails operation journal old new true _ fails = absurd fails
-restore_fails operation journal old new false (ended.Fault fault) found = inl found.1.always.only_reads.sent
-restore_fails operation journal old new false _ fails = absurd fails
+restore_fails operation journal old new false fault fails = absurd fails
+
+-- Let `bytes` be the encoding of `journal`. What fits the journal then fits the bytes.
+of_journal : (bytes : List ℕ) (journal : Journal) → IsContent journal → bytes ≡ text journal → (old new : BusState)
+    → KeepsSent old new ⊎ SendsSaved (IsSavedCode journal) 1 journal old new → KeepsSent old new ⊎ SendsRestore bytes old new
+of_journal bytes journal sound read old new (inl kept) = inl kept
+of_journal bytes journal sound read old new (inr sends) =
+    inr (record { journal = record { content = journal; is = sound; same = read }; sends = sends })
 
 job_restore_fails : (operation : Operation) (bytes : List ℕ) (old new : BusState) (fault : JobFault)
     → FailsRestore operation bytes old new fault → KeepsSent old new ⊎ SendsRestore bytes old new
-job_restore_fails operation bytes old new fault (inr none) = inl (same_keeps_sent old new none.1.0)
-job_restore_fails operation bytes old new fault (inl has) =
-    elim (restore_fails operation has.journal old new operation.verifies_all fault has.fails) [
-      | inl kept ↦ inl kept
-      | inr sends ↦ inr (record {
-        journal = record { content = has.journal; is = has.sound; same = has.read };
-        sends = sends;
-      })
-    ]
+job_restore_fails operation bytes old new fault (inr none) = inl (same_keeps_sent old new none.0)
+job_restore_fails operation bytes old new fault (inl has) = of_journal bytes has.journal has.sound has.read old new
+    (restore_fails operation has.journal old new operation.verifies_all fault has.fails)
 
 task_sends : (operation : Operation) (job : Task) (ranges : Option (List Span)) (bytes : List ℕ) (before : View)
     (after : FilesState) (old new : BusState) (outcome : Result Answer Refusal)
@@ -245,10 +252,9 @@ task_sends operation (task.Read file regions) ranges bytes before after old new 
 task_sends operation (task.Verify file regions) ranges bytes before after old new outcome does = does.always.only_reads.sent
 task_sends operation (task.Change change) ranges bytes before after old new outcome does =
     change_sends operation change ranges bytes change.journal_use before after old new outcome does
-task_sends operation (task.Restore journal) ranges bytes before after old new outcome does = inr (record {
-  journal = record { content = does.journal; is = does.sound; same = does.read };
-  sends = restored_sends operation does.journal old new outcome operation.verifies_all does.restored;
-})
+task_sends operation (task.Restore journal) ranges bytes before after old new outcome does =
+    of_journal bytes does.journal does.sound does.read old new
+    (restored_sends operation does.journal old new outcome operation.verifies_all does.restored)
 
 merge_fails_reads : (named : Option ChipName) (size : ℕ) (ranges : Option (List Span)) (image : List ℕ)
     (old new : BusState) (refusal : Refusal) → FailsToMerge named size ranges image old new refusal → KeepsSent old new
@@ -260,7 +266,7 @@ merge_fails_reads named size (Some spans) image old new refusal (inr (inr other)
 no_target_reads : (named : Option ChipName) (target : Wanted) (ranges : Option (List Span)) (bytes : List ℕ)
     (old found new : BusState) (chip : Found) (refusal : Refusal)
     → ((new ≡ found) × (refusal ≡ Memory))
-    ⊎ FailsToMerge named chip.size ranges (asked_bytes target bytes chip) found new refusal → KeepsSent found new
+    ⊎ FailsToMerge named chip.size ranges (asked_bytes target chip.size bytes) found new refusal → KeepsSent found new
 no_target_reads named target ranges bytes old found new chip refusal (inl short) = same_keeps_sent found new short.0
 no_target_reads named target ranges bytes old found new chip refusal (inr fails) =
     merge_fails_reads named chip.size ranges _ found new refusal fails
@@ -276,11 +282,8 @@ target_fails named target ranges bytes old new fault (inr made) =
 fill_reads : (named : Option ChipName) (target : Wanted) (ranges : Option (List Span)) (bytes : List ℕ)
     (old new : BusState) (fault : Fault) → FailsToFill named target ranges bytes old new (ended.Fault fault)
     → KeepsSent old new
-fill_reads named (wanted.Write image) ranges bytes old new fault fails =
-    target_fails named (wanted.Write image) ranges bytes old new fault fails
-fill_reads named wanted.Erase ranges bytes old new fault fails =
-    target_fails named wanted.Erase ranges bytes old new fault fails
 fill_reads named (wanted.Range start len) ranges bytes old new fault fails = absurd fails
+fill_reads named target ranges bytes old new fault fails = target_fails named target ranges bytes old new fault fails
 
 -- A change that fails before its session sends no modifying command.
 fails_change : (operation : Operation) (change : Change) (ranges : Option (List Span)) (bytes : List ℕ)

@@ -1,7 +1,7 @@
 -- What a job does to the chip over any bus: its call to the engine, the result of that call, and the faults before and
 -- after the call.
 use Rattle.std.specs.Prelude.{◌≡◌, ◌&&◌, ◌⊎◌, ℕ, Bool, true, false, List, Option, Result, Ok}
-use Rattle.std.specs.Prelude.{bit_and, nat_eq, not, replicate}
+use Rattle.std.specs.Prelude.{bit_and, nat_eq, not}
 use Rattle.nor_model.specs.Bus.{BusState}
 use Rattle.nor_files.specs.Files.{FilesState, View}
 use Rattle.nor_layout.specs.declared.ranges.Span.{Span}
@@ -29,6 +29,7 @@ use Rattle.nor_console.specs.declared.messages.Fault.{Fault}
 use Rattle.nor_console.specs.declared.messages.Fault.TheVariants as end
 use Rattle.flashnor_serprog.specs.Following.{FailsToFollow, FailsToMerge, IsFollowed, IsWholeTarget, ranges_if}
 use Rattle.nor_jobs.specs.Finding.{FailsToFind, HasIdentified, HasLookedUp, ReportsFound, ReportsSize}
+use Rattle.nor_jobs.specs.Sources.{asked_bytes}
 use Rattle.flashnor_serprog.specs.Restoring.{FailsRestore, HasRestored}
 use Rattle.flashnor_serprog.specs.declared.chip_faults.JobFault.{JobFault}
 use Rattle.flashnor_serprog.specs.declared.chip_faults.JobFault.TheVariants as ended
@@ -101,11 +102,6 @@ FailsToAdmit named old new _ = ⊥
 
 -- ---- changes
 
--- the bytes that a write or an erase asks for: those of the image, or FFh for each byte of the chip
-abbrev pub asked_bytes : Wanted → (bytes : List ℕ) → Found → List ℕ
-asked_bytes wanted.Erase bytes chip = replicate chip.size 255
-asked_bytes target bytes chip = bytes
-
 -- Holds if the chip was identified, `may_be_protected` is false for it, and then `image`, the target of a write or an
 -- erase, was made (`IsWholeTarget`).
 pub record HasTarget (named : Option ChipName) (target : Wanted) (ranges : Option (List Span)) (bytes : List ℕ)
@@ -113,7 +109,7 @@ pub record HasTarget (named : Option ChipName) (target : Wanted) (ranges : Optio
   pub chip : Found
   pub found : BusState
   pub changeable : IsChangeable named old found chip
-  pub is : IsWholeTarget named ranges (asked_bytes target bytes chip) found new image
+  pub is : IsWholeTarget named ranges (asked_bytes target chip.size bytes) found new image
 
 -- Holds if `image` is the content of the buffer that the session gets. For a write or an erase, this is the target
 -- (`HasTarget`). For a change of protection it is `bytes`, and nothing was sent.
@@ -130,7 +126,7 @@ pub record HasNoTarget (named : Option ChipName) (target : Wanted) (ranges : Opt
   pub found : BusState
   pub changeable : IsChangeable named old found chip
   pub fails : ((new ≡ found) × (refusal ≡ Memory))
-      ⊎ FailsToMerge named chip.size ranges (asked_bytes target bytes chip) found new refusal
+      ⊎ FailsToMerge named chip.size ranges (asked_bytes target chip.size bytes) found new refusal
 
 -- Holds if making the target of a write or an erase failed with this fault: a fault of `FailsToAdmit`, or an error
 -- after the identification (`HasNoTarget`).

@@ -7,7 +7,7 @@ use Rattle.nor_args.specs.Text.{Text}
 use Rattle.nor_console.specs.Files.{IsSharingFault}
 use Rattle.nor_console.specs.Stored.{IsRead}
 use Rattle.nor_console.specs.declared.messages.Fault.{Fault}
-use Rattle.flashnor_serprog.specs.Sources.{IsInvalid}
+use Rattle.nor_jobs.specs.Sources.{IsInvalid}
 use Rattle.flashnor_serprog.specs.declared.journals.Description.{Description}
 
 -- true if all bytes are FFh

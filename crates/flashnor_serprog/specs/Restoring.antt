@@ -1,31 +1,21 @@
 -- A restore: its call to the engine, the reads before and after the call, and the faults.
 use Rattle.std.specs.Prelude.{◌≡◌, ◌⊎◌, ℕ, Bool, true, false, List, Option, Result, Ok}
 use Rattle.nor_model.specs.Bus.{BusState}
-use Rattle.nor_journal.specs.Fault.{HasFault}
 use Rattle.nor_journal.specs.Text.{Content as Journal, IsContent, text}
-use Rattle.nor_journal.specs.declared.fault.JournalFault.{JournalFault}
 use Rattle.nor_probe.specs.declared.probes.Found.{Found}
 use Rattle.nor_probe.specs.declared.table.ChipName.{ChipName}
 use Rattle.nor_request.specs.declared.refusal.Refusal.{Refusal}
-use Rattle.nor_request.specs.declared.refusal.Refusal.TheVariants.{BadJournal, Memory, OtherChip, Stopped}
+use Rattle.nor_request.specs.declared.refusal.Refusal.TheVariants.{Memory, OtherChip, Stopped}
 use Rattle.nor_session.specs.Restore.{IsOfTypeFound}
 use Rattle.nor_args.specs.declared.job.Operation.{Operation}
 use Rattle.nor_console.specs.declared.answers.Answer.{Answer}
 use Rattle.nor_console.specs.declared.messages.Fault.{Fault}
 use Rattle.nor_console.specs.declared.messages.Fault.TheVariants as end
-use Rattle.nor_jobs.specs.Restoring.{HasRunRestore}
-use Rattle.nor_jobs.specs.Finding.{FailsToFind, HasIdentified, IsNamedFirst}
+use Rattle.nor_jobs.specs.Restoring.{HasRestoredNamed, HasRunRestore, IsNoJournal}
+use Rattle.nor_jobs.specs.Finding.{FailsToFind, HasIdentified}
 use Rattle.flashnor_serprog.specs.Rest.{FailsRest, FollowsRestore, HasReadRest, HasStoppedInRest, is_followed}
 use Rattle.flashnor_serprog.specs.declared.chip_faults.JobFault.{JobFault}
 use Rattle.flashnor_serprog.specs.declared.chip_faults.JobFault.TheVariants as ended
-
--- With `-N`: holds if a restore from this journal was run. If `-c` gives a name, the chip was identified before, and
--- has this name.
-pub record HasOnlyRestored (operation : Operation) (journal : Journal) (old new : BusState)
-    (outcome : Result Answer Refusal) : Type 0 where
-  pub found : BusState
-  pub first : IsNamedFirst operation.named old found
-  pub ran : HasRunRestore operation.is_quick journal found new outcome
 
 -- Holds if the chip was identified and has the journal's ID and size, and if the sectors that the journal doesn't save
 -- were then read. `rest` has their bytes (`HasReadRest`).
@@ -50,11 +40,13 @@ pub record HasRestoredAndCompared (operation : Operation) (journal : Journal) (o
   pub followed : FollowsRestore (is_followed outcome) journal rest restored new
 
 -- Holds if a restore from this journal was run. If `compared` is true, the sectors that the journal doesn't save were
--- read before the restore, and compared after it.
+-- read before the restore, and compared after it. Otherwise only the name that `-c` gives was checked before the
+-- restore, and the outcome may be the error of this check.
 abbrev pub HasRestoredBy : (compared : Bool) → Operation → Journal → (old new : BusState) → Result Answer Refusal
     → Type 0
 HasRestoredBy true operation journal old new outcome = HasRestoredAndCompared operation journal old new outcome
-HasRestoredBy false operation journal old new outcome = HasOnlyRestored operation journal old new outcome
+HasRestoredBy false operation journal old new outcome =
+    HasRestoredNamed operation.is_quick operation.named journal old new outcome
 
 -- Holds if `bytes` are a journal, and a restore from that journal was run.
 pub record HasRestored (operation : Operation) (bytes : List ℕ) (old new : BusState)
@@ -106,21 +98,12 @@ FailsCompared operation journal old new (ended.RestNotCompared outcome refusal) 
     HasNotComparedRest operation journal old new outcome refusal
 FailsCompared operation journal old new _ = ⊥
 
--- Holds if a restore with `-N` failed with this fault: the identification returned an error.
-abbrev pub FailsUncompared : Operation → (old new : BusState) → JobFault → Type 0
-FailsUncompared operation old new (ended.Fault fault) = FailsToFind operation.named old new fault
-FailsUncompared operation old new _ = ⊥
-
 -- Holds if a restore from this journal failed with this fault. `compared` is true without `-N`: the sectors that the
--- journal doesn't save are then compared after the restore.
+-- journal doesn't save are then compared after the restore. With `-N` there is no such fault, because an error of the
+-- check of the name is the outcome of the restore.
 abbrev pub FailsBy : (compared : Bool) → Operation → Journal → (old new : BusState) → JobFault → Type 0
 FailsBy true operation journal old new fault = FailsCompared operation journal old new fault
-FailsBy false operation journal old new fault = FailsUncompared operation old new fault
-
--- Holds if `bytes` aren't a journal, the fault is error 15 with the reason, and nothing was sent.
-abbrev pub IsNoJournal : (bytes : List ℕ) → (old new : BusState) → Fault → Type 0
-IsNoJournal bytes old new fault = (new ≡ old)
-    × ((why : JournalFault) × HasFault bytes why × (fault ≡ end.Refused (BadJournal why)))
+FailsBy false operation journal old new fault = ⊥
 
 -- Holds if `bytes` are a journal, and the restore from that journal failed with this fault.
 pub record HasNotRestored (operation : Operation) (bytes : List ℕ) (old new : BusState)
@@ -130,7 +113,8 @@ pub record HasNotRestored (operation : Operation) (bytes : List ℕ) (old new : 
   pub read : bytes ≡ text journal
   pub fails : FailsBy operation.verifies_all operation journal old new fault
 
--- Holds if a restore failed with this fault: `bytes` aren't a journal, or the restore from that journal failed.
+-- Holds if a restore failed with this fault: the restore from the journal in `bytes` failed; or `bytes` are no journal
+-- (error 15), and nothing was sent.
 abbrev pub FailsRestore : Operation → (bytes : List ℕ) → (old new : BusState) → JobFault → Type 0
 FailsRestore operation bytes old new fault = HasNotRestored operation bytes old new fault
-    ⊎ ((error : Fault) × IsNoJournal bytes old new error × (fault ≡ ended.Fault error))
+    ⊎ ((new ≡ old) × ((error : Fault) × IsNoJournal bytes error × (fault ≡ ended.Fault error)))

@@ -1,20 +1,18 @@
 -- The files of a job: the check that no file has two roles, and the contents that are read before the programmer is
 -- used.
-use Rattle.std.specs.Prelude.{◌≡◌, ◌⊎◌, ℕ, List, Option, Some}
+use Rattle.std.specs.Prelude.{◌≡◌, ◌⊎◌, Option, Some}
 use Rattle.std.specs.Borrow.{Bor}
 use Rattle.nor_files.specs.Files.{Nature, View}
 use Rattle.nor_files.specs.Files.Failure.{There}
-use Rattle.nor_journal.specs.Fault.{HasFault}
-use Rattle.nor_request.specs.declared.refusal.Refusal.TheVariants.{BadJournal}
 use Rattle.nor_args.specs.Text.{Text}
 use Rattle.nor_args.specs.declared.job.JournalUse.{JournalUse}
 use Rattle.nor_args.specs.declared.job.JournalUse.TheVariants as uses
 use Rattle.nor_args.specs.declared.job.Task.{Task}
 use Rattle.nor_args.specs.declared.job.Task.TheVariants as task
-use Rattle.nor_jobs.specs.Sources.{FailsSources}
+use Rattle.nor_jobs.specs.Sources.{FailsSources, IsInvalid}
 use Rattle.nor_console.specs.Roles.{FailsApart, FailsUnprinted}
 use Rattle.nor_console.specs.Tasks.{named_by}
-use Rattle.nor_console.specs.Stored.{AreTwo, Happens, IsRead}
+use Rattle.nor_console.specs.Stored.{AreTwo, Happens}
 use Rattle.nor_console.specs.declared.messages.Fault.{Fault}
 use Rattle.nor_console.specs.declared.messages.Fault.TheVariants as end
 use Rattle.nor_console.specs.declared.messages.FileFault.TheVariants as file
@@ -59,12 +57,6 @@ FailsRoles nature device job fault = FailsDevice nature device job fault
 abbrev pub IsThere : View → JournalUse → Fault → Type 0
 IsThere view (uses.Journal name) (end.File file.Exists of) = (of.now ≡ name.now) × Happens view (There name.now)
 IsThere view _ fault = ⊥
-
--- Holds if the fault is error 15: the bytes of the file of this name are no journal.
-abbrev pub IsInvalid : View → Text → Fault → Type 0
-IsInvalid view name (end.Refused (BadJournal why)) =
-    (bytes : List ℕ) × IsRead view name 16793662 bytes × HasFault bytes why
-IsInvalid view name _ = ⊥
 
 -- Holds if the check that follows the reading of a job's files may fail with this fault: the journal of a change exists
 -- already, or the journal of a restore is invalid.

@@ -16,11 +16,11 @@ use crate::restoring::restore_chip;
 use nor_args::{Change, JournalUse, Operation, Reason, Task, UsageFault, Wanted};
 use nor_chip::Bus;
 use nor_console::{
-    Fault, Outcome, erased, list_ranges, read_to_file, report_protection, request_for,
-    session_in_file, verify_image,
+    Fault, Outcome, list_ranges, read_to_file, report_protection, request_for, session_in_file,
+    verify_image,
 };
 use nor_files::Store;
-use nor_jobs::{Sources, find_chip, find_first, report_size};
+use nor_jobs::{Sources, asked_bytes, find_chip, find_first, report_size};
 use nor_layout::Ranges;
 use nor_probe::{ChipName, Found};
 use std::alloc::{AllocError, Global};
@@ -207,16 +207,10 @@ fn fill_buffer<'a, B: Progress>(
     ensures err { IfErr result (FailsToFill named wanted.entry (option_copied ranges.entry) bytes.items
         (B.state bus.old) (B.state bus.new)) }
 {
-    match wanted {
-        Wanted::Write { .. } => {
-            let found = find_changeable(bus, named)?;
-            Ok(complete(bus, named, found.size, ranges, bytes, alloc)?)
-        }
-        Wanted::Erase => {
-            let found = find_changeable(bus, named)?;
-            let blank = erased(alloc, found.size)?;
-            Ok(complete(bus, named, found.size, ranges, blank, alloc)?)
-        }
-        Wanted::Range { .. } => Ok(bytes),
+    if !changes_bytes(wanted) {
+        return Ok(bytes);
     }
+    let found = find_changeable(bus, named)?;
+    let asked = asked_bytes(alloc, wanted, found.size, bytes)?;
+    Ok(complete(bus, named, found.size, ranges, asked, alloc)?)
 }

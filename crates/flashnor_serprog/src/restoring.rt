@@ -2,20 +2,20 @@
 ghost use Rattle.std.specs.Prelude.{◌≡◌, ◌<◌, ◌^◌, IfErr, IfOk, MatchBool, OnOk, false, length, replicate, true};
 ghost use Rattle.nor_session.specs.Restore.{IsOfTypeFound};
 ghost use Rattle.nor_jobs.specs.Finding.{FailsToFind};
-ghost use Rattle.nor_jobs.specs.Restoring.{HasRunRestore};
+ghost use Rattle.nor_jobs.specs.Restoring.{HasRestoredNamed};
 ghost use Rattle.flashnor_serprog.specs.Rest.{AreUnsaved, FailsToFollowRestore, FollowsRestore, is_followed};
 ghost use Rattle.flashnor_serprog.specs.Restoring.{FailsBy, FailsCompared, FailsRestore, FailsToReadRest};
-ghost use Rattle.flashnor_serprog.specs.Restoring.{FailsUncompared, HasOnlyRestored, HasReadBefore, HasRestored};
+ghost use Rattle.flashnor_serprog.specs.Restoring.{HasReadBefore, HasRestored};
 ghost use Rattle.flashnor_serprog.specs.Restoring.{HasRestoredAndCompared, HasRestoredBy};
 
 use crate::chip_faults::JobFault;
 use crate::progress::{Progress, Terminal};
 use crate::rest::{compare_rest, is_followed, read_rest, sectors_of};
 use nor_args::Operation;
-use nor_console::{Fault, Outcome, erased, or_fault};
-use nor_jobs::{check_name, find_first, run_restore};
+use nor_console::{Fault, Outcome, erased};
+use nor_jobs::{find_first, journal_in, restore_named};
 use nor_journal::Journal;
-use nor_probe::Found;
+use nor_probe::{ChipName, Found};
 use nor_session::Refusal;
 use std::alloc::Global;
 
@@ -38,12 +38,7 @@ pub fn restore_chip<'a, B: Progress>(
     ensures ok { IfOk result (HasRestored operation.now bytes.now (B.state bus.old) (B.state bus.new)) }
     ensures err { IfErr result (FailsRestore operation.now bytes.now (B.state bus.old) (B.state bus.new)) }
 {
-    let journal = match Journal::read(bytes) {
-        Ok(journal) => journal,
-        Err(fault) => {
-            return Err(JobFault::Fault(Fault::Refused(Refusal::BadJournal(fault))));
-        }
-    };
+    let journal = journal_in(bytes)?;
     restore_from(bus, terminal, operation, &journal, alloc)
 }
 
@@ -63,7 +58,7 @@ fn restore_from<'a, B: Progress>(
     if operation.verifies_all {
         restore_compared(bus, terminal, operation, journal, alloc)
     } else {
-        restore_uncompared(bus, terminal, operation, journal)
+        Ok(restore_saved(bus, terminal, operation.named, journal, operation.is_quick))
     }
 }
 
@@ -82,22 +77,8 @@ fn restore_compared<'a, B: Progress>(
     let mut rest = erased(alloc, journal.size())?;
     let mut again = erased(alloc, journal.size())?;
     read_before(bus, operation, journal, &mut rest)?;
-    let outcome = restore_saved(bus, terminal, journal, operation.is_quick);
+    let outcome = restore_saved(bus, terminal, None, journal, operation.is_quick);
     follow_restore(bus, outcome, journal, &rest, &mut again)
-}
-
-// If `-c` gives a name, checks that the chip has this name. Then restores the chip.
-fn restore_uncompared<'a, B: Progress>(
-    bus: &mut B,
-    terminal: Terminal<'_>,
-    operation: &Operation<'a>,
-    journal: &Journal<'_>,
-) -> Result<Outcome, JobFault<'a>>
-    ensures ok { IfOk result (HasOnlyRestored operation.now journal.now (B.state bus.old) (B.state bus.new)) }
-    ensures err { IfErr result (FailsUncompared operation.now (B.state bus.old) (B.state bus.new)) }
-{
-    or_fault(check_name(bus, operation.named))?;
-    Ok(restore_saved(bus, terminal, journal, operation.is_quick))
 }
 
 // Identifies the chip, and reads the sectors that the journal doesn't save into `rest`. Returns error 16 if the chip
@@ -172,23 +153,20 @@ fn follow_restore<'a, B: Progress>(
 
 // Restores the saved sectors and the protection bits. Erases every saved sector and programs its saved bytes; or, if
 // the restore is `quick`, writes only the saved sectors that differ, and erases one only if some bit has to go from 0
-// to 1.
+// to 1. If a name is given, checks first that the chip has this name.
 fn restore_saved<B: Progress>(
     bus: &mut B,
     terminal: Terminal<'_>,
+    named: Option<ChipName>,
     journal: &Journal<'_>,
     quick: bool,
 ) -> Outcome
-    ensures { HasRunRestore quick journal.now (B.state bus.old) (B.state bus.new) result }
+    ensures { HasRestoredNamed quick named journal.now (B.state bus.old) (B.state bus.new) result }
 {
     if quick {
         bus.expect_reads(journal.count());
-        run_restore(bus, journal, true, |announcement| {
-            terminal.print_restore(announcement)
-        })
-    } else {
-        run_restore(bus, journal, false, |announcement| {
-            terminal.print_restore(announcement)
-        })
     }
+    restore_named(bus, named, journal, quick, |announcement| {
+        terminal.print_restore(announcement)
+    })
 }

@@ -9,9 +9,7 @@ use crate::jobs::is_compared;
 use nor_args::{Operation, Task, Wanted};
 use nor_console::{Fault, FileFault, journal_of};
 use nor_files::Store;
-use nor_jobs::{Sources, read_sources};
-use nor_journal::Journal;
-use nor_session::Refusal;
+use nor_jobs::{Sources, journal_in, read_sources};
 
 /// Returns a copy of the job's image if the job ends with a comparison of the chip with an image: `-v`, and `-w`
 /// without `-n` and `-N`. Returns `None` for any other job, or if memory runs out.
@@ -70,10 +68,10 @@ fn check<'a, R: Store>(rt: &R, task: &Task<'a>, sources: &Sources) -> Result<(),
             }
             _ => Ok(()),
         },
-        Task::Restore { .. } => match Journal::read(&sources.bytes) {
-            Ok(_) => Ok(()),
-            Err(fault) => Err(Fault::Refused(Refusal::BadJournal(fault))),
-        },
+        Task::Restore { .. } => {
+            journal_in(&sources.bytes)?;
+            Ok(())
+        }
         _ => Ok(()),
     }
 }
