@@ -183,6 +183,11 @@ pub fn is_compared(operation: &Operation<'_>, change: &Change<'_>) -> bool
     changes_bytes(change.wanted) && (change.verify && operation.verifies_all)
 }
 
+/// True for a session: a write, an erase or a change of protection.
+pub fn is_session(task: &Task<'_>) -> bool {
+    matches!(task, Task::Change(_))
+}
+
 /// True for a write and an erase.
 pub fn changes_bytes(wanted: Wanted<'_>) -> bool
     ensures { result ≡ changes_bytes wanted.entry }

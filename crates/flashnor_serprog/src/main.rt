@@ -5,6 +5,7 @@
 //! `flashnor`, and prints the same error numbers and mostly the same lines.
 //!
 //! - `run.rt`: a run of the program, from its arguments to its exit status
+//! - `preparing.rt`: checks and reads the files of a job, and identifies the programmer
 //! - `ending.rt`: the end of a run: prints an answer or a fault
 //! - `reports.rt`: what a run prints after an operation failed
 //! - `help.rt`: the text of the help that `-h` prints
@@ -48,6 +49,7 @@ mod jobs;
 mod journals;
 mod log;
 mod port;
+mod preparing;
 mod progress;
 mod quoted;
 mod reports;

@@ -1,28 +1,24 @@
 //! A run of the program: from its arguments to its exit status.
 ghost use Rattle.std.specs.Prelude.{◌≡◌, ◌≤◌, IfErr, IfOk, IfSome, IsSome, None, is_some, map, string_bytes, true};
 ghost use Rattle.nor_files.specs.Disk.{unknown};
-ghost use Rattle.nor_files.specs.Files.{AreUntouched};
 ghost use Rattle.nor_args.specs.Words.{arguments_of};
-ghost use Rattle.flashnor_serprog.specs.Connected.{MayExpectImage, IsUnused, device_of, expected_by};
+ghost use Rattle.flashnor_serprog.specs.Connected.{device_of};
 ghost use Rattle.flashnor_serprog.specs.Run.{AsksForHelp, EndsJob, HasRun, HasRunJob, HasRunOperation};
-ghost use Rattle.flashnor_serprog.specs.Run.{HasSucceeded, IsAskedByArguments, IsEndedAs, IsHelpAskedBy, IsPrepared};
-ghost use Rattle.flashnor_serprog.specs.Logging.{CreatesLog};
+ghost use Rattle.flashnor_serprog.specs.Run.{HasSucceeded, IsAskedByArguments, IsEndedAs, IsHelpAskedBy};
 ghost use Rattle.flashnor_serprog.specs.Sends.{SendsOnly};
 
-use crate::backups::check_new;
 use crate::chip_faults::JobFault;
-use crate::connect::{ChipBus, Connected, connect};
+use crate::connect::{ChipBus, Connected};
 use crate::ending::{end_badly, end_well, status_of};
 use crate::help::HELP;
 use crate::hints::Saved;
-use crate::jobs::{changes_bytes, perform};
+use crate::jobs::{changes_bytes, is_session, perform};
 use crate::journals::check_journal;
+use crate::preparing::{Prepared, prepare};
 use crate::progress::{Progress, StatusWrite, Terminal};
 use crate::reports::{print_job_fault, print_trouble, report_changed_byte};
-use crate::roles::{has_own_log, have_one_role};
-use crate::run_log::{end_log, start_log};
+use crate::run_log::end_log;
 use crate::setting::Setting;
-use crate::sources::{image_of, prepare_sources};
 use crate::terminal::Screen;
 use crate::trouble::Trouble;
 use clap::Error as WordsError;
@@ -185,65 +181,6 @@ fn asked_text<'a>(trouble: &'a Trouble<'_>) -> Option<&'a WordsError>
     }
 }
 
-// The files of an operation, which were read, and its programmer, which was identified.
-#[derive(Drop)]
-struct Prepared<'b> {
-    sources: Sources,
-    connected: Connected<'b>,
-}
-
-// Reads the files that the operation needs, starts the log, and identifies the programmer.
-#[tactic(auto, using(crate::proofs::LogMade::log_unstarted, crate::proofs::LogMade::log_started))]
-fn prepare<'a, 'b, R: Store<Log = LogFile<File>>>(
-    rt: &'b HostRuntime,
-    screen: &'b Screen,
-    files: &mut R,
-    setting: &Setting<'a>,
-    operation: &Operation<'a>,
-) -> Result<Prepared<'b>, Trouble<'a>>
-    ensures logged { CreatesLog operation.now.log (R.state files.old) (R.state files.new) }
-    ensures ok { IfOk result (λ prepared. IsPrepared (R.state files.old).view setting.now.device operation.now
-        prepared.sources.included prepared.sources.bytes.items) }
-    ensures named { IfOk result (λ prepared. device_of prepared.connected ≡ setting.now.device.now) }
-    ensures fresh { IfOk result (λ prepared. IsUnused (⟦<ChipBus<'b> as Bus>⟧.state prepared.connected.bus)) }
-    ensures expected { IfOk result (λ prepared. MayExpectImage operation.now prepared.sources.bytes.items
-        (expected_by prepared.connected)) }
-{
-    have_one_role(files, setting.device, &operation.task)?;
-    has_own_log(files, setting.device, operation)?;
-    check_new(files, operation)?;
-    let sources = prepare_sources(files, &operation.task)?;
-    let image = image_of(&sources, operation);
-    start_log(files, screen.log(), operation.log)?;
-    let name = name_of(rt.alloc(), setting.device)?;
-    let terminal = Terminal::new(rt, screen, operation.progress, operation.is_verbose);
-    match connect(
-        rt,
-        terminal,
-        name,
-        setting.hertz,
-        setting.chip_select,
-        image,
-        is_session(&operation.task),
-    ) {
-        Ok(connected) => Ok(Prepared { sources, connected }),
-        Err(fault) => Err(Trouble::Programmer {
-            fault,
-            device: setting.device,
-        }),
-    }
-}
-
-// Returns a copy of the name of a device. Returns usage fault 10 if memory runs out.
-fn name_of<'a>(alloc: Global, device: &str) -> Result<String, Fault<'a>>
-    ensures { IfOk result (λ name. string_bytes name ≡ device.now) }
-{
-    match String::from_str(alloc, device) {
-        Ok(name) => Ok(name),
-        Err(_) => Err(Fault::out_of_memory()),
-    }
-}
-
 // What the arguments ask for.
 #[derive(Drop)]
 enum Asked<'a> {
@@ -319,10 +256,6 @@ fn mark_job<'b>(bus: &mut ChipBus<'b>, task: &Task<'_>, saved: Option<Saved>)
     ensures { ⟦<ChipBus<'b> as Bus>⟧.state bus.new ≡ ⟦<ChipBus<'b> as Bus>⟧.state bus.old }
 {
     bus.begin_job(is_session(task), status_write_of(task, saved));
-}
-
-fn is_session(task: &Task<'_>) -> bool {
-    matches!(task, Task::Change(_))
 }
 
 // Returns whether a task may write the status. `saved` is what the journal of a restore says.
