@@ -2,10 +2,10 @@
 """tests/serprog/run.py PROGRAM: the program flashnor-serprog with a serial programmer at a pseudo-terminal.
 
 The programmer is server.py, and its chip is a model from the datasheets (chip.py). The cases are in options.py,
-journals.py, maps.py, terminal.py, logs.py, backups.py, refusals.py, faults.py, wire.py, contact.py, rest.py, narrow.py
-and ports.py; manual.py and rescue.py play the manual page. bits.py tries each single wrong bit of each reply, and
-misses each single frame. losses.py kills the program, and loses replies, at each transaction of a session and of its
-restores; busy.py does so while the chip is busy. What the program must send and print is computed by reference.py,
+journals.py, maps.py, regions.py, terminal.py, logs.py, backups.py, refusals.py, faults.py, wire.py, contact.py, rest.py,
+narrow.py and ports.py; manual.py and rescue.py play the manual page. bits.py tries each single wrong bit of each reply,
+and misses each single frame. losses.py kills the program, and loses replies, at each transaction of a session and of
+its restores; busy.py does so while the chip is busy. What the program must send and print is computed by reference.py,
 without the program.
 
 A case that failed is printed, with what was wanted and what was got. The last line is `N passed, M failed`, and the
@@ -34,6 +34,7 @@ import narrow
 import options
 import ports
 import refusals
+import regions
 import rescue
 import rest
 import terminal
@@ -41,8 +42,8 @@ import wire
 from bench import Bench, Differs
 
 MODULES = (
-    options, journals, maps, terminal, backups, refusals, faults, wire, contact, rest, narrow, busy, ports, manual,
-    rescue, logs,
+    options, journals, maps, regions, terminal, backups, refusals, faults, wire, contact, rest, narrow, busy, ports,
+    manual, rescue, logs,
 )
 CASES = {case.__name__: case for module in MODULES for case in module.CASES}
 

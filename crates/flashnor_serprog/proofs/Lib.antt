@@ -10,3 +10,8 @@ pub mod Described
 pub mod Named
 pub mod Ran
 pub mod LogMade
+pub mod RegionNames
+pub mod RegionBytes
+pub mod RegionsKept
+pub mod RegionApart
+pub mod RegionsCopied

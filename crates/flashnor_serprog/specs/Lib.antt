@@ -8,6 +8,9 @@ pub mod Jobs
 pub mod Sends
 pub mod Sources
 pub mod Logging
+pub mod Regions
+pub mod RegionRoles
+pub mod RegionCopies
 pub mod Journals
 pub mod Run
 pub mod Estimates

@@ -26,8 +26,10 @@ use Rattle.flashnor_serprog.specs.Jobs.{DoesTask, FailsPerform, changes_bytes}
 use Rattle.flashnor_serprog.specs.Logging.{HasOwnLog, StayButLog}
 use Rattle.flashnor_serprog.specs.Sends.{SendsOnly}
 use Rattle.flashnor_serprog.specs.Setting.{IsDeviceOf}
-use Rattle.nor_jobs.specs.Sources.{AreSources}
-use Rattle.flashnor_serprog.specs.Sources.{HaveOneRole}
+use Rattle.flashnor_serprog.specs.RegionCopies.{AreCopied}
+use Rattle.flashnor_serprog.specs.RegionRoles.{AreNamed, HaveFileRoles}
+use Rattle.flashnor_serprog.specs.Sources.{ArePreparedBytes, AreJobRegions, HaveOneRole}
+use Rattle.flashnor_serprog.specs.declared.region_files.RegionFile.{RegionFile}
 use Rattle.flashnor_serprog.specs.declared.chip_faults.JobFault.{JobFault}
 use Rattle.flashnor_serprog.specs.declared.chip_faults.JobFault.TheVariants as ended
 use Rattle.flashnor_serprog.specs.declared.connect.Connected.{Connected}
@@ -54,12 +56,16 @@ IsAskedByArguments words (asked.Description file) = IsHardwareJob program words 
 IsAskedByArguments words (asked.Chip setting operation) = IsAskedFor words setting.device operation
 
 -- Holds if a job is prepared, before the programmer is used: neither the device nor a file that the job writes has a
--- second role (`HaveOneRole`), nor does the log (`HasOwnLog`), and the job's ranges and bytes were read.
-pub record IsPrepared (view : View) (device : Bor Text) (operation : Operation) (ranges : Option (List Span))
-    (bytes : List ℕ) : Type 0 where
+-- second role (`HaveOneRole`), nor does the log (`HasOwnLog`); `files` are the regions that have a file of their own,
+-- and the job's ranges and bytes were read. In an image, the bytes of these regions are those of their files.
+pub record IsPrepared (view : View) (device : Bor Text) (operation : Operation) (files : List RegionFile)
+    (ranges : Option (List Span)) (bytes : List ℕ) : Type 0 where
   pub roles : HaveOneRole view.nature device operation.task
   pub own_log : HasOwnLog view.nature device operation.task operation.log
-  pub sources : AreSources view operation.task ranges bytes
+  pub regions : AreJobRegions view operation.task files ranges
+  pub names : AreNamed operation.task files
+  pub file_roles : HaveFileRoles view.nature device operation.task operation.log files
+  pub sources : ArePreparedBytes view operation.task files bytes
 
 -- Holds if a job ended with this result: the answer or the error of its call of the engine (such as `session` or
 -- `restore`), or a fault that occurred before that call or in the comparison of the chip after it.
@@ -113,13 +119,15 @@ HasPrintedAnswer operation (Err fault) out out' = ⊥
 -- Holds for a run of a job on a chip; `old` and `new` are the states of the bus before and after it. The run sent only
 -- what its job may send (`SendsOnly`). Its exit status is 0 or 1, and 0 only if the job ended with an answer and the
 -- answer's lines were printed.
-pub record HasRun (operation : Operation) (ranges : Option (List Span)) (bytes : List ℕ) (before : View)
-    (after : FilesState) (old new : BusState) (out out' : Option (List ℕ)) (status : ℕ) : Type 0 where
+pub record HasRun (operation : Operation) (files : List RegionFile) (ranges : Option (List Span)) (bytes : List ℕ)
+    (before : View) (after : FilesState) (old new : BusState) (out out' : Option (List ℕ)) (status : ℕ)
+    : Type 0 where
   pub outcome : Result Answer JobFault
   pub ends : EndsJob operation ranges bytes before after old new outcome
   pub sends : SendsOnly operation.task bytes old new after
   pub few : status ≤ 1
   pub printed : status ≡ 0 → HasPrintedAnswer operation outcome out out'
+  pub copied : status ≡ 0 → AreCopied operation files after.view
 
 -- Holds if the arguments ask for the help or the version, so that `clap` may reject them with the error that contains
 -- the help, or with the one that contains the version.
@@ -148,13 +156,14 @@ pub record HasRunOperation (state : Connected → BusState) (files after : Files
   pub same_device : device_of start ≡ device
   pub named : device ≡ name.now
   pub fresh : IsUnused (state start)
+  pub regions : List RegionFile
   pub ranges : Option (List Span)
   pub bytes : List ℕ
   pub expected : MayExpectImage operation bytes (expected_by start)
-  pub prepared : IsPrepared files.view name operation ranges bytes
+  pub prepared : IsPrepared files.view name operation regions ranges bytes
   pub made : View
   pub logged : StayButLog operation.log files.view made
-  pub ran : HasRun operation ranges bytes made after (state start) last out out' status
+  pub ran : HasRun operation regions ranges bytes made after (state start) last out out' status
 
 -- Holds if the operation that the arguments ask for was run on the device that `dev=` names (`HasRunOperation`).
 pub record HasRunJob (state : Connected → BusState) (files after : FilesState) (words : List Text) (device : Text)

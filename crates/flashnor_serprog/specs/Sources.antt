@@ -1,6 +1,6 @@
 -- The files of a job: the check that no file has two roles, and the contents that are read before the programmer is
 -- used.
-use Rattle.std.specs.Prelude.{◌≡◌, ◌⊎◌, Option, Some}
+use Rattle.std.specs.Prelude.{◌≡◌, ◌⊎◌, ℕ, List, [], Option, None, Some, length, option_map, ⊤}
 use Rattle.std.specs.Borrow.{Bor}
 use Rattle.nor_files.specs.Files.{Nature, View}
 use Rattle.nor_files.specs.Files.Failure.{There}
@@ -9,13 +9,21 @@ use Rattle.nor_args.specs.declared.job.JournalUse.{JournalUse}
 use Rattle.nor_args.specs.declared.job.JournalUse.TheVariants as uses
 use Rattle.nor_args.specs.declared.job.Task.{Task}
 use Rattle.nor_args.specs.declared.job.Task.TheVariants as task
-use Rattle.nor_jobs.specs.Sources.{FailsSources, IsInvalid}
+use Rattle.nor_args.specs.declared.job.Regions.{Regions}
+use Rattle.nor_layout.specs.declared.ranges.Span.{Span}
+use Rattle.nor_jobs.specs.Sources.{FailsImage, IsImage, IsInvalid}
+use Rattle.nor_console.specs.Files.{IsReadingFault, IsSharingFault}
+use Rattle.nor_console.specs.Requests.{AreRangesOf}
 use Rattle.nor_console.specs.Roles.{FailsApart, FailsUnprinted}
 use Rattle.nor_console.specs.Tasks.{named_by}
-use Rattle.nor_console.specs.Stored.{AreTwo, Happens}
+use Rattle.nor_console.specs.Stored.{AreTwo, Happens, IsRead}
 use Rattle.nor_console.specs.declared.messages.Fault.{Fault}
 use Rattle.nor_console.specs.declared.messages.Fault.TheVariants as end
 use Rattle.nor_console.specs.declared.messages.FileFault.TheVariants as file
+use Rattle.flashnor_serprog.specs.Regions.{AreFilesIn, AreReplaced, FailsToReplace, names_in, regions_of, with_names}
+use Rattle.flashnor_serprog.specs.declared.region_files.RegionFile.{RegionFile}
+use Rattle.flashnor_serprog.specs.declared.trouble.Trouble.{Trouble}
+use Rattle.flashnor_serprog.specs.declared.trouble.Trouble.TheVariants as trouble
 
 -- ---- roles
 
@@ -65,6 +73,60 @@ FailsCheck view (task.Change change) fault = IsThere view change.journal_use fau
 FailsCheck view (task.Restore journal) fault = IsInvalid view journal.now fault
 FailsCheck view _ fault = ⊥
 
+-- Holds if `bytes` are those that were read of the job's image or of the journal that it restores from. At most one
+-- byte more is read than the largest chip or the longest journal has. A job that needs neither has no bytes.
+abbrev pub AreBytes : View → Task → List ℕ → Type 0
+AreBytes view (task.Verify file regions) bytes = IsRead view file.now 16777217 bytes
+AreBytes view (task.Change change) bytes = IsImage view change.wanted bytes
+AreBytes view (task.Restore journal) bytes = IsRead view journal.now 16793662 bytes
+AreBytes view _ bytes = bytes ≡ []
+
+-- Holds for the faults of reading the job's image or journal.
+abbrev pub FailsToReadBytes : View → Task → Fault → Type 0
+FailsToReadBytes view (task.Verify file regions) fault = IsReadingFault view file.now 16777217 fault
+FailsToReadBytes view (task.Change change) fault = FailsImage view change.wanted fault
+FailsToReadBytes view (task.Restore journal) fault = IsSharingFault view journal.now 16793662 fault
+FailsToReadBytes view _ fault = ⊥
+
+-- Holds if `new` is the image `old` with the bytes of each region replaced by those of the region's file
+-- (`AreReplaced`). Without an image, nothing is replaced.
+abbrev pub AreReplacedIn : View → (image : Option (Bor Text)) → List RegionFile → (old new : List ℕ) → Type 0
+AreReplacedIn view None files old new = new ≡ old
+AreReplacedIn view (Some image) files old new = AreReplaced view files old new
+
+-- Holds if `bytes` are those of the job's image or journal (`AreBytes`), with the bytes of each region of an image
+-- replaced by those of the region's file.
+pub record ArePreparedBytes (view : View) (job : Task) (files : List RegionFile) (bytes : List ℕ) : Type 0 where
+  pub whole : List ℕ
+  pub read : AreBytes view job whole
+  pub replaced : AreReplacedIn view (named_by job).wanted files whole bytes
+
+-- Holds if replacing the bytes of regions may fail with this fault (`FailsToReplace`). Without an image, nothing fails.
+abbrev pub FailsToReplaceIn : View → (image : Option (Bor Text)) → Task → List RegionFile → Trouble → Type 0
+FailsToReplaceIn view None job files fault = ⊥
+FailsToReplaceIn view (Some image) job files fault =
+    (whole : List ℕ) × AreBytes view job whole × FailsToReplace view image files (length whole) fault
+
 -- Holds if reading and checking the files of a task may fail with this fault.
-abbrev pub FailsToPrepare : View → Task → Fault → Type 0
-FailsToPrepare view job fault = FailsSources view job fault ⊎ FailsCheck view job fault
+abbrev pub FailsToPrepare : View → Task → List RegionFile → Trouble → Type 0
+FailsToPrepare view job files (trouble.Fault fault) = FailsToReadBytes view job fault
+    ⊎ (FailsCheck view job fault ⊎ FailsToReplaceIn view (named_by job).wanted job files (trouble.Fault fault))
+FailsToPrepare view job files fault = FailsToReplaceIn view (named_by job).wanted job files fault
+
+-- ---- regions
+
+-- Holds if `names` are the names in the value of `-i`, without files.
+abbrev pub ArePlainNames : Option Regions → Text → Type 0
+ArePlainNames None names = ⊤
+ArePlainNames (Some regions) names = names ≡ names_in regions.names.now
+
+-- the job's regions, with the names `names` in place of the value of `-i`
+abbrev pub named_regions : Bor Text → Task → Option Regions
+named_regions names job = option_map (with_names names) (regions_of job)
+
+-- Holds if `ranges` are the addresses of the job's regions, and `files` the regions that have a file of their own.
+pub record AreJobRegions (view : View) (job : Task) (files : List RegionFile) (ranges : Option (List Span)) : Type 0 where
+  pub names : Bor Text
+  pub plain : ArePlainNames (regions_of job) names.now
+  pub included : AreRangesOf view (named_regions names job) ranges
+  pub files_in : AreFilesIn view (regions_of job) files

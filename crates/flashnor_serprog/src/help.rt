@@ -46,6 +46,9 @@ and how to restore from it. It needs no programmer.
 The files of --fmap-file and --ifd-file are images that you have read from this
 board with -r: the regions are those of the table in the image.
 
+-i NAME:FILE gives a region a file of its own: -w and -v take the region's bytes
+from FILE in place of the image, and -r also writes them into FILE.
+
 Examples: save the chip; write an image and keep a journal; restore the chip:
   flashnor-serprog -p serprog:dev=/dev/ttyACM0 --backup whole.journal
   flashnor-serprog -p serprog:dev=/dev/ttyACM0 -w new.bin --journal j

@@ -12,6 +12,10 @@
 //! - `hints.rt`: the line after that of a fault, for example with what to do, or what was found and expected
 //! - `quoted.rt`: names of files in commands that you may copy
 //! - `setting.rt`: the value of `-p`
+//! - `region_files.rt`: the regions with a file of their own, whose bytes replace those of an image
+//! - `region_roles.rt`: checks the files of regions before the programmer is used
+//! - `region_copies.rt`: writes the files of regions after a read
+//! - `region_faults.rt`: the faults of regions with files, and their lines
 //! - `roles.rt`: checks that neither the device nor a file that a job writes has a second role
 //! - `sources.rt`: reads the files that a job needs, before the programmer is used
 //! - `port.rt`: a port over the device of the programmer
@@ -52,6 +56,10 @@ mod port;
 mod preparing;
 mod progress;
 mod quoted;
+mod region_copies;
+mod region_faults;
+mod region_files;
+mod region_roles;
 mod reports;
 mod rest;
 mod restoring;
@@ -76,19 +84,19 @@ use terminal::Screen;
 fn main(rt: HostRuntime) -> ExitCode {
     let streams = keep_streams(&rt);
     let screen = Screen::new();
+    ExitCode::from(run_logged(&rt, &screen, streams.is_ok()))
+}
+
+// Runs the program. What it prints also goes to the log of the run. If descriptors 0, 1 and 2 could not be kept open,
+// opens no file, and prints a fault.
+fn run_logged<'b>(rt: &'b HostRuntime, screen: &'b Screen, has_descriptors: bool) -> u8 {
     let mut output = Logged::new(by_line(rt.alloc(), rt.stdout()), screen.log());
     let mut errors = Logged::new(by_line(rt.alloc(), rt.stderr()), screen.log());
     let mut used = None;
-    let status = match &streams {
-        Ok(_) => run_words(
-            &rt,
-            &screen,
-            env::args(&rt),
-            &mut used,
-            &mut output,
-            &mut errors,
-        ),
-        Err(_) => end_without_descriptors(&mut errors),
-    };
-    ExitCode::from(status)
+    if has_descriptors {
+        let given = env::args(rt);
+        run_words(rt, screen, given, &mut used, &mut output, &mut errors)
+    } else {
+        end_without_descriptors(&mut errors)
+    }
 }

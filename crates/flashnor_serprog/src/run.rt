@@ -2,10 +2,14 @@
 ghost use Rattle.std.specs.Prelude.{◌≡◌, ◌≤◌, IfErr, IfOk, IfSome, IsSome, None, is_some, map, string_bytes, true};
 ghost use Rattle.nor_files.specs.Disk.{unknown};
 ghost use Rattle.nor_args.specs.Words.{arguments_of};
+ghost use Rattle.nor_console.specs.Printing.{Prints};
 ghost use Rattle.flashnor_serprog.specs.Connected.{device_of};
-ghost use Rattle.flashnor_serprog.specs.Run.{AsksForHelp, EndsJob, HasRun, HasRunJob, HasRunOperation};
+ghost use Rattle.flashnor_serprog.specs.Run.{AreJobLines, AsksForHelp, EndsJob, HasRun, HasRunJob, HasRunOperation};
 ghost use Rattle.flashnor_serprog.specs.Run.{HasSucceeded, IsAskedByArguments, IsEndedAs, IsHelpAskedBy};
+ghost use Rattle.flashnor_serprog.specs.RegionCopies.{AreCopied, KeepsOutput};
+ghost use Rattle.flashnor_serprog.specs.Regions.{regions_of};
 ghost use Rattle.flashnor_serprog.specs.Sends.{SendsOnly};
+ghost use Rattle.flashnor_serprog.specs.Sources.{ArePlainNames};
 
 use crate::chip_faults::JobFault;
 use crate::connect::{ChipBus, Connected};
@@ -16,6 +20,8 @@ use crate::jobs::{changes_bytes, is_session, perform};
 use crate::journals::check_journal;
 use crate::preparing::{Prepared, prepare};
 use crate::progress::{Progress, StatusWrite, Terminal};
+use crate::region_copies::{reads_out, write_region_files};
+use crate::region_files::{RegionFile, plain_names};
 use crate::reports::{print_job_fault, print_trouble, report_changed_byte};
 use crate::run_log::end_log;
 use crate::setting::Setting;
@@ -109,26 +115,32 @@ fn run_arguments<'b, R: Store<Log = LogFile<File>>, O: Write, E: Write>(
     match read_words(rt.alloc(), words) {
         Ok(Asked::Description { file }) => check_journal(files, file, output, errors),
         Ok(Asked::Chip { setting, operation }) => {
-            run_on_chip(
-                rt, screen, files, used, &setting, &operation, output, errors,
-            )
+            match plain_names(rt.alloc(), &operation.task) {
+                Ok(names) => run_on_chip(
+                    rt, screen, files, used, &setting, &operation, &names, output, errors,
+                ),
+                Err(_) => end_badly(errors, &Fault::out_of_memory()),
+            }
         }
         Err(trouble) => end_early(output, errors, &trouble),
     }
 }
 
-// Performs an operation on the chip of a programmer.
-fn run_on_chip<'b, R: Store<Log = LogFile<File>>, O: Write, E: Write>(
+// Performs an operation on the chip of a programmer. `names` must be the names of the operation's regions without their
+// files (`plain_names`).
+fn run_on_chip<'a, 'b, R: Store<Log = LogFile<File>>, O: Write, E: Write>(
     rt: &'b HostRuntime,
     screen: &'b Screen,
     files: &mut R,
     used: &mut Option<Connected<'b>>,
-    setting: &Setting<'_>,
-    operation: &Operation<'_>,
+    setting: &Setting<'a>,
+    operation: &Operation<'a>,
+    names: &'a str,
     output: &mut O,
     errors: &mut E,
 ) -> u8
-    requires { used.old ≡ None }
+    requires used { used.old ≡ None }
+    requires names { ArePlainNames (regions_of operation.now.task) names.now }
     ensures few { result ≤ 1 }
     ensures used { result ≡ 0 → is_some used.new ≡ true }
     ensures ran { IfSome used.new (λ connected. HasRunOperation
@@ -136,15 +148,16 @@ fn run_on_chip<'b, R: Store<Log = LogFile<File>>, O: Write, E: Write>(
         setting.now.device operation.now (device_of connected) (⟦<ChipBus<'b> as Bus>⟧.state connected.bus)
         (O.contents output.old) (O.contents output.new) result) }
 {
-    match prepare(rt, screen, files, setting, operation) {
+    match prepare(rt, screen, files, setting, operation, names) {
         Ok(
             Prepared {
+                regions,
                 sources,
                 mut connected,
             },
         ) => {
             let bus = &mut connected.bus;
-            let status = run_prepared(files, bus, operation, sources, output, errors);
+            let status = run_prepared(files, bus, operation, &regions, sources, output, errors);
             *used = Some(connected);
             status
         }
@@ -215,11 +228,12 @@ fn run_prepared<'b, R: Store, O: Write, E: Write>(
     files: &mut R,
     bus: &mut ChipBus<'b>,
     operation: &Operation<'_>,
+    regions: &[RegionFile<'_>],
     sources: Sources,
     output: &mut O,
     errors: &mut E,
 ) -> u8
-    ensures { HasRun operation.now sources.included sources.bytes.items (R.state files.old).view (R.state files.new)
+    ensures { HasRun operation.now regions.now sources.included sources.bytes.items (R.state files.old).view (R.state files.new)
         (⟦<ChipBus<'b> as Bus>⟧.state bus.old) (⟦<ChipBus<'b> as Bus>⟧.state bus.new)
         (O.contents output.old) (O.contents output.new) result }
 {
@@ -227,16 +241,61 @@ fn run_prepared<'b, R: Store, O: Write, E: Write>(
     mark_job(bus, &operation.task, saved);
     let terminal = bus.terminal();
     match end_job(files, bus, terminal, operation, sources) {
+        Ok(answer) if reads_out(operation) => {
+            bus.end_progress(true);
+            let printed = end_with_files(files, operation, regions, answer, output, errors);
+            end_run(errors, bus, operation, printed)
+        }
         Ok(answer) => {
             bus.end_progress(true);
             let printed = end_well(output, errors, answer, operation);
-            let status = report_changed_byte(errors, bus, printed);
-            end_log(errors, terminal.log(), operation.log, status)
+            end_run(errors, bus, operation, printed)
         }
         Err(fault) => {
             bus.end_progress(false);
             print_job_fault(errors, &fault, bus, operation, saved);
             end_log(errors, terminal.log(), operation.log, 1)
+        }
+    }
+}
+
+// Ends a run whose answer was printed with the exit status `printed`: reports a port that probably changes bytes, and a
+// lost line of the log. Returns the exit status.
+fn end_run<'b, E: Write>(
+    errors: &mut E,
+    bus: &ChipBus<'b>,
+    operation: &Operation<'_>,
+    printed: u8,
+) -> u8
+    ensures few { printed ≤ 1 → result ≤ 1 }
+    ensures failed { result ≡ 0 → printed ≡ 0 }
+{
+    let status = report_changed_byte(errors, bus, printed);
+    end_log(errors, bus.terminal().log(), operation.log, status)
+}
+
+// Writes the files of the regions after a read, then prints the answer. Prints the fault instead if a file can't be
+// written. Returns the exit status.
+fn end_with_files<R: Store, O: Write, E: Write>(
+    files: &mut R,
+    operation: &Operation<'_>,
+    regions: &[RegionFile<'_>],
+    answer: Answer,
+    output: &mut O,
+    errors: &mut E,
+) -> u8
+    ensures nature { (R.state files.new).view.nature ≡ (R.state files.old).view.nature }
+    ensures output { KeepsOutput operation.now.task (R.state files.old) (R.state files.new) }
+    ensures few { result ≤ 1 }
+    ensures printed { result ≡ 0 → Prints (AreJobLines operation.now answer) (O.contents output.old)
+        (O.contents output.new) }
+    ensures copied { result ≡ 0 → AreCopied operation.now regions.now (R.state files.new).view }
+{
+    match write_region_files(files, operation, regions) {
+        Ok(()) => end_well(output, errors, answer, operation),
+        Err(fault) => {
+            print_trouble(errors, &Trouble::Fault(fault), operation);
+            1
         }
     }
 }

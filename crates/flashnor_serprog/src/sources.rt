@@ -1,15 +1,20 @@
 //! The files that a job needs, which are read and checked before the programmer is used.
 ghost use Rattle.std.specs.Prelude.{◌≡◌, IfErr, IfOk, option_map};
 ghost use Rattle.nor_files.specs.Files.{AreUntouched};
-ghost use Rattle.nor_jobs.specs.Sources.{AreSources};
+ghost use Rattle.nor_jobs.specs.Sources.{FailsImage, IsImage};
 ghost use Rattle.flashnor_serprog.specs.Connected.{MayExpectImage, ends_with_image};
-ghost use Rattle.flashnor_serprog.specs.Sources.{FailsCheck, FailsToPrepare};
+ghost use Rattle.flashnor_serprog.specs.Sources.{AreBytes, ArePreparedBytes, FailsCheck, FailsToPrepare, FailsToReadBytes};
 
 use crate::jobs::is_compared;
+use crate::region_files::{RegionFile, replace_regions};
+use crate::trouble::Trouble;
 use nor_args::{Operation, Task, Wanted};
-use nor_console::{Fault, FileFault, journal_of};
+use nor_console::{
+    Fault, FileFault, MOST_IMAGE_BYTES, journal_of, named_by, read_file, read_journal,
+};
 use nor_files::Store;
-use nor_jobs::{Sources, journal_in, read_sources};
+use nor_jobs::{Sources, journal_in};
+use nor_layout::Ranges;
 
 /// Returns a copy of the job's image if the job ends with a comparison of the chip with an image: `-v`, and `-w`
 /// without `-n` and `-N`. Returns `None` for any other job, or if memory runs out.
@@ -40,24 +45,60 @@ fn ends_with_image(operation: &Operation<'_>) -> bool
     }
 }
 
-/// Reads the files that a task needs, as `read_sources` does, and checks them. Each file is as it was.
+/// Reads the image or the journal of a task, and checks it. In an image, the bytes of each of the `regions` are
+/// replaced by those of the region's file. `included` has the addresses of the regions. Each file is as it was.
 ///
-/// Returns the faults of `read_sources`, error 15 for an invalid journal, or file fault 4 if the journal of a change
-/// already exists.
-pub fn prepare_sources<'a, R: Store>(rt: &mut R, task: &Task<'a>) -> Result<Sources, Fault<'a>>
+/// Returns the faults of `read_file` and `read_journal`, error 15 for an invalid journal, file fault 4 if the journal
+/// of a change already exists, or a fault of `replace_regions`.
+pub fn prepare_sources<'a, R: Store>(
+    rt: &mut R,
+    task: &Task<'a>,
+    included: Option<Ranges>,
+    regions: &[RegionFile<'a>],
+) -> Result<Sources, Trouble<'a>>
     ensures same { AreUntouched (R.state rt.old) (R.state rt.new) }
+    ensures included { IfOk result (λ sources. sources.included ≡ included) }
     ensures ok { IfOk result (λ sources.
-        AreSources (R.state rt.old).view task.now sources.included sources.bytes.items) }
-    ensures err { IfErr result (FailsToPrepare (R.state rt.old).view task.now) }
+        ArePreparedBytes (R.state rt.old).view task.now regions.now sources.bytes.items) }
+    ensures err { IfErr result (FailsToPrepare (R.state rt.old).view task.now regions.now) }
 {
-    let sources = read_sources(rt, task)?;
+    let bytes = read_bytes(rt, task)?;
+    let mut sources = Sources { included, bytes };
     check(rt, task, &sources)?;
+    if let Some(image) = named_by(task).wanted {
+        replace_regions(rt, image, regions, &mut sources.bytes)?;
+    }
     Ok(sources)
+}
+
+// Reads the image or the journal of a task. Returns no bytes for a task that needs neither.
+fn read_bytes<'a, R: Store>(rt: &mut R, task: &Task<'a>) -> Result<Vec<u8>, Fault<'a>>
+    ensures same { AreUntouched (R.state rt.old) (R.state rt.new) }
+    ensures ok { IfOk result (λ bytes. AreBytes (R.state rt.old).view task.now bytes.items) }
+    ensures err { IfErr result (FailsToReadBytes (R.state rt.old).view task.now) }
+{
+    match task {
+        Task::Verify { file, .. } => read_file(rt, *file, MOST_IMAGE_BYTES),
+        Task::Change(change) => read_image(rt, change.wanted),
+        Task::Restore { journal } => read_journal(rt, *journal),
+        _ => Ok(Vec::new(rt.alloc())),
+    }
+}
+
+// Reads the image that a change writes. Returns no bytes for an erase or a protection range.
+fn read_image<'a, R: Store>(rt: &R, wanted: Wanted<'a>) -> Result<Vec<u8>, Fault<'a>>
+    ensures ok { IfOk result (λ bytes. IsImage (R.state rt.now).view wanted.entry bytes.items) }
+    ensures err { IfErr result (FailsImage (R.state rt.now).view wanted.entry) }
+{
+    match wanted {
+        Wanted::Write { image } => read_file(rt, image, MOST_IMAGE_BYTES),
+        _ => Ok(Vec::new(rt.alloc())),
+    }
 }
 
 // Checks that the journal of a change doesn't exist yet, and that the file of a restore is a valid journal.
 fn check<'a, R: Store>(rt: &R, task: &Task<'a>, sources: &Sources) -> Result<(), Fault<'a>>
-    requires { AreSources (R.state rt.now).view task.now sources.now.included sources.now.bytes.items }
+    requires { AreBytes (R.state rt.now).view task.now sources.now.bytes.items }
     ensures { IfErr result (FailsCheck (R.state rt.now).view task.now) }
 {
     match task {

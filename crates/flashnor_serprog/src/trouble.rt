@@ -4,6 +4,7 @@ ghost use Rattle.std.specs.Prelude.{◌≡◌};
 
 use crate::port::PortFault;
 use crate::quoted::Quoted;
+use crate::region_faults::RegionFault;
 use crate::setting::WrongSetting;
 use crate::status_line::{DIFFERED, StatusLine};
 use nor_args::{Reason, WrongArguments};
@@ -19,6 +20,8 @@ pub enum Trouble<'a> {
     Fault(Fault<'a>),
     /// The value of `-p` describes no programmer.
     Setting(WrongSetting<'a>),
+    /// A region of `-i` with a file, or this file, can't be used.
+    Region(RegionFault<'a>),
     /// The programmer at this device can't be used.
     Programmer {
         fault: ProgrammerFault,
@@ -58,6 +61,16 @@ impl<'a> From<WrongSetting<'a>> for Trouble<'a> {
     }
 }
 
+impl<'a> From<RegionFault<'a>> for Trouble<'a> {
+    ghost use Rattle.flashnor_serprog.specs.declared.trouble.Trouble.TheVariants as trouble;
+
+    ghost from_gives = { λ fault ended. ended ≡ trouble.Region fault };
+
+    fn from(fault: RegionFault<'a>) -> Trouble<'a> {
+        Trouble::Region(fault)
+    }
+}
+
 impl fmt::Display for Trouble<'_> {
     fn fmt<W: fmt::Write>(&self, f: &mut fmt::Formatter<W>) -> fmt::Result {
         match self {
@@ -69,6 +82,7 @@ impl fmt::Display for Trouble<'_> {
             ) => write!(f, "{NO_LAYOUT}\n{fault}"),
             Trouble::Fault(fault) => write!(f, "{fault}"),
             Trouble::Setting(wrong) => write!(f, "{wrong}Usage fault 3."),
+            Trouble::Region(fault) => write!(f, "{fault}"),
             Trouble::Programmer { fault, device } => {
                 let advice = Advice {
                     help: fault.help(),

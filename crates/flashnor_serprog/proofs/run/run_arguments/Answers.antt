@@ -2,9 +2,9 @@ use Rattle.std.proofs.Common.{inl, inr}
 use Rattle.flashnor_serprog.proofs.Ran.{is_used, job_ran}
 use Rattle.flashnor_serprog.proofs.run.run_arguments.Goals as goal
 
-pub returns-in-Ok-Chip-clause-ran : goal.returns-in-Ok-Chip-clause-ran
-returns-in-Ok-Chip-clause-ran g c = job_ran _ _ _ _ _ _ (rw c.in-Ok-Chip.field-0-is at c.in-Ok-Chip.ensures.ok) _ _ _ _ c.run_on_chip.ensures.ran
+pub returns-in-Ok-clause-ran : goal.returns-in-Ok-clause-ran
+returns-in-Ok-clause-ran g c = job_ran _ _ _ _ _ _ (rw c.in-Ok-Chip.field-0-is at c.in-Ok-Chip.ensures.ok) _ _ _ _ c.run_on_chip.ensures.ran
 
-pub returns-in-Ok-Chip-clause-done : goal.returns-in-Ok-Chip-clause-done
-returns-in-Ok-Chip-clause-done g c = λ zero. inr (inr (is_used _ _ (c.run_on_chip.ensures.used zero)
-    (rw zero at (returns-in-Ok-Chip-clause-ran g c))))
+pub returns-in-Ok-clause-done : goal.returns-in-Ok-clause-done
+returns-in-Ok-clause-done g c = λ zero. inr (inr (is_used _ _ (c.run_on_chip.ensures.used zero)
+    (rw zero at (returns-in-Ok-clause-ran g c))))

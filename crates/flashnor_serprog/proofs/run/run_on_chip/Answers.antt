@@ -8,6 +8,7 @@ returns-in-Ok-clause-ran g c = record {
   same_device = refl;
   named = c.in-Ok.ensures.named;
   fresh = c.in-Ok.ensures.fresh;
+  regions = c.in-Ok.field-0.regions.items;
   ranges = c.in-Ok.field-0.sources.included;
   bytes = c.in-Ok.field-0.sources.bytes.items;
   expected = c.in-Ok.ensures.expected;
@@ -15,5 +16,5 @@ returns-in-Ok-clause-ran g c = record {
   made = (g.R.Store.state c.prepare.new.files).view;
   logged = log_seen c.args.operation.now.log (g.R.Store.state c.args.files.now)
       (g.R.Store.state c.prepare.new.files) c.prepare.ensures.logged;
-  ran = c.run_prepared-status.ensures;
+  ran = rw c.deref.ensures.value at c.run_prepared-status.ensures;
 }

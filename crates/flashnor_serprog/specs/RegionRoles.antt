@@ -1,0 +1,117 @@
+-- The checks of the files of regions (`-i NAME:FILE`), before the programmer is used.
+use Rattle.std.specs.Prelude.{◌≡◌, ◌⊎◌, ◌||◌, ℕ, All, Bool, true, false, List, [], Option, None, Some, ⊤}
+use Rattle.std.specs.Borrow.{Bor}
+use Rattle.std.specs.List.{AllPairs, Any}
+use Rattle.std.specs.Str.{bytes_eq}
+use Rattle.nor_files.specs.Files.{Nature, View}
+use Rattle.nor_files.specs.Files.Failure.{Unread}
+use Rattle.nor_journal.specs.Text.{magic}
+use Rattle.nor_args.specs.Text.{Text}
+use Rattle.nor_args.specs.declared.job.Task.{Task}
+use Rattle.nor_args.specs.declared.job.Task.TheVariants as task
+use Rattle.nor_args.specs.declared.job.Wanted.TheVariants as wanted
+use Rattle.nor_args.specs.declared.job.Wanted.{Wanted}
+use Rattle.nor_console.specs.Files.{IsUnreadFault}
+use Rattle.nor_console.specs.Roles.{FailsApart, FailsUnprinted}
+use Rattle.nor_console.specs.Stored.{AreTwo, IsRead}
+use Rattle.nor_console.specs.Tasks.{named_by}
+use Rattle.nor_console.specs.declared.messages.Fault.{Fault}
+use Rattle.nor_console.specs.declared.messages.Fault.TheVariants as end
+use Rattle.nor_console.specs.declared.messages.FileFault.TheVariants as file
+use Rattle.nor_console.specs.declared.roles.Named.{Named}
+use Rattle.flashnor_serprog.specs.declared.region_faults.RegionFault.{RegionFault}
+use Rattle.flashnor_serprog.specs.declared.region_faults.RegionFault.TheVariants as wrong
+use Rattle.flashnor_serprog.specs.declared.region_files.RegionFile.{RegionFile}
+
+-- ---- names
+
+-- true for an erase, false for a write or a change of protection
+abbrev pub is_erase : Wanted → Bool
+is_erase wanted.Erase = true
+is_erase _ = false
+
+-- true if the task is an erase
+abbrev pub erases : Task → Bool
+erases (task.Change change) = is_erase change.wanted
+erases _ = false
+
+-- Holds if no file of a region has an empty name, and an erase has no such file.
+pub record AreNamed (job : Task) (files : List RegionFile) : Type 0 where
+  pub unerased : erases job ≡ true → files ≡ []
+  pub named : All (λ region. ¬ region.file.now ≡ []) files
+
+-- Holds for the fault of an erase that has regions with files, and for that of a region whose file has an empty name.
+abbrev pub FailsNames : Task → List RegionFile → RegionFault → Type 0
+FailsNames job files wrong.Erased = (erases job ≡ true) × (¬ files ≡ [])
+FailsNames job files (wrong.Unnamed name) =
+    Any (λ region. (region.name ≡ name) × (region.file.now ≡ [])) files
+FailsNames job files _ = ⊥
+
+-- ---- roles
+
+-- Holds if there is no output, or if the layout and the region's file are apart.
+abbrev pub IsApartFromLayout : Nature → (output layout : Option (Bor Text)) → Bor Text → Type 0
+IsApartFromLayout nature None layout of = ⊤
+IsApartFromLayout nature (Some output) layout of = AreTwo nature layout (Some of)
+
+-- Holds if a region's file is apart from the device, from the log and from the journal; if the job writes it, also from
+-- the layout and from the output.
+pub record HasOneRole (nature : Nature) (device : Bor Text) (log : Option (Bor Text)) (named : Named) (of : Bor Text)
+    : Type 0 where
+  pub from_device : AreTwo nature (Some device) (Some of)
+  pub from_log : AreTwo nature log (Some of)
+  pub from_journal : AreTwo nature named.journal (Some of)
+  pub from_output : AreTwo nature named.output (Some of)
+  pub from_layout : IsApartFromLayout nature named.output named.layout of
+
+-- Holds if the files of two regions are apart.
+abbrev pub AreTwoFiles : Nature → (one other : RegionFile) → Type 0
+AreTwoFiles nature one other = AreTwo nature (Some one.file) (Some other.file)
+
+-- Holds if there is no output, or if the files of the regions are apart from each other.
+abbrev pub AreDistinctIf : Nature → (output : Option (Bor Text)) → List RegionFile → Type 0
+AreDistinctIf nature None files = ⊤
+AreDistinctIf nature (Some output) files = AllPairs (AreTwoFiles nature) files
+
+-- Holds if each region's file has one role (`HasOneRole`), and if the job writes these files, each is apart from each
+-- other.
+pub record HaveFileRoles (nature : Nature) (device : Bor Text) (job : Task) (log : Option (Bor Text))
+    (files : List RegionFile) : Type 0 where
+  pub each : All (λ region. HasOneRole nature device log (named_by job) region.file) files
+  pub distinct : AreDistinctIf nature (named_by job).output files
+
+-- Holds if the check of the role of a region's file may fail with this fault.
+abbrev pub FailsFileRole : Nature → Bor Text → (log : Option (Bor Text)) → Named → Bor Text → Fault → Type 0
+FailsFileRole nature device log named of fault = FailsApart nature (Some device) (Some of) fault
+    ⊎ (FailsApart nature log (Some of) fault
+    ⊎ (FailsApart nature named.journal (Some of) fault
+    ⊎ (FailsApart nature named.layout (Some of) fault
+    ⊎ (FailsApart nature named.output (Some of) fault
+    ⊎ FailsUnprinted nature (Some of) fault))))
+
+-- Holds for file fault 1 of the output, if a read of it may fail or block: a FIFO or a device.
+abbrev pub IsNotReadBack : Nature → Option (Bor Text) → Fault → Type 0
+IsNotReadBack nature (Some output) (end.File file.Read of) =
+    (of.now ≡ output.now) × (nature.fails (Unread output.now) ≡ true)
+IsNotReadBack nature _ _ = ⊥
+
+-- ---- journals
+
+-- true for the first eight bytes of a journal, of either format
+abbrev pub is_magic : List ℕ → Bool
+is_magic start = bytes_eq start (magic (Some [])) || bytes_eq start (magic None)
+
+-- Holds for file fault 4 of this file, whose first eight bytes are those of a journal.
+abbrev pub IsOldJournal : View → Bor Text → Fault → Type 0
+IsOldJournal view name (end.File file.Exists of) = (of ≡ name)
+    × ((start : List ℕ) × IsRead view name.now 8 start × (is_magic start ≡ true))
+IsOldJournal view name fault = ⊥
+
+-- Holds if the check of a file that a read will truncate may fail with this fault: the file begins as a journal, or it
+-- can't be read.
+abbrev pub FailsOldFile : View → Bor Text → Fault → Type 0
+FailsOldFile view name fault = IsOldJournal view name fault ⊎ IsUnreadFault name.now fault
+
+-- Holds if the check of the files that a read will truncate may fail with this fault, at one of them.
+abbrev pub FailsOldFiles : View → List RegionFile → Fault → Type 0
+FailsOldFiles view files fault = Any (λ region. FailsOldFile view region.file fault) files

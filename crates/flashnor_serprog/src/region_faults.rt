@@ -1,0 +1,65 @@
+//! The faults of regions with a file of their own, and their lines.
+
+use nor_args::UsageFault;
+use nor_console::{Escaped, FileFault};
+use std::fmt;
+
+/// A fault of a region that has a file of its own, or of this file.
+#[derive(Clone, Copy, Drop)]
+pub enum RegionFault<'a> {
+    /// Usage fault 7: an erase has a region with a file.
+    Erased,
+    /// Usage fault 7: the name of the file of this region is empty.
+    Unnamed {
+        region: &'a str,
+    },
+    /// File fault 3: the file has another length than its region. `found` is the number of bytes that were read, at
+    /// most one more than the largest chip has.
+    Length {
+        file: &'a str,
+        found: usize,
+        wanted: usize,
+    },
+    /// File fault 3: the image ends before the end of this region.
+    Short {
+        image: &'a str,
+        region: &'a str,
+    },
+}
+
+// Prints the numbered line of the fault. A line that says what is wrong precedes that of a usage fault, and follows
+// that of a file fault.
+impl fmt::Display for RegionFault<'_> {
+    fn fmt<W: fmt::Write>(&self, f: &mut fmt::Formatter<W>) -> fmt::Result {
+        match *self {
+            RegionFault::Erased => write!(
+                f,
+                "error: -E takes no files: give -i NAME, not -i NAME:FILE\n{}",
+                UsageFault::Layout
+            ),
+            RegionFault::Unnamed { region } => write!(
+                f,
+                "error: the file name of the region '{}' is empty\n{}",
+                Escaped(region),
+                UsageFault::Layout
+            ),
+            RegionFault::Length {
+                file,
+                found,
+                wanted,
+            } => write!(
+                f,
+                "File fault {}: {}.\nIt has {found} bytes, and its region has {wanted}.",
+                FileFault::Length.number(),
+                Escaped(file)
+            ),
+            RegionFault::Short { image, region } => write!(
+                f,
+                "File fault {}: {}.\nIt ends before the end of the region '{}'.",
+                FileFault::Length.number(),
+                Escaped(image),
+                Escaped(region)
+            ),
+        }
+    }
+}

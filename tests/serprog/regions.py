@@ -1,0 +1,300 @@
+"""Cases of regions with a file of their own (-i NAME:FILE): a read writes the files, -w and -v take bytes from them.
+
+The form of -i is that of flashrom's manual page. The expected bytes are cut out of the images by these cases.
+"""
+import random
+
+import reference
+from bench import LONGEST, check
+from maps import with_descriptor, with_fmap
+from options import FREE, SIZE
+
+LAYOUT = b"0:fff boot\n1000:2fff data\n2800:37ff over\n4001:4001 id\n8000:ffff main\n"
+SPANS = {"boot": (0, 0xFFF), "data": (0x1000, 0x2FFF), "over": (0x2800, 0x37FF), "id": (0x4001, 0x4001),
+         "main": (0x8000, 0xFFFF)}
+NO_REGION = "The regions are in the file layout."
+
+
+def random_image(seed):
+    return random.Random(seed).randbytes(SIZE)
+
+
+def cut(data, name):
+    """Returns the bytes of a region of LAYOUT."""
+    first, last = SPANS[name]
+    return data[first : last + 1]
+
+
+def put(data, name, content):
+    """Returns the data with the content at the first address of a region of LAYOUT."""
+    first, _ = SPANS[name]
+    return data[:first] + content + data[first + len(content) :]
+
+
+def only(data, *names):
+    """Returns the bytes of these regions at their addresses, and FFh at all other addresses."""
+    result = FREE
+    for name in names:
+        result = put(result, name, cut(data, name))
+    return result
+
+
+def begin(start, data, **traits):
+    bench = start(data=data, **traits)
+    bench.write("layout", LAYOUT)
+    return bench
+
+
+def reads_regions_into_files(start):
+    """-r writes each file with exactly the bytes of its region; a longer file is truncated; regions may lack a file."""
+    old = random_image("read")
+    bench = begin(start, old)
+    bench.write("data.bin", b"x" * SIZE)
+    bench.expect("-r", "out", "-l", "layout", "-i", "data:data.bin,main,id:id.bin",
+                 out=[reference.found("TINY64"), "Read 65536 bytes."])
+    bench.check_file("out", only(old, "data", "main", "id"))
+    bench.check_file("data.bin", cut(old, "data"))
+    bench.check_file("id.bin", cut(old, "id"))
+    # Overlapping regions, a region twice, and a name of a file with colons.
+    bench.expect("-r", "out", "-l", "layout", "-i", "data:a,over:b:c,data:d",
+                 out=[reference.found("TINY64"), "Read 65536 bytes."])
+    for name, region in ("a", "data"), ("b:c", "over"), ("d", "data"):
+        bench.check_file(name, cut(old, region))
+    bench.check_file("out", only(old, "data", "over"))
+
+
+def writes_a_region_from_a_file(start):
+    """-w takes the bytes of a region from its file, all others of the included regions from the image."""
+    old, new, other = (random_image(seed) for seed in ("old", "new", "other"))
+    bench = begin(start, old)
+    bench.write("new", new)
+    bench.write("part", cut(other, "main"))
+    got = bench.run("-w", "new", "--journal", "j", "-l", "layout", "-i", "data,main:part")
+    check("the run", (got.err, got.status), ([], 0))
+    wanted = put(put(old, "data", cut(new, "data")), "main", cut(other, "main"))
+    bench.check_chip(wanted)
+    bench.check_file("new", new)
+    bench.check_file("part", cut(other, "main"))
+    got = bench.run("--restore", "j")
+    check("the restore", (got.err, got.status), ([], 0))
+    bench.check_chip(old)
+
+
+def lets_the_later_file_win(start):
+    """If two regions with files overlap, the bytes that both have are those of the later file in -i."""
+    old, one, other = (random_image(seed) for seed in ("old", "one", "other"))
+    for names, wanted in (
+            ("data:one,over:other", put(put(old, "data", cut(one, "data")), "over", cut(other, "over"))),
+            ("over:other,data:one", put(put(old, "over", cut(other, "over")), "data", cut(one, "data")))):
+        bench = begin(start, old)
+        bench.write("image", old)
+        bench.write("one", cut(one, "data"))
+        bench.write("other", cut(other, "over"))
+        got = bench.run("-w", "image", "--journal", "j", "-l", "layout", "-i", names)
+        check("the run", (got.err, got.status), ([], 0))
+        bench.check_chip(wanted)
+
+
+def verifies_a_region_against_a_file(start):
+    """-v compares a region with its file, and the other regions with the image; one other byte is error 14."""
+    old = random_image("verify")
+    bench = begin(start, old)
+    image = put(old, "data", b"\0" * 0x2000)
+    bench.write("image", image)
+    bench.write("same", cut(old, "data"))
+    bench.expect("-v", "image", "-l", "layout", "-i", "boot,data:same",
+                 out=[reference.found("TINY64"), "Verified."])
+    for at in 0, 0x1234, 0x1FFF:
+        other = bytearray(cut(old, "data"))
+        other[at] ^= 1
+        bench.write("other", other)
+        got = bench.run("-v", "image", "-l", "layout", "-i", "boot,data:other")
+        check("the run", (got.out, got.err[:1], got.status),
+              ([], [f"Error 14: bytes differ at 0x{0x1000 + at:06x}."], 1))
+
+
+def refuses_other_lengths(start):
+    """A file that is shorter or longer than its region is file fault 3, with both lengths, before anything is sent."""
+    old = random_image("lengths")
+    bench = begin(start, old)
+    bench.write("image", old)
+    for length in 0, 1, 0xFFF, 0x1001, SIZE:
+        bench.write("part", b"x" * length)
+        for words in ("-v", "image"), ("-w", "image", "--journal", "j"):
+            bench.expect(*words, "-l", "layout", "-i", "main,boot:part",
+                         err=["File fault 3: part.", f"It has {length} bytes, and its region has 4096."])
+            bench.check_nothing_sent()
+            bench.check_absent("j")
+    bench.write("short", old[:0xFFFF])
+    bench.write("part", cut(old, "main"))
+    bench.expect("-v", "short", "-l", "layout", "-i", "boot,main:part",
+                 err=["File fault 3: short.", "It ends before the end of the region 'main'."])
+    bench.check_nothing_sent()
+
+
+def refuses_files_that_cannot_be_used(start):
+    """A missing file, an empty name, a file of -E and an unknown region are refused before anything is sent."""
+    old = random_image("missing")
+    bench = begin(start, old)
+    bench.write("image", old)
+    bench.write("part", cut(old, "boot"))
+    for words in ("-v", "image"), ("-w", "image", "--journal", "j"):
+        bench.expect(*words, "-l", "layout", "-i", "boot:none", err=reference.file_fault(1, "none"))
+        bench.check_nothing_sent()
+    for words in ("-r", "out"), ("-v", "image"), ("-w", "image", "--journal", "j"):
+        bench.expect(*words, "-l", "layout", "-i", "main,boot:",
+                     err=["error: the file name of the region 'boot' is empty", "Usage fault 7."])
+        bench.check_nothing_sent()
+        for names, unknown in ("boot:part,bios:part", "bios"), ("bios,boot:part", "bios"), ("main,:part", ""):
+            bench.expect(*words, "-l", "layout", "-i", names,
+                         err=[f"error: the layout has no region '{unknown}'", "Layout fault 8.", NO_REGION])
+            bench.check_nothing_sent()
+        bench.check_absent("out")
+        bench.check_absent("j")
+    bench.expect("-E", "--journal", "j", "-l", "layout", "-i", "main,boot:part",
+                 err=["error: -E takes no files: give -i NAME, not -i NAME:FILE", "Usage fault 7."])
+    bench.check_nothing_sent()
+    bench.check_absent("j")
+    bench.check_file("part", cut(old, "boot"))
+    bench.check_chip(old)
+
+
+def gives_each_file_of_a_read_one_role(start):
+    """The file of a region can't be the output, the layout, the device, or the file of another region of a read."""
+    old = random_image("roles")
+    bench = begin(start, old)
+    for names, wrong in (("boot:out", "out"), ("boot:./out", "./out"), ("boot:layout", "layout"),
+                         ("boot:a,main:a", "a"), ("boot:a,main:./a", "./a"), ("boot:dev", "dev")):
+        bench.expect("-r", "out", "-l", "layout", "-i", names, err=reference.file_fault(5, wrong))
+        bench.check_nothing_sent()
+        bench.check_absent("out")
+        bench.check_absent("a")
+    bench.check_file("layout", LAYOUT)
+    bench.write("a", b"before")
+    bench.path("b").symlink_to("a")
+    bench.expect("-r", "out", "-l", "layout", "-i", "boot:a,main:b", err=reference.file_fault(5, "b"))
+    bench.check_nothing_sent()
+    bench.check_file("a", b"before")
+
+
+def keeps_the_files_of_a_write_apart(start):
+    """The file of a region that is written can't be the journal or the device; two regions may have one file."""
+    old, new = random_image("old"), random_image("new")
+    bench = begin(start, old)
+    bench.write("image", old)
+    for names, wrong in ("boot:j", "j"), ("boot:dev", "dev"):
+        bench.expect("-w", "image", "--journal", "j", "-l", "layout", "-i", names, err=reference.file_fault(5, wrong))
+        bench.check_nothing_sent()
+        bench.check_absent("j")
+    part = new[:0x1000]
+    bench.write("part", part)
+    bench.write("layout", b"0:fff boot\n1000:1fff data\n")
+    got = bench.run("-w", "image", "--journal", "j", "-l", "layout", "-i", "boot:part,data:part")
+    check("the run", (got.err, got.status), ([], 0))
+    bench.check_chip(part + part + old[0x2000:])
+
+
+def keeps_a_journal(start):
+    """A journal isn't truncated if it is the file of a region: file fault 4 before anything is sent."""
+    old, new = random_image("old"), random_image("new")
+    bench = begin(start, old)
+    bench.write("new", new)
+    got = bench.run("-w", "new", "--journal", "j", "-l", "layout", "-i", "boot")
+    check("the run", (got.err, got.status), ([], 0))
+    journal = bench.path("j").read_bytes()
+    bench.expect("-r", "out", "-l", "layout", "-i", "boot:j",
+                 err=["File fault 4: j.", "It is a journal, which is never overwritten: choose a new name."])
+    bench.check_nothing_sent()
+    bench.check_file("j", journal)
+    bench.check_absent("out")
+    bench.write("old", b"NORUNDO1")
+    bench.expect("-r", "out", "-l", "layout", "-i", "boot:old",
+                 err=["File fault 4: old.", "It is a journal, which is never overwritten: choose a new name."])
+    bench.check_file("old", b"NORUNDO1")
+
+
+def reports_a_file_that_cannot_be_written(start):
+    """A file that can't be written after the read is file fault 2 with its name; the output is complete then."""
+    old = random_image("full")
+    bench = begin(start, old)
+    bench.path("full").symlink_to("/dev/full")
+    bench.expect("-r", "out", "-l", "layout", "-i", "main:main.bin,boot:full", err=reference.file_fault(2, "full"))
+    bench.check_file("out", only(old, "main", "boot"))
+    bench.check_file("main.bin", cut(old, "main"))
+    bench.expect("-r", "out", "-l", "layout", "-i", "boot:none/part", err=reference.file_fault(2, "none/part"))
+    bench.path("folder").mkdir()
+    bench.expect("-r", "out", "-l", "layout", "-i", "boot:folder", err=reference.file_fault(1, "folder"))
+    bench.check_nothing_sent()
+    # The regions are read back from the output, so it can't be a device.
+    bench.expect("-r", "/dev/null", "-l", "layout", "-i", "boot:part", err=reference.file_fault(1, "/dev/null"))
+    bench.check_nothing_sent()
+    bench.check_absent("part")
+
+
+def takes_regions_of_maps(start):
+    """Regions of an FMAP and of a flash descriptor have files, too."""
+    old = with_fmap(random_image("fmap"), 0x7123, [(0, 0x1000, b"RO"), (0x1001, 0x2FFF, b"RW_A")])
+    bench = start(data=old)
+    bench.write("map", old)
+    bench.expect("-r", "out", "--fmap-file", "map", "-i", "RW_A:a,RO:b",
+                 out=[reference.found("TINY64"), "Read 65536 bytes."])
+    bench.check_file("a", old[0x1001:0x4000])
+    bench.check_file("b", old[:0x1000])
+    old = with_descriptor(random_image("ifd"), [(0, 0), (8, 15), (1, 7)])
+    new = random_image("new")
+    bench = start(data=old)
+    bench.write("map", old)
+    bench.write("me.bin", new[0x1000:0x8000])
+    got = bench.run("-w", "map", "--journal", "j", "--ifd-file", "map", "-i", "bios,me:me.bin")
+    check("the run", (got.err, got.status), ([], 0))
+    bench.check_chip(old[:0x1000] + new[0x1000:0x8000] + old[0x8000:])
+
+
+def keeps_the_files_if_a_read_stops(start):
+    """If the read stops at any transaction, no file of a region is created or truncated."""
+    old = random_image("stop")
+    bench = begin(start, old)
+    bench.write("a", b"before")
+    for at in 6, 7, 9, 11:
+        got = bench.run("-r", "out", "-l", "layout", "-i", "boot:a,main:b", events={at: "nak"})
+        check("the run", (got.out, got.err[:1], got.status), ([], ["Error 12: stopped."], 1))
+        bench.check_file("a", b"before")
+        bench.check_absent("b")
+
+
+def keeps_printed_files(start):
+    """The file of a region can't be a file to which the program prints."""
+    bench = begin(start, random_image("printed"))
+    bench.server.begin({})
+    with open(bench.path("print"), "wb") as printed:
+        process = bench.start(("-r", "out", "-l", "layout", "-i", "boot:print"), out=printed)
+        _, err = process.communicate(timeout=LONGEST)
+    check("the run", (err.decode().splitlines(), process.returncode), (reference.file_fault(5, "print"), 1))
+    bench.check_nothing_sent()
+
+
+def finds_links_to_new_files(start):
+    """A file of a region may be a link to a file that the run creates. The run finds this before it writes the link."""
+    old = random_image("links")
+    bench = begin(start, old)
+    bench.path("link").symlink_to("out")
+    bench.expect("-r", "out", "-l", "layout", "-i", "boot:link", err=reference.file_fault(5, "link"))
+    bench.check_file("out", only(old, "boot"))
+    bench.path("second").symlink_to("first")
+    bench.expect("-r", "next", "-l", "layout", "-i", "boot:first,main:second", err=reference.file_fault(5, "second"))
+    bench.check_file("next", only(old, "boot", "main"))
+    bench.check_file("first", cut(old, "boot"))
+    bench.path("third").symlink_to("log")
+    bench.expect("-r", "last", "-o", "log", "-l", "layout", "-i", "boot:third", err=reference.file_fault(5, "third"))
+    bench.check_file("last", only(old, "boot"))
+    bench.expect("-r", "none", "-o", "own", "-l", "layout", "-i", "boot:own", err=reference.file_fault(5, "own"))
+    bench.check_nothing_sent()
+    bench.check_absent("none")
+    bench.check_absent("own")
+
+
+CASES = [reads_regions_into_files, writes_a_region_from_a_file, lets_the_later_file_win,
+         verifies_a_region_against_a_file, refuses_other_lengths, refuses_files_that_cannot_be_used,
+         gives_each_file_of_a_read_one_role, keeps_the_files_of_a_write_apart, keeps_a_journal,
+         reports_a_file_that_cannot_be_written, takes_regions_of_maps, keeps_the_files_if_a_read_stops,
+         keeps_printed_files, finds_links_to_new_files]
