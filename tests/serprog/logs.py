@@ -197,5 +197,17 @@ def logs_only_jobs(start):
     bench.check_absent("log")
 
 
+def logs_what_could_not_be_printed(start):
+    """If standard output can't be written, the log still has the answer and the fault."""
+    old, _ = images("logs_what_could_not_be_printed")
+    bench = start(data=old)
+    status, err = bench.run_unprinted("--flash-size", "-o", "log")
+    fault = "File fault 2: standard output."
+    check("status and standard error", (status, err[:1]), (1, [fault]))
+    _, plain = split(lines_of(bench))
+    check("the answer and the fault", [it for it in plain if it in ("65536", fault)], ["65536", fault])
+
+
 CASES = [logs_a_run, logs_plain_lines, logs_faults, logs_until_a_kill, needs_a_file_of_its_own,
-         overwrites_no_journal, waits_for_no_other_run, goes_on_without_its_log, logs_only_jobs]
+         overwrites_no_journal, waits_for_no_other_run, goes_on_without_its_log, logs_only_jobs,
+         logs_what_could_not_be_printed]
