@@ -121,7 +121,6 @@ line_of_look() {
     case ${made[$1 - 2]:-},${made[$1 - 1]},${made[$1]:-},$3 in
         'fsync journal',* | 'statx journal','fstat journal',*) echo 'Error 11: journal not written.' ;;
         fsync* | statx*,fstat* | hold* | *,hold*,ENOENT) echo "File fault 2: $2." ;;
-        "statx $2,statx $2,open ."*) echo "File fault 2: $2." ;;
         *) echo "File fault 1: $2." ;;
     esac
 }
