@@ -1,5 +1,5 @@
 -- The exits of `apply` after each of its parts: the unlock, the erases, the programs and the last status write.
-use Rattle.std.proofs.Common.{ℕ, ◌≡◌, ◌<◌, ◌≤◌, ◌+◌, ◌*◌, ◌/◌, ◌∙◌, ◌++◌, Bool, true, false, List, [], ◌∷◌, inl, inr, refl, zero-add, sym, ap, arith, true≢false}
+use Rattle.std.proofs.Common.{ℕ, ◌≡◌, ◌<◌, ◌≤◌, ◌+◌, ◌*◌, ◌/◌, ◌∙◌, ◌++◌, Bool, true, false, List, [], ◌∷◌, inl, inr, refl, zero-add, sym, ap, subst, arith, true≢false}
 use Rattle.std.specs.Prelude.{◌&&◌, ◌||◌, if◌then◌else◌}
 use Rattle.std.proofs.lemmas.Bool.{or_right, or_cases}
 use Rattle.std.proofs.lemmas.List.{append_assoc}
@@ -11,70 +11,72 @@ use Rattle.nor_model.specs.Sent.{Sent, begins_erase, begins_program, counted_onc
 use Rattle.nor_model.specs.Bus.{BusState}
 use Rattle.nor_driver.specs.declared.waits.OperationError.{OperationError}
 use Rattle.nor_driver.specs.Waits.{OperationFails}
-use Rattle.nor_driver.specs.StatusWrites.{is_status_with_code}
-use Rattle.nor_driver.specs.Operations.{most_operation}
+use Rattle.nor_driver.specs.StatusWrites.{is_status_with_code, status_write}
+use Rattle.nor_driver.specs.Limits.{writing, no_status, SendsExactly}
+use Rattle.nor_driver.specs.Operations.{LeavesOperation, Operates, most_operation}
+use Rattle.nor_driver.proofs.Limits.{exactly_none, exactly_then}
 use Rattle.nor_plan.specs.Content.{once_erased, is_programmed}
 use Rattle.nor_plan.specs.SectorSet.{none}
 use Rattle.nor_apply.specs.declared.changes.Changes.{Changes}
-use Rattle.nor_apply.specs.declared.changes.Work.{Work}
 use Rattle.nor_apply.specs.declared.tally.Tally.{Tally}
 use Rattle.nor_apply.specs.Within.{is_writable}
-use Rattle.nor_apply.specs.Spending.{may_target, NamesTimeoutIn}
-use Rattle.nor_apply.specs.Protecting.{LeavesCode, DoesCode, FailsWriting}
+use Rattle.nor_apply.specs.Spending.{may_target}
 use Rattle.nor_apply.specs.Change.{MayChange, blank}
 use Rattle.nor_apply.specs.Erasing.{is_erase_of, CanEraseAll, LeavesErases, DoesErases}
 use Rattle.nor_apply.specs.Programming.{CanProgramAll, LeavesPrograms, DoesPrograms, most_sector}
-use Rattle.nor_apply.specs.Applying.{touched_in, raised_in, writes_code, status_writes, is_status_asked, most_applied, CanApply, LeavesApply, ErasesFirst, DoesApply, NamesChange}
-use Rattle.nor_apply.proofs.InTurn.{ran_none, ran_leaves, honest_now}
+use Rattle.nor_apply.specs.Applying.{touched_in, raised_in, writes_code, status_writes, is_status_asked, most_applied, CanApply, LeavesApply, ErasesFirst, DoesApply}
+use Rattle.nor_apply.proofs.InTurn.{ran_none, ran_after, ran_leaves, honest_now}
 use Rattle.nor_apply.proofs.Targeting.{target_here, target_wider}
 use Rattle.nor_apply.proofs.Changing.{change_as, same_change}
-use Rattle.nor_apply.proofs.ApplyingSteps.{code_read, code_once, intermediate_first, intermediate_changed, can_erase_all, can_program_all, applied}
-use Rattle.nor_apply.proofs.ApplyingInTurn.{raised_few, Numbers, SoFar, EndsInError, ends_in_error, goes_on, code_then, code_written, names_writing, names_sectors}
+use Rattle.nor_apply.proofs.ApplyingSteps.{code_read, code_once, code_spared, intermediate_first, intermediate_changed, can_erase_all, can_program_all, applied}
+use Rattle.nor_apply.proofs.ApplyingInTurn.{raised_few, Numbers, SoFar, EndsInError, ends_in_error, goes_on, code_then, code_written}
 
 -- ---- the first three parts
 
--- The numbers of operations that were sent up to the unlock (`lifting`): one status write, if an unlock was requested.
--- `and_more` adds further erases and page programs to such numbers.
-abbrev pub lifting : Changes → Numbers
-lifting changes = record { erases = 0; programs = 0; status_writes = if changes.unlock then 1 else 0 }
+-- The numbers of operations before the last status write, with these numbers of erases and page programs. They include
+-- one status write, if an unlock was requested.
+abbrev pub lifting : (unlock : Bool) → (erases programs : ℕ) → Numbers
+lifting unlock erases programs =
+    record { erases = erases; programs = programs; status_writes = if unlock then 1 else 0 }
 
-abbrev pub and_more : Numbers → (erases programs : ℕ) → Numbers
-and_more n erases programs =
-    record { erases = n.erases + erases; programs = n.programs + programs; status_writes = n.status_writes }
+-- `SoFar` after the first part of `apply`, which clears the protection bits if an unlock was requested (`unlock`).
+abbrev pub LiftedIf : Changes → (ℕ → ℕ) → (old now : BusState) → (transactions : ℕ) → (unlock : Bool) → Type 0
+LiftedIf changes wanted old now transactions unlock =
+    SoFar changes wanted old.chip.bytes old.worn (if unlock then 0 else code_read changes) (lifting unlock 0 0) 0
+    old now transactions
 
--- `SoFar` after the first part of `apply`, which clears the protection bits if an unlock was requested.
-abbrev pub Lifted : Changes → (ℕ → ℕ) → (old now : BusState) → Tally → Type 0
-Lifted changes wanted old now tally =
-    SoFar changes wanted old.chip.bytes old.worn (code_once changes) (lifting changes) 0 most_operation old now tally
+abbrev pub Lifted : Changes → (ℕ → ℕ) → (old now : BusState) → (transactions : ℕ) → Type 0
+Lifted changes wanted old now transactions = LiftedIf changes wanted old now transactions changes.unlock
 
-pub names_lifting : (changes : Changes) (error : OperationError) → FailsWriting changes.unlock error → NamesChange changes error
-names_lifting changes error = names_writing changes changes.unlock error (λ lifts. rw lifts (omega arith))
+module _ (changes : Changes) (wanted : ℕ → ℕ) (old : BusState) where
+  nothing : LiftedIf changes wanted old old 0 false
+  nothing = record {
+    ran = ran_none old (refl, refl, refl);
+    may = λ honest can. same_change (search) can.idle (λ s. refl);
+    intermediate = λ honest can. intermediate_first can;
+  }
 
-pub lifted : (changes : Changes) {old new : BusState} {sent : ℕ} (wanted : ℕ → ℕ)
-    → LeavesCode changes.status 0 changes.unlock old new → DoesCode changes.status 0 changes.unlock old new sent
-    → Lifted changes wanted old new (record { count = if changes.unlock then 1 else 0; transactions = sent })
-lifted changes {old} {new} wanted leaves does =
-    let nothing : SoFar changes wanted old.chip.bytes old.worn (code_read changes)
-    (record { erases = 0; programs = 0; status_writes = 0 }) 0 0 old old
-    (record { count = 0; transactions = 0 }) = record {
-      ran = ran_none old (refl, refl, refl);
-      few = omega arith;
-      may = λ honest can. same_change (search) can.idle (λ s. refl);
-      intermediate = λ honest can. intermediate_first can;
-    } in
-    code_written nothing 0 new (λ lifts can. can.writable (rw lifts refl)) leaves does (grind arith) (omega arith)
-    (omega arith) (omega arith)
+  pub not_lifted : changes.unlock ≡ false → Lifted changes wanted old old 0
+  not_lifted is = subst (LiftedIf changes wanted old old 0) (sym is) nothing
+
+  pub lifted : {new : BusState} {sent : ℕ} → changes.unlock ≡ true
+      → LeavesOperation (status_write changes.status 0) old new → Operates (status_write changes.status 0) old new sent
+      → Lifted changes wanted old new (0 + sent)
+  lifted {new} {sent} is leaves does =
+      subst (LiftedIf changes wanted old new (0 + sent)) (sym is)
+      (code_written nothing leaves (λ can. can.writable (rw is refl)) does (grind arith))
 
 -- `SoFar` after the first two parts of `apply`: the unlock, if it was requested, and the erases of the raised sectors.
-abbrev pub Erased : Changes → (ℕ → ℕ) → (erases : ℕ) → (old now : BusState) → Tally → Type 0
-Erased changes wanted erases old now tally =
+abbrev pub Erased : Changes → (ℕ → ℕ) → (erases : ℕ) → (old now : BusState) → (transactions : ℕ) → Type 0
+Erased changes wanted erases old =
     SoFar changes wanted (once_erased (raised_in changes) old.chip.bytes) (λ s. old.worn s || raised_in changes s)
-    (code_once changes) (and_more (lifting changes) erases 0) 0
-    (most_operation * (1 + sector_count (touched_in changes)))
-    old now tally
+    (code_once changes) (lifting changes.unlock erases 0) 0 old
 
-module _ {changes : Changes} {wanted : ℕ → ℕ} {old mid new : BusState} {done : Tally}
-    (so : Lifted changes wanted old mid done)
+one_most : (b : Bool) → (if b then 1 else 0) ≤ 1
+one_most b = grind arith
+
+module _ {changes : Changes} {wanted : ℕ → ℕ} {old mid new : BusState} {sent : ℕ}
+    (so : Lifted changes wanted old mid sent)
     (inside : (s : ℕ) → raised_in changes s ≡ true → touched_in changes s ≡ true)
     (leaves : LeavesErases (raised_in changes) changes.kinds changes.size mid new) where
   erase_then : old.honest ≡ true → CanApply changes wanted old.chip
@@ -90,34 +92,32 @@ module _ {changes : Changes} {wanted : ℕ → ℕ} {old mid new : BusState} {do
       → may_target (touched_in changes) changes.size s ≡ true
   targets_raised s = target_wider _ _ changes.size s inside
 
+  erases_fit : sent + most_operation * sector_count (raised_in changes) ≤ most_applied (sector_count (touched_in changes))
+  erases_fit = omega (arith, so.ran.tallies.few, one_most changes.unlock, raised_few changes inside)
+
   pub erases_failed : {error : OperationError} → OperationFails (most_operation * sector_count (raised_in changes)) mid new error
-      → NamesTimeoutIn (raised_in changes) error → EndsInError changes wanted old new error
-  erases_failed {error} fails names =
-      ends_in_error so leaves erase_then (grind (arith, targets_raised)) (omega (arith, raised_few changes inside)) (omega (arith, raised_few changes inside)) fails
-      (names_sectors changes (raised_in changes) error inside names)
+      → EndsInError changes wanted old new error
+  erases_failed fails = ends_in_error so leaves erase_then (grind (arith, targets_raised)) erases_fit erases_fit fails
 
   pub erased : {more : Tally} → DoesErases (raised_in changes) changes.kinds changes.size mid new more
-      → Erased changes wanted more.count old new
-      (record { count = done.count + more.count; transactions = done.transactions + more.transactions })
-  erased {more} does =
-      goes_on so leaves erase_then does.exactly does.tallies (grind (arith, targets_raised)) (omega arith) refl refl
-      (omega (arith, so.few, does.fewer, does.tallies.few, raised_few changes inside))
+      → Erased changes wanted more.count old new (sent + more.transactions)
+  erased does =
+      goes_on so leaves erase_then does.exactly does.tallies (omega arith) (grind (arith, targets_raised)) (omega arith)
       (λ honest can.
       let is = so.intermediate honest can in
       intermediate_changed is (does.done (honest_now so.ran honest) (can_erase_all can is)))
 
 -- `SoFar` after the first three parts of `apply`: the unlock, if it was requested, the erases of the raised sectors and
 -- the programs of the touched sectors.
-abbrev pub Programmed : Changes → (ℕ → ℕ) → (erases programs : ℕ) → (old now : BusState) → Tally → Type 0
-Programmed changes wanted erases programs old now tally =
+abbrev pub Programmed : Changes → (ℕ → ℕ) → (erases programs : ℕ) → (old now : BusState) → (transactions : ℕ) → Type 0
+Programmed changes wanted erases programs old =
     SoFar changes wanted
     (λ a. if touched_in changes (a / 4096) then wanted a else once_erased (raised_in changes) old.chip.bytes a)
     (λ s. (old.worn s || raised_in changes s) || none s) (code_once changes)
-    (and_more (and_more (lifting changes) erases 0) 0 programs) (sector_count (touched_in changes))
-    (sector_count (touched_in changes) + most_operation * (1 + 17 * sector_count (touched_in changes))) old now tally
+    (lifting changes.unlock erases programs) (sector_count (touched_in changes)) old
 
-module _ {changes : Changes} {wanted : ℕ → ℕ} (erases : ℕ) {old mid new : BusState} {done : Tally}
-    (so : Erased changes wanted erases old mid done)
+module _ {changes : Changes} {wanted : ℕ → ℕ} {erases : ℕ} {old mid new : BusState} {sent : ℕ}
+    (so : Erased changes wanted erases old mid sent)
     (leaves : LeavesPrograms (touched_in changes) (raised_in changes) wanted mid new) where
   program_then : old.honest ≡ true → CanApply changes wanted old.chip
       → CanProgramAll (touched_in changes) (raised_in changes) wanted mid.chip
@@ -131,19 +131,19 @@ module _ {changes : Changes} {wanted : ℕ → ℕ} (erases : ℕ) {old mid new 
   targets_touched : (s : ℕ) → touched_in changes s ≡ true → may_target (touched_in changes) changes.size s ≡ true
   targets_touched s = target_here (touched_in changes) changes.size s
 
-  pub programs_failed : {error : OperationError} → erases ≤ sector_count (raised_in changes)
+  pub programs_failed : {error : OperationError}
+      → ((s : ℕ) → raised_in changes s ≡ true → touched_in changes s ≡ true) → erases ≤ sector_count (raised_in changes)
       → OperationFails (most_sector * sector_count (touched_in changes)) mid new error
-      → NamesTimeoutIn (touched_in changes) error → EndsInError changes wanted old new error
-  programs_failed {error} fits fails names =
-      ends_in_error so leaves program_then (grind (arith, targets_touched)) (omega arith) (omega arith) fails
-      (names_sectors changes (touched_in changes) error (λ s is. is) names)
+      → EndsInError changes wanted old new error
+  programs_failed inside few fails =
+      let fits : sent + most_sector * sector_count (touched_in changes) ≤ most_applied (sector_count (touched_in changes)) =
+      omega (arith, so.ran.tallies.few, one_most changes.unlock, raised_few changes inside) in
+      ends_in_error so leaves program_then (grind (arith, targets_touched)) fits fits fails
 
   pub programmed : {more : Tally} → DoesPrograms (touched_in changes) (raised_in changes) wanted mid new more
-      → Programmed changes wanted erases more.count old new
-      (record { count = done.count + more.count; transactions = done.transactions + more.transactions })
-  programmed {more} does =
-      goes_on so leaves program_then does.exactly does.tallies (grind (arith, targets_touched)) (omega arith) refl refl
-      (omega (arith, so.few, does.fewer, does.tallies.few))
+      → Programmed changes wanted erases more.count old new (sent + more.transactions)
+  programmed does =
+      goes_on so leaves program_then does.exactly does.tallies (omega arith) (grind (arith, targets_touched)) (omega arith)
       (λ honest can.
       let is = so.intermediate honest can in
       intermediate_changed is (does.done (honest_now so.ran honest) (can_program_all can is)))
@@ -181,98 +181,120 @@ has_sent-left is (out ∷ later) earlier has = elim (or_cases _ _ has) [
 pub record Parts (changes : Changes) (wanted : ℕ → ℕ) (old free mid made : BusState) (sent : ℕ)
     (erases programs : Tally) : Type 0 where
   pub inside : (s : ℕ) → raised_in changes s ≡ true → touched_in changes s ≡ true
-  pub lift_leaves : LeavesCode changes.status 0 changes.unlock old free
-  pub lifts : DoesCode changes.status 0 changes.unlock old free sent
+  pub lift : Lifted changes wanted old free sent
   pub erases_leave : LeavesErases (raised_in changes) changes.kinds changes.size free mid
   pub erase : DoesErases (raised_in changes) changes.kinds changes.size free mid erases
   pub programs_leave : LeavesPrograms (touched_in changes) (raised_in changes) wanted mid made
   pub program : DoesPrograms (touched_in changes) (raised_in changes) wanted mid made programs
 
+-- Holds after all parts of `apply` succeeded, with `transactions` transactions. The bus was in the state `made` before
+-- the last status write. If that status write isn't needed, it was left out.
+pub record Ended (changes : Changes) (wanted : ℕ → ℕ) (erases programs : ℕ) (old made new : BusState)
+    (transactions : ℕ) : Type 0 where
+  pub exactly : SendsExactly 0 0 (if writes_code changes then 1 else 0) made new
+  pub so : SoFar changes wanted
+      (λ a. if touched_in changes (a / 4096) then wanted a else once_erased (raised_in changes) old.chip.bytes a)
+      (λ s. (old.worn s || raised_in changes s) || none s) changes.code
+      (record { erases = erases; programs = programs; status_writes = status_writes changes })
+      (sector_count (touched_in changes)) old new transactions
+
 module _ {changes : Changes} {wanted : ℕ → ℕ} {old free mid made : BusState} {sent : ℕ} {erases programs : Tally}
     (parts : Parts changes wanted old free mid made sent erases programs) where
-  second : Erased changes wanted erases.count old mid
-      (record { count = (if changes.unlock then 1 else 0) + erases.count; transactions = sent + erases.transactions })
-  second = erased (lifted changes wanted parts.lift_leaves parts.lifts) parts.inside parts.erases_leave parts.erase
+  second : Erased changes wanted erases.count old mid (sent + erases.transactions)
+  second = erased parts.lift parts.inside parts.erases_leave parts.erase
 
   third : Programmed changes wanted erases.count programs.count old made
-      (record {
-        count = (if changes.unlock then 1 else 0) + erases.count + programs.count;
-        transactions = sent + erases.transactions + programs.transactions;
-      })
-  third = programmed erases.count second parts.programs_leave parts.program
+      (sent + erases.transactions + programs.transactions)
+  third = programmed second parts.programs_leave parts.program
 
-  -- if one more operation follows, the number of transactions still fits in 64 bits
-  pub few_sent : sent + erases.transactions + programs.transactions < 18446744073709486078
-  few_sent = omega (arith, third.few, count_below-most 4096 (touched_in changes))
+  -- Lemmas about the end without a status write (`not_written`) and about the end with one.
+  pub not_written : {all : ℕ} → writes_code changes ≡ false
+      → all ≡ sent + erases.transactions + programs.transactions
+      → Ended changes wanted erases.count programs.count old made made all
+  not_written spared sum = record {
+    exactly = rw spared (exactly_none made made refl);
+    so = record {
+      ran = ran_after third.ran {k = 0} (grind arith) (ran_none {limits = writing no_status 0} made (refl, refl, refl))
+          (omega arith) (grind arith) (omega arith);
+      may = third.may;
+      intermediate = λ honest can.
+          let is = third.intermediate honest can in let code = code_spared changes spared in
+          grind (arith, is.byte, is.wear);
+    };
+  }
 
-  module _ {new : BusState} {needed : Bool} (is : needed ≡ writes_code changes)
-      (leaves : LeavesCode changes.status changes.code needed made new) where
-    last_writable : needed ≡ true → CanApply changes wanted old.chip → is_writable old.chip ≡ true
-    last_writable writes can = can.writable (or_right changes.unlock (writes_code changes) (sym is ∙ writes))
+  module _ {new : BusState} (writes : writes_code changes ≡ true)
+      (leaves : LeavesOperation (status_write changes.status changes.code) made new) where
+    last_writable : CanApply changes wanted old.chip → is_writable old.chip ≡ true
+    last_writable can = can.writable (or_right changes.unlock (writes_code changes) writes)
 
-    last_asked : (one two : ℕ) → (needed && is_status_with_code changes.status changes.code one two) ≡ true
+    last_asked : (one two : ℕ) → is_status_with_code changes.status changes.code one two ≡ true
         → is_status_asked changes one two ≡ true
-    last_asked one two written =
+    last_asked one two asked =
         or_right (changes.unlock && is_status_with_code changes.status 0 one two)
-        (writes_code changes && is_status_with_code changes.status changes.code one two) (rw (sym is) written)
+        (writes_code changes && is_status_with_code changes.status changes.code one two) (rw writes asked)
 
-    pub last_failed : {error : OperationError} → OperationFails most_operation made new error → FailsWriting needed error
+    pub last_failed : {error : OperationError} → OperationFails most_operation made new error
         → EndsInError changes wanted old new error
-    last_failed {error} fails names =
-        ends_in_error third leaves (code_then third changes.code new last_writable)
-        (grind (arith, last_asked, parts.erase.fewer, parts.program.fewer)) (grind arith) (omega arith) fails
-        (names_writing changes needed error (λ writes. rw (sym is ∙ writes) (omega arith)) names)
+    last_failed fails =
+        let most = most_applied (sector_count (touched_in changes)) in
+        let fits : sent + erases.transactions + programs.transactions + most_operation ≤ most =
+        omega (arith, third.ran.tallies.few, parts.erase.fewer, parts.program.fewer, raised_few changes parts.inside, one_most changes.unlock) in
+        ends_in_error third leaves.leaves (code_then third leaves last_writable)
+        (grind (arith, last_asked, parts.erase.fewer, parts.program.fewer)) fits fits fails
 
+    pub written : {more all : ℕ} → Operates (status_write changes.status changes.code) made new more
+        → all ≡ sent + erases.transactions + programs.transactions + more
+        → Ended changes wanted erases.count programs.count old made new all
+    written does sum = record {
+      exactly = rw writes does.sends;
+      so = rw sum (code_written third leaves last_writable does (grind (arith, last_asked)));
+    }
+
+  module _ {new : BusState} {all : ℕ} (ended : Ended changes wanted erases.count programs.count old made new all) where
     -- all erases were sent before the programs and the last status write
-    erased_first : {last : ℕ} → DoesCode changes.status changes.code needed made new last
-        → ErasesFirst (raised_in changes) old new
-    erased_first does =
-        let lift = parts.lifts.exactly in let erase = parts.erase.targeted in let program = parts.program.exactly in
-        let last = does.exactly in
-        let erasing : Sent = erase.later ++ lift.later in let later : Sent = last.later ++ program.later in
+    erased_first : ErasesFirst (raised_in changes) old new
+    erased_first =
+        let lift = parts.lift.ran.exactly in let erase = parts.erase.targeted in
+        let last = exactly_then {e'' = 0} (omega arith) refl refl parts.program.exactly ended.exactly in
+        let erasing : Sent = erase.later ++ lift.later in
         let until : mid.sent ≡ erasing ++ old.sent =
         erase.added ∙ ap (λ (sent : Sent). erase.later ++ sent) lift.added
         ∙ sym (append_assoc erase.later lift.later old.sent) in
-        let since : new.sent ≡ later ++ mid.sent =
-        last.added ∙ ap (λ (sent : Sent). last.later ++ sent) program.added
-        ∙ sym (append_assoc last.later program.later mid.sent) in
         record {
           erasing = erasing;
-          later = later;
-          added = since ∙ ap (λ (sent : Sent). later ++ sent) until;
+          later = last.later;
+          added = last.added ∙ ap (λ (sent : Sent). last.later ++ sent) until;
           each = λ s is. has_sent-left (is_erase_of s) erase.later lift.later (erase.each s is);
           unprogrammed = none_added begins_program erasing old.sent
               (ap programs_of (sym until) ∙ omega (arith, parts.erase.exactly.programmed, lift.programmed));
-          unerased = none_added begins_erase later mid.sent
-              (ap erases_of (sym since) ∙ omega (arith, last.erased, program.erased));
+          unerased = none_added begins_erase last.later mid.sent (ap erases_of (sym last.added) ∙ omega (arith, last.erased));
         }
 
-    pub does_applied : {last : ℕ} {work : Work} → DoesCode changes.status changes.code needed made new last
-        → work.erases ≡ erases.count → work.programs ≡ programs.count
-        → work.transactions ≡ sent + erases.transactions + programs.transactions + last
-        → LeavesApply changes wanted old new × DoesApply changes wanted old new work
-    does_applied {last} {work} does erase_count program_count sum =
-        let all : Tally =
-        record { count = work.erases + work.programs + status_writes changes; transactions = work.transactions } in
-        let fourth : SoFar changes wanted _ _ (if needed then changes.code else code_once changes)
-        (record { erases = work.erases; programs = work.programs; status_writes = status_writes changes })
-        (sector_count (touched_in changes)) (most_applied (sector_count (touched_in changes)))
-        old new all =
-        code_written third changes.code new last_writable leaves does (grind (arith, last_asked))
-        (rw is (omega (arith, erase_count, program_count))) sum (omega arith) in (
-          ran_leaves fourth.ran (grind (arith, parts.erase.fewer, parts.program.fewer)) fourth.few fourth.may,
-          record {
-            erases = erase_count ∙ parts.erase.count;
-            fewer_erases = omega (arith, erase_count, parts.erase.fewer);
-            fewer_programs = omega (arith, program_count, parts.program.fewer);
-            exactly = fourth.ran.exactly;
-            in_order = erased_first does;
-            tallies = fourth.ran.tallies;
-            done = λ honest can. applied can (sym is) (fourth.intermediate honest can);
-            programs = λ honest can.
-                let is = second.intermediate honest can in
-                let bytes : mid.chip.bytes ≡ once_erased (raised_in changes) old.chip.bytes = λ i a. is.byte a i in
-                program_count ∙ parts.program.counted (honest_now second.ran honest) (can_program_all can is)
-                ∙ ap (λ (x : ℕ → ℕ). count_below 65536 (is_programmed (touched_in changes) x wanted)) bytes;
-          },
-        )
+    applied_fits : all ≤ most_applied (sector_count (touched_in changes))
+    applied_fits =
+        omega (arith, ended.so.ran.tallies.few, parts.erase.fewer, parts.program.fewer, raised_few changes parts.inside, one_most changes.unlock, one_most (writes_code changes))
+
+    -- the number of all transactions fits in 64 bits
+    pub few_sent : all < 18446744073709551616
+    few_sent = omega (arith, applied_fits, count_below-most 4096 (touched_in changes))
+
+    pub does_applied : LeavesApply changes wanted old new × DoesApply changes wanted old new
+        (record { erases = erases.count; programs = programs.count; transactions = all })
+    does_applied = (
+      ran_leaves ended.so.ran (grind (arith, parts.erase.fewer, parts.program.fewer)) applied_fits ended.so.may,
+      record {
+        erases = parts.erase.count;
+        fewer_erases = parts.erase.fewer;
+        fewer_programs = parts.program.fewer;
+        exactly = ended.so.ran.exactly;
+        in_order = erased_first;
+        tallies = ended.so.ran.tallies;
+        done = λ honest can. applied can (ended.so.intermediate honest can);
+        programs = λ honest can.
+            let is = second.intermediate honest can in
+            let bytes : mid.chip.bytes ≡ once_erased (raised_in changes) old.chip.bytes = λ i a. is.byte a i in
+            parts.program.counted (honest_now second.ran honest) (can_program_all can is)
+            ∙ ap (λ (x : ℕ → ℕ). count_below 65536 (is_programmed (touched_in changes) x wanted)) bytes;
+      },
+    )

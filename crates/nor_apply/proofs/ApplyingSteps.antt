@@ -1,8 +1,7 @@
 -- Lemmas about the steps of `apply`: the unlock, the erases, the programs, and the status write at the end.
-use Rattle.std.proofs.Common.{ℕ, ◌≡◌, ◌<◌, ◌/◌, Bool, true, false, inl, inr, refl, ap, sym, ◌∙◌, arith}
-use Rattle.std.specs.Prelude.{◌||◌, bit_and, if◌then◌else◌, MatchBool}
+use Rattle.std.proofs.Common.{ℕ, ◌≡◌, ◌<◌, ◌/◌, Bool, true, false, refl, ap, sym, ◌∙◌, arith}
+use Rattle.std.specs.Prelude.{◌||◌, bit_and, if◌then◌else◌}
 use Rattle.std.proofs.lemmas.Nat.{and_mask}
-use Rattle.std.proofs.lemmas.Bool.{cases_Bool}
 use Rattle.std.proofs.lemmas.Bool.Decides.{nat_tests}
 use Rattle.std.proofs.Math.Bool.{or-false}
 use Rattle.nor_model.specs.Status.{bytes_of}
@@ -10,18 +9,17 @@ use Rattle.nor_model.specs.Chip.{Chip, kept_in}
 use Rattle.nor_model.specs.Guard.{is_protected, code_of}
 use Rattle.nor_model.specs.Bus.{BusState}
 use Rattle.nor_model.proofs.ProtectedBlocks.{is_protected-zero, is_protected-same}
-use Rattle.nor_driver.specs.StatusWrites.{fixed_of, with_code, CanWriteStatus, MayWriteStatus}
+use Rattle.nor_driver.specs.StatusWrites.{fixed_of, with_code, CanWriteStatus, MayWriteStatus, HasWrittenStatus}
 use Rattle.nor_apply.specs.declared.changes.Changes.{Changes}
 use Rattle.nor_plan.specs.Content.{once_erased}
 use Rattle.nor_apply.specs.Within.{is_writable}
 use Rattle.nor_apply.specs.Change.{CanChange, MayChange, HasMade}
 use Rattle.nor_plan.specs.SectorSet.{none}
-use Rattle.nor_apply.specs.Protecting.{DoesCode}
 use Rattle.nor_apply.specs.Erasing.{CanEraseAll}
 use Rattle.nor_apply.specs.Programming.{CanProgramAll}
 use Rattle.nor_apply.specs.Applying.{touched_in, raised_in, writes_code, CanApply, HasApplied}
 use Rattle.nor_apply.proofs.Kept.{code_cleared, coded_again, fixed_coded, locked_same, coded_from_status, writable_same}
-use Rattle.nor_apply.proofs.Changing.{can_after, same_change, status_change}
+use Rattle.nor_apply.proofs.Changing.{can_after, status_change}
 
 -- The protection bits that were read (`code_read`), and those during the erases and programs (`code_once`). After an
 -- unlock `code_once` is 0, and otherwise it is `code_read`.
@@ -52,9 +50,9 @@ intermediate_changed is has = grind (arith, is.byte, has.bytes, is.wear, has.wor
 and_byte : (w : ℕ) → w < 256 → bit_and w 255 ≡ w
 and_byte w small = omega (arith, and_mask w 8)
 
-code_at_end : (changes : Changes) (writes : Bool) → writes_code changes ≡ writes
-    → (if writes then changes.code else code_once changes) ≡ changes.code
-code_at_end changes writes is = grind (arith, nat_tests)
+-- if no status write is needed at the end, the protection bits already have their target values
+pub code_spared : (changes : Changes) → writes_code changes ≡ false → code_once changes ≡ changes.code
+code_spared changes spared = grind (arith, nat_tests)
 
 -- If `CanApply` holds for a chip, the protection bits that were read are the chip's.
 kept_read : {changes : Changes} {wanted : ℕ → ℕ} {chip : Chip} → CanApply changes wanted chip
@@ -64,41 +62,33 @@ kept_read {changes = changes} {chip = chip} can =
 
 module _ {changes : Changes} {wanted : ℕ → ℕ} {old : BusState} (can : CanApply changes wanted old.chip) where
   pub intermediate_first : IsIntermediate old.chip.bytes old.worn (code_read changes) old old
-  intermediate_first = let kept = kept_read can in search (refl, sym kept)
+  intermediate_first = let kept = kept_read can in search (sym kept)
 
   -- ---- a status write, at the start or at the end
 
-  module _ {code : ℕ} {needed : Bool} {bytes : ℕ → ℕ} {worn : ℕ → Bool} {mid : BusState}
-      (writable : needed ≡ true → is_writable old.chip ≡ true) (is : IsIntermediate bytes worn code old mid) where
+  module _ {code : ℕ} {bytes : ℕ → ℕ} {worn : ℕ → Bool} {mid : BusState}
+      (writable : is_writable old.chip ≡ true) (is : IsIntermediate bytes worn code old mid) where
     fixed : fixed_of mid.chip.kept ≡ fixed_of old.chip.kept
     fixed = ap fixed_of is.kept ∙ fixed_coded code old.chip.kept
 
-    -- In each state between two steps, the chip accepts a status write that is needed. The chip is idle, its status
-    -- isn't locked, and its bits that are never changed have the values that were read.
-    pub can_write : needed ≡ true → CanWriteStatus changes.status mid.chip
-    can_write writes =
+    -- In each state between two steps, the chip accepts a status write. The chip is idle, its status isn't locked, and
+    -- its bits that are never changed have the values that were read.
+    pub can_write : CanWriteStatus changes.status mid.chip
+    can_write =
         let lock = locked_same old.chip.kept mid.chip.kept fixed in
-        grind (arith, lock, writable writes, fixed ∙ ap fixed_of can.kept)
+        grind (arith, lock, writable, fixed ∙ ap fixed_of can.kept)
 
-    pub code_change : (new_code : ℕ) (new : BusState) → MatchBool needed (MayWriteStatus new_code mid new) (new ≡ mid)
+    pub code_change : {code' : ℕ} {new : BusState} → MayWriteStatus code' mid new
         → MayChange (touched_in changes) (raised_in changes) wanted mid new
-    code_change new_code new may = elim (cases_Bool needed) [
-      | inl writes ↦
-          status_change (writable_same old.chip mid.chip is.config fixed ∙ writable writes) (rw writes at may)
-      | inr spared ↦ let same : new ≡ mid = rw spared at may in rw same (same_change (search) is.idle (λ s. refl))
-    ]
+    code_change = status_change (writable_same old.chip mid.chip is.config fixed ∙ writable)
 
-    pub intermediate_code : {new_code sent : ℕ} {new : BusState} → mid.honest ≡ true → DoesCode changes.status new_code needed mid new sent
-        → IsIntermediate bytes worn (if needed then new_code else code) old new
-    intermediate_code {new_code} honest does = elim (cases_Bool needed) [
-      | inr spared ↦ rw (does.unsent spared, spared) is
-      | inl writes ↦
-          let has = does.done writes honest (can_write writes) in
-          let again : with_code new_code mid.chip.kept ≡ with_code new_code old.chip.kept =
-          rw is.kept (coded_again code new_code old.chip.kept) in
-          let kept = has.kept ∙ again in
-          rw writes (grind (arith, has.bytes, is.byte, has.worn, is.wear, kept, does.idle))
-    ]
+    pub intermediate_code : {code' : ℕ} {new : BusState} → HasWrittenStatus code' mid new → new.chip.busy ≡ 0
+        → IsIntermediate bytes worn code' old new
+    intermediate_code {code'} has idle =
+        let again : with_code code' mid.chip.kept ≡ with_code code' old.chip.kept =
+        rw is.kept (coded_again code code' old.chip.kept) in
+        let kept = has.kept ∙ again in
+        grind (arith, has.bytes, is.byte, has.worn, is.wear, kept)
 
   -- ---- the premises of erases and programs
 
@@ -126,11 +116,9 @@ module _ {changes : Changes} {wanted : ℕ → ℕ} {old : BusState} (can : CanA
 
   -- ---- after the last status write
 
-  pub applied : {writes : Bool} {new : BusState} → writes_code changes ≡ writes
+  pub applied : {new : BusState}
       → IsIntermediate
       (λ a. if touched_in changes (a / 4096) then wanted a else once_erased (raised_in changes) old.chip.bytes a)
-      (λ s. (old.worn s || raised_in changes s) || none s) (if writes then changes.code else code_once changes) old new
+      (λ s. (old.worn s || raised_in changes s) || none s) changes.code old new
       → HasApplied changes wanted old new
-  applied {writes} {new} same is =
-      let code = code_at_end changes writes same in
-      grind (arith, is.byte, can.raised, is.wear, or-false, code)
+  applied is = grind (arith, is.byte, can.raised, is.wear, or-false)

@@ -3,5 +3,4 @@ pub mod Change
 pub mod Spending
 pub mod Erasing
 pub mod Programming
-pub mod Protecting
 pub mod Applying

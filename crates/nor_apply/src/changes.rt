@@ -8,8 +8,7 @@ ghost use Rattle.nor_apply.specs.Applying.{AreConsistent, LeavesApply, DoesApply
 use crate::Source;
 use crate::erases::erase_all;
 use crate::programs::program_all;
-use crate::protection::write_code;
-use nor_driver::OperationError;
+use nor_driver::{OperationError, write_status};
 use nor_model::{Bus, Kinds, Status};
 use nor_plan::SectorSet;
 
@@ -85,13 +84,20 @@ pub fn apply<B: Bus, S: Source>(
         (OperationFails (most_applied (sector_count (touched_in changes.now))) (B.state bus.old) (B.state bus.new)) }
     ensures names { IfErr result (NamesChange changes.now) }
 {
-    let lifted = write_code(bus, changes.status, 0, changes.unlock)?;
+    let mut status_transactions = 0;
+    if changes.unlock {
+        status_transactions += write_status(bus, changes.status, 0)?;
+    }
     let erased = erase_all(bus, &changes.raised, changes.kinds, changes.size)?;
     let programmed = program_all(bus, source, &changes.touched, &changes.raised)?;
-    let written = write_code(bus, changes.status, changes.code, changes.writes_code())?;
+    if changes.writes_code() {
+        status_transactions += write_status(bus, changes.status, changes.code)?;
+    }
     Ok(Work {
         erases: erased.count,
         programs: programmed.count,
-        transactions: lifted + erased.transactions + programmed.transactions + written,
+        transactions: u64::from(status_transactions)
+            + erased.transactions
+            + programmed.transactions,
     })
 }

@@ -48,7 +48,6 @@
 //! every exit and after success.
 //!
 //! - `changes.rt`: all changes of a session or restore, in order
-//! - `protection.rt`: status writes that change the protection bits
 //! - `erases.rt`: erases of a set of sectors
 //! - `programs.rt`: page programs of a set of sectors
 //! - `source.rt`: the trait `Source` of the target bytes
@@ -58,7 +57,6 @@
 mod changes;
 mod erases;
 mod programs;
-mod protection;
 mod source;
 mod tally;
 
