@@ -4,7 +4,7 @@ use Rattle.std.specs.Prelude.{◌&&◌, ◌||◌, ◌++◌, ℕ, Bool, false, Op
 use Rattle.std.specs.Prelude.{drop, is_some, nat_eq, nat_lt, not, if◌then◌else◌}
 use Rattle.std.specs.Option.{option_map_or}
 use Rattle.nor_args.specs.Text.{Text, reads}
-use Rattle.nor_args.specs.Given.{Texts, asks_change, has_two_layouts, how_many, is_new_content, layout_file}
+use Rattle.nor_args.specs.Given.{Texts, asks_change, gives_layout, has_two_layouts, how_many, is_new_content}
 use Rattle.nor_args.specs.Given.{operations, progress_of, takes_regions}
 use Rattle.nor_args.specs.Numbers.{range_of}
 use Rattle.nor_args.specs.Programmer.{has_stop, is_programmer_text}
@@ -35,12 +35,12 @@ has_wrong_journal given =
 abbrev pub has_wrong_value : Texts → Bool
 has_wrong_value given = is_no (reads range_of) given.wp_range || is_no (reads progress_of) given.progress
 
--- fault 7: true if a layout (`-l`, `--fmap-file` or `--ifd-file`) is given without `-i`, or `-i` without a layout; if
--- both are given without any of `-r`, `-v`, `-w` and `-E`; or if more than one layout is given. flashnor has only the
--- layout of `-l`.
+-- fault 7: true if a layout (`-l`, `--fmap-file`, `--ifd-file`, `--fmap` or `--ifd`) is given without `-i`, or `-i`
+-- without a layout; if both are given without any of `-r`, `-v`, `-w` and `-E`; or if more than one layout is given.
+-- flashnor has only the layout of `-l`.
 abbrev pub has_wrong_regions : Texts → Bool
-has_wrong_regions given = (is_some (layout_file given) || is_some given.names)
-    && not (is_some (layout_file given)
+has_wrong_regions given = (gives_layout given || is_some given.names)
+    && not (gives_layout given
     && (is_some given.names && (takes_regions given && not (has_two_layouts given))))
 
 -- true if `-N` is given without any of `-w`, `-E` and `--restore`, or `--quick` without `--restore`; flashnor has

@@ -1,6 +1,6 @@
 -- The values of the options in the arguments.
-use Rattle.std.specs.Prelude.{◌&&◌, ◌||◌, ℕ, Bool, false, Option, Some, None, List, [], ◌∷◌, codes, is_some}
-use Rattle.std.specs.Prelude.{option_and_then, option_map, unwrap_or, if◌then◌else◌}
+use Rattle.std.specs.Prelude.{◌||◌, ℕ, Bool, false, Option, Some, None, List, [], ◌∷◌, codes, is_some}
+use Rattle.std.specs.Prelude.{nat_lt, option_and_then, option_map, unwrap_or, if◌then◌else◌}
 use Rattle.std.specs.List.{count_by}
 use Rattle.std.specs.Option.{option_map_or, option_or}
 use Rattle.std.specs.Str.{bytes_eq}
@@ -46,6 +46,9 @@ pub record Texts : Type 0 where
   pub fmap_file : Option Text
   pub ifd_file : Option Text
   pub names : Option Text
+  -- Whether `--fmap` and `--ifd` are set.
+  pub fmap : Bool
+  pub ifd : Bool
   -- Whether `-n`, `-N` and `--unlock` are set.
   pub no_verify : Bool
   pub no_verify_all : Bool
@@ -93,6 +96,8 @@ given_in rows = record {
   fmap_file = None;
   ifd_file = None;
   names = text_in rows (codes "include");
+  fmap = false;
+  ifd = false;
   no_verify = is_set_in rows (codes "noverify");
   no_verify_all = false;
   unlock = is_set_in rows (codes "unlock");
@@ -117,6 +122,8 @@ hardware_given_in rows = record (given_in rows) {
   quick = is_set_in rows (codes "quick");
   fmap_file = text_in rows (codes "fmap-file");
   ifd_file = text_in rows (codes "ifd-file");
+  fmap = is_set_in rows (codes "fmap");
+  ifd = is_set_in rows (codes "ifd");
   no_verify_all = is_set_in rows (codes "noverify-all");
   progress = text_in rows (codes "progress");
   verbose = is_set_in rows (codes "verbose");
@@ -153,6 +160,8 @@ texts_of given = record {
   fmap_file = option_map (λ text. text.now) given.fmap_file;
   ifd_file = option_map (λ text. text.now) given.ifd_file;
   names = option_map (λ text. text.now) given.names;
+  fmap = given.fmap;
+  ifd = given.ifd;
   no_verify = given.no_verify;
   no_verify_all = given.no_verify_all;
   unlock = given.unlock;
@@ -173,19 +182,29 @@ operations given = how_many (
     ∷ is_some given.write ∷ given.erase ∷ is_some given.wp_range ∷ is_some given.restore
     ∷ is_some given.backup ∷ is_some given.check_journal ∷ [])
 
--- the file name of the layout: the value of the first of `-l`, `--fmap-file` and `--ifd-file` that is given
+-- the file name of the layout: the value of the first of `-l`, `--fmap-file` and `--ifd-file` that is given, or `None`
+-- if none is given
 abbrev pub layout_file : Texts → Option Text
 layout_file given = option_or given.layout (option_or given.fmap_file given.ifd_file)
 
--- the form of the layout in the file `layout_file`; it has a meaning only if a layout is given
+-- for each of `-l`, `--fmap-file`, `--ifd-file`, `--fmap` and `--ifd`, in this order, whether it is given
+abbrev pub layouts_given : Texts → List Bool
+layouts_given given =
+    is_some given.layout ∷ is_some given.fmap_file ∷ is_some given.ifd_file ∷ given.fmap ∷ given.ifd ∷ []
+
+-- true if a layout is given, by one of the options of `layouts_given`
+abbrev pub gives_layout : Texts → Bool
+gives_layout given = is_some (layout_file given) || (given.fmap || given.ifd)
+
+-- true if more than one layout is given, by the options of `layouts_given`
+abbrev pub has_two_layouts : Texts → Bool
+has_two_layouts given = nat_lt 1 (how_many (layouts_given given))
+
+-- the form of the layout; it has a meaning only if exactly one layout is given
 abbrev pub layout_form : Texts → LayoutForm
 layout_form given =
-    if is_some given.layout then form.Lines else if is_some given.fmap_file then form.Fmap else form.Descriptor
-
--- true if more than one of `-l`, `--fmap-file` and `--ifd-file` is given
-abbrev pub has_two_layouts : Texts → Bool
-has_two_layouts given = (is_some given.layout && (is_some given.fmap_file || is_some given.ifd_file))
-    || (is_some given.fmap_file && is_some given.ifd_file)
+    if is_some given.layout then form.Lines
+    else if is_some given.fmap_file || given.fmap then form.Fmap else form.Descriptor
 
 -- the mode with the given name, or `None` if `--progress` has no such mode
 abbrev pub progress_of : Text → Option ProgressMode

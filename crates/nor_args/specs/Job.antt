@@ -6,7 +6,8 @@ use Rattle.std.specs.Borrow.{Bor}
 use Rattle.std.specs.Option.{IsSomeAnd}
 use Rattle.nor_probe.specs.Table.{name_of}
 use Rattle.nor_args.specs.Faults.{first_fault, operation_faults}
-use Rattle.nor_args.specs.Given.{Texts, how_many, layout_file, layout_form, operations, output_of, progress_mode}
+use Rattle.nor_args.specs.Given.{Texts, gives_layout, how_many, layout_file, layout_form, operations, output_of}
+use Rattle.nor_args.specs.Given.{progress_mode}
 use Rattle.nor_args.specs.Numbers.{range_of}
 use Rattle.nor_args.specs.Programmer.{IsProgrammer}
 use Rattle.nor_args.specs.Reasons.{IsReason}
@@ -35,11 +36,13 @@ use Rattle.nor_args.specs.declared.words.UsageFault.TheVariants as why
 abbrev pub NamesFile : Option Text → Bor Text → Type 0
 NamesFile option text = option ≡ Some text.now
 
--- Holds if the regions consist of the file of the layout, its form and the value of `-i`. `None` requires that no
--- layout is given and `-i` is missing.
+-- Holds if a layout is given and the regions consist of its file, its form and the value of `-i`. For a layout that is
+-- read from the chip (`--fmap` or `--ifd`), the file must be `None`. Regions `None` require that no layout is given and
+-- `-i` is missing.
 abbrev pub IsRegions : Texts → Option Regions → Type 0
-IsRegions given None = (layout_file given ≡ None) × (given.names ≡ None)
-IsRegions given (Some regions) = NamesFile (layout_file given) regions.layout
+IsRegions given None = (gives_layout given ≡ false) × (given.names ≡ None)
+IsRegions given (Some regions) = (gives_layout given ≡ true)
+    × (option_map (λ (file : Bor Text). file.now) regions.layout ≡ layout_file given)
     × (regions.form ≡ layout_form given) × NamesFile given.names regions.names
 
 -- Holds if the options ask for this target of a change.

@@ -113,6 +113,8 @@ own_rules =
     ∷ by_name (valued (codes "check-journal"))
     ∷ by_name (valued (codes "fmap-file"))
     ∷ by_name (valued (codes "ifd-file"))
+    ∷ by_name (flag (codes "fmap"))
+    ∷ by_name (flag (codes "ifd"))
     ∷ by_name (valued (codes "progress"))
     ∷ by_letter (codes "V") (flag (codes "verbose"))
     ∷ by_letter (codes "o") (valued (codes "output"))

@@ -39,6 +39,8 @@ option_text option.Rehearse = codes "--rehearse"
 option_text option.Layout = codes "-l"
 option_text option.FmapFile = codes "--fmap-file"
 option_text option.IfdFile = codes "--ifd-file"
+option_text option.Fmap = codes "--fmap"
+option_text option.Ifd = codes "--ifd"
 option_text option.NoVerify = codes "-n"
 option_text option.Unlock = codes "--unlock"
 
@@ -133,19 +135,11 @@ journal_reason given =
     else if asks_change given then because.NoJournal (change_option given)
     else because.NoChange (if is_some given.journal then option.Journal else option.Rehearse)
 
--- the first of `-l`, `--fmap-file` and `--ifd-file` that is given, or `None` if none is given
-abbrev pub first_layout : Texts → Option OptionName
-first_layout given =
-    if is_some given.layout then Some option.Layout
-    else if is_some given.fmap_file then Some option.FmapFile
-    else if is_some given.ifd_file then Some option.IfdFile else None
-
--- the last of `-l`, `--fmap-file` and `--ifd-file` that is given, or `None` if none is given
-abbrev pub last_layout : Texts → Option OptionName
-last_layout given =
-    if is_some given.ifd_file then Some option.IfdFile
-    else if is_some given.fmap_file then Some option.FmapFile
-    else if is_some given.layout then Some option.Layout else None
+-- each option that gives a layout with whether it is given, in the order of `layouts_given`
+abbrev pub layout_choices : Texts → List Choosing
+layout_choices given =
+    (is_some given.layout, option.Layout) ∷ (is_some given.fmap_file, option.FmapFile)
+    ∷ (is_some given.ifd_file, option.IfdFile) ∷ (given.fmap, option.Fmap) ∷ (given.ifd, option.Ifd) ∷ []
 
 -- the reason of fault 7 if at most one layout is given: `layout` is its option, and `names` is the value of `-i`
 abbrev pub names_reason : (layout : Option OptionName) → (names : Option Text) → Reason
@@ -156,8 +150,9 @@ names_reason None names = because.NoLayout
 -- the reason of fault 7: more than one layout is given, or a layout, `-i` or an operation on regions is missing
 abbrev pub regions_reason : Texts → Reason
 regions_reason given =
-    if has_two_layouts given then operations_reason (first_layout given) (last_layout given)
-    else names_reason (first_layout given) given.names
+    if has_two_layouts given
+    then operations_reason (first_given (layout_choices given)) (first_given (reverse (layout_choices given)))
+    else names_reason (first_given (layout_choices given)) given.names
 
 -- the reason of fault 8: the option that is given without the operation that it needs. `-n` and `--unlock` need `-w` or
 -- `-E`, `-N` needs one of these or `--restore`, and `--quick` needs `--restore`.

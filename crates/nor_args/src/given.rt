@@ -6,7 +6,8 @@ ghost use Rattle.std.specs.Option.{IsSomeAnd};
 ghost use Rattle.clap.specs.Words.{found_of, rows_of};
 ghost use Rattle.nor_args.specs.Given.{given_in, hardware_given_in, operations, is_new_content, asks_change};
 ghost use Rattle.nor_args.specs.Given.{takes_regions};
-ghost use Rattle.nor_args.specs.Given.{has_two_layouts, layout_file, layout_form, progress_mode, progress_of};
+ghost use Rattle.nor_args.specs.Given.{gives_layout, has_two_layouts, layout_file, layout_form, progress_mode};
+ghost use Rattle.nor_args.specs.Given.{progress_of};
 ghost use Rattle.nor_args.specs.Faults.{first_fault, has_unneeded, has_wrong_journal, has_wrong_regions, is_no};
 ghost use Rattle.nor_args.specs.Faults.{operation_faults, passes_test, usage_faults};
 ghost use Rattle.nor_args.specs.Job.{IsAsked, IsHardwareAsked, IsJournalUse, IsOperation, IsRegions, IsTask};
@@ -61,6 +62,8 @@ pub struct Given<'a> {
     layout: Option<&'a str>,
     fmap_file: Option<&'a str>,
     ifd_file: Option<&'a str>,
+    fmap: bool,
+    ifd: bool,
     names: Option<&'a str>,
     no_verify: bool,
     no_verify_all: bool,
@@ -100,6 +103,8 @@ impl<'a> Given<'a> {
             layout: matches.get_str("layout"),
             fmap_file: None,
             ifd_file: None,
+            fmap: false,
+            ifd: false,
             names: matches.get_str("include"),
             no_verify: is_set(matches, "noverify"),
             no_verify_all: false,
@@ -126,6 +131,8 @@ impl<'a> Given<'a> {
             quick: is_set(matches, "quick"),
             fmap_file: matches.get_str("fmap-file"),
             ifd_file: matches.get_str("ifd-file"),
+            fmap: is_set(matches, "fmap"),
+            ifd: is_set(matches, "ifd"),
             no_verify_all: is_set(matches, "noverify-all"),
             progress: matches.get_str("progress"),
             verbose: is_set(matches, "verbose"),
@@ -249,7 +256,7 @@ impl<'a> Given<'a> {
     }
 
     // Returns the file name of the layout: the value of the first of `-l`, `--fmap-file` and `--ifd-file` that is
-    // given. Returns `None` if none is given.
+    // given. Returns `None` if none is given: there is no layout, or it is read from the chip.
     fn layout_file(&self) -> Option<&'a str>
         ensures { option_map (λ file. file.now) result ≡ layout_file (texts_of self.now) }
     {
@@ -260,14 +267,20 @@ impl<'a> Given<'a> {
         }
     }
 
-    // Returns the form of the layout in the file that `layout_file` returns. Without a layout the result has no
-    // meaning.
+    // True if a layout is given, which is read from a file or from the chip.
+    fn gives_layout(&self) -> bool
+        ensures { result ≡ gives_layout (texts_of self.now) }
+    {
+        self.layout_file().is_some() || self.fmap || self.ifd
+    }
+
+    // Returns the form of the layout. The result has a meaning only if exactly one layout is given.
     fn layout_form(&self) -> LayoutForm
         ensures { result ≡ layout_form (texts_of self.now) }
     {
         if self.layout.is_some() {
             LayoutForm::Lines
-        } else if self.fmap_file.is_some() {
+        } else if self.fmap_file.is_some() || self.fmap {
             LayoutForm::Fmap
         } else {
             LayoutForm::Descriptor
@@ -329,13 +342,13 @@ impl<'a> Given<'a> {
         requires { has_wrong_regions (texts_of self.now) ≡ false }
         ensures { IsRegions (texts_of self.now) result }
     {
-        match (self.layout_file(), self.names) {
-            (Some(layout), Some(names)) => Some(Regions {
-                layout,
+        match self.names {
+            Some(names) => Some(Regions {
+                layout: self.layout_file(),
                 form: self.layout_form(),
                 names,
             }),
-            _ => None,
+            None => None,
         }
     }
 

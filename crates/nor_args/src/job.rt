@@ -137,22 +137,23 @@ pub enum Task<'a> {
 /// The regions to which an operation is limited: a layout, and the names of the included regions.
 #[derive(Clone, Copy)]
 pub struct Regions<'a> {
-    /// `-l FILE`, or for a program for hardware `--fmap-file FILE` or `--ifd-file FILE`: the name of the layout file.
-    pub layout: &'a str,
-    /// The form of the layout in the file `layout`.
+    /// `-l FILE`, or for a program for hardware `--fmap-file FILE` or `--ifd-file FILE`: the name of the file with the
+    /// layout. `None` with `--fmap` or `--ifd` of a program for hardware: the layout is read from the chip.
+    pub layout: Option<&'a str>,
+    /// The form of the layout.
     pub form: LayoutForm,
     /// `-i NAMES`: the names of the regions, separated by commas.
     pub names: &'a str,
 }
 
-/// The form of a layout in a file.
+/// The form of a layout.
 #[derive(Clone, Copy)]
 pub enum LayoutForm {
     /// `-l`: lines `START:END NAME`, as in flashrom.
     Lines,
-    /// `--fmap-file`: an image of the chip that contains an FMAP.
+    /// `--fmap-file` and `--fmap`: an image or the bytes of the chip, with an FMAP.
     Fmap,
-    /// `--ifd-file`: an image of the chip that begins with an Intel flash descriptor.
+    /// `--ifd-file` and `--ifd`: an image or the bytes of the chip, which begin with an Intel flash descriptor.
     Descriptor,
 }
 

@@ -26,6 +26,8 @@ pub enum OptionName {
     Layout,
     FmapFile,
     IfdFile,
+    Fmap,
+    Ifd,
     NoVerify,
     Unlock,
 }
@@ -56,6 +58,8 @@ impl OptionName {
             OptionName::Layout => "-l",
             OptionName::FmapFile => "--fmap-file",
             OptionName::IfdFile => "--ifd-file",
+            OptionName::Fmap => "--fmap",
+            OptionName::Ifd => "--ifd",
             OptionName::NoVerify => "-n",
             OptionName::Unlock => "--unlock",
         }
@@ -104,7 +108,8 @@ pub enum Reason<'a> {
     /// 3: no setting of `-p` has a flaw, but `emulate=` is missing.
     NoChip,
     /// 4: the first and the last of the given operations, in the order of the help except that `--flash-name` follows
-    /// `--flash-size`. 7: the first and the last of the given layouts, in the order `-l`, `--fmap-file`, `--ifd-file`.
+    /// `--flash-size`. 7: the first and the last of the given layouts, in the order `-l`, `--fmap-file`, `--ifd-file`,
+    /// `--fmap`, `--ifd`.
     Operations { first: OptionName, last: OptionName },
     /// 5: this value of `--wp-range` isn't a start and a length.
     Range(&'a str),
@@ -116,11 +121,11 @@ pub enum Reason<'a> {
     JournalAndRehearse,
     /// 6: this option (`--journal` or `--rehearse`) is given without any of `-w`, `-E` and `--wp-range`.
     NoChange(OptionName),
-    /// 7: this option names a layout, but `-i` is missing.
+    /// 7: this option gives a layout, but `-i` is missing.
     NoNames(OptionName),
-    /// 7: `-i` is given, but an option that names a layout is missing.
+    /// 7: `-i` is given, but an option that gives a layout is missing.
     NoLayout,
-    /// 7: this option names a layout and `-i` is given, but without any of `-r`, `-v`, `-w` and `-E`.
+    /// 7: this option gives a layout and `-i` is given, but without any of `-r`, `-v`, `-w` and `-E`.
     NoRegions(OptionName),
     /// 8: this option is given with neither `-w` nor `-E`.
     NoContent(OptionName),

@@ -35,8 +35,8 @@ pub enum UsageFault {
     /// `--journal` or `--rehearse` is given, but no change.
     Journal,
     /// 7: `-l` or `-i` is given without the other, or both without any of `-r`, `-v`, `-w` and `-E`. A program for
-    /// hardware also has `--fmap-file` and `--ifd-file` in place of `-l`; more than one of the three is this fault,
-    /// too.
+    /// hardware also has `--fmap-file`, `--ifd-file`, `--fmap` and `--ifd` in place of `-l`; more than one of the five
+    /// is this fault, too.
     Layout,
     /// 8: `-n` or `--unlock` is given without `-w` or `-E`. For a program for hardware also: `-N` is given without any
     /// of `-w`, `-E` and `--restore`, or `--quick` without `--restore`.

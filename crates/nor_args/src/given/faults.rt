@@ -1,7 +1,7 @@
 //! The usage faults 2 to 9 that the options may have.
 ghost use Rattle.std.specs.Prelude.{◌≡◌, ◌&&◌, ◌||◌, is_some, not};
-ghost use Rattle.nor_args.specs.Given.{asks_change, has_two_layouts, is_new_content, operations, progress_of};
-ghost use Rattle.nor_args.specs.Given.{takes_regions};
+ghost use Rattle.nor_args.specs.Given.{asks_change, gives_layout, has_two_layouts, how_many, is_new_content};
+ghost use Rattle.nor_args.specs.Given.{layouts_given, operations, progress_of, takes_regions};
 ghost use Rattle.nor_args.specs.Faults.{first_fault, has_unneeded, has_wrong_journal, has_wrong_regions, is_no};
 ghost use Rattle.nor_args.specs.Faults.{passes_test, usage_faults};
 ghost use Rattle.nor_args.specs.Numbers.{range_of};
@@ -157,23 +157,37 @@ impl Given<'_> {
         ((self.no_verify || self.unlock) && !changes) || unneeded
     }
 
-    // Fault 7: true if a layout (`-l`, `--fmap-file` or `--ifd-file`) is given without `-i`, or `-i` without a layout;
-    // if both are given without any of `-r`, `-v`, `-w` and `-E`; or if more than one layout is given.
+    // Fault 7: true if a layout (`-l`, `--fmap-file`, `--ifd-file`, `--fmap` or `--ifd`) is given without `-i`, or `-i`
+    // without a layout; if both are given without any of `-r`, `-v`, `-w` and `-E`; or if more than one layout is
+    // given.
     fn has_wrong_regions(&self) -> bool
         ensures { result ≡ has_wrong_regions (texts_of self.now) }
     {
-        match (self.layout_file(), self.names) {
-            (None, None) => false,
-            (Some(_), Some(_)) => !self.takes_regions() || self.has_two_layouts(),
+        match (self.gives_layout(), self.names) {
+            (false, None) => false,
+            (true, Some(_)) => !self.takes_regions() || self.has_two_layouts(),
             _ => true,
         }
     }
 
-    // True if more than one of `-l`, `--fmap-file` and `--ifd-file` is given.
+    // True if more than one of `-l`, `--fmap-file`, `--ifd-file`, `--fmap` and `--ifd` is given.
     pub(super) fn has_two_layouts(&self) -> bool
         ensures { result ≡ has_two_layouts (texts_of self.now) }
     {
-        let (fmap, descriptor) = (self.fmap_file.is_some(), self.ifd_file.is_some());
-        (self.layout.is_some() && (fmap || descriptor)) || (fmap && descriptor)
+        self.layouts() > 1
+    }
+
+    // Returns the number of layouts that the options give.
+    fn layouts(&self) -> usize
+        ensures { result ≡ how_many (layouts_given (texts_of self.now)) }
+    {
+        let given = [
+            self.layout.is_some(),
+            self.fmap_file.is_some(),
+            self.ifd_file.is_some(),
+            self.fmap,
+            self.ifd,
+        ];
+        given.iter().filter(|given| **given).count()
     }
 }

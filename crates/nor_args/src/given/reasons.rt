@@ -2,7 +2,7 @@
 ghost use Rattle.std.specs.Prelude.{◌≡◌, reverse};
 ghost use Rattle.nor_args.specs.Given.{texts_of};
 ghost use Rattle.nor_args.specs.Reasons.{IsProgrammerReason, IsReason, IsWrongMode, IsWrongRange, IsWrongStops};
-ghost use Rattle.nor_args.specs.Reasons.{change_option, first_given, first_layout, last_layout};
+ghost use Rattle.nor_args.specs.Reasons.{change_option, first_given, layout_choices};
 ghost use Rattle.nor_args.specs.declared.words.UsageFault.TheVariants.{Range};
 ghost use Rattle.nor_args.specs.Reasons.{journal_reason, operation_choices, operations_reason, regions_reason};
 ghost use Rattle.nor_args.specs.Reasons.{unneeded_reason};
@@ -174,34 +174,38 @@ impl<'a> Given<'a> {
         }
     }
 
-    // Returns the first of `-l`, `--fmap-file` and `--ifd-file` that is given, or `None` if none is given.
+    // Returns the first given layout in the order of `layout_choices`, or `None` if no layout is given.
     fn first_layout(&self) -> Option<OptionName>
-        ensures { result ≡ first_layout (texts_of self.now) }
+        ensures { result ≡ first_given (layout_choices (texts_of self.now)) }
     {
-        if self.layout.is_some() {
-            Some(OptionName::Layout)
-        } else if self.fmap_file.is_some() {
-            Some(OptionName::FmapFile)
-        } else if self.ifd_file.is_some() {
-            Some(OptionName::IfdFile)
-        } else {
-            None
+        match self.layout_choices().iter().find(|choice| choice.0) {
+            Some(choice) => Some(choice.1),
+            None => None,
         }
     }
 
-    // Returns the last of `-l`, `--fmap-file` and `--ifd-file` that is given, or `None` if none is given.
+    // Returns the last given layout in the order of `layout_choices`, or `None` if no layout is given.
     fn last_layout(&self) -> Option<OptionName>
-        ensures { result ≡ last_layout (texts_of self.now) }
+        ensures { result ≡ first_given (reverse (layout_choices (texts_of self.now))) }
     {
-        if self.ifd_file.is_some() {
-            Some(OptionName::IfdFile)
-        } else if self.fmap_file.is_some() {
-            Some(OptionName::FmapFile)
-        } else if self.layout.is_some() {
-            Some(OptionName::Layout)
-        } else {
-            None
+        match self.layout_choices().iter().rev().find(|choice| choice.0) {
+            Some(choice) => Some(choice.1),
+            None => None,
         }
+    }
+
+    // Returns each option that gives a layout with whether it is given: first those that name a file, then those for a
+    // layout that is read from the chip.
+    fn layout_choices(&self) -> [(bool, OptionName); 5]
+        ensures { result ≡ layout_choices (texts_of self.now) }
+    {
+        [
+            (self.layout.is_some(), OptionName::Layout),
+            (self.fmap_file.is_some(), OptionName::FmapFile),
+            (self.ifd_file.is_some(), OptionName::IfdFile),
+            (self.fmap, OptionName::Fmap),
+            (self.ifd, OptionName::Ifd),
+        ]
     }
 
     fn unneeded_reason(&self) -> Reason<'a>

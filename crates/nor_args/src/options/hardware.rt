@@ -6,7 +6,7 @@ use crate::options::Choice;
 
 // The options that only programs for hardware have, except `-R`, in the order of the help. The help prints them after
 // the options of `CHOICES`, and before `-R` and `-h`.
-static HARDWARE_CHOICES: [Choice; 10] = [
+static HARDWARE_CHOICES: [Choice; 12] = [
     Choice {
         letter: None,
         name: "backup",
@@ -51,6 +51,18 @@ static HARDWARE_CHOICES: [Choice; 10] = [
     },
     Choice {
         letter: None,
+        name: "fmap",
+        value: None,
+        help: "In place of -l: the regions of the FMAP on the chip",
+    },
+    Choice {
+        letter: None,
+        name: "ifd",
+        value: None,
+        help: "In place of -l: those of the chip's flash descriptor",
+    },
+    Choice {
+        letter: None,
         name: "progress",
         value: Some("MODE"),
         help: "How to show progress: auto, plain or none",
@@ -70,7 +82,7 @@ static HARDWARE_CHOICES: [Choice; 10] = [
 ];
 
 // Returns the table `HARDWARE_CHOICES`. Its rows describe the options that the specification lists as `own_rules`.
-pub(super) fn hardware_choices() -> &'static [Choice; 10]
+pub(super) fn hardware_choices() -> &'static [Choice; 12]
     ensures { map chosen result.now ≡ own_rules }
 {
     &HARDWARE_CHOICES
