@@ -1,18 +1,24 @@
 -- Lemmas about the fault if no addresses are included: the layout's text has a fault, or a name is unknown.
-use Rattle.std.proofs.Common.{◌≡◌, ℕ, ◌+◌, Bool, true, List, [], ◌∷◌, None, Some, Result, Ok, Err, arith, find, not, refl}
+use Rattle.std.proofs.Common.{◌≡◌, ◌≤◌, ℕ, ◌+◌, Bool, true, List, [], ◌∷◌, None, Option, Some, Result, Ok, Err, arith}
+use Rattle.std.proofs.Common.{find, length, not, refl, subst, sym}
+use Rattle.std.specs.Borrow.{Bor}
 use Rattle.std.specs.List.{list_all}
 use Rattle.std.specs.Prelude.{⊤}
 use Rattle.nor_layout.specs.declared.fault.LayoutFault.{LayoutFault}
 use Rattle.nor_layout.specs.declared.fault.LayoutFault.TheVariants as layout
+use Rattle.nor_layout.specs.declared.ranges.Span.{Span}
 use Rattle.nor_layout.specs.declared.region.Region.{Region}
 use Rattle.nor_layout.specs.Grammar.{IsLayout}
 use Rattle.nor_layout.specs.Included.{are_known, names_of}
 use Rattle.nor_layout.specs.Text.{◌>>=◌, AsksMemory, ReadsLayout, is_region_named, layout_says, lines_of, lines_say, with_line}
+use Rattle.nor_args.specs.Text.{Text}
 use Rattle.nor_args.specs.declared.job.LayoutForm.{LayoutForm}
 use Rattle.nor_args.specs.declared.job.LayoutForm.TheVariants as form
 use Rattle.nor_args.specs.declared.job.Regions.{Regions}
 use Rattle.nor_files.specs.Files.{View}
-use Rattle.nor_console.specs.Requests.{FailsToInclude, IsLayoutFault, IsUnparsed, LacksLayout, first_unknown}
+use Rattle.nor_console.specs.Requests.{AreIncluded, AreRangesOf, FailsToInclude, IncludesNone, IsLayoutFault}
+use Rattle.nor_console.specs.Requests.{IsLayoutText, IsUnparsed, LacksLayout, first_unknown}
+use Rattle.nor_console.specs.Stored.{IsRead}
 use Rattle.nor_console.specs.declared.messages.Fault.{Fault}
 use Rattle.nor_console.specs.declared.messages.Fault.TheVariants as end
 
@@ -73,9 +79,25 @@ lacks-only _ text _ is = absurd is
 
 -- A fault of the layout's text or of the names (`IsLayoutFault`) is one of the faults with which including regions may
 -- fail.
-pub fails_included : (view : View) (regions : Regions) (fault : Fault) → IsLayoutFault view regions fault
-    → FailsToInclude view (Some regions) fault
-fails_included view regions (end.Layout fault) is = is
-fails_included view regions (end.Map fault) is = is
-fails_included view regions (end.NoRegion name) is = is
-fails_included view regions _ is = absurd (lacks-only regions.form _ _ is.why)
+pub fails_included : (view : View) (shown : Option (List ℕ)) (regions : Regions) (fault : Fault)
+    → IsLayoutFault view shown regions fault → FailsToInclude view shown (Some regions) fault
+fails_included view shown regions (end.Layout fault) is = is
+fails_included view shown regions (end.Map fault) is = is
+fails_included view shown regions (end.NoRegion name) is = is
+fails_included view shown regions _ is = absurd (lacks-only regions.form _ _ is.why)
+
+-- Let `text` be what was read of the layout in the file `name`. If `ranges` are those of the names in this text, they are
+-- the ranges of the regions. A fault of the text or of the names is one with which including the regions may fail.
+module _ (view : View) (shown : Option (List ℕ)) (regions : Regions) (name : Bor Text) (text : List ℕ)
+    (named : regions.layout ≡ Some name) (read : IsRead view name.now 16777217 text × (length text ≤ 16777216)) where
+  is-text : IsLayoutText view shown regions.layout text
+  is-text = subst (λ (file : Option (Bor Text)). IsLayoutText view shown file text) (sym named) read.0
+
+  pub file_included : (ranges : List Span) → AreIncluded regions.form text regions.names.now ranges
+      → AreRangesOf view shown (Some regions) (Some ranges)
+  file_included ranges included = record { text = text; read = is-text; whole = read.1; included = included }
+
+  pub file_fails : (fault : Fault) → IncludesNone regions.form text regions.names.now fault
+      → FailsToInclude view shown (Some regions) fault
+  file_fails fault why =
+      fails_included view shown regions fault (record { text = text; read = is-text; whole = read.1; why = why })

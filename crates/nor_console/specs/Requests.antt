@@ -1,5 +1,6 @@
 -- The request that a change makes to a session, and the faults of reading the layout of its regions.
-use Rattle.std.specs.Prelude.{◌≡◌, ◌≤◌, ◌⊎◌, ℕ, true, List, Option, Some, None, Ok, Err, find, length, not}
+use Rattle.std.specs.Prelude.{◌≡◌, ◌<◌, ◌≤◌, ◌⊎◌, ℕ, true, List, Option, Some, None, Ok, Err, find, length, not, ⊤}
+use Rattle.std.specs.Borrow.{Bor}
 use Rattle.nor_layout.specs.declared.fault.LayoutFault.{LayoutFault}
 use Rattle.nor_layout.specs.declared.fault.LayoutFault.TheVariants as layout
 use Rattle.nor_layout.specs.declared.ranges.Span.{Span}
@@ -15,12 +16,15 @@ use Rattle.nor_probe.specs.declared.table.ChipName.{ChipName}
 use Rattle.nor_request.specs.declared.request.Request.{Request}
 use Rattle.nor_request.specs.declared.request.What.{What}
 use Rattle.nor_request.specs.declared.request.What.TheVariants as what
+use Rattle.nor_args.specs.Text.{Text}
 use Rattle.nor_args.specs.declared.job.Change.{Change}
 use Rattle.nor_args.specs.declared.job.LayoutForm.{LayoutForm}
 use Rattle.nor_args.specs.declared.job.LayoutForm.TheVariants as form
 use Rattle.nor_args.specs.declared.job.Regions.{Regions}
 use Rattle.nor_args.specs.declared.job.Wanted.{Wanted}
 use Rattle.nor_args.specs.declared.job.Wanted.TheVariants as wanted
+use Rattle.nor_args.specs.declared.reasons.Reason.TheVariants as because
+use Rattle.nor_args.specs.declared.words.UsageFault.TheVariants as usage
 use Rattle.nor_console.specs.Stored.{IsRead}
 use Rattle.nor_files.specs.Files.{View}
 use Rattle.nor_console.specs.Files.{IsReadingFault, IsTooLong}
@@ -58,19 +62,28 @@ pub record AreIncluded (form : LayoutForm) (text names : List ℕ) (ranges : Lis
   pub known : are_known regions names ≡ true
   pub union : (a : ℕ) → contains ranges a ≡ is_included regions names a
 
--- Holds if `ranges` are those of the named regions in the layout's file, which has at most 16 MiB. `text` is the
--- content of the file if the file is known (`IsKnownFile`).
-pub record AreOfLayout (view : View) (regions : Regions) (ranges : List Span) : Type 0 where
+-- Holds if `text` is the text of a layout. If a file is named, `text` must have the file's first 16 MiB and one byte, or
+-- the whole content of a shorter file; nothing is claimed if the file isn't known (`IsKnownFile`). If no file is named,
+-- `text` must be `shown`, the bytes that the chip returned.
+abbrev pub IsLayoutText : View → (shown : Option (List ℕ)) → (file : Option (Bor Text)) → (text : List ℕ) → Type 0
+IsLayoutText view shown (Some name) text = IsRead view name.now 16777217 text
+IsLayoutText view shown None text = shown ≡ Some text
+
+-- Holds if `ranges` are those of the named regions in the layout `text`, which has at most 16 MiB. If the layout has a
+-- file and the file is known (`IsKnownFile`), `text` is its content. If the layout has no file, `text` is `shown`, the
+-- bytes that the chip returned.
+pub record AreOfLayout (view : View) (shown : Option (List ℕ)) (regions : Regions) (ranges : List Span) : Type 0 where
   pub text : List ℕ
-  pub read : IsRead view regions.layout.now 16777217 text
+  pub read : IsLayoutText view shown regions.layout text
   pub whole : length text ≤ 16777216
   pub included : AreIncluded regions.form text regions.names.now ranges
 
 -- Holds if `ranges` are those of the named regions. If no regions are given, `ranges` must be `None` (the whole chip).
-abbrev pub AreRangesOf : View → Option Regions → Option (List Span) → Type 0
-AreRangesOf view None ranges = ranges ≡ None
-AreRangesOf view (Some regions) None = ⊥
-AreRangesOf view (Some regions) (Some ranges) = AreOfLayout view regions ranges
+-- `shown` are the bytes that the chip returned, if it was read for a layout without a file.
+abbrev pub AreRangesOf : View → (shown : Option (List ℕ)) → Option Regions → Option (List Span) → Type 0
+AreRangesOf view shown None ranges = ranges ≡ None
+AreRangesOf view shown (Some regions) None = ⊥
+AreRangesOf view shown (Some regions) (Some ranges) = AreOfLayout view shown regions ranges
 
 -- Holds if the text isn't a layout, and `fault` is the first fault in it.
 pub record IsNoLayout (text : List ℕ) (fault : LayoutFault) : Type 0 where
@@ -110,20 +123,35 @@ abbrev pub IncludesNone : LayoutForm → (text names : List ℕ) → Fault → T
 IncludesNone form text names (end.NoRegion name) = IsUnknown form text names name.now
 IncludesNone form text names fault = LacksLayout form text fault
 
--- Holds if the layout's file has at most 16 MiB, and no regions are included because of this fault of its text or of
--- the names. `text` is the content of the file if the file is known (`IsKnownFile`).
-pub record IsLayoutFault (view : View) (regions : Regions) (fault : Fault) : Type 0 where
+-- Holds if the layout's text has at most 16 MiB, and no regions are included because of this fault of the text or of
+-- the names. If the layout has a file and the file is known (`IsKnownFile`), `text` is its content. If the layout has
+-- no file, `text` is `shown`, the bytes that the chip returned.
+pub record IsLayoutFault (view : View) (shown : Option (List ℕ)) (regions : Regions) (fault : Fault) : Type 0 where
   pub text : List ℕ
-  pub read : IsRead view regions.layout.now 16777217 text
+  pub read : IsLayoutText view shown regions.layout text
   pub whole : length text ≤ 16777216
   pub why : IncludesNone regions.form text regions.names.now fault
 
--- Holds if including the regions may fail with this fault: a fault of the layout's text or of the names, a fault of
--- reading its file, or file fault 1 for a file of more than 16 MiB. Without regions there is no fault.
-abbrev pub FailsToInclude : View → Option Regions → Fault → Type 0
-FailsToInclude view None fault = ⊥
-FailsToInclude view (Some regions) (end.Layout fault) = IsLayoutFault view regions (end.Layout fault)
-FailsToInclude view (Some regions) (end.Map fault) = IsLayoutFault view regions (end.Map fault)
-FailsToInclude view (Some regions) (end.NoRegion name) = IsLayoutFault view regions (end.NoRegion name)
-FailsToInclude view (Some regions) fault =
-    IsReadingFault view regions.layout.now 16777217 fault ⊎ IsTooLong view regions.layout.now 16777216 fault
+-- Holds if the chip returned no bytes for a layout, or more than 16 MiB, the size of the largest chip.
+abbrev pub LacksShown : (shown : Option (List ℕ)) → Type 0
+LacksShown None = ⊤
+LacksShown (Some bytes) = 16777216 < length bytes
+
+-- Holds if getting the text of a layout may fail with this fault. For a layout in a file, it is a fault of reading the
+-- file, or file fault 1 for a file of more than 16 MiB. For a layout without a file, it is usage fault 7 without a
+-- reason, and the chip returned no bytes for the layout or too many (`LacksShown`).
+abbrev pub LacksText : View → (shown : Option (List ℕ)) → (file : Option (Bor Text)) → Fault → Type 0
+LacksText view shown (Some name) fault =
+    IsReadingFault view name.now 16777217 fault ⊎ IsTooLong view name.now 16777216 fault
+LacksText view shown None (end.Usage usage.Layout because.Unsaid) = LacksShown shown
+LacksText view shown None fault = ⊥
+
+-- Holds if including the regions may fail with this fault: a fault of the layout's text or of the names, or a fault of
+-- getting this text (`LacksText`). Without regions there is no fault. `shown` are the bytes that the chip returned, if
+-- it was read for a layout without a file.
+abbrev pub FailsToInclude : View → (shown : Option (List ℕ)) → Option Regions → Fault → Type 0
+FailsToInclude view shown None fault = ⊥
+FailsToInclude view shown (Some regions) (end.Layout fault) = IsLayoutFault view shown regions (end.Layout fault)
+FailsToInclude view shown (Some regions) (end.Map fault) = IsLayoutFault view shown regions (end.Map fault)
+FailsToInclude view shown (Some regions) (end.NoRegion name) = IsLayoutFault view shown regions (end.NoRegion name)
+FailsToInclude view shown (Some regions) fault = LacksText view shown regions.layout fault

@@ -23,10 +23,10 @@ made_by (task.Read file regions) = Some file
 made_by (task.Change change) = journal_of change.journal_use
 made_by _ = None
 
--- the file name of the layout, or `None` if no regions are named
+-- the file name of the layout, or `None` if no regions are named, or if the layout is read from the chip
 abbrev pub layout_of : Option Regions → Option (Bor Text)
 layout_of None = None
-layout_of (Some regions) = Some regions.layout
+layout_of (Some regions) = regions.layout
 
 -- the file name of the image that a change writes, or `None` if it writes no image
 abbrev pub image_of : Wanted → Option (Bor Text)

@@ -1,12 +1,16 @@
 //! The request that a change makes to a session, and the addresses of the regions to which the change is limited.
-ghost use Rattle.std.specs.Prelude.{◌≡◌, ◌≤◌, IfOk, IfErr, length, option_map};
+ghost use Rattle.std.specs.Prelude.{◌≡◌, ◌≤◌, IfOk, IfErr, None, Some, length, option_map};
 ghost use Rattle.nor_layout.specs.Text.{is_region_named};
+ghost use Rattle.nor_args.specs.declared.reasons.Reason.TheVariants as Reasons;
+ghost use Rattle.nor_args.specs.declared.words.UsageFault.TheVariants as Usage;
 ghost use Rattle.nor_console.specs.Requests.{AreIncluded, AreRangesOf, FailsToInclude, HasLayout, IncludesNone};
-ghost use Rattle.nor_console.specs.Requests.{LacksLayout, first_unknown, request_for, what_of};
+ghost use Rattle.nor_console.specs.Requests.{LacksLayout, LacksShown, LacksText, first_unknown, request_for, what_of};
+ghost use Rattle.nor_console.specs.Stored.{IsRead};
+ghost use Rattle.nor_console.specs.declared.messages.Fault.TheVariants as Faults;
 
-use crate::files::{MOST_LAYOUT_BYTES, read_file};
-use crate::messages::{Fault, FileFault};
-use nor_args::{Change, LayoutForm, Regions, Wanted};
+use crate::files::{MOST_LAYOUT_BYTES, read_file, unread};
+use crate::messages::Fault;
+use nor_args::{Change, LayoutForm, Reason, Regions, UsageFault, Wanted};
 use nor_files::Store;
 use nor_layout::{Layout, Ranges, Region};
 use nor_maps::{read_descriptor, read_fmap};
@@ -14,24 +18,29 @@ use nor_probe::ChipName;
 use nor_session::{Request, What};
 use std::alloc::Global;
 
-/// Reads the layout from its file, and returns the addresses of the named regions. If no regions are given, returns
-/// `None` and reads no file. If the layout is an FMAP or a flash descriptor in an image, the chip is taken to be as
-/// large as the image is long.
+/// Reads the layout, and returns the addresses of the named regions. If no regions are given, returns `None` and reads
+/// no file. The layout is read from its file. If it has no file, it is read from `shown`, the bytes that the chip
+/// returned. If the layout is an FMAP or a flash descriptor, the length of the file or of `shown` is taken as the size of
+/// the chip.
 ///
 /// Returns one of these faults:
 ///
 /// - file fault 1 if the file is missing, can't be read, or has more than 16 MiB
+/// - usage fault 7 without a reason if the layout has no file, and `shown` is `None` or has more than 16 MiB
 /// - a layout fault if the layout or the names of the regions are wrong, or if memory runs out while the layout is
 ///   parsed
-/// - a map fault if the file of `--fmap-file` or `--ifd-file` has no valid FMAP or flash descriptor, or if memory runs
-///   out while the FMAP or descriptor is parsed
+/// - a map fault if the file or `shown` has no valid FMAP or flash descriptor, or if memory runs out while the FMAP or
+///   descriptor is parsed
 /// - error 18 if memory runs out while the file is read
 pub fn read_included<'a, R: Store>(
     rt: &R,
     regions: Option<Regions<'a>>,
+    shown: Option<&[u8]>,
 ) -> Result<Option<Ranges>, Fault<'a>>
-    ensures ok { IfOk result (AreRangesOf ((R.state rt.now).view) regions.entry) }
-    ensures err { IfErr result (FailsToInclude ((R.state rt.now).view) regions.entry) }
+    ensures ok { IfOk result (AreRangesOf ((R.state rt.now).view)
+        (option_map (λ bytes. bytes.now) shown.entry) regions.entry) }
+    ensures err { IfErr result (FailsToInclude ((R.state rt.now).view)
+        (option_map (λ bytes. bytes.now) shown.entry) regions.entry) }
 {
     let Some(
         Regions {
@@ -43,13 +52,44 @@ pub fn read_included<'a, R: Store>(
     else {
         return Ok(None);
     };
-    let text = read_file(rt, layout, MOST_LAYOUT_BYTES + 1)?;
-    if text.len() as u64 > MOST_LAYOUT_BYTES {
-        let (fault, name) = (FileFault::Read, layout);
-        return Err(Fault::File { fault, name });
-    }
+    let Some(name) = layout else {
+        let included = included_in(rt.alloc(), form, shown_layout(shown)?, names)?;
+        return Ok(Some(included));
+    };
+    let text = read_layout_file(rt, name)?;
     let included = included_in(rt.alloc(), form, &text, names)?;
     Ok(Some(included))
+}
+
+// Reads the file of a layout. Returns file fault 1 if the file is missing, can't be read, or has more than 16 MiB, or
+// error 18 if memory runs out.
+fn read_layout_file<'a, R: Store>(rt: &R, name: &'a str) -> Result<Vec<u8>, Fault<'a>>
+    ensures ok { IfOk result (λ text. IsRead ((R.state rt.now).view) name.now 16777217 text.items
+        × (length text.items ≤ 16777216)) }
+    ensures err { IfErr result (LacksText ((R.state rt.now).view) None (Some name.entry)) }
+{
+    let text = read_file(rt, name, MOST_LAYOUT_BYTES + 1)?;
+    if text.len() as u64 > MOST_LAYOUT_BYTES {
+        return Err(unread(name));
+    }
+    Ok(text)
+}
+
+// Returns `shown`, the bytes that the chip returned for a layout. Returns usage fault 7 if `shown` is `None`, or has
+// more than 16 MiB.
+fn shown_layout<'b>(shown: Option<&'b [u8]>) -> Result<&'b [u8], Fault<'static>>
+    ensures ok { IfOk result (λ text. (option_map (λ bytes. bytes.now) shown.entry ≡ Some text.now)
+        × (length text.now ≤ 16777216)) }
+    ensures err { IfErr result (λ fault. (fault ≡ Faults.Usage Usage.Layout Reasons.Unsaid)
+        × LacksShown (option_map (λ bytes. bytes.now) shown.entry)) }
+{
+    match shown {
+        Some(bytes) if bytes.len() as u64 <= MOST_LAYOUT_BYTES => Ok(bytes),
+        _ => Err(Fault::Usage {
+            fault: UsageFault::Layout,
+            reason: Reason::Unsaid,
+        }),
+    }
 }
 
 // Parses `text` as a layout of the given form, and returns the addresses of the regions with the comma-separated

@@ -16,7 +16,7 @@ use nor_files::{Store, Stream};
 /// The files that a task names, by their roles.
 #[derive(Clone, Copy)]
 pub struct Named<'a> {
-    /// The file of the layout that names the regions.
+    /// The file of the layout that names the regions; `None` also if the layout is read from the chip.
     pub layout: Option<&'a str>,
     /// The file of the image to write, or to compare with the chip.
     pub wanted: Option<&'a str>,
@@ -65,7 +65,7 @@ fn layout_of<'a>(regions: Option<Regions<'a>>) -> Option<&'a str>
     ensures { result ≡ layout_of regions.entry }
 {
     match regions {
-        Some(Regions { layout, .. }) => Some(layout),
+        Some(Regions { layout, .. }) => layout,
         None => None,
     }
 }
