@@ -1,5 +1,5 @@
 -- The contents of the files that a job reads before its call to the engine.
-use Rattle.std.specs.Prelude.{◌≡◌, ◌⊎◌, [], ℕ, List, Option, replicate, ⊤}
+use Rattle.std.specs.Prelude.{◌≡◌, ◌⊎◌, [], ℕ, List, None, Option, replicate, ⊤}
 use Rattle.nor_files.specs.Files.{View}
 use Rattle.nor_layout.specs.declared.ranges.Span.{Span}
 use Rattle.nor_args.specs.Text.{Text}
@@ -34,11 +34,11 @@ IsAskedOf view wanted size asked =
 -- it restores from, as far as the job has them. At most one byte more is read than the largest chip or the longest
 -- journal has.
 abbrev pub AreSources : View → Task → Option (List Span) → List ℕ → Type 0
-AreSources view (task.Read file regions) ranges bytes = AreRangesOf view regions ranges
+AreSources view (task.Read file regions) ranges bytes = AreRangesOf view None regions ranges
 AreSources view (task.Verify file regions) ranges bytes =
-    AreRangesOf view regions ranges × IsRead view file.now 16777217 bytes
+    AreRangesOf view None regions ranges × IsRead view file.now 16777217 bytes
 AreSources view (task.Change change) ranges bytes =
-    AreRangesOf view change.regions ranges × IsImage view change.wanted bytes
+    AreRangesOf view None change.regions ranges × IsImage view change.wanted bytes
 AreSources view (task.Restore journal) ranges bytes = IsRead view journal.now 16793662 bytes
 AreSources view _ ranges bytes = ⊤
 
@@ -49,11 +49,11 @@ FailsImage view _ fault = ⊥
 
 -- Holds for the faults of reading the files that a task needs: its layout, image or journal.
 abbrev pub FailsSources : View → Task → Fault → Type 0
-FailsSources view (task.Read file regions) fault = FailsToInclude view regions fault
+FailsSources view (task.Read file regions) fault = FailsToInclude view None regions fault
 FailsSources view (task.Verify file regions) fault =
-    FailsToInclude view regions fault ⊎ IsReadingFault view file.now 16777217 fault
+    FailsToInclude view None regions fault ⊎ IsReadingFault view file.now 16777217 fault
 FailsSources view (task.Change change) fault =
-    FailsToInclude view change.regions fault ⊎ FailsImage view change.wanted fault
+    FailsToInclude view None change.regions fault ⊎ FailsImage view change.wanted fault
 FailsSources view (task.Restore journal) fault = IsSharingFault view journal.now 16793662 fault
 FailsSources view _ fault = ⊥
 

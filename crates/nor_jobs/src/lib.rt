@@ -18,4 +18,4 @@ mod sources;
 pub use arguments::arguments_after_name;
 pub use finding::{find_chip, find_first, report_size};
 pub use restoring::{journal_in, restore_named};
-pub use sources::{Sources, asked_bytes, read_sources};
+pub use sources::{Sources, asked_bytes, read_image, read_sources};

@@ -1,5 +1,5 @@
 //! The files that a job needs, which are read before its call to the engine.
-ghost use Rattle.std.specs.Prelude.{◌≡◌, ◌⊎◌, IfErr, IfOk, OnErr};
+ghost use Rattle.std.specs.Prelude.{◌≡◌, ◌⊎◌, IfErr, IfOk, None, OnErr};
 ghost use Rattle.nor_files.specs.Files.{AreUntouched};
 ghost use Rattle.nor_console.specs.Requests.{AreRangesOf, FailsToInclude};
 ghost use Rattle.nor_args.specs.declared.job.Wanted.TheVariants.{Erase};
@@ -33,11 +33,11 @@ pub fn read_sources<'a, R: Store>(rt: &mut R, task: &Task<'a>) -> Result<Sources
 {
     match task {
         Task::Read { regions, .. } => {
-            let included = read_included(rt, *regions)?;
+            let included = read_included(rt, *regions, None)?;
             Ok(without_bytes(rt, included))
         }
         Task::Verify { file, regions } => {
-            let included = read_included(rt, *regions)?;
+            let included = read_included(rt, *regions, None)?;
             let bytes = read_file(rt, *file, MOST_IMAGE_BYTES)?;
             Ok(Sources { included, bytes })
         }
@@ -59,18 +59,21 @@ fn without_bytes<R: Store>(rt: &R, included: Option<Ranges>) -> Sources
 
 // Reads the layout and the image of a change.
 fn read_for_change<'a, R: Store>(rt: &R, change: &Change<'a>) -> Result<Sources, Fault<'a>>
-    ensures ok { IfOk result (λ sources. AreRangesOf (R.state rt.now).view change.now.regions sources.included
+    ensures ok { IfOk result (λ sources. AreRangesOf (R.state rt.now).view None change.now.regions sources.included
         × IsImage (R.state rt.now).view change.now.wanted sources.bytes.items) }
-    ensures err { IfErr result (λ fault. FailsToInclude (R.state rt.now).view change.now.regions fault
+    ensures err { IfErr result (λ fault. FailsToInclude (R.state rt.now).view None change.now.regions fault
         ⊎ FailsImage (R.state rt.now).view change.now.wanted fault) }
 {
-    let included = read_included(rt, change.regions)?;
+    let included = read_included(rt, change.regions, None)?;
     let bytes = read_image(rt, change.wanted)?;
     Ok(Sources { included, bytes })
 }
 
-// Reads the image that a change writes. Returns no bytes for an erase or a protection range.
-fn read_image<'a, R: Store>(rt: &R, wanted: Wanted<'a>) -> Result<Vec<u8>, Fault<'a>>
+/// Reads the image that a change writes: at most one byte more than the largest chip has, so that a longer image is
+/// detected. Returns no bytes for an erase or a protection range.
+///
+/// Returns the faults of `read_file`.
+pub fn read_image<'a, R: Store>(rt: &R, wanted: Wanted<'a>) -> Result<Vec<u8>, Fault<'a>>
     ensures ok { IfOk result (λ bytes. IsImage (R.state rt.now).view wanted.entry bytes.items) }
     ensures err { IfErr result (FailsImage (R.state rt.now).view wanted.entry) }
 {
