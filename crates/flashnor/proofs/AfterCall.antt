@@ -18,7 +18,7 @@ use Rattle.nor_args.specs.declared.job.Task.TheVariants as task
 use Rattle.nor_args.specs.declared.programmer.Programmer.{Programmer}
 use Rattle.flashnor.specs.Changes.{IsKeptIn}
 use Rattle.nor_console.specs.Stored.{IsKeptFile, AreTwo}
-use Rattle.nor_console.specs.Requests.{AreRangesOf}
+use Rattle.nor_console.specs.Requests.{AreRangesOf, IsLayoutText}
 use Rattle.nor_console.specs.Tasks.{image_of, layout_of, named_by, journal_of}
 use Rattle.nor_jobs.specs.Sources.{IsAskedOf}
 use Rattle.flashnor.specs.Run.{DoesJob, IsViewBut}
@@ -73,15 +73,21 @@ module _ (programmer : Programmer) (s2 s3 : FilesState) (nature : s3.view.nature
 
 -- ---- the layout and the image, before the trace was created
 
+layout_before : (trace : Option (Bor Text)) (old amid : View) (file : Option (Bor Text)) (text : List ℕ)
+    → AreTwo old.nature trace file → IsViewBut trace old amid → IsLayoutText amid None file text
+    → IsLayoutText old None file text
+layout_before trace old amid None text two but is = is
+layout_before trace old amid (Some name) text two but is =
+    reads_before trace name.now 16777217 _ old amid (not_that old.nature trace name two) but is
+
 pub ranges_before : (trace : Option (Bor Text)) (old amid : View) (regions : Option Regions)
     (ranges : Option (List Span)) → AreTwo old.nature trace (layout_of regions) → IsViewBut trace old amid
-    → AreRangesOf amid regions ranges → AreRangesOf old regions ranges
+    → AreRangesOf amid None regions ranges → AreRangesOf old None regions ranges
 ranges_before trace old amid None ranges two but are = are
 ranges_before trace old amid (Some regions) None two but are = absurd are
 ranges_before trace old amid (Some regions) (Some ranges) two but are = record {
   text = are.text;
-  read = reads_before trace regions.layout.now 16777217 _ old amid (not_that old.nature trace regions.layout two) but
-      are.read;
+  read = layout_before trace old amid regions.layout are.text two but are.read;
   whole = are.whole;
   included = are.included;
 }

@@ -1,6 +1,7 @@
 -- Lemmas about the results of sessions and of reading a chip out. The request of a session is the one that the job's
 -- change makes, and the included addresses are those of the job's regions.
-use Rattle.std.proofs.Common.{◌≡◌, ◌≤◌, ℕ, List, Option, Result, Ok, Err, IfOk, IsOk, MatchResult, OnErr, arith, false, true}
+use Rattle.std.proofs.Common.{◌≡◌, ◌≤◌, ℕ, List, Option, None, Result, Ok, Err, IfOk, IsOk, MatchResult, OnErr, arith}
+use Rattle.std.proofs.Common.{false, true}
 use Rattle.std.specs.Borrow.{Bor}
 use Rattle.nor_model.specs.Bus.{BusState}
 use Rattle.nor_model.specs.Chip.{IsChip, IsSame}
@@ -36,7 +37,7 @@ use Rattle.nor_console.specs.declared.messages.Fault.{Fault}
 
 pub does_change : (view : View) (after : FilesState) (chip : Emulated) (named : Option ChipName) (change : Change) (request : Request)
     (ranges : Option (List Span)) (bytes image : List ℕ) (size : ℕ) (old new : BusState) (outcome : Result Answer Refusal)
-    → request ≡ request_for change named ranges → AreRangesOf view change.regions ranges → IsImage view change.wanted bytes
+    → request ≡ request_for change named ranges → AreRangesOf view None change.regions ranges → IsImage view change.wanted bytes
     → size ≡ (emulated_part chip).size → image ≡ asked_bytes change.wanted size bytes
     → HasMadeChange request image change.journal_use old new view after outcome → ChangesChip view after chip named change old new outcome
 does_change view after chip named change request ranges bytes image size old new outcome same included read sized asked changed = record {
@@ -49,7 +50,7 @@ does_change view after chip named change request ranges bytes image size old new
 
 pub does_read : (view after : View) (named : Option ChipName) (file : Text) (regions : Option Regions)
     (ranges : Option (List Span)) (old new : BusState) (result : Result (Result Answer Refusal) Fault)
-    → AreRangesOf view regions ranges → IfOk result (HasReadOut named file ranges old new after)
+    → AreRangesOf view None regions ranges → IfOk result (HasReadOut named file ranges old new after)
     → IfOk result (DoesRead view after named file regions old new)
 does_read view after named file regions ranges old new result included read = grind arith
 

@@ -24,6 +24,7 @@ use Rattle.flashnor.specs.declared.printing.Ending.{Ending}
 use Rattle.flashnor.specs.declared.run.Work.{Work}
 use Rattle.flashnor.specs.Streams.{IsReportedTo}
 use Rattle.flashnor.specs.Tasks.{writes_back}
+use Rattle.flashnor.proofs.NoUsage.{no_usage}
 use Rattle.flashnor.specs.declared.streams.Reports.{Reports}
 use Rattle.flashnor.specs.declared.streams.Reports.TheVariants as at
 
@@ -86,7 +87,9 @@ module _ (files after : FilesState) (on_chip : ChipJob) (unwritten : Unwritten) 
       → (AreAtRest files → KeepsFiles on_chip.programmer on_chip.task files after)
       → (AreAtRest files → HoldsResult on_chip unwritten returned files after)
       → EndsChipJob files after on_chip unwritten returned → AnswersArguments files after words returned unwritten
-  answer_ended words returned asks keeps holds ends = grind arith
+  answer_ended words (Err (end.Usage fault reason)) asks keeps holds ends =
+      absurd (no_usage fault reason on_chip files.view words asks ends)
+  answer_ended words _ asks keeps holds ends = grind arith
 
   pub answer_failed : (words : List Text) (fault : Fault) → IsJob words (job.Chip on_chip)
       → (AreAtRest files → KeepsFiles on_chip.programmer on_chip.task files after) → FailsJob files.view on_chip fault

@@ -232,7 +232,7 @@ module _ (job : ChipJob) (held : Held) (s0 s1 s2 : FilesState) (bus bus' : BusSt
           → AreTwo s0.view.nature job.programmer.trace (image_of change.wanted)
           → AreTwo s0.view.nature job.programmer.image (journal_of kept)
           → AreTwo s0.view.nature job.programmer.status (journal_of kept) → (ranges : Option (List Span))
-          → AreRangesOf amid change.regions ranges → (image : List ℕ)
+          → AreRangesOf amid None change.regions ranges → (image : List ℕ)
           → IsAskedOf amid change.wanted (emulated_part job.programmer.chip).size image
           → HasMadeChange (request_for change named ranges) image kept bus bus' amid s2 (Ok found)
           → HoldsChange job.programmer named change kept found s0 s3

@@ -12,6 +12,7 @@ pub mod AfterCall
 pub mod Kept
 pub mod Aside
 pub mod Undone
+pub mod NoUsage
 pub mod Ended
 pub mod Printed
 pub mod Made

@@ -65,7 +65,7 @@ use Rattle.flashnor.specs.declared.streams.Reports.TheVariants as at
 pub record ChangesChip (view : View) (after : FilesState) (chip : Emulated) (named : Option ChipName)
     (change : Change) (old new : BusState) (outcome : Result Answer Refusal) : Type 0 where
   pub ranges : Option (List Span)
-  pub included : AreRangesOf view change.regions ranges
+  pub included : AreRangesOf view None change.regions ranges
   pub image : List ℕ
   pub buffer : IsAskedOf view change.wanted (emulated_part chip).size image
   pub changed : HasMadeChange (request_for change named ranges) image change.journal_use old new view after outcome
@@ -74,7 +74,7 @@ pub record ChangesChip (view : View) (after : FilesState) (chip : Emulated) (nam
 pub record DoesRead (view after : View) (named : Option ChipName) (file : Text) (regions : Option Regions)
     (old new : BusState) (outcome : Result Answer Refusal) : Type 0 where
   pub ranges : Option (List Span)
-  pub included : AreRangesOf view regions ranges
+  pub included : AreRangesOf view None regions ranges
   pub read : HasReadOut named file ranges old new after outcome
 
 -- Holds for the result of comparing the chip with the image in the file. If regions are given, only their addresses are
@@ -82,7 +82,7 @@ pub record DoesRead (view after : View) (named : Option ChipName) (file : Text) 
 pub record DoesVerify (view : View) (named : Option ChipName) (file : Text) (regions : Option Regions)
     (old new : BusState) (outcome : Result Answer Refusal) : Type 0 where
   pub ranges : Option (List Span)
-  pub included : AreRangesOf view regions ranges
+  pub included : AreRangesOf view None regions ranges
   pub image : List ℕ
   pub read : IsRead view file 16777217 image
   pub verified : HasVerified named ranges image old new outcome
@@ -183,11 +183,11 @@ FailsToRestore view name fault = IsSharingFault view name 16793662 fault ⊎ IsI
 -- Holds for the faults of a task that occur before its call to the engine.
 abbrev pub FailsTask : View → Task → Fault → Type 0
 FailsTask view (task.Read file regions) fault =
-    FailsToInclude view regions fault ⊎ IsMaking view file.now fault
+    FailsToInclude view None regions fault ⊎ IsMaking view file.now fault
 FailsTask view (task.Verify file regions) fault =
-    FailsToInclude view regions fault ⊎ IsReadingFault view file.now 16777217 fault
+    FailsToInclude view None regions fault ⊎ IsReadingFault view file.now 16777217 fault
 FailsTask view (task.Change change) fault =
-    FailsToInclude view change.regions fault
+    FailsToInclude view None change.regions fault
     ⊎ (FailsToReadImage view change.wanted fault ⊎ FailsToKeep view change.journal_use fault)
 FailsTask view (task.Restore journal) fault = FailsToRestore view journal.now fault
 FailsTask view _ fault = ⊥
@@ -247,7 +247,7 @@ pub record HoldsTarget (programmer : Programmer) (named : Option ChipName) (chan
   -- `last.chip` is the target chip. `ranges` has the addresses of the change's regions, and `image` is the session's
   -- buffer.
   pub ranges : Option (List Span)
-  pub included : AreRangesOf old.view change.regions ranges
+  pub included : AreRangesOf old.view None change.regions ranges
   pub image : List ℕ
   pub buffer : IsAskedOf old.view change.wanted (emulated_part programmer.chip).size image
   pub target : ReportsChange (request_for change named ranges) image first.bus last found

@@ -1,6 +1,6 @@
 //! The changes of a chip (a write, an erase or a protection range), which run as sessions with a journal, and their
 //! rehearsals.
-ghost use Rattle.std.specs.Prelude.{◌≡◌, ◌≤◌, ◌⊎◌, true, IfOk, IfErr, OnErr, length};
+ghost use Rattle.std.specs.Prelude.{◌≡◌, ◌≤◌, ◌⊎◌, true, IfOk, IfErr, None, OnErr, length};
 ghost use Rattle.nor_files.specs.Files.{Name, KeepsFile, is_lawful};
 ghost use Rattle.nor_driver.specs.OnlyReads.{IsSteadyOrIdle};
 ghost use Rattle.nor_journal.specs.Vault.{IsFresh};
@@ -35,7 +35,7 @@ pub fn change_or_rehearse<'a, R: Store, B: Meter>(
     change: &Change<'a>,
     sources: Sources,
 ) -> Result<Outcome, Fault<'a>>
-    requires ranges { AreRangesOf (R.state rt.old).view change.now.regions sources.included }
+    requires ranges { AreRangesOf (R.state rt.old).view None change.now.regions sources.included }
     requires image { IsImage (R.state rt.old).view change.now.wanted sources.bytes.items }
     ensures nature { (R.state rt.new).view.nature ≡ (R.state rt.old).view.nature }
     ensures others { is_lawful (R.state rt.old).view ≡ true → (name : Name)
