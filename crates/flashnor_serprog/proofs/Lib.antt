@@ -15,3 +15,4 @@ pub mod RegionBytes
 pub mod RegionsKept
 pub mod RegionApart
 pub mod RegionsCopied
+pub mod ReadLayouts

@@ -21,7 +21,7 @@ log_unstarted (Some name) same = (
 )
 
 -- If no file was touched before the log was created, creating it touched no other file of those before.
-pub log_started : (log : Option (Bor Text)) (old read new : FilesState) → AreUntouched old read
+log_started : (log : Option (Bor Text)) (old read new : FilesState) → AreUntouched old read
     → CreatesLog log read new → CreatesLog log old new
 log_started None old read new same made = record {
   view = made.view ∙ same.view;
@@ -36,6 +36,24 @@ log_started (Some name) old read new same made = (
         leaves = λ left may. same.leaves other left (kept.leaves left may);
       },
 )
+
+untouched_on : {old mid new : FilesState} → AreUntouched old mid → AreUntouched mid new → AreUntouched old new
+untouched_on one other = record {
+  view = other.view ∙ one.view;
+  leaves = λ name left may. one.leaves name left (other.leaves name left may);
+}
+
+-- If no file was touched in two steps, no file except the log was touched.
+pub log_unstarted_late : (log : Option (Bor Text)) (old tried new : FilesState) → AreUntouched old tried
+    → AreUntouched tried new → CreatesLog log old new
+log_unstarted_late log old tried new one other = log_unstarted log (untouched_on one other)
+
+-- If no file was touched in two steps before the log was created, creating it touched no other file of those before.
+pub log_started_late : (log : Option (Bor Text)) (old tried read new : FilesState) → AreUntouched old tried
+    → AreUntouched tried read → CreatesLog log read new → CreatesLog log old new
+log_started_late log old tried read new one other made = log_started log old read new (untouched_on one other) made
+
+pub ruleset log_steps = (log_unstarted, log_unstarted_late, log_started_late)
 
 -- Creating the log changes what reads return only for the file of the log.
 pub log_seen : (log : Option (Bor Text)) (old new : FilesState) → CreatesLog log old new

@@ -1,6 +1,6 @@
 -- Lemmas on the target of a change that is limited to regions. The target has bytes of the image in the regions, and
 -- bytes that were read from the chip outside them.
-use Rattle.std.proofs.Common.{◌≡◌, ◌<◌, ◌∙◌, ◌++◌, ℕ, List, Ok, Option, ap, arith, drop, length, refl, slice_index, take, true}
+use Rattle.std.proofs.Common.{◌≡◌, ◌<◌, ◌∙◌, ◌++◌, ℕ, List, None, Ok, Option, ap, arith, drop, length, refl, slice_index, take, true}
 use Rattle.std.proofs.Math.Seq.{take-append_seam}
 use Rattle.nor_journal.specs.Vault.{VaultState, new_vault}
 use Rattle.nor_layout.specs.Ranges.{contains}
@@ -10,7 +10,7 @@ use Rattle.nor_model.specs.Bus.{BusState}
 use Rattle.nor_probe.specs.declared.table.ChipName.{ChipName}
 use Rattle.nor_read.specs.Reading.{Grows}
 use Rattle.nor_request.specs.declared.report.Report.{Report}
-use Rattle.flashnor_serprog.specs.Following.{HasReadWhole, IsMerged}
+use Rattle.flashnor_serprog.specs.Following.{HasReadToMemory, IsMerged}
 
 -- If `written`, which has `len` bytes, is written over the start of `items`, the first `len` bytes are `written`.
 pub whole_again : (written items : List ℕ) (len : ℕ) → len ≡ length written
@@ -22,13 +22,13 @@ grown_length size filled grows = ap length grows.grown ∙ grows.long
 
 -- If the whole chip was read successfully, the number of bytes that were read is the size of the chip in the report.
 read_length : {named : Option ChipName} {old new : BusState} {chip : List ℕ} {report : Report}
-    → HasReadWhole named old new chip (Ok report) → length chip ≡ report.found.size
+    → HasReadToMemory named None old new chip (Ok report) → length chip ≡ report.found.size
 read_length {report = report} read =
     ap length read.holds ∙ grown_length report.found.size read.filled (read.always.whole.grows refl)
 
 module _ {named : Option ChipName} {spans : List Span} {image chip target : List ℕ} {old new : BusState}
     {report : Report} where
-  pub merged : HasReadWhole named old new chip (Ok report) → length image ≡ report.found.size
+  pub merged : HasReadToMemory named None old new chip (Ok report) → length image ≡ report.found.size
       → length target ≡ length image
       → ((a : ℕ) → a < length chip
       → slice_index target a ≡ merged_byte (contains spans) (slice_index image) (slice_index chip) a)

@@ -19,14 +19,14 @@ use Rattle.flashnor_serprog.specs.declared.chip_faults.JobFault.TheVariants as e
 
 -- ---- the target
 
--- Holds if `read_out` was called for the whole chip and a new faithful vault, and kept its promises. `result` is what
--- the call returned, and `bytes` are all bytes that the vault accepted.
-pub record HasReadWhole (named : Option ChipName) (old new : BusState) (bytes : List ℕ)
-    (result : Result Report Refusal) : Type 0 where
+-- Holds if `read_out` was called for the given ranges (if `None`, for the whole chip) and a new faithful vault, and
+-- kept its promises. `result` is what the call returned, and `bytes` are all bytes that the vault accepted.
+pub record HasReadToMemory (named : Option ChipName) (ranges : Option (List Span)) (old new : BusState)
+    (bytes : List ℕ) (result : Result Report Refusal) : Type 0 where
   pub filled : VaultState
-  pub always : ReadOutAlways named None old new (new_vault true) filled result
-  pub honest : old.honest ≡ true → ReadOutHonest named None old new result
-  pub modelled : IsModelled old → ReadOutModelled named None old new (new_vault true) filled result
+  pub always : ReadOutAlways named ranges old new (new_vault true) filled result
+  pub honest : old.honest ≡ true → ReadOutHonest named ranges old new result
+  pub modelled : IsModelled old → ReadOutModelled named ranges old new (new_vault true) filled result
   pub holds : bytes ≡ filled.bytes
 
 -- Holds if the whole chip was read, and has as many bytes as `image`. `target` has the byte of `image` at each address
@@ -35,7 +35,7 @@ pub record IsMerged (named : Option ChipName) (spans : List Span) (image : List 
     (target : List ℕ) : Type 0 where
   pub chip : List ℕ
   pub report : Report
-  pub read : HasReadWhole named old new chip (Ok report)
+  pub read : HasReadToMemory named None old new chip (Ok report)
   pub whole : length image ≡ length chip
   pub long : length target ≡ length chip
   pub bytes : (a : ℕ) → a < length chip
@@ -73,9 +73,15 @@ pub record IsOtherRead (named : Option ChipName) (image : List ℕ) (old new : B
     (refusal : Refusal) : Type 0 where
   pub bytes : List ℕ
   pub report : Report
-  pub read : HasReadWhole named old new bytes (Ok report)
+  pub read : HasReadToMemory named None old new bytes (Ok report)
   pub is : refusal ≡ ImageSize report.found.size (length image)
   pub differ : length image ≢ report.found.size
+
+-- Holds if reading the chip into memory in the given ranges failed with this error.
+abbrev pub FailsInMemory : Option ChipName → (ranges : Option (List Span)) → (old new : BusState) → Refusal → Type 0
+FailsInMemory named ranges old new refusal =
+    (bytes : List ℕ) × (why : Refusal) × HasReadToMemory named ranges old new bytes (Err why)
+    × (refusal ≡ into_memory why)
 
 -- Holds if making the target of a change that is compared and limited to regions failed with this error: the image or
 -- the regions don't fit the chip of this size (`IsUnfit`), and nothing was sent; reading the chip failed; or a chip of
@@ -84,8 +90,7 @@ abbrev pub FailsToMerge : Option ChipName → (size : ℕ) → (ranges : Option 
     → (old new : BusState) → Refusal → Type 0
 FailsToMerge named size None image old new refusal = ⊥
 FailsToMerge named size (Some spans) image old new refusal = ((new ≡ old) × IsUnfit size spans image refusal)
-    ⊎ (((bytes : List ℕ) × (why : Refusal) × HasReadWhole named old new bytes (Err why) × (refusal ≡ into_memory why))
-    ⊎ IsOtherRead named image old new refusal)
+    ⊎ (FailsInMemory named None old new refusal ⊎ IsOtherRead named image old new refusal)
 
 -- ---- the comparison
 

@@ -13,4 +13,5 @@ pub mod RegionRoles
 pub mod RegionCopies
 pub mod Journals
 pub mod Run
+pub mod ChipLayouts
 pub mod Estimates

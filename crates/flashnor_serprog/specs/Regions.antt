@@ -56,39 +56,42 @@ with_names names regions = record { layout = regions.layout; form = regions.form
 
 -- ---- the addresses of the regions
 
--- Holds if `span` has the addresses of the region with this name in the layout of `regions`.
-abbrev pub IsSpanOf : View → Regions → Bor Text → Span → Type 0
-IsSpanOf view regions name span = AreRangesOf view (Some (with_names name regions)) (Some (span ∷ []))
+-- Holds if `span` has the addresses of the region with this name in the layout of `regions`. `shown` are the bytes that
+-- were read from the chip for this layout, if it is on the chip.
+abbrev pub IsSpanOf : View → (shown : Option (List ℕ)) → Regions → Bor Text → Span → Type 0
+IsSpanOf view shown regions name span = AreRangesOf view shown (Some (with_names name regions)) (Some (span ∷ []))
 
 -- the name and the file of a region
 abbrev pub named_file : RegionFile → Text × Text
 named_file region = (region.name.now, region.file.now)
 
 -- Holds if `files` are the entries of `-i` that have a file, in order, each with the addresses of its region.
-pub record AreFilesOf (view : View) (regions : Regions) (files : List RegionFile) : Type 0 where
+pub record AreFilesOf (view : View) (shown : Option (List ℕ)) (regions : Regions) (files : List RegionFile)
+    : Type 0 where
   pub entries : map named_file files ≡ files_in regions.names.now
-  pub spans : All (λ region. IsSpanOf view regions region.name region.span) files
+  pub spans : All (λ region. IsSpanOf view shown regions region.name region.span) files
 
 -- Holds if `files` are the entries of `-i` that have a file (`AreFilesOf`). A task without regions has none.
-abbrev pub AreFilesIn : View → Option Regions → List RegionFile → Type 0
-AreFilesIn view None files = files ≡ []
-AreFilesIn view (Some regions) files = AreFilesOf view regions files
+abbrev pub AreFilesIn : View → (shown : Option (List ℕ)) → Option Regions → List RegionFile → Type 0
+AreFilesIn view shown None files = files ≡ []
+AreFilesIn view shown (Some regions) files = AreFilesOf view shown regions files
 
 -- Holds if the fault says that there is no region of this name, and the addresses of the region aren't one span.
-abbrev pub HasNoSpan : View → Regions → Bor Text → Fault → Type 0
-HasNoSpan view regions name fault = (fault ≡ end.NoRegion name)
-    × ((ranges : List Span) × AreRangesOf view (Some (with_names name regions)) (Some ranges) × (length ranges ≢ 1))
+abbrev pub HasNoSpan : View → (shown : Option (List ℕ)) → Regions → Bor Text → Fault → Type 0
+HasNoSpan view shown regions name fault = (fault ≡ end.NoRegion name)
+    × ((ranges : List Span) × AreRangesOf view shown (Some (with_names name regions)) (Some ranges)
+    × (length ranges ≢ 1))
 
 -- Holds if finding the addresses of the region with this name may fail with this fault.
-abbrev pub FailsToFindSpan : View → Regions → Bor Text → Fault → Type 0
-FailsToFindSpan view regions name fault =
-    FailsToInclude view (Some (with_names name regions)) fault ⊎ HasNoSpan view regions name fault
+abbrev pub FailsToFindSpan : View → (shown : Option (List ℕ)) → Regions → Bor Text → Fault → Type 0
+FailsToFindSpan view shown regions name fault =
+    FailsToInclude view shown (Some (with_names name regions)) fault ⊎ HasNoSpan view shown regions name fault
 
 -- Holds if finding the regions with files may fail with this fault: memory ran out, or the fault is one of finding a
 -- region.
-abbrev pub FailsToFindFiles : View → Regions → Fault → Type 0
-FailsToFindFiles view regions fault =
-    (fault ≡ end.Refused Memory) ⊎ ((name : Bor Text) × FailsToFindSpan view regions name fault)
+abbrev pub FailsToFindFiles : View → (shown : Option (List ℕ)) → Regions → Fault → Type 0
+FailsToFindFiles view shown regions fault =
+    (fault ≡ end.Refused Memory) ⊎ ((name : Bor Text) × FailsToFindSpan view shown regions name fault)
 
 -- ---- the bytes of the regions
 

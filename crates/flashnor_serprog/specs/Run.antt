@@ -20,6 +20,7 @@ use Rattle.nor_console.specs.declared.answers.Answer.{Answer}
 use Rattle.nor_console.specs.declared.answers.Answer.TheVariants as answer
 use Rattle.nor_console.specs.declared.messages.Fault.TheVariants as end
 use Rattle.nor_request.specs.declared.refusal.Refusal.{Refusal}
+use Rattle.flashnor_serprog.specs.ChipLayouts.{IsShown, form_on_chip}
 use Rattle.flashnor_serprog.specs.Connected.{MayExpectImage, IsUnused, device_of, expected_by}
 use Rattle.flashnor_serprog.specs.Journals.{IsSealedIn}
 use Rattle.flashnor_serprog.specs.Jobs.{DoesTask, FailsPerform, changes_bytes}
@@ -27,6 +28,7 @@ use Rattle.flashnor_serprog.specs.Logging.{HasOwnLog, StayButLog}
 use Rattle.flashnor_serprog.specs.Sends.{SendsOnly}
 use Rattle.flashnor_serprog.specs.Setting.{IsDeviceOf}
 use Rattle.flashnor_serprog.specs.RegionCopies.{AreCopied}
+use Rattle.flashnor_serprog.specs.Regions.{regions_of}
 use Rattle.flashnor_serprog.specs.RegionRoles.{AreNamed, HaveFileRoles}
 use Rattle.flashnor_serprog.specs.Sources.{ArePreparedBytes, AreJobRegions, HaveOneRole}
 use Rattle.flashnor_serprog.specs.declared.region_files.RegionFile.{RegionFile}
@@ -55,14 +57,17 @@ abbrev pub IsAskedByArguments : List Text → Asked → Type 0
 IsAskedByArguments words (asked.Description file) = IsHardwareJob program words (hardware.CheckJournal file)
 IsAskedByArguments words (asked.Chip setting operation) = IsAskedFor words setting.device operation
 
--- Holds if a job is prepared, before the programmer is used: neither the device nor a file that the job writes has a
--- second role (`HaveOneRole`), nor does the log (`HasOwnLog`); `files` are the regions that have a file of their own,
--- and the job's ranges and bytes were read. In an image, the bytes of these regions are those of their files.
-pub record IsPrepared (view : View) (device : Bor Text) (operation : Operation) (files : List RegionFile)
-    (ranges : Option (List Span)) (bytes : List ℕ) : Type 0 where
+-- Holds if a job is prepared, before the programmer is used for it: neither the device nor a file that the job writes
+-- has a second role (`HaveOneRole`), nor does the log (`HasOwnLog`); `files` are the regions that have a file of their
+-- own, and the job's ranges and bytes were read. In an image, the bytes of these regions are those of their files. If
+-- the layout of the regions is on the chip, its bytes `shown` were read from there before (`IsShown`).
+pub record IsPrepared (state : Connected → BusState) (view : View) (device : Bor Text) (operation : Operation)
+    (files : List RegionFile) (ranges : Option (List Span)) (bytes : List ℕ) : Type 0 where
+  pub shown : Option (List ℕ)
+  pub source : IsShown state device.now operation.named (form_on_chip (regions_of operation.task)) shown
   pub roles : HaveOneRole view.nature device operation.task
   pub own_log : HasOwnLog view.nature device operation.task operation.log
-  pub regions : AreJobRegions view operation.task files ranges
+  pub regions : AreJobRegions view shown operation.task files ranges
   pub names : AreNamed operation.task files
   pub file_roles : HaveFileRoles view.nature device operation.task operation.log files
   pub sources : ArePreparedBytes view operation.task files bytes
@@ -160,7 +165,7 @@ pub record HasRunOperation (state : Connected → BusState) (files after : Files
   pub ranges : Option (List Span)
   pub bytes : List ℕ
   pub expected : MayExpectImage operation bytes (expected_by start)
-  pub prepared : IsPrepared files.view name operation regions ranges bytes
+  pub prepared : IsPrepared state files.view name operation regions ranges bytes
   pub made : View
   pub logged : StayButLog operation.log files.view made
   pub ran : HasRun operation regions ranges bytes made after (state start) last out out' status

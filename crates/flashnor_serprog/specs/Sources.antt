@@ -125,8 +125,10 @@ abbrev pub named_regions : Bor Text → Task → Option Regions
 named_regions names job = option_map (with_names names) (regions_of job)
 
 -- Holds if `ranges` are the addresses of the job's regions, and `files` the regions that have a file of their own.
-pub record AreJobRegions (view : View) (job : Task) (files : List RegionFile) (ranges : Option (List Span)) : Type 0 where
+-- `shown` are the bytes that were read from the chip for the job's layout, if it is on the chip.
+pub record AreJobRegions (view : View) (shown : Option (List ℕ)) (job : Task) (files : List RegionFile)
+    (ranges : Option (List Span)) : Type 0 where
   pub names : Bor Text
   pub plain : ArePlainNames (regions_of job) names.now
-  pub included : AreRangesOf view (named_regions names job) ranges
-  pub files_in : AreFilesIn view (regions_of job) files
+  pub included : AreRangesOf view shown (named_regions names job) ranges
+  pub files_in : AreFilesIn view shown (regions_of job) files

@@ -5,11 +5,14 @@ ghost use Rattle.flashnor_serprog.specs.Connected.{IsUnused, device_of, expected
 
 use crate::port::{DevicePort, PortFault};
 use crate::progress::{Shown, Terminal};
-use crate::trouble::ProgrammerFault;
+use crate::setting::Setting;
+use crate::trouble::{ProgrammerFault, Trouble};
 use nor_buses::{CheckedStatus, Paced, ReadAhead, ReadTwice, SplittingBus};
 use nor_chip::Bus;
+use nor_console::Fault;
 use nor_files::LockFile;
 use nor_serprog::{AnyProgrammer, BatchingBus, Command, Failure, HandshakeFault, Link};
+use std::alloc::Global;
 use std::fs;
 use std::fs::{File, OpenOptions};
 use std::os::unix::fs::FileTypeExt;
@@ -41,22 +44,63 @@ pub struct Connected<'a> {
     pub bus: ChipBus<'a>,
 }
 
-/// Opens and locks the device, identifies the programmer, sets its clock if `spispeed=` is given, and sets its chip
-/// select if `cs=` is given. Then wakes the chip, and sends no other transaction. If progress is shown, prints before
-/// the first exchange with the programmer what to do if no reply ever arrives. Returns a programmer fault from 1 to 12
-/// if one of these steps fails: fault 12 if the port changes bytes that are sent.
-///
-/// The returned bus has carried out no transaction yet, and belongs to this device. The contract says nothing about the
-/// frames that were sent before the bus existed.
-///
-/// If `image` is given, data that equals `image` at the same address is read once, and all other data twice. `image`
-/// must be the image of a write whose result is compared, or the image of `-v`. Then no data that was read only once
-/// gets into a journal. If a sector was misread as equal to `image`, the comparison after a write detects the misread,
-/// unless it misreads the sector in the same way; `-v` doesn't detect it.
-///
-/// If `guards` is true and the port seems to change bytes that are received, the bus refuses the first modifying
-/// command (`CheckedStatus::guarding`). Set `guards` for a session, because a journal of changed bytes would be wrong.
-pub fn connect<'a>(
+/// Connects to the programmer that `-p` describes. Returns usage fault 10 if memory runs out, or the fault of `connect`
+/// with the name of the device.
+pub fn connect_by<'a, 'b>(
+    rt: &'b HostRuntime,
+    terminal: Terminal<'b>,
+    setting: &Setting<'a>,
+    image: Option<Vec<u8>>,
+    guards: bool,
+) -> Result<Connected<'b>, Trouble<'a>>
+    ensures fresh { IfOk result (λ connected. IsUnused (⟦<ChipBus<'b> as Bus>⟧.state connected.bus)) }
+    ensures named { IfOk result (λ connected. device_of connected ≡ setting.now.device.now) }
+    ensures expects { IfOk result (λ connected. expected_by connected ≡ option_map (λ image. image.items) image) }
+{
+    let name = name_of(rt.alloc(), setting.device)?;
+    match connect(
+        rt,
+        terminal,
+        name,
+        setting.hertz,
+        setting.chip_select,
+        image,
+        guards,
+    ) {
+        Ok(connected) => Ok(connected),
+        Err(fault) => Err(Trouble::Programmer {
+            fault,
+            device: setting.device,
+        }),
+    }
+}
+
+// Returns a copy of the name of a device. Returns usage fault 10 if memory runs out.
+fn name_of<'a>(alloc: Global, device: &str) -> Result<String, Fault<'a>>
+    ensures { IfOk result (λ name. string_bytes name ≡ device.now) }
+{
+    match String::from_str(alloc, device) {
+        Ok(name) => Ok(name),
+        Err(_) => Err(Fault::out_of_memory()),
+    }
+}
+
+// Opens and locks the device, identifies the programmer, sets its clock if `spispeed=` is given, and sets its chip
+// select if `cs=` is given. Then wakes the chip, and sends no other transaction. If progress is shown, prints before
+// the first exchange with the programmer what to do if no reply ever arrives. Returns a programmer fault from 1 to 12
+// if one of these steps fails: fault 12 if the port changes bytes that are sent.
+//
+// The returned bus has carried out no transaction yet, and belongs to this device. The contract says nothing about the
+// frames that were sent before the bus existed.
+//
+// If `image` is given, data that equals `image` at the same address is read once, and all other data twice. `image`
+// must be the image of a write whose result is compared, or the image of `-v`. Then no data that was read only once
+// gets into a journal. If a sector was misread as equal to `image`, the comparison after a write detects the misread,
+// unless it misreads the sector in the same way; `-v` doesn't detect it.
+//
+// If `guards` is true and the port seems to change bytes that are received, the bus refuses the first modifying
+// command (`CheckedStatus::guarding`). Set `guards` for a session, because a journal of changed bytes would be wrong.
+fn connect<'a>(
     rt: &'a HostRuntime,
     terminal: Terminal<'a>,
     device: String,

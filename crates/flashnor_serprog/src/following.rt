@@ -4,7 +4,7 @@ ghost use Rattle.nor_journal.specs.MemVault.{held_by};
 ghost use Rattle.nor_journal.specs.Vault.{new_vault};
 ghost use Rattle.nor_layout.specs.Ranges.{contains};
 ghost use Rattle.nor_layout.specs.Sectors.{merged_byte};
-ghost use Rattle.flashnor_serprog.specs.Following.{FailsToFollow, FailsToMerge, HasReadWhole, IsFollowed};
+ghost use Rattle.flashnor_serprog.specs.Following.{FailsToFollow, FailsToMerge, HasReadToMemory, IsFollowed};
 ghost use Rattle.flashnor_serprog.specs.Following.{IsWholeTarget, into_memory, ranges_if};
 
 use crate::chip_faults::JobFault;
@@ -65,7 +65,7 @@ fn merge_chip<B: Progress>(
     }
     bus.expect_reads(sectors_to_read(size as usize, None));
     let mut chip = MemVault::new(alloc);
-    let report = read_whole(bus, named, &mut chip)?;
+    let report = read_to_memory(bus, None, named, &mut chip)?;
     check_size(report.found.size, target.len())?;
     fill_rest(&mut target, chip.bytes(), included);
     Ok(target)
@@ -86,21 +86,23 @@ fn check_size(size: u32, len: usize) -> Result<(), Refusal>
     }
 }
 
-// Appends the bytes of the whole chip to a new vault in memory. Returns error 18 (out of memory) if the vault refuses a
-// piece.
-fn read_whole<B: Bus>(
+/// Appends a copy of the chip to a new vault in memory: the chip's byte at each included address, and FFh at all other
+/// addresses. If `included` is `None`, all addresses are included.
+///
+/// Returns error 18 (out of memory) if the vault refuses a piece, or another error of `read_out`.
+pub fn read_to_memory<B: Bus>(
     bus: &mut B,
+    included: Option<&Ranges>,
     named: Option<ChipName>,
     chip: &mut MemVault,
 ) -> Result<Report, Refusal>
     requires { held_by chip.old ≡ new_vault true }
-    ensures ok { IfOk result (λ report. HasReadWhole named (B.state bus.old) (B.state bus.new)
-        (held_by chip.new).bytes (Ok report)) }
-    ensures err { IfErr result (λ refusal. (why : Refusal)
-        × HasReadWhole named (B.state bus.old) (B.state bus.new) (held_by chip.new).bytes (Err why)
-        × (refusal ≡ into_memory why)) }
+    ensures ok { IfOk result (λ report. HasReadToMemory named (option_copied included.entry)
+        (B.state bus.old) (B.state bus.new) (held_by chip.new).bytes (Ok report)) }
+    ensures err { IfErr result (λ refusal. (why : Refusal) × HasReadToMemory named (option_copied included.entry)
+        (B.state bus.old) (B.state bus.new) (held_by chip.new).bytes (Err why) × (refusal ≡ into_memory why)) }
 {
-    match read_out(bus, None, named, chip) {
+    match read_out(bus, included, named, chip) {
         Ok(report) => Ok(report),
         Err(Refusal::Output { .. }) => Err(Refusal::Memory),
         Err(refusal) => Err(refusal),

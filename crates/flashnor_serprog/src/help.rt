@@ -43,8 +43,9 @@ before the next run.
 --check-journal says what a journal holds, whether it is complete and undamaged,
 and how to restore from it. It needs no programmer.
 
-The files of --fmap-file and --ifd-file are images that you have read from this
-board with -r: the regions are those of the table in the image.
+With --fmap and --ifd the regions are those of a table on the chip, which is
+read before the job. The files of --fmap-file and --ifd-file are images that you
+have read from this board with -r: the table is the one in the image.
 
 -i NAME:FILE gives a region a file of its own: -w and -v take the region's bytes
 from FILE in place of the image, and -r also writes them into FILE.

@@ -1,10 +1,11 @@
-//! The line that follows the line of a fault: it says what to do, what was found and what was expected, or which file
-//! has the regions.
+//! The line that follows the line of a fault: it says what to do, what was found and what was expected, or where the
+//! regions are.
 
 use crate::journals::{StatusBits, advice};
+use crate::region_files::regions_of;
 use crate::trouble::Left;
-use nor_args::{Change, Operation, Task};
-use nor_console::{Escaped, Fault, FileFault, named_by};
+use nor_args::{Change, Operation, Regions, Task};
+use nor_console::{Escaped, Fault, FileFault};
 use nor_journal::Journal;
 use nor_probe::{ChipName, part_of};
 use nor_session::Refusal;
@@ -107,12 +108,19 @@ fn reads(operation: &Operation<'_>) -> bool {
     matches!(operation.task, Task::Read { .. }) && !operation.is_backup
 }
 
-// Prints the line with the file that has the regions of a task.
+// Prints the line that says where the layout of a task is.
 fn print_layout<E: Write>(errors: &mut E, task: &Task<'_>) {
-    if let Some(name) = named_by(task).layout {
-        let _ = writeln!(errors, "The regions are in the file {}.", Escaped(name));
-    }
+    let Some(Regions { layout, .. }) = regions_of(task) else {
+        return;
+    };
+    let _ = match layout {
+        Some(name) => writeln!(errors, "The regions are in the file {}.", Escaped(name)),
+        None => writeln!(errors, "{ON_CHIP}"),
+    };
 }
+
+// The line after a fault of a layout on the chip. The line of the fault calls the chip's content an image.
+const ON_CHIP: &str = "The regions are on the chip: the image is what was read from it.";
 
 // Returns the text that follows a fault, if there is one that needs no more than the fault.
 fn hint_for(fault: &Fault<'_>) -> Option<&'static str> {

@@ -28,6 +28,7 @@
 //! - `log.rt`: the lines of `-V`, for each modifying transaction, each step that reads, and a stop of the bus
 //! - `estimates.rt`: percent, rate and time left, and about how long a change takes
 //! - `connect.rt`: opens the device and identifies the programmer
+//! - `chip_layouts.rt`: reads the bytes of a layout on the chip itself, before the job
 //! - `jobs.rt`: performs a job on the chip
 //! - `journals.rt`: describes a journal, for `--check-journal`
 //! - `backups.rt`: saves a whole chip in a new journal
@@ -42,6 +43,7 @@
 
 mod backups;
 mod chip_faults;
+mod chip_layouts;
 mod connect;
 mod ending;
 mod estimates;

@@ -1,5 +1,7 @@
 //! What a run does before its job: it checks and reads the job's files, starts the log, and identifies the programmer.
-ghost use Rattle.std.specs.Prelude.{◌≡◌, IfOk, string_bytes};
+ghost use Rattle.std.specs.Prelude.{◌≡◌, IfOk, option_map};
+ghost use Rattle.nor_files.specs.Files.{AreUntouched};
+ghost use Rattle.nor_journal.specs.MemVault.{held_by};
 ghost use Rattle.flashnor_serprog.specs.Connected.{MayExpectImage, IsUnused, device_of, expected_by};
 ghost use Rattle.flashnor_serprog.specs.Logging.{CreatesLog};
 ghost use Rattle.flashnor_serprog.specs.Regions.{regions_of};
@@ -7,7 +9,8 @@ ghost use Rattle.flashnor_serprog.specs.Run.{IsPrepared};
 ghost use Rattle.flashnor_serprog.specs.Sources.{ArePlainNames};
 
 use crate::backups::check_new;
-use crate::connect::{ChipBus, Connected, connect};
+use crate::chip_layouts::{form_on_chip, read_shown};
+use crate::connect::{ChipBus, Connected, connect_by};
 use crate::jobs::is_session;
 use crate::region_files::{RegionFile, find_region_files, named_regions};
 use crate::region_roles::check_region_files;
@@ -17,13 +20,14 @@ use crate::setting::Setting;
 use crate::sources::{image_of, prepare_sources};
 use crate::terminal::{Screen, Terminal};
 use crate::trouble::Trouble;
-use nor_args::Operation;
+use nor_args::{Operation, Task};
 use nor_chip::Bus;
-use nor_console::{Fault, read_included};
+use nor_console::read_included;
 use nor_files::{LogFile, Store};
 use nor_jobs::Sources;
-use std::alloc::Global;
+use nor_journal::MemVault;
 use std::fs::File;
+use std::io::Write;
 
 /// The files of an operation, which were read, and its programmer, which was identified.
 #[derive(Drop)]
@@ -34,20 +38,23 @@ pub struct Prepared<'a, 'b> {
     pub connected: Connected<'b>,
 }
 
-/// Checks and reads the files that the operation needs, starts the log, and identifies the programmer. `names` must be
-/// the names of the regions without their files (`plain_names`).
-#[tactic(auto, using(crate::proofs::LogMade::log_unstarted, crate::proofs::LogMade::log_started))]
-pub fn prepare<'a, 'b, R: Store<Log = LogFile<File>>>(
+/// Checks and reads the files that the operation needs, starts the log, and identifies the programmer. If the layout is
+/// on the chip, first reads it from there, over a connection that ends before the log is started. `names` must be the
+/// names of the regions without their files (`plain_names`).
+#[tactic(auto, using(crate::proofs::LogMade::log_steps))]
+pub fn prepare<'a, 'b, R: Store<Log = LogFile<File>>, E: Write>(
     rt: &'b HostRuntime,
     screen: &'b Screen,
     files: &mut R,
     setting: &Setting<'a>,
     operation: &Operation<'a>,
     names: &'a str,
+    errors: &mut E,
 ) -> Result<Prepared<'a, 'b>, Trouble<'a>>
     requires { ArePlainNames (regions_of operation.now.task) names.now }
     ensures logged { CreatesLog operation.now.log (R.state files.old) (R.state files.new) }
-    ensures ok { IfOk result (λ prepared. IsPrepared (R.state files.old).view setting.now.device operation.now
+    ensures ok { IfOk result (λ prepared. IsPrepared (λ connected. ⟦<ChipBus<'b> as Bus>⟧.state connected.bus)
+        (R.state files.old).view setting.now.device operation.now
         prepared.regions.items prepared.sources.included prepared.sources.bytes.items) }
     ensures named { IfOk result (λ prepared. device_of prepared.connected ≡ setting.now.device.now) }
     ensures fresh { IfOk result (λ prepared. IsUnused (⟦<ChipBus<'b> as Bus>⟧.state prepared.connected.bus)) }
@@ -57,41 +64,41 @@ pub fn prepare<'a, 'b, R: Store<Log = LogFile<File>>>(
     have_one_role(files, setting.device, &operation.task)?;
     has_own_log(files, setting.device, operation)?;
     check_new(files, operation)?;
-    let included = read_included(files, named_regions(&operation.task, names))?;
-    let regions = find_region_files(files, &operation.task)?;
+    let terminal = Terminal::new(rt, screen, operation.progress, operation.is_verbose);
+    try_sources(files, &operation.task)?;
+    let chip = read_shown(rt, terminal, setting, operation, errors)?;
+    let shown = bytes_of(&chip);
+    let included = read_included(files, named_regions(&operation.task, names), shown)?;
+    let regions = find_region_files(files, &operation.task, shown)?;
     check_region_files(files, setting.device, operation, &regions)?;
     let sources = prepare_sources(files, &operation.task, included, &regions)?;
     let image = image_of(&sources, operation);
     start_log(files, screen.log(), operation.log)?;
-    let name = name_of(rt.alloc(), setting.device)?;
-    let terminal = Terminal::new(rt, screen, operation.progress, operation.is_verbose);
-    match connect(
-        rt,
-        terminal,
-        name,
-        setting.hertz,
-        setting.chip_select,
-        image,
-        is_session(&operation.task),
-    ) {
-        Ok(connected) => Ok(Prepared {
-            regions,
-            sources,
-            connected,
-        }),
-        Err(fault) => Err(Trouble::Programmer {
-            fault,
-            device: setting.device,
-        }),
-    }
+    let connected = connect_by(rt, terminal, setting, image, is_session(&operation.task))?;
+    Ok(Prepared {
+        regions,
+        sources,
+        connected,
+    })
 }
 
-// Returns a copy of the name of a device. Returns usage fault 10 if memory runs out.
-fn name_of<'a>(alloc: Global, device: &str) -> Result<String, Fault<'a>>
-    ensures { IfOk result (λ name. string_bytes name ≡ device.now) }
+// If the layout of the task is on the chip, reads and checks the task's image or journal, and returns a fault of it
+// before the chip is read, which may take minutes.
+fn try_sources<'a, R: Store>(files: &mut R, task: &Task<'a>) -> Result<(), Trouble<'a>>
+    ensures { AreUntouched (R.state files.old) (R.state files.new) }
 {
-    match String::from_str(alloc, device) {
-        Ok(name) => Ok(name),
-        Err(_) => Err(Fault::out_of_memory()),
+    if form_on_chip(task).is_some() {
+        prepare_sources(files, task, None, &[])?;
+    }
+    Ok(())
+}
+
+// Returns the bytes that a vault accepted, if there is one.
+fn bytes_of(vault: &Option<MemVault>) -> Option<&[u8]>
+    ensures { option_map (λ bytes. bytes.now) result ≡ option_map (λ vault. (held_by vault).bytes) vault.now }
+{
+    match vault {
+        Some(vault) => Some(vault.bytes()),
+        None => None,
     }
 }

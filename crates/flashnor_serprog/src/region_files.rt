@@ -2,7 +2,8 @@
 //! those of their files.
 ghost use Rattle.std.specs.Prelude.{◌≡◌, IfErr, IfOk, OnOk, Some, length, map, option_map, string_bytes};
 ghost use Rattle.flashnor_serprog.specs.Regions.{AreFilesIn, AreFilesOf, AreReplaced, FailsToFindFiles};
-ghost use Rattle.flashnor_serprog.specs.Regions.{FailsToFindSpan, FailsToReplace, FailsToReplaceOne, IsReplaced, IsSpanOf};
+ghost use Rattle.flashnor_serprog.specs.Regions.{FailsToFindSpan, FailsToReplace, FailsToReplaceOne, IsReplaced};
+ghost use Rattle.flashnor_serprog.specs.Regions.{IsSpanOf};
 ghost use Rattle.flashnor_serprog.specs.Sources.{ArePlainNames, named_regions};
 ghost use Rattle.nor_args.specs.declared.job.Regions.{Regions};
 ghost use Rattle.flashnor_serprog.specs.Regions.{entries_of, name_in, names_in, pair_in, regions_of};
@@ -95,19 +96,22 @@ fn pair_in(entry: &str) -> Option<(&str, &str)>
     entry.split_once(':')
 }
 
-/// Returns the regions of a task that have a file of their own, in the order of `-i`.
+/// Returns the regions of a task that have a file of their own, in the order of `-i`. `shown` are the bytes that were
+/// read from the chip for the task's layout, if it is on the chip.
 ///
 /// Returns the faults of `read_included` for each of these regions, or error 18 if memory runs out.
 pub fn find_region_files<'a, R: Store>(
     rt: &R,
     task: &Task<'a>,
+    shown: Option<&[u8]>,
 ) -> Result<Vec<RegionFile<'a>>, Fault<'a>>
-    ensures ok { IfOk result (λ files. AreFilesIn (R.state rt.now).view (regions_of task.now) files.items) }
+    ensures ok { IfOk result (λ files. AreFilesIn (R.state rt.now).view
+        (option_map (λ bytes. bytes.now) shown.entry) (regions_of task.now) files.items) }
     ensures err { IfErr result (λ fault. (regions : Regions) × (regions_of task.now ≡ Some regions)
-        × FailsToFindFiles (R.state rt.now).view regions fault) }
+        × FailsToFindFiles (R.state rt.now).view (option_map (λ bytes. bytes.now) shown.entry) regions fault) }
 {
     match regions_of(task) {
-        Some(regions) => find_files_in(rt, regions),
+        Some(regions) => find_files_in(rt, regions, shown),
         None => Ok(Vec::new(rt.alloc())),
     }
 }
@@ -116,15 +120,18 @@ pub fn find_region_files<'a, R: Store>(
 fn find_files_in<'a, R: Store>(
     rt: &R,
     regions: Regions<'a>,
+    shown: Option<&[u8]>,
 ) -> Result<Vec<RegionFile<'a>>, Fault<'a>>
-    ensures ok { IfOk result (λ files. AreFilesOf (R.state rt.now).view regions.entry files.items) }
-    ensures err { IfErr result (FailsToFindFiles (R.state rt.now).view regions.entry) }
+    ensures ok { IfOk result (λ files. AreFilesOf (R.state rt.now).view
+        (option_map (λ bytes. bytes.now) shown.entry) regions.entry files.items) }
+    ensures err { IfErr result (FailsToFindFiles (R.state rt.now).view
+        (option_map (λ bytes. bytes.now) shown.entry) regions.entry) }
 {
     let entries = entries_in(rt.alloc(), regions.names)?;
     let mut files = Vec::new(rt.alloc());
     for entry in &entries {
         if let Some((name, file)) = pair_in(entry) {
-            let span = find_span(rt, regions, name)?;
+            let span = find_span(rt, regions, name, shown)?;
             if files.push(RegionFile { name, file, span }).is_err() {
                 return Err(Fault::Refused(Refusal::Memory));
             }
@@ -134,15 +141,22 @@ fn find_files_in<'a, R: Store>(
 }
 
 // Returns the addresses of the region with this name.
-fn find_span<'a, R: Store>(rt: &R, regions: Regions<'a>, name: &'a str) -> Result<Span, Fault<'a>>
-    ensures ok { IfOk result (IsSpanOf (R.state rt.now).view regions.entry name.entry) }
-    ensures err { IfErr result (FailsToFindSpan (R.state rt.now).view regions.entry name.entry) }
+fn find_span<'a, R: Store>(
+    rt: &R,
+    regions: Regions<'a>,
+    name: &'a str,
+    shown: Option<&[u8]>,
+) -> Result<Span, Fault<'a>>
+    ensures ok { IfOk result (IsSpanOf (R.state rt.now).view
+        (option_map (λ bytes. bytes.now) shown.entry) regions.entry name.entry) }
+    ensures err { IfErr result (FailsToFindSpan (R.state rt.now).view
+        (option_map (λ bytes. bytes.now) shown.entry) regions.entry name.entry) }
 {
     let one = Regions {
         names: name,
         ..regions
     };
-    match read_included(rt, Some(one))? {
+    match read_included(rt, Some(one), shown)? {
         Some(ranges) if ranges.spans().len() == 1 => Ok(ranges.spans()[0]),
         _ => Err(Fault::NoRegion { name }),
     }

@@ -12,8 +12,11 @@ use nor_args::{Operation, Task};
 use nor_console::named_by;
 use std::io::Write;
 
-/// Prints the lines of a fault that ended a run before its job began.
+/// Prints the lines of a fault that ended a run before its job began, if they weren't printed already.
 pub fn print_trouble<E: Write>(errors: &mut E, trouble: &Trouble<'_>, operation: &Operation<'_>) {
+    if matches!(trouble, Trouble::Printed) {
+        return;
+    }
     let _ = writeln!(errors, "{trouble}");
     if let Trouble::Fault(fault) = trouble {
         print_operation_hint(errors, fault, operation, &Known::before());

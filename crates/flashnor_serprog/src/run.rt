@@ -148,7 +148,7 @@ fn run_on_chip<'a, 'b, R: Store<Log = LogFile<File>>, O: Write, E: Write>(
         setting.now.device operation.now (device_of connected) (⟦<ChipBus<'b> as Bus>⟧.state connected.bus)
         (O.contents output.old) (O.contents output.new) result) }
 {
-    match prepare(rt, screen, files, setting, operation, names) {
+    match prepare(rt, screen, files, setting, operation, names, errors) {
         Ok(
             Prepared {
                 regions,

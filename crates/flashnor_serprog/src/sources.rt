@@ -1,7 +1,6 @@
 //! The files that a job needs, which are read and checked before the programmer is used.
 ghost use Rattle.std.specs.Prelude.{◌≡◌, IfErr, IfOk, option_map};
 ghost use Rattle.nor_files.specs.Files.{AreUntouched};
-ghost use Rattle.nor_jobs.specs.Sources.{FailsImage, IsImage};
 ghost use Rattle.flashnor_serprog.specs.Connected.{MayExpectImage, ends_with_image};
 ghost use Rattle.flashnor_serprog.specs.Sources.{AreBytes, ArePreparedBytes, FailsCheck, FailsToPrepare, FailsToReadBytes};
 
@@ -13,7 +12,7 @@ use nor_console::{
     Fault, FileFault, MOST_IMAGE_BYTES, journal_of, named_by, read_file, read_journal,
 };
 use nor_files::Store;
-use nor_jobs::{Sources, journal_in};
+use nor_jobs::{Sources, journal_in, read_image};
 use nor_layout::Ranges;
 
 /// Returns a copy of the job's image if the job ends with a comparison of the chip with an image: `-v`, and `-w`
@@ -81,17 +80,6 @@ fn read_bytes<'a, R: Store>(rt: &mut R, task: &Task<'a>) -> Result<Vec<u8>, Faul
         Task::Verify { file, .. } => read_file(rt, *file, MOST_IMAGE_BYTES),
         Task::Change(change) => read_image(rt, change.wanted),
         Task::Restore { journal } => read_journal(rt, *journal),
-        _ => Ok(Vec::new(rt.alloc())),
-    }
-}
-
-// Reads the image that a change writes. Returns no bytes for an erase or a protection range.
-fn read_image<'a, R: Store>(rt: &R, wanted: Wanted<'a>) -> Result<Vec<u8>, Fault<'a>>
-    ensures ok { IfOk result (λ bytes. IsImage (R.state rt.now).view wanted.entry bytes.items) }
-    ensures err { IfErr result (FailsImage (R.state rt.now).view wanted.entry) }
-{
-    match wanted {
-        Wanted::Write { image } => read_file(rt, image, MOST_IMAGE_BYTES),
         _ => Ok(Vec::new(rt.alloc())),
     }
 }

@@ -27,6 +27,9 @@ pub enum Trouble<'a> {
         fault: ProgrammerFault,
         device: &'a str,
     },
+    /// The layout can't be read from the chip. The lines of the fault were printed already, because its cause is known
+    /// only as long as the bus is there.
+    Printed,
 }
 
 impl<'a> From<Fault<'a>> for Trouble<'a> {
@@ -83,6 +86,7 @@ impl fmt::Display for Trouble<'_> {
             Trouble::Fault(fault) => write!(f, "{fault}"),
             Trouble::Setting(wrong) => write!(f, "{wrong}Usage fault 3."),
             Trouble::Region(fault) => write!(f, "{fault}"),
+            Trouble::Printed => Ok(()),
             Trouble::Programmer { fault, device } => {
                 let advice = Advice {
                     help: fault.help(),
@@ -103,7 +107,7 @@ impl fmt::Display for Trouble<'_> {
 
 // The line that is printed before the line of usage fault 7 if `-i` is given without a layout. In `flashnor` this line
 // names only `-l`.
-const NO_LAYOUT: &str = "error: -i needs -l, --fmap-file or --ifd-file";
+const NO_LAYOUT: &str = "error: -i needs -l, --fmap, --fmap-file, --ifd or --ifd-file";
 
 // Prints the line that precedes the line of usage fault 3, and says what is wrong or what to give instead.
 impl fmt::Display for WrongSetting<'_> {

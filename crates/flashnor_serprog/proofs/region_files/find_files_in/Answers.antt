@@ -1,4 +1,4 @@
-use Rattle.std.proofs.Common.{◌∙◌, sym}
+use Rattle.std.proofs.Common.{◌∙◌, option_map, sym}
 use Rattle.std.proofs.lemmas.List.Elements.{All-push}
 use Rattle.flashnor_serprog.specs.Regions.{IsSpanOf}
 use Rattle.flashnor_serprog.proofs.RegionNames.{pairs_pushed, pairs_skipped, pushed}
@@ -16,7 +16,7 @@ loop-entry-preserved g c =
           record {
             entries = rw (w.files-is, all) (pairs_pushed _ _ _ _ _ c.loop-entry-test.true before pair);
             spans = rw (w.files-is, all) (All-push
-                (λ region. IsSpanOf (g.R.Store.state c.args.rt.now).view c.args.regions region.name region.span)
+                (λ region. IsSpanOf (g.R.Store.state c.args.rt.now).view (option_map (λ bytes. bytes.now) c.args.shown) c.args.regions region.name region.span)
                 _ _ c.loop-entry.invariant.spans w.in_ok-span.ensures.ok);
           }
       | in_default w ↦

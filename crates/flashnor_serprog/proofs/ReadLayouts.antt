@@ -1,0 +1,33 @@
+-- Lemmas on the bytes that are read from the chip for a layout.
+use Rattle.std.proofs.Common.{◌≡◌, ◌∙◌, ◌∷◌, [], ℕ, List, MatchOption, None, Option, Some, arith, false, inl, inr, refl, true}
+use Rattle.std.proofs.lemmas.Bool.{false≢true}
+use Rattle.nor_model.specs.Bus.{BusState}
+use Rattle.nor_layout.specs.Ranges.{IsSetOf, MakeNoSet, has_backwards}
+use Rattle.nor_layout.specs.declared.ranges.Span.{Span}
+use Rattle.nor_probe.specs.declared.table.ChipName.{ChipName}
+use Rattle.nor_args.specs.declared.job.LayoutForm.{LayoutForm}
+use Rattle.nor_args.specs.declared.job.LayoutForm.TheVariants as form
+use Rattle.flashnor_serprog.specs.ChipLayouts.{AreReadFor, HasReadLayout, descriptor_span}
+use Rattle.flashnor_serprog.specs.Sends.{KeepsSent}
+
+-- The first 4 KiB are a set of their own.
+is_set : IsSetOf (descriptor_span ∷ []) (descriptor_span ∷ [])
+is_set = record {
+  ranges = record { few = omega arith; apart = (omega arith, tt, tt) };
+  same = λ a. refl;
+}
+
+-- The set that is made of the first 4 KiB has the addresses that are read to find a flash descriptor.
+pub descriptor_read : (made : Option (List Span))
+    → MatchOption made (MakeNoSet (descriptor_span ∷ []))
+    (λ set. (has_backwards (descriptor_span ∷ []) ≡ false) × IsSetOf (descriptor_span ∷ []) set)
+    → AreReadFor form.Descriptor made
+descriptor_read None (inl backwards) = absurd (false≢true backwards)
+descriptor_read None (inr none) = absurd (none _ is_set)
+descriptor_read (Some set) is = is.1
+
+-- The read for a layout sends no modifying command.
+pub layout_reads : (named : Option ChipName) (layout : LayoutForm) (old new : BusState) (bytes : List ℕ)
+    → HasReadLayout named layout old new bytes → KeepsSent old new
+layout_reads named layout old new bytes read =
+    read.read.always.only_reads.sent ∙ read.identified.always.only_reads.sent

@@ -1,0 +1,151 @@
+//! A layout on the chip itself (`--fmap`, `--ifd`): reads the bytes that contain it, before the job.
+ghost use Rattle.std.specs.Prelude.{◌≡◌, IfErr, IfOk, option_map};
+ghost use Rattle.nor_journal.specs.MemVault.{held_by};
+ghost use Rattle.flashnor_serprog.specs.ChipLayouts.{AreReadFor, FailsToReadLayout, HasReadLayout, IsReadFirst};
+ghost use Rattle.flashnor_serprog.specs.ChipLayouts.{IsShown, form_on_chip};
+ghost use Rattle.flashnor_serprog.specs.Regions.{regions_of};
+
+use crate::chip_faults::JobFault;
+use crate::connect::{ChipBus, connect_by};
+use crate::following::{read_to_memory, sectors_to_read};
+use crate::progress::{Progress, Terminal};
+use crate::region_files::regions_of;
+use crate::reports::{print_job_fault, report_changed_byte};
+use crate::setting::Setting;
+use crate::trouble::Trouble;
+use nor_args::{LayoutForm, Operation, Regions, Task};
+use nor_chip::Bus;
+use nor_console::Fault;
+use nor_jobs::find_first;
+use nor_journal::MemVault;
+use nor_layout::{Ranges, Span};
+use nor_probe::ChipName;
+use std::alloc::Global;
+use std::io::Write;
+
+// The first 4 KiB of the chip, where the flash descriptor is.
+const DESCRIPTOR: Span = Span {
+    first: 0,
+    last: 4095,
+};
+
+// The line before the first transaction.
+const READING: &str = "Reading the layout from the chip.";
+
+/// If the layout of the task is on the chip, connects to the programmer, and reads the bytes that contain the layout
+/// into memory: for a flash descriptor the first 4 KiB (all other bytes are then FFh), for an FMAP the whole chip.
+/// Returns `None`, and uses no programmer, if the layout is in a file or the task has none. The connection ends before
+/// the function returns, so that another one can be made for the job.
+///
+/// No modifying command is sent, and all data is read twice. Returns the faults of `connect_by`. Prints a fault of the
+/// chip or of the bus, with its cause, before it returns `Trouble::Printed`. Also does this if the port seems to change
+/// bytes that are received, because the layout could then be wrong.
+pub fn read_shown<'a, 'b, E: Write>(
+    rt: &'b HostRuntime,
+    terminal: Terminal<'b>,
+    setting: &Setting<'a>,
+    operation: &Operation<'a>,
+    errors: &mut E,
+) -> Result<Option<MemVault>, Trouble<'a>>
+    ensures { IfOk result (λ shown. IsShown (λ connected. ⟦<ChipBus<'b> as Bus>⟧.state connected.bus)
+        setting.now.device.now operation.now.named (form_on_chip (regions_of operation.now.task))
+        (option_map (λ chip. (held_by chip).bytes) shown)) }
+{
+    match form_on_chip(&operation.task) {
+        Some(form) => Ok(Some(read_first(rt, terminal, setting, operation, form, errors)?)),
+        None => Ok(None),
+    }
+}
+
+/// Returns the form of the layout on the chip to which a task is limited, or `None` if the task has no layout, or one in
+/// a file.
+pub fn form_on_chip(task: &Task<'_>) -> Option<LayoutForm>
+    ensures { result ≡ form_on_chip (regions_of task.now) }
+{
+    match regions_of(task) {
+        Some(
+            Regions {
+                layout: None,
+                form,
+                ..
+            },
+        ) => Some(form),
+        _ => None,
+    }
+}
+
+// Connects to the programmer, reads the bytes that contain a layout of this form, and ends the connection.
+fn read_first<'a, 'b, E: Write>(
+    rt: &'b HostRuntime,
+    terminal: Terminal<'b>,
+    setting: &Setting<'a>,
+    operation: &Operation<'a>,
+    form: LayoutForm,
+    errors: &mut E,
+) -> Result<MemVault, Trouble<'a>>
+    ensures { IfOk result (λ chip. IsReadFirst (λ connected. ⟦<ChipBus<'b> as Bus>⟧.state connected.bus)
+        setting.now.device.now operation.now.named form (held_by chip).bytes) }
+{
+    let mut connected = connect_by(rt, terminal, setting, None, false)?;
+    terminal.print(&READING);
+    read_and_report(&mut connected.bus, operation, form, rt.alloc(), errors)
+}
+
+// Reads the bytes that contain a layout of this form. If they can't be read, or if the port seems to change bytes that
+// are received, prints the lines of the fault.
+fn read_and_report<'a, 'b, E: Write>(
+    bus: &mut ChipBus<'b>,
+    operation: &Operation<'_>,
+    form: LayoutForm,
+    alloc: Global,
+    errors: &mut E,
+) -> Result<MemVault, Trouble<'a>>
+    ensures { IfOk result (λ chip. HasReadLayout operation.now.named form
+        (⟦<ChipBus<'b> as Bus>⟧.state bus.old) (⟦<ChipBus<'b> as Bus>⟧.state bus.new) (held_by chip).bytes) }
+{
+    match read_layout(bus, operation.named, form, alloc) {
+        Ok(chip) => {
+            bus.end_progress(true);
+            match report_changed_byte(errors, bus, 0) {
+                0 => Ok(chip),
+                _ => Err(Trouble::Printed),
+            }
+        }
+        Err(fault) => {
+            bus.end_progress(false);
+            print_job_fault(errors, &JobFault::Fault(fault), bus, operation, None);
+            Err(Trouble::Printed)
+        }
+    }
+}
+
+// Identifies the chip, and reads the bytes that contain a layout of this form into memory.
+fn read_layout<'a, B: Progress>(
+    bus: &mut B,
+    named: Option<ChipName>,
+    form: LayoutForm,
+    alloc: Global,
+) -> Result<MemVault, Fault<'a>>
+    ensures ok { IfOk result (λ chip.
+        HasReadLayout named form (B.state bus.old) (B.state bus.new) (held_by chip).bytes) }
+    ensures err { IfErr result (FailsToReadLayout named form (B.state bus.old) (B.state bus.new)) }
+{
+    let found = find_first(bus, named)?;
+    let ranges = ranges_for(form);
+    bus.expect_reads(sectors_to_read(found.size as usize, ranges.as_ref()));
+    let mut chip = MemVault::new(alloc);
+    match read_to_memory(bus, ranges.as_ref(), named, &mut chip) {
+        Ok(_) => Ok(chip),
+        Err(refusal) => Err(Fault::Refused(refusal)),
+    }
+}
+
+// Returns the addresses that are read to find a layout of this form, or `None` for all addresses.
+fn ranges_for(form: LayoutForm) -> Option<Ranges>
+    ensures { AreReadFor form result }
+{
+    match form {
+        LayoutForm::Descriptor => Ranges::of(&[DESCRIPTOR]),
+        _ => None,
+    }
+}
