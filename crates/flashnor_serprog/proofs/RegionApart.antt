@@ -1,10 +1,10 @@
--- A lemma about the files of the regions, which are checked one after the other.
-use Rattle.std.proofs.Common.{ℕ, ◌+◌, ◌<◌, All, List, get_or, length, subst, sym, take}
-use Rattle.std.specs.List.{AllPairs}
-use Rattle.std.proofs.lemmas.List.{take_more}
+-- Lemmas about the files of the regions, which are checked one after the other.
+use Rattle.std.proofs.Common.{◌≡◌, ℕ, ◌+◌, ◌<◌, ◌∙◌, All, List, arith, get_or, length, subst, sym, take}
+use Rattle.std.specs.List.{AllPairs, Any}
+use Rattle.std.proofs.lemmas.List.{get_or-take, get_or_default, length-take-le, take_more}
 use Rattle.std.proofs.lemmas.List.Quantifiers.{all_pairs_push}
 use Rattle.nor_files.specs.Files.{AreApart, Nature}
-use Rattle.flashnor_serprog.specs.RegionRoles.{AreTwoFiles}
+use Rattle.flashnor_serprog.specs.RegionRoles.{AnyPair, AreTwoFiles}
 use Rattle.flashnor_serprog.specs.declared.region_files.RegionFile.{RegionFile}
 
 -- If the files of the first `i` regions are apart from each other, and that of region `i` is apart from each of them,
@@ -16,3 +16,17 @@ pub distinct_more : (nature : Nature) (files : List RegionFile) (i : ℕ) (d : R
 distinct_more nature files i d lt before apart =
     subst (λ (some : List RegionFile). AllPairs (AreTwoFiles nature) some) (sym (take_more files i d lt))
     (all_pairs_push (AreTwoFiles nature) (take i files) (get_or files i d) before apart)
+
+-- If `P` holds for element `i` of a list, it holds for some element.
+pub any_at : {X : Type 0} (P : X → Type 0) (xs : List X) (i : ℕ) (d : X) → i < length xs → P (get_or xs i d)
+    → Any P xs
+any_at P xs i d lt holds = (i, get_or xs i d, lt, get_or_default xs i (get_or xs i d) d lt, holds)
+
+-- If `R` holds for one of the elements before element `j` and for element `j`, it holds for an element and a later one.
+pub pair_at : {X : Type 0} (R : X → X → Type 0) (xs : List X) (j : ℕ) (d : X) → j < length xs
+    → Any (λ earlier. R earlier (get_or xs j d)) (take j xs) → AnyPair R xs
+pair_at R xs j d lt found =
+    let before : found.0 < j = omega (arith, found.2, length-take-le j xs (omega (arith, lt))) in
+    let is : get_or xs found.0 d ≡ found.1 = get_or_default xs found.0 d found.1 (omega (arith, before, lt))
+    ∙ sym (get_or-take j xs found.0 found.1 before) ∙ found.3 in
+    (found.0, j, d, before, lt, subst (λ earlier. R earlier (get_or xs j d)) (sym is) found.4)

@@ -1,17 +1,24 @@
 -- Lemmas about the files of regions that are written one after the other.
 use Rattle.std.proofs.Common.{◌≡◌, ◌+◌, ◌<◌, ◌≤◌, ◌∙◌, ◌&&◌, ℕ, Bool, true, false, List, [], ◌∷◌, None, Some, All}
-use Rattle.std.proofs.Common.{ap, arith, get_or, length, nat_le, refl, subst, sym, take, if◌then◌else◌}
-use Rattle.std.specs.Prelude.{option_map}
+use Rattle.std.proofs.Common.{ap, arith, get_or, inl, inr, length, nat_le, refl, subst, sym, take, if◌then◌else◌}
+use Rattle.std.specs.Borrow.{Bor}
+use Rattle.std.specs.Prelude.{Option, option_map}
+use Rattle.std.specs.List.{Any}
 use Rattle.std.proofs.lemmas.Bool.{and_parts}
 use Rattle.std.proofs.lemmas.Bool.Decides.{nat_tests}
 use Rattle.std.proofs.lemmas.List.{take_all}
 use Rattle.std.proofs.lemmas.List.Elements.{All-more}
 use Rattle.nor_layout.specs.declared.ranges.Span.{Span}
 use Rattle.nor_args.specs.Text.{Text}
-use Rattle.nor_files.specs.Files.{AreApart, FilesState, Found, KeepsFile, OthersStay, is_lawful}
+use Rattle.nor_files.specs.Files.{AreApart, FilesState, Found, KeepsFile, OthersStay, View, is_lawful}
+use Rattle.nor_console.specs.Files.{IsMaking}
+use Rattle.nor_console.specs.Roles.{FailsApart}
 use Rattle.nor_console.specs.Stored.{IsRead}
+use Rattle.nor_console.specs.declared.messages.Fault.{Fault}
 use Rattle.nor_console.proofs.Lent.{lawful_after}
-use Rattle.flashnor_serprog.specs.RegionCopies.{AreCopiedFrom, IsCopied, part_at, part_if_inside}
+use Rattle.flashnor_serprog.proofs.RegionApart.{any_at, pair_at}
+use Rattle.flashnor_serprog.specs.RegionCopies.{AreCopiedFrom, FailsToCopy, FailsToCopyRegion, FailsToWrite, IsCopied}
+use Rattle.flashnor_serprog.specs.RegionCopies.{part_at, part_if_inside}
 use Rattle.flashnor_serprog.specs.declared.region_files.RegionFile.{RegionFile}
 
 -- A test that chooses `Some x` is true, and `x` is the value of that branch.
@@ -83,3 +90,58 @@ all_copied out (x ∷ xs) bytes index old new long same keeps read copied = (
   read_kept out 16777217 bytes old new same keeps read,
   subst (All (IsCopied bytes new.view)) (take_all index (x ∷ xs) long) copied,
 )
+
+-- ---- faults
+
+-- A test that chooses `None` is false.
+none_if : {X : Type 0} (test : Bool) (x : X) → None ≡ (if test then Some x else None) → test ≡ false
+none_if true x is = cc
+none_if false x is = refl
+
+-- If `part_in` finds no part, the bytes end before the end of the span, unless the span is backwards.
+pub part_outside : (span : Span) (bytes : List ℕ) → None ≡ part_if_inside span bytes
+    → span.first ≤ span.last + 1 → length bytes < span.last + 1
+part_outside span bytes is forwards =
+    let none = none_if (nat_le span.first (span.last + 1) && nat_le (span.last + 1) (length bytes))
+    (part_at span bytes) is in
+    grind (arith, nat_tests, none)
+
+-- Creating or truncating a file may fail with a fault in every view of the same nature in which it may in one.
+making_before : (name : Text) (fault : Fault) (old mid : View) → mid.nature ≡ old.nature
+    → IsMaking mid name fault → IsMaking old name fault
+making_before name fault old mid same fails = grind arith
+
+-- If writing the bytes of a region into its file failed, it failed after each earlier view of the same nature.
+pub write_fails : (name : Bor Text) (span : Span) (bytes held part : List ℕ) (fault : Fault) (old mid new : View)
+    → mid.nature ≡ old.nature → held ≡ bytes → Some part ≡ part_if_inside span held
+    → FailsToWrite name part mid new fault → FailsToWrite name (part_at span bytes) old new fault
+write_fails name span bytes held part fault old mid new same whole inside fails =
+    let is = (part_inside span held part inside).1 ∙ ap (part_at span) whole in
+    subst (λ (some : List ℕ). FailsToWrite name some old new fault) is (earlier fails)
+  where
+    earlier : FailsToWrite name part mid new fault → FailsToWrite name part old new fault
+    earlier (inl making) = inl (making_before name.now fault old mid same making)
+    earlier (inr partly) = inr partly
+
+module _ (out : Bor Text) (log : Option (Bor Text)) (files : List RegionFile) (bytes : List ℕ) (i : ℕ) (d : RegionFile)
+    (before after : View) (fault : Fault) (within : i < length files)
+    (read : IsRead before out.now 16777217 bytes) where
+  -- If copying region `i` failed with this fault, copying the regions failed with it.
+  pub region_fails : FailsToCopyRegion out log bytes (get_or files i d) before after fault
+      → FailsToCopy out log files before after fault
+  region_fails fails = inr (
+    bytes,
+    read,
+    inl (any_at (λ region. FailsToCopyRegion out log bytes region before after fault) files i d within fails),
+  )
+
+  -- If comparing the file of region `i` with those of the earlier regions fails with this fault, copying the regions
+  -- failed with it.
+  pub compare_fails : Any (λ other. FailsApart before.nature (Some other.file) (Some (get_or files i d).file) fault)
+      (take i files)
+      → FailsToCopy out log files before after fault
+  compare_fails fails = inr (
+    bytes,
+    read,
+    inr (pair_at (λ one other. FailsApart before.nature (Some one.file) (Some other.file) fault) files i d within fails),
+  )

@@ -1,18 +1,21 @@
 -- The files of regions (`-i NAME:FILE`) after a read.
-use Rattle.std.specs.Prelude.{◌≡◌, ◌<◌, ◌+◌, ◌-◌, ◌⊎◌, ◌&&◌, ℕ, All, Bool, true, false, List, [], ◌∷◌, Option, None, Some}
-use Rattle.std.specs.Prelude.{drop, length, nat_le, take, ⊤, if◌then◌else◌}
+use Rattle.std.specs.Prelude.{◌≡◌, ◌<◌, ◌≤◌, ◌+◌, ◌-◌, ◌⊎◌, ◌&&◌, ℕ, All, Bool, true, false, List, [], ◌∷◌}
+use Rattle.std.specs.Prelude.{Option, None, Some, drop, length, nat_le, take, ⊤, if◌then◌else◌}
 use Rattle.std.specs.Borrow.{Bor}
+use Rattle.std.specs.List.{Any}
 use Rattle.nor_files.specs.Files.{FilesState, KeepsFile, View, is_lawful}
 use Rattle.nor_layout.specs.declared.ranges.Span.{Span}
 use Rattle.nor_args.specs.Text.{Text}
 use Rattle.nor_args.specs.declared.job.Operation.{Operation}
 use Rattle.nor_args.specs.declared.job.Task.{Task}
 use Rattle.nor_args.specs.declared.job.Task.TheVariants as task
-use Rattle.nor_console.specs.Files.{IsMaking}
+use Rattle.nor_console.specs.Files.{IsMaking, IsReadingFault}
+use Rattle.nor_console.specs.Roles.{FailsApart}
 use Rattle.nor_console.specs.Stored.{IsRead}
 use Rattle.nor_console.specs.declared.messages.Fault.{Fault}
 use Rattle.nor_console.specs.declared.messages.Fault.TheVariants as end
 use Rattle.nor_console.specs.declared.messages.FileFault.TheVariants as file
+use Rattle.flashnor_serprog.specs.RegionRoles.{FailsDistinct}
 use Rattle.flashnor_serprog.specs.declared.region_files.RegionFile.{RegionFile}
 
 -- the bytes at the addresses of a span
@@ -57,10 +60,56 @@ KeepsOutput _ old new = ⊤
 
 -- the bytes at the addresses of a span, or `None` if the bytes end before its end
 abbrev pub part_if_inside : Span → List ℕ → Option (List ℕ)
-part_if_inside span bytes =
-    if nat_le span.first (span.last + 1) && nat_le (span.last + 1) (length bytes) then Some (part_at span bytes) else None
+part_if_inside span bytes = if nat_le span.first (span.last + 1) && nat_le (span.last + 1) (length bytes)
+    then Some (part_at span bytes) else None
 
--- Holds if writing the file of a region may fail with this fault: a fault of creating or truncating it, or file fault 2
--- with its name if it can't be written.
-abbrev pub FailsToWrite : View → Bor Text → Fault → Type 0
-FailsToWrite view name fault = IsMaking view name.now fault ⊎ (fault ≡ end.File file.Write name)
+-- Holds for file fault 2 of a file that was created or truncated, and then could not be written. If the files obey
+-- their contract, the file has a prefix of the `bytes` that it should get.
+pub record IsWrittenPartly (name : Bor Text) (bytes : List ℕ) (after : View) (fault : Fault) : Type 0 where
+  pub is : fault ≡ end.File file.Write name
+  pub has : is_lawful after ≡ true → (kept : ℕ) × (after.seen name.now ≡ Some (take kept bytes))
+
+-- Holds if writing these bytes into the file of a region failed with this fault: creating or truncating the file may
+-- fail with it, or the file could not be written (`IsWrittenPartly`).
+abbrev pub FailsToWrite : Bor Text → (bytes : List ℕ) → (before after : View) → Fault → Type 0
+FailsToWrite name bytes before after fault = IsMaking before name.now fault ⊎ IsWrittenPartly name bytes after fault
+
+-- Holds for file fault 1 of the file `out`, if its bytes are `bytes` and end before the end of the region.
+pub record EndsInRegion (out : Bor Text) (region : RegionFile) (bytes : List ℕ) (fault : Fault) : Type 0 where
+  pub is : fault ≡ end.File file.Read out
+  pub ends : region.span.first ≤ region.span.last + 1 → length bytes < region.span.last + 1
+
+-- Holds if copying a region of the file `out`, whose bytes are `bytes`, into the region's file failed with this fault:
+--
+-- - `out` ends before the end of the region (`EndsInRegion`)
+-- - the region's file may be the log or `out`, or looking up one of these names may fail (`FailsApart`)
+-- - the region's bytes can't be written into its file (`FailsToWrite`)
+abbrev pub FailsToCopyRegion : (out : Bor Text) → (log : Option (Bor Text)) → (bytes : List ℕ) → RegionFile
+    → (before after : View) → Fault → Type 0
+FailsToCopyRegion out log bytes region before after fault = EndsInRegion out region bytes fault
+    ⊎ (FailsApart before.nature log (Some region.file) fault
+    ⊎ (FailsApart before.nature (Some out) (Some region.file) fault
+    ⊎ FailsToWrite region.file (part_at region.span bytes) before after fault))
+
+-- Holds if copying the regions of the file `out` into their files failed with this fault after `out` was read: at one
+-- of the regions (`FailsToCopyRegion`), or because the files of two regions may be one (`FailsDistinct`).
+abbrev pub FailsAfterRead : (out : Bor Text) → (log : Option (Bor Text)) → List RegionFile → (before after : View)
+    → Fault → Type 0
+FailsAfterRead out log files before after fault = (bytes : List ℕ) × IsRead before out.now 16777217 bytes
+    × (Any (λ region. FailsToCopyRegion out log bytes region before after fault) files
+    ⊎ FailsDistinct before.nature files fault)
+
+-- Holds if copying the regions of the file `out` into their files failed with this fault: `out` can't be read, or the
+-- fault is one of `FailsAfterRead`.
+abbrev pub FailsToCopy : (out : Bor Text) → (log : Option (Bor Text)) → List RegionFile → (before after : View)
+    → Fault → Type 0
+FailsToCopy out log files before after fault =
+    IsReadingFault before out.now 16777217 fault ⊎ FailsAfterRead out log files before after fault
+
+-- Holds if the job is a read, except a backup, a region has a file, and copying the regions failed with this fault
+-- (`FailsToCopy`).
+abbrev pub FailsToCopyBy : (backup : Bool) → Task → (log : Option (Bor Text)) → List RegionFile
+    → (before after : View) → Fault → Type 0
+FailsToCopyBy false (task.Read out regions) log files before after fault =
+    (¬ files ≡ []) × FailsToCopy out log files before after fault
+FailsToCopyBy _ _ log files before after fault = ⊥

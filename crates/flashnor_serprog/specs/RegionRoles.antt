@@ -1,5 +1,6 @@
 -- The checks of the files of regions (`-i NAME:FILE`), before the programmer is used.
-use Rattle.std.specs.Prelude.{◌≡◌, ◌⊎◌, ◌||◌, ℕ, All, Bool, true, false, List, [], Option, None, Some, ⊤}
+use Rattle.std.specs.Prelude.{◌≡◌, ◌<◌, ◌⊎◌, ◌||◌, ℕ, All, Bool, true, false, List, [], Option, None, Some, ⊤}
+use Rattle.std.specs.Prelude.{length, slice_index_or}
 use Rattle.std.specs.Borrow.{Bor}
 use Rattle.std.specs.List.{AllPairs, Any}
 use Rattle.std.specs.Str.{bytes_eq}
@@ -13,7 +14,7 @@ use Rattle.nor_args.specs.declared.job.Wanted.TheVariants as wanted
 use Rattle.nor_args.specs.declared.job.Wanted.{Wanted}
 use Rattle.nor_console.specs.Files.{IsUnreadFault}
 use Rattle.nor_console.specs.Roles.{FailsApart, FailsUnprinted}
-use Rattle.nor_console.specs.Stored.{AreTwo, IsRead}
+use Rattle.nor_console.specs.Stored.{AreTwo, Happens, IsRead}
 use Rattle.nor_console.specs.Tasks.{named_by}
 use Rattle.nor_console.specs.declared.messages.Fault.{Fault}
 use Rattle.nor_console.specs.declared.messages.Fault.TheVariants as end
@@ -22,6 +23,8 @@ use Rattle.nor_console.specs.declared.roles.Named.{Named}
 use Rattle.flashnor_serprog.specs.declared.region_faults.RegionFault.{RegionFault}
 use Rattle.flashnor_serprog.specs.declared.region_faults.RegionFault.TheVariants as wrong
 use Rattle.flashnor_serprog.specs.declared.region_files.RegionFile.{RegionFile}
+use Rattle.flashnor_serprog.specs.declared.trouble.Trouble.{Trouble}
+use Rattle.flashnor_serprog.specs.declared.trouble.Trouble.TheVariants as trouble
 
 -- ---- names
 
@@ -80,20 +83,50 @@ pub record HaveFileRoles (nature : Nature) (device : Bor Text) (job : Task) (log
   pub each : All (λ region. HasOneRole nature device log (named_by job) region.file) files
   pub distinct : AreDistinctIf nature (named_by job).output files
 
--- Holds if the check of the role of a region's file may fail with this fault.
+-- Holds if there is an output, and the check of a region's file that a read will write may fail with this fault: the
+-- file may be the layout, the output, or a file to which the program prints.
+abbrev pub FailsWrittenRole : Nature → (output layout : Option (Bor Text)) → Bor Text → Fault → Type 0
+FailsWrittenRole nature None layout of fault = ⊥
+FailsWrittenRole nature (Some output) layout of fault = FailsApart nature layout (Some of) fault
+    ⊎ (FailsApart nature (Some output) (Some of) fault ⊎ FailsUnprinted nature (Some of) fault)
+
+-- Holds if the check of the role of a region's file may fail with this fault: the file may be the device, the log or
+-- the journal, or the fault is one of a file that the job writes (`FailsWrittenRole`).
 abbrev pub FailsFileRole : Nature → Bor Text → (log : Option (Bor Text)) → Named → Bor Text → Fault → Type 0
 FailsFileRole nature device log named of fault = FailsApart nature (Some device) (Some of) fault
     ⊎ (FailsApart nature log (Some of) fault
-    ⊎ (FailsApart nature named.journal (Some of) fault
-    ⊎ (FailsApart nature named.layout (Some of) fault
-    ⊎ (FailsApart nature named.output (Some of) fault
-    ⊎ FailsUnprinted nature (Some of) fault))))
+    ⊎ (FailsApart nature named.journal (Some of) fault ⊎ FailsWrittenRole nature named.output named.layout of fault))
 
 -- Holds for file fault 1 of the output, if a read of it may fail or block: a FIFO or a device.
-abbrev pub IsNotReadBack : Nature → Option (Bor Text) → Fault → Type 0
-IsNotReadBack nature (Some output) (end.File file.Read of) =
+abbrev pub IsNotReadBack : Nature → Bor Text → Fault → Type 0
+IsNotReadBack nature output (end.File file.Read of) =
     (of.now ≡ output.now) × (nature.fails (Unread output.now) ≡ true)
-IsNotReadBack nature _ _ = ⊥
+IsNotReadBack nature output _ = ⊥
+
+-- Holds if `R` holds for an element and a later one. (`AllPairs` holds if `R` holds for all such pairs.)
+abbrev pub AnyPair : {X : Type 0} → (X → X → Type 0) → List X → Type 0
+AnyPair {X} R xs = (i : ℕ) × (j : ℕ) × (any : X) × (i < j) × (j < length xs)
+    × R (slice_index_or xs i any) (slice_index_or xs j any)
+
+-- Holds if comparing the files of the regions with each other may fail with this fault: the files of two regions may be
+-- one, or looking one of them up may fail. File fault 5 has the name of the later region's file.
+abbrev pub FailsDistinct : Nature → List RegionFile → Fault → Type 0
+FailsDistinct nature files fault =
+    AnyPair (λ earlier later. FailsApart nature (Some earlier.file) (Some later.file) fault) files
+
+-- Holds if there is an output and a region has a file, and the check of both may fail with this fault: the output can't
+-- be read back (`IsNotReadBack`), or the files of two regions may be one (`FailsDistinct`).
+abbrev pub FailsDistinctIf : Nature → (output : Option (Bor Text)) → List RegionFile → Fault → Type 0
+FailsDistinctIf nature None files fault = ⊥
+FailsDistinctIf nature (Some output) files fault =
+    (¬ files ≡ []) × (IsNotReadBack nature output fault ⊎ FailsDistinct nature files fault)
+
+-- Holds if the check of the roles of the regions' files may fail with this fault: at one of them (`FailsFileRole`), or
+-- in the checks of a job that writes them (`FailsDistinctIf`).
+abbrev pub FailsRegionRoles : Nature → Bor Text → Task → (log : Option (Bor Text)) → List RegionFile → Fault → Type 0
+FailsRegionRoles nature device job log files fault =
+    Any (λ region. FailsFileRole nature device log (named_by job) region.file fault) files
+    ⊎ FailsDistinctIf nature (named_by job).output files fault
 
 -- ---- journals
 
@@ -107,11 +140,24 @@ IsOldJournal view name (end.File file.Exists of) = (of ≡ name)
     × ((start : List ℕ) × IsRead view name.now 8 start × (is_magic start ≡ true))
 IsOldJournal view name fault = ⊥
 
--- Holds if the check of a file that a read will truncate may fail with this fault: the file begins as a journal, or it
--- can't be read.
+-- Holds if the check of a file that a read will truncate may fail with this fault: the file begins as a journal, or
+-- reading it may fail.
 abbrev pub FailsOldFile : View → Bor Text → Fault → Type 0
-FailsOldFile view name fault = IsOldJournal view name fault ⊎ IsUnreadFault name.now fault
+FailsOldFile view name fault =
+    IsOldJournal view name fault ⊎ (IsUnreadFault name.now fault × Happens view (Unread name.now))
 
--- Holds if the check of the files that a read will truncate may fail with this fault, at one of them.
-abbrev pub FailsOldFiles : View → List RegionFile → Fault → Type 0
-FailsOldFiles view files fault = Any (λ region. FailsOldFile view region.file fault) files
+-- Holds if the task is a read, and the check of the files that it will truncate may fail with this fault, at one of
+-- them.
+abbrev pub FailsOldFiles : View → Task → List RegionFile → Fault → Type 0
+FailsOldFiles view (task.Read output regions) files fault = Any (λ region. FailsOldFile view region.file fault) files
+FailsOldFiles view _ files fault = ⊥
+
+-- ---- all checks
+
+-- Holds if the checks of the regions' files may fail with this fault: that of their names (`FailsNames`), that of their
+-- roles (`FailsRegionRoles`), or that of the files that a read will truncate (`FailsOldFiles`).
+abbrev pub FailsRegionFiles : View → Bor Text → Task → (log : Option (Bor Text)) → List RegionFile → Trouble → Type 0
+FailsRegionFiles view device job log files (trouble.Region fault) = FailsNames job files fault
+FailsRegionFiles view device job log files (trouble.Fault fault) =
+    FailsRegionRoles view.nature device job log files fault ⊎ FailsOldFiles view job files fault
+FailsRegionFiles view device job log files _ = ⊥

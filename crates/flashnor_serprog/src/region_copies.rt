@@ -2,8 +2,8 @@
 
 ghost use Rattle.std.specs.Prelude.{◌≡◌, IfErr, OnOk, Some, option_map, true};
 ghost use Rattle.nor_files.specs.Files.{KeepsFile, OthersStay, is_lawful};
-ghost use Rattle.flashnor_serprog.specs.RegionCopies.{AreCopied, AreCopiedFrom, FailsToWrite, KeepsOutput};
-ghost use Rattle.flashnor_serprog.specs.RegionCopies.{part_if_inside, reads_out};
+ghost use Rattle.flashnor_serprog.specs.RegionCopies.{AreCopied, AreCopiedFrom, FailsToCopy, FailsToCopyBy};
+ghost use Rattle.flashnor_serprog.specs.RegionCopies.{FailsToWrite, KeepsOutput, part_if_inside, reads_out};
 
 use crate::region_files::RegionFile;
 use crate::region_roles::is_apart_from;
@@ -26,9 +26,9 @@ pub fn reads_out(operation: &Operation<'_>) -> bool
 /// Before each file is written, it is compared again with the log, with the file of the read and with the files of
 /// earlier regions: its name may be a link to one of these, which did not exist until the run created it.
 ///
-/// Returns file fault 5 for a file that has a second role by now, and a fault of `empty` or file fault 2 for a file that
-/// can't be written. Returns a fault of `read_file` for the file of the read, or file fault 1 if it ends before the end
-/// of a region.
+/// Returns file fault 5 for a file that has a second role by now, file fault 1 for a name that can't be looked up, and
+/// a fault of `empty` or file fault 2 for a file that can't be written. Returns a fault of `read_file` for the file of
+/// the read, or file fault 1 if it ends before the end of a region.
 pub fn write_region_files<'a, R: Store>(
     rt: &mut R,
     operation: &Operation<'a>,
@@ -37,6 +37,8 @@ pub fn write_region_files<'a, R: Store>(
     ensures nature { (R.state rt.new).view.nature ≡ (R.state rt.old).view.nature }
     ensures output { KeepsOutput operation.now.task (R.state rt.old) (R.state rt.new) }
     ensures ok { OnOk result (AreCopied operation.now files.now (R.state rt.new).view) }
+    ensures err { IfErr result (FailsToCopyBy operation.now.is_backup operation.now.task operation.now.log files.now
+        (R.state rt.old).view (R.state rt.new).view) }
 {
     match &operation.task {
         Task::Read { file, .. } if !operation.is_backup && !files.is_empty() => {
@@ -46,7 +48,8 @@ pub fn write_region_files<'a, R: Store>(
     }
 }
 
-// Copies the bytes of the file `out` at the addresses of each region into the region's file.
+// Copies the bytes of the file `out` at the addresses of each region into the region's file. Returns the faults of
+// `write_region_files`.
 fn copy_regions<'a, R: Store>(
     rt: &mut R,
     out: &'a str,
@@ -57,6 +60,8 @@ fn copy_regions<'a, R: Store>(
     ensures output { is_lawful (R.state rt.old).view ≡ true
         → KeepsFile out.now (R.state rt.old) (R.state rt.new) }
     ensures ok { OnOk result (AreCopiedFrom out.now files.now (R.state rt.new).view) }
+    ensures err { IfErr result
+        (FailsToCopy out.entry log.entry files.now (R.state rt.old).view (R.state rt.new).view) }
 {
     let bytes = read_file(rt, out, MOST_IMAGE_BYTES)?;
     for index in 0..files.len() {
@@ -90,7 +95,7 @@ fn write_file<'a, R: Store>(rt: &mut R, name: &'a str, bytes: &[u8]) -> Result<(
         → OthersStay name.now (R.state rt.old) (R.state rt.new) }
     ensures ok { is_lawful (R.state rt.new).view ≡ true
         → OnOk result ((R.state rt.new).view.seen name.now ≡ Some bytes.now) }
-    ensures err { IfErr result (FailsToWrite (R.state rt.old).view name.entry) }
+    ensures err { IfErr result (FailsToWrite name.entry bytes.now (R.state rt.old).view (R.state rt.new).view) }
 {
     let mut file = empty(rt, name)?;
     let outcome = file.put(bytes);

@@ -4,9 +4,10 @@ ghost use Rattle.std.specs.Prelude.{◌≡◌, All, IfErr, OnOk, Some};
 ghost use Rattle.std.specs.List.{AllPairs, Any};
 ghost use Rattle.nor_console.specs.Roles.{FailsApart};
 ghost use Rattle.nor_files.specs.Files.{AreApart};
-ghost use Rattle.flashnor_serprog.specs.RegionRoles.{AreDistinctIf, AreNamed, AreTwoFiles, FailsFileRole};
-ghost use Rattle.flashnor_serprog.specs.RegionRoles.{FailsNames, FailsOldFile, FailsOldFiles};
-ghost use Rattle.flashnor_serprog.specs.RegionRoles.{HasOneRole, HaveFileRoles, IsNotReadBack, erases, is_magic};
+ghost use Rattle.flashnor_serprog.specs.RegionRoles.{AreDistinctIf, AreNamed, AreTwoFiles, FailsDistinct};
+ghost use Rattle.flashnor_serprog.specs.RegionRoles.{FailsDistinctIf, FailsFileRole, FailsNames, FailsOldFile};
+ghost use Rattle.flashnor_serprog.specs.RegionRoles.{FailsOldFiles, FailsRegionFiles, FailsRegionRoles, HasOneRole};
+ghost use Rattle.flashnor_serprog.specs.RegionRoles.{HaveFileRoles, IsNotReadBack, erases, is_magic};
 
 use crate::region_faults::RegionFault;
 use crate::region_files::RegionFile;
@@ -17,7 +18,7 @@ use nor_files::Store;
 use nor_journal::{FIRST_MAGIC, MAGIC};
 
 /// Checks the files of the regions of a job: their names (`check_names`), their roles (`have_file_roles`), and that
-/// none that will be truncated is a journal (`are_no_journals`).
+/// none that will be truncated is a journal (`are_no_journals`). Returns the faults of these checks.
 pub fn check_region_files<'a, R: Store>(
     rt: &R,
     device: &'a str,
@@ -26,6 +27,8 @@ pub fn check_region_files<'a, R: Store>(
 ) -> Result<(), Trouble<'a>>
     ensures names { OnOk result (AreNamed operation.now.task files.now) }
     ensures roles { OnOk result (HaveFileRoles (R.state rt.now).view.nature device.entry operation.now.task
+        operation.now.log files.now) }
+    ensures err { IfErr result (FailsRegionFiles (R.state rt.now).view device.entry operation.now.task
         operation.now.log files.now) }
 {
     check_names(&operation.task, files)?;
@@ -79,6 +82,8 @@ fn have_file_roles<'a, R: Store>(
 ) -> Result<(), Fault<'a>>
     ensures ok { OnOk result (HaveFileRoles (R.state rt.now).view.nature device.entry operation.now.task
         operation.now.log files.now) }
+    ensures err { IfErr result (FailsRegionRoles (R.state rt.now).view.nature device.entry operation.now.task
+        operation.now.log files.now) }
 {
     let others = Others {
         device,
@@ -100,6 +105,7 @@ fn are_distinct_if<'a, R: Store>(
     files: &[RegionFile<'a>],
 ) -> Result<(), Fault<'a>>
     ensures ok { OnOk result (AreDistinctIf (R.state rt.now).view.nature output.entry files.now) }
+    ensures err { IfErr result (FailsDistinctIf (R.state rt.now).view.nature output.entry files.now) }
 {
     let Some(output) = output else {
         return Ok(());
@@ -113,7 +119,7 @@ fn are_distinct_if<'a, R: Store>(
 
 // Checks that the output can be read back: that it is no FIFO and no device. Returns file fault 1 if it is one.
 fn can_be_read_back<'a, R: Store>(rt: &R, output: &'a str) -> Result<(), Fault<'a>>
-    ensures { IfErr result (IsNotReadBack (R.state rt.now).view.nature (Some output.entry)) }
+    ensures { IfErr result (IsNotReadBack (R.state rt.now).view.nature output.entry) }
 {
     if rt.is_waiting(output) {
         return Err(unread(output));
@@ -121,9 +127,10 @@ fn can_be_read_back<'a, R: Store>(rt: &R, output: &'a str) -> Result<(), Fault<'
     Ok(())
 }
 
-// Checks that the files of the regions are apart from each other.
+// Checks that the files of the regions are apart from each other. Returns the faults of `is_apart_from`.
 fn are_distinct<'a, R: Store>(rt: &R, files: &[RegionFile<'a>]) -> Result<(), Fault<'a>>
     ensures ok { OnOk result (AllPairs (AreTwoFiles (R.state rt.now).view.nature) files.now) }
+    ensures err { IfErr result (FailsDistinct (R.state rt.now).view.nature files.now) }
 {
     for index in 0..files.len() {
         is_apart_from(rt, &files[..index], files[index].file)?;
@@ -158,7 +165,7 @@ fn are_no_journals<'a, R: Store>(
     task: &Task<'_>,
     files: &[RegionFile<'a>],
 ) -> Result<(), Fault<'a>>
-    ensures { IfErr result (FailsOldFiles (R.state rt.now).view files.now) }
+    ensures { IfErr result (FailsOldFiles (R.state rt.now).view task.now files.now) }
 {
     if !matches!(task, Task::Read { .. }) {
         return Ok(());
