@@ -48,8 +48,8 @@ copied_kept bytes old new name files same others apart copied k d lt = record {
       (others was (get_or files k d).file.now (apart k d lt)).seen ∙ (copied k d lt).same was;
 }
 
--- If the files of the first `i` regions were copied, and then the file of region `i` was written with its part, those of
--- the first `i + 1` regions were copied.
+-- If the files of the first `i` regions were copied, and then the file of region `i` was written with its part, those
+-- of the first `i + 1` regions were copied.
 pub copied_more : (bytes held part : List ℕ) (old new : FilesState) (files : List RegionFile) (i : ℕ) (d : RegionFile)
     → i < length files → held ≡ bytes → new.view.nature ≡ old.view.nature
     → (is_lawful old.view ≡ true → OthersStay (get_or files i d).file.now old new)
@@ -78,8 +78,8 @@ read_kept name most bytes old new same keeps read known =
     read (record { lawful = was; in_store = sym kept.out ∙ known.in_store })
     ∙ ap (λ (found : Found). option_map (take most) found) (sym kept.seen)
 
--- If the files of all regions were copied from bytes that were read from `out`, and `out` is as it was, these files have
--- the bytes of `out`.
+-- If the files of all regions were copied from bytes that were read from `out`, and `out` is as it was, these files
+-- have the bytes of `out`.
 pub all_copied : (out : Text) (files : List RegionFile) (bytes : List ℕ) (index : ℕ) (old new : FilesState)
     → length files ≤ index → new.view.nature ≡ old.view.nature → (is_lawful old.view ≡ true → KeepsFile out old new)
     → IsRead old.view out 16777217 bytes → All (IsCopied bytes new.view) (take index files)
@@ -143,5 +143,5 @@ module _ (out : Bor Text) (log : Option (Bor Text)) (files : List RegionFile) (b
   compare_fails fails = inr (
     bytes,
     read,
-    inr (pair_at (λ one other. FailsApart before.nature (Some one.file) (Some other.file) fault) files i d within fails),
+    inr (pair_at (λ a b. FailsApart before.nature (Some a.file) (Some b.file) fault) files i d within fails),
   )

@@ -79,8 +79,8 @@ pub enum Look {
     Line,
 }
 
-/// Standard error, with how the progress of a job is shown on it (`Look`), and the log of the run. The log receives each
-/// line of the progress and of `-V`, whether or not the line is shown on standard error.
+/// Standard error, with how the progress of a job is shown on it (`Look`), and the log of the run. The log receives
+/// each line of the progress and of `-V`, whether or not the line is shown on standard error.
 #[derive(Clone, Copy)]
 pub struct Terminal<'a> {
     rt: &'a HostRuntime,
@@ -258,8 +258,8 @@ impl<'a> Terminal<'a> {
         self.announce(announcement);
     }
 
-    /// Prints what a restore will change (`print`). With `Look::Line`, also prints about how long the change takes if it
-    /// touches a sector.
+    /// Prints what a restore will change (`print`). With `Look::Line`, also prints about how long the change takes if
+    /// it touches a sector.
     pub fn print_restore(&self, announcement: Announcement) {
         self.print(&RestoreText(announcement));
         self.announce(announcement);
