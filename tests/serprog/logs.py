@@ -7,12 +7,14 @@ import reference
 from bench import WAITING, check
 from losses import session_wire
 from options import images, last_lines
-from terminal import logged, run, with_read_back
+from terminal import Screen, logged, run, untimed, with_read_back
 
 TIMED = re.compile(r"\d+\.\d{3} (.*)")
 TAKEN = "It has two roles in this run, or another program uses it: give each role its own file."
 INCOMPLETE = "The log is incomplete, but the job went on: free disk space, or choose another file."
 SEALED = "SEALED: the chip is changed from here on."
+EXPECTED = "The change takes about M:SS at the chip's typical times and R."
+TOOK = "The change took M:SS."
 
 
 def lines_of(bench, name="log"):
@@ -42,10 +44,11 @@ def logs_a_run(start):
     timed, plain = split(lines_of(bench))
     check("lines of -V", timed, ["identify", "scan", *with_read_back(logged(bench.server.log)), "compare"])
     journal = 25 + 4 * 4100 + 36
-    check("other lines", plain, [
+    check("other lines", untimed(plain), [
         bench.device(WAITING), "identify 1", "scan: sector 1 of 16",
-        f"Sectors to change: 4. Erases: 3. Bytes of journal: {journal}.", SEALED, "erase: erases sent 1",
-        "read back: sectors read 1", "program: pages sent 1", *last_lines(plan), "compare: sector 1 of 16", *got.out])
+        f"Sectors to change: 4. Erases: 3. Bytes of journal: {journal}.", EXPECTED, SEALED, "erase: erases sent 1",
+        "read back: sectors read 1", "program: pages sent 1", *last_lines(plan), TOOK, "compare: sector 1 of 16",
+        *got.out])
     check("the order of the lines", lines_of(bench)[:3], [bench.device(WAITING), lines_of(bench)[1], "identify 1"])
     got = bench.run("--restore", "j", "--output=log", "-V")
     check("lines of -V on the screen", got.err, [it for it in lines_of(bench) if TIMED.fullmatch(it)])
@@ -66,6 +69,33 @@ def logs_plain_lines(start):
         timed, plain = split(lines_of(bench))
         check("lines of -V", timed, ["identify", "scan"])
         check("other lines", plain, wanted)
+
+
+def times_in(lines):
+    """Returns the lines that say how long a change takes or took, without times and rates."""
+    return [it for it in untimed(lines) if it.startswith("The change ")]
+
+
+def logs_how_long_a_change_takes(start):
+    """The log says how long a change takes and took, however the progress is shown; the screen only on a terminal."""
+    old, new = images("logs_how_long_a_change_takes")
+    bench = start(data=old)
+    bench.write("new", new)
+    for mode in "auto", "plain", "none":
+        for words in ("-w", "new", "--journal", f"j{mode}"), ("--restore", f"j{mode}"):
+            status, printed, _ = run(bench, *words, "--progress", mode, "-o", "log")
+            check("status", status, 0)
+            check("lines of the log", times_in(lines_of(bench)), [EXPECTED, TOOK])
+            check("lines on the screen", times_in(Screen(printed).lines), [EXPECTED, TOOK] if mode == "auto" else [])
+    # Nothing is read before a restore that isn't compared, so no rate is known. A restore that changes nothing takes no
+    # time, and a change that fails has no line that says how long it took.
+    bench.expect("--restore", "jauto", "-N", "-o", "log", out=lines_of(bench)[-2:])
+    check("lines of the log", times_in(lines_of(bench)), [EXPECTED.replace(" and R", ""), TOOK])
+    got = bench.run("--restore", "jauto", "--quick", "-o", "log")
+    check("status and lines of the log", (got.status, times_in(lines_of(bench))), (0, []))
+    programs = [at for at, (out, _) in enumerate(session_wire(old, new), 1) if out[0] == 0x02]
+    got = bench.run("-w", "new", "--journal", "k", "-o", "log", events={programs[2]: "nak"})
+    check("status and lines of the log", (got.status, times_in(lines_of(bench))), (1, [EXPECTED]))
 
 
 def logs_faults(start):
@@ -208,6 +238,6 @@ def logs_what_could_not_be_printed(start):
     check("the answer and the fault", [it for it in plain if it in ("65536", fault)], ["65536", fault])
 
 
-CASES = [logs_a_run, logs_plain_lines, logs_faults, logs_until_a_kill, needs_a_file_of_its_own,
-         overwrites_no_journal, waits_for_no_other_run, goes_on_without_its_log, logs_only_jobs,
-         logs_what_could_not_be_printed]
+CASES = [logs_a_run, logs_plain_lines, logs_how_long_a_change_takes, logs_faults, logs_until_a_kill,
+         needs_a_file_of_its_own, overwrites_no_journal, waits_for_no_other_run, goes_on_without_its_log,
+         logs_only_jobs, logs_what_could_not_be_printed]

@@ -22,6 +22,11 @@ STEP = re.compile(
 COLUMNS = 60
 
 
+def untimed(lines):
+    """Returns the lines with `M:SS` and `R` for times and rates."""
+    return [re.sub(r"\d+(\.\d)? KiB/s", "R", re.sub(r"\d+:[0-5]\d\b", "M:SS", it)) for it in lines]
+
+
 class Screen:
     """What was printed to a terminal: the texts of the line that is rewritten, and the lines that stay.
 
@@ -73,9 +78,8 @@ class Screen:
             check(f"the last percentage of {name}", shares[-1], 100)
 
     def others(self):
-        """Returns the lines that stay, without those of the steps, and with `M:SS` and `R` for times and rates."""
-        lines = [it for it in self.lines if not STEP.fullmatch(it)]
-        return [re.sub(r"\d+(\.\d)? KiB/s", "R", re.sub(r"\d+:[0-5]\d\b", "M:SS", it)) for it in lines]
+        """Returns the lines that stay, without those of the steps, and without times and rates (`untimed`)."""
+        return untimed(it for it in self.lines if not STEP.fullmatch(it))
 
 
 def run(bench, *words, events=None, both=False):

@@ -62,7 +62,8 @@ pub trait Progress: Bus {
 ///
 /// With `Look::Plain` there is a line for the first transaction of each step, and then one after each `Step::stride`
 /// further transactions of that step. With `Look::Hidden` nothing is shown, except the lines of `-V`. The log (`-o`)
-/// receives the lines of `Look::Plain` and of `-V` with any look.
+/// receives the lines of `Look::Plain`, the lines of `-V`, and those that say how long the change takes and took, with
+/// any look.
 ///
 /// A step is recognized by the opcode of a transaction and, for a read of data, by the phase of the job. Before the
 /// first modifying command a line says that the chip is changed from here on. In a session this line begins with
@@ -145,7 +146,7 @@ impl<'a, B: Bus + Drop> Shown<'a, B> {
 
     /// Ends the line of the progress. Must be called after the last transaction of the job, before any other line is
     /// printed. If the job was a change that succeeded and isn't compared, first shows the final numbers of its steps
-    /// and, with `Look::Line`, how long the change took.
+    /// and how long the change took (`show_duration`).
     pub fn end_progress(&self, succeeded: bool) {
         if succeeded {
             self.show_duration();
@@ -242,12 +243,12 @@ impl<B> Shown<'_, B> {
         }
     }
 
-    // With `Look::Line`, records a transaction that was carried out, and draws the line of its step if the last drawing
-    // is a tenth of a second old, or if the step is complete.
+    // Counts and times a transaction that was carried out, if there is a log or the look is `Look::Line`. Then draws
+    // the line of its step (`draw`).
     fn measure(&mut self, out: &[u8], reply: &[u8])
         ensures { self.new.bus ≡ self.old.bus }
     {
-        if self.terminal.look() != Look::Line {
+        if self.terminal.look() != Look::Line && !self.terminal.log().is_open() {
             return;
         }
         let now = self.terminal.now();
@@ -256,6 +257,17 @@ impl<B> Shown<'_, B> {
             return;
         };
         self.terminal.record_reads(self.gauge.scanned());
+        self.draw(step, now);
+    }
+
+    // With `Look::Line`, draws the line of a step if the last drawing is a tenth of a second old, or if the step is
+    // complete.
+    fn draw(&mut self, step: Step, now: Option<Instant>)
+        ensures { self.new.bus ≡ self.old.bus }
+    {
+        if self.terminal.look() != Look::Line {
+            return;
+        }
         let total = self.total_of(step);
         let line = self.gauge.line(step, total, now);
         if line.is_complete() {
@@ -278,8 +290,8 @@ impl<B> Shown<'_, B> {
     }
 
     // If a change began and its comparison did not, shows how many pages were programmed and how many sectors were read
-    // back; with `Look::Plain` and in the log also how many erases were sent, with `Look::Line` also how long the change
-    // took.
+    // back; with `Look::Plain` and in the log also how many erases were sent, with `Look::Line` and in the log also how
+    // long the change took.
     fn show_duration(&self) {
         if self.phase != Phase::Changing {
             return;
@@ -287,14 +299,14 @@ impl<B> Shown<'_, B> {
         self.show_last(Step::Erase, self.counts.erase);
         self.show_last(Step::Program, self.counts.program);
         self.show_last(Step::ReadBack, self.counts.read_back);
+        let now = self.terminal.now();
         if self.terminal.look() == Look::Line {
-            let now = self.terminal.now();
             self.terminal.clear_line();
             self.draw_last(Step::Program, now);
             self.draw_last(Step::ReadBack, now);
-            self.terminal
-                .print(&Took(Minutes(micros_between(self.changed, now))));
         }
+        self.terminal
+            .print_time(&Took(Minutes(micros_between(self.changed, now))));
     }
 
     // Prints and logs the last plain line of a step with `count` transactions, unless there are none, or a line with

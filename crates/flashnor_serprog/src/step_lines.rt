@@ -60,7 +60,7 @@ impl fmt::Display for StepCount {
     }
 }
 
-/// The line that says how long a change took, with `Look::Line`.
+/// The line that says how long a change took, with `Look::Line` and in the log.
 #[derive(Clone, Copy, Drop)]
 pub struct Took(pub Minutes);
 

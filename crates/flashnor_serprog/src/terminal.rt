@@ -251,29 +251,39 @@ impl<'a> Terminal<'a> {
         self.print(&WaitingText { device });
     }
 
-    /// Prints what a session will change, and the length of its journal (`print`). With `Look::Line`, also prints about
-    /// how long the change takes if it touches a sector.
+    /// Writes a line to the log that says how long the change takes or took. With `Look::Line`, also prints it, after
+    /// the line that may be rewritten is ended.
+    pub fn print_time<T: fmt::Display>(&self, text: &T) {
+        if self.look == Look::Line {
+            self.end_line();
+            let _ = eprintln!(self.rt; "{text}");
+        }
+        self.log().write_line(text);
+    }
+
+    /// Prints what a session will change, and the length of its journal (`print`). If the session touches a sector, a
+    /// further line says about how long the change takes (`print_time`).
     pub fn print_session(&self, announcement: Announcement) {
         self.print(&SessionText(announcement));
         self.announce(announcement);
     }
 
-    /// Prints what a restore will change (`print`). With `Look::Line`, also prints about how long the change takes if
-    /// it touches a sector.
+    /// Prints what a restore will change (`print`). If the restore touches a sector, a further line says about how long
+    /// the change takes (`print_time`).
     pub fn print_restore(&self, announcement: Announcement) {
         self.print(&RestoreText(announcement));
         self.announce(announcement);
     }
 
-    // Records what will change. With `Look::Line`, also prints about how long the change takes if it touches a sector.
+    // Records what will change. If a sector is touched, a line says about how long the change takes (`print_time`).
     fn announce(&self, announcement: Announcement) {
         let known = self.screen.known.get();
         self.screen.known.set(Known {
             announced: Some(announcement),
             ..known
         });
-        if self.look == Look::Line && announcement.touched > 0 {
-            self.print(&ExpectedTime {
+        if announcement.touched > 0 {
+            self.print_time(&ExpectedTime {
                 announcement,
                 read: known.read,
             });
