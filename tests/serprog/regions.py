@@ -2,6 +2,7 @@
 
 The form of -i is that of flashrom's manual page. The expected bytes are cut out of the images by these cases.
 """
+import os
 import random
 
 import reference
@@ -225,10 +226,20 @@ def reports_a_file_that_cannot_be_written(start):
     bench.path("folder").mkdir()
     bench.expect("-r", "out", "-l", "layout", "-i", "boot:folder", err=reference.file_fault(1, "folder"))
     bench.check_nothing_sent()
-    # The regions are read back from the output, so it can't be a device.
-    bench.expect("-r", "/dev/null", "-l", "layout", "-i", "boot:part", err=reference.file_fault(1, "/dev/null"))
-    bench.check_nothing_sent()
-    bench.check_absent("part")
+
+
+def needs_a_regular_output(start):
+    """The regions are read back from the output, so it can't be a device or a FIFO if a region has a file."""
+    bench = begin(start, random_image("output"))
+    os.mkfifo(bench.path("fifo"))
+    for output in "/dev/null", "fifo":
+        bench.expect("-r", output, "-l", "layout", "-i", "main,boot:part", err=[
+            f"File fault 1: {output}.",
+            "The file of -r must be a regular file, because the files of regions are copied from it."])
+        bench.check_nothing_sent()
+        bench.check_absent("part")
+    bench.expect("-r", "/dev/null", "-l", "layout", "-i", "boot", out=[
+        reference.found("TINY64"), "Read 65536 bytes."])
 
 
 def takes_regions_of_maps(start):
@@ -296,5 +307,5 @@ def finds_links_to_new_files(start):
 CASES = [reads_regions_into_files, writes_a_region_from_a_file, lets_the_later_file_win,
          verifies_a_region_against_a_file, refuses_other_lengths, refuses_files_that_cannot_be_used,
          gives_each_file_of_a_read_one_role, keeps_the_files_of_a_write_apart, keeps_a_journal,
-         reports_a_file_that_cannot_be_written, takes_regions_of_maps, keeps_the_files_if_a_read_stops,
-         keeps_printed_files, finds_links_to_new_files]
+         reports_a_file_that_cannot_be_written, needs_a_regular_output, takes_regions_of_maps,
+         keeps_the_files_if_a_read_stops, keeps_printed_files, finds_links_to_new_files]

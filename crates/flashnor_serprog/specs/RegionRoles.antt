@@ -97,12 +97,6 @@ FailsFileRole nature device log named of fault = FailsApart nature (Some device)
     ⊎ (FailsApart nature log (Some of) fault
     ⊎ (FailsApart nature named.journal (Some of) fault ⊎ FailsWrittenRole nature named.output named.layout of fault))
 
--- Holds for file fault 1 of the output, if a read of it may fail or block: a FIFO or a device.
-abbrev pub IsNotReadBack : Nature → Bor Text → Fault → Type 0
-IsNotReadBack nature output (end.File file.Read of) =
-    (of.now ≡ output.now) × (nature.fails (Unread output.now) ≡ true)
-IsNotReadBack nature output _ = ⊥
-
 -- Holds if `R` holds for an element and a later one. (`AllPairs` holds if `R` holds for all such pairs.)
 abbrev pub AnyPair : {X : Type 0} → (X → X → Type 0) → List X → Type 0
 AnyPair {X} R xs = (i : ℕ) × (j : ℕ) × (any : X) × (i < j) × (j < length xs)
@@ -114,19 +108,27 @@ abbrev pub FailsDistinct : Nature → List RegionFile → Fault → Type 0
 FailsDistinct nature files fault =
     AnyPair (λ earlier later. FailsApart nature (Some earlier.file) (Some later.file) fault) files
 
--- Holds if there is an output and a region has a file, and the check of both may fail with this fault: the output can't
--- be read back (`IsNotReadBack`), or the files of two regions may be one (`FailsDistinct`).
+-- Holds if there is an output, and comparing the files of the regions with each other may fail with this fault
+-- (`FailsDistinct`).
 abbrev pub FailsDistinctIf : Nature → (output : Option (Bor Text)) → List RegionFile → Fault → Type 0
 FailsDistinctIf nature None files fault = ⊥
-FailsDistinctIf nature (Some output) files fault =
-    (¬ files ≡ []) × (IsNotReadBack nature output fault ⊎ FailsDistinct nature files fault)
+FailsDistinctIf nature (Some output) files fault = FailsDistinct nature files fault
 
 -- Holds if the check of the roles of the regions' files may fail with this fault: at one of them (`FailsFileRole`), or
--- in the checks of a job that writes them (`FailsDistinctIf`).
+-- in comparing them with each other if the job writes them (`FailsDistinctIf`).
 abbrev pub FailsRegionRoles : Nature → Bor Text → Task → (log : Option (Bor Text)) → List RegionFile → Fault → Type 0
 FailsRegionRoles nature device job log files fault =
     Any (λ region. FailsFileRole nature device log (named_by job) region.file fault) files
     ⊎ FailsDistinctIf nature (named_by job).output files fault
+
+-- ---- the output
+
+-- Holds for the fault of an output that can't be read back, if a region has a file, and a read of the output may fail
+-- or block: it is a FIFO or a device.
+abbrev pub IsNotReadBack : Nature → (output : Option (Bor Text)) → List RegionFile → RegionFault → Type 0
+IsNotReadBack nature (Some output) files (wrong.NotReadBack name) =
+    (name ≡ output) × (¬ files ≡ []) × (nature.fails (Unread output.now) ≡ true)
+IsNotReadBack nature output files _ = ⊥
 
 -- ---- journals
 
@@ -154,10 +156,12 @@ FailsOldFiles view _ files fault = ⊥
 
 -- ---- all checks
 
--- Holds if the checks of the regions' files may fail with this fault: that of their names (`FailsNames`), that of their
--- roles (`FailsRegionRoles`), or that of the files that a read will truncate (`FailsOldFiles`).
+-- Holds if the checks of the regions' files may fail with this fault: that of their names (`FailsNames`), that of the
+-- output (`IsNotReadBack`), that of their roles (`FailsRegionRoles`), or that of the files that a read will truncate
+-- (`FailsOldFiles`).
 abbrev pub FailsRegionFiles : View → Bor Text → Task → (log : Option (Bor Text)) → List RegionFile → Trouble → Type 0
-FailsRegionFiles view device job log files (trouble.Region fault) = FailsNames job files fault
+FailsRegionFiles view device job log files (trouble.Region fault) =
+    FailsNames job files fault ⊎ IsNotReadBack view.nature (named_by job).output files fault
 FailsRegionFiles view device job log files (trouble.Fault fault) =
     FailsRegionRoles view.nature device job log files fault ⊎ FailsOldFiles view job files fault
 FailsRegionFiles view device job log files _ = ⊥

@@ -13,6 +13,11 @@ pub enum RegionFault<'a> {
     Unnamed {
         region: &'a str,
     },
+    /// File fault 1: the output of a read is a FIFO or a device, and a region has a file, which is copied from the
+    /// output.
+    NotReadBack {
+        output: &'a str,
+    },
     /// File fault 3: the file has another length than its region. `found` is the number of bytes that were read, at
     /// most one more than the largest chip has.
     Length {
@@ -42,6 +47,13 @@ impl fmt::Display for RegionFault<'_> {
                 "error: the file name of the region '{}' is empty\n{}",
                 Escaped(region),
                 UsageFault::Layout
+            ),
+            RegionFault::NotReadBack { output } => write!(
+                f,
+                "File fault {}: {}.\nThe file of -r must be a regular file, because the files of regions are copied \
+                from it.",
+                FileFault::Read.number(),
+                Escaped(output)
             ),
             RegionFault::Length {
                 file,

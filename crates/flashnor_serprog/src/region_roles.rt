@@ -3,6 +3,7 @@
 ghost use Rattle.std.specs.Prelude.{◌≡◌, All, IfErr, OnOk, Some};
 ghost use Rattle.std.specs.List.{AllPairs, Any};
 ghost use Rattle.nor_console.specs.Roles.{FailsApart};
+ghost use Rattle.nor_console.specs.Tasks.{named_by};
 ghost use Rattle.nor_files.specs.Files.{AreApart};
 ghost use Rattle.flashnor_serprog.specs.RegionRoles.{AreDistinctIf, AreNamed, AreTwoFiles, FailsDistinct};
 ghost use Rattle.flashnor_serprog.specs.RegionRoles.{FailsDistinctIf, FailsFileRole, FailsNames, FailsOldFile};
@@ -13,12 +14,13 @@ use crate::region_faults::RegionFault;
 use crate::region_files::RegionFile;
 use crate::trouble::Trouble;
 use nor_args::{Change, Operation, Task, Wanted};
-use nor_console::{Fault, FileFault, Named, apart, named_by, reading, unprinted, unread};
+use nor_console::{Fault, FileFault, Named, apart, named_by, reading, unprinted};
 use nor_files::Store;
 use nor_journal::{FIRST_MAGIC, MAGIC};
 
-/// Checks the files of the regions of a job: their names (`check_names`), their roles (`have_file_roles`), and that
-/// none that will be truncated is a journal (`are_no_journals`). Returns the faults of these checks.
+/// Checks the files of the regions of a job: their names (`check_names`), their roles (`have_file_roles`), that they
+/// can be copied from the output of a read (`can_be_read_back`), and that none that will be truncated is a journal
+/// (`are_no_journals`). Returns the faults of these checks.
 pub fn check_region_files<'a, R: Store>(
     rt: &R,
     device: &'a str,
@@ -33,6 +35,7 @@ pub fn check_region_files<'a, R: Store>(
 {
     check_names(&operation.task, files)?;
     have_file_roles(rt, device, operation, files)?;
+    can_be_read_back(rt, &operation.task, files)?;
     are_no_journals(rt, &operation.task, files)?;
     Ok(())
 }
@@ -72,8 +75,7 @@ fn erases(task: &Task<'_>) -> bool
 // the job writes them, each is also apart from the layout, from the output and from each other, and the program doesn't
 // print to it. Checks nothing if no region has a file.
 //
-// If a check fails, returns file fault 5 with the name of the file. Returns file fault 1 if a name can't be looked up,
-// or if the output is a FIFO or a device, from which the regions can't be read back.
+// If a check fails, returns file fault 5 with the name of the file. Returns file fault 1 if a name can't be looked up.
 fn have_file_roles<'a, R: Store>(
     rt: &R,
     device: &'a str,
@@ -97,8 +99,7 @@ fn have_file_roles<'a, R: Store>(
     Ok(())
 }
 
-// Checks that the files of the regions are apart from each other and that the output can be read back, if the job has
-// an output and a region has a file.
+// Checks that the files of the regions are apart from each other, if the job has an output.
 fn are_distinct_if<'a, R: Store>(
     rt: &R,
     output: Option<&'a str>,
@@ -107,24 +108,10 @@ fn are_distinct_if<'a, R: Store>(
     ensures ok { OnOk result (AreDistinctIf (R.state rt.now).view.nature output.entry files.now) }
     ensures err { IfErr result (FailsDistinctIf (R.state rt.now).view.nature output.entry files.now) }
 {
-    let Some(output) = output else {
-        return Ok(());
-    };
-    if files.is_empty() {
-        return Ok(());
+    match output {
+        Some(_) => are_distinct(rt, files),
+        None => Ok(()),
     }
-    can_be_read_back(rt, output)?;
-    are_distinct(rt, files)
-}
-
-// Checks that the output can be read back: that it is no FIFO and no device. Returns file fault 1 if it is one.
-fn can_be_read_back<'a, R: Store>(rt: &R, output: &'a str) -> Result<(), Fault<'a>>
-    ensures { IfErr result (IsNotReadBack (R.state rt.now).view.nature output.entry) }
-{
-    if rt.is_waiting(output) {
-        return Err(unread(output));
-    }
-    Ok(())
 }
 
 // Checks that the files of the regions are apart from each other. Returns the faults of `is_apart_from`.
@@ -155,6 +142,24 @@ pub fn is_apart_from<'a, R: Store>(
         apart(rt, Some(other.file), Some(file))?;
     }
     Ok(())
+}
+
+// Checks that the output of a read can be read back, if a region has a file: that it is no FIFO and no device. Checks
+// nothing for a job without an output. Returns file fault 1 of the output.
+fn can_be_read_back<'a, R: Store>(
+    rt: &R,
+    task: &Task<'a>,
+    files: &[RegionFile<'a>],
+) -> Result<(), RegionFault<'a>>
+    ensures { IfErr result
+        (IsNotReadBack (R.state rt.now).view.nature (named_by task.now).output files.now) }
+{
+    match named_by(task).output {
+        Some(output) if !files.is_empty() && rt.is_waiting(output) => {
+            Err(RegionFault::NotReadBack { output })
+        }
+        _ => Ok(()),
+    }
 }
 
 // Checks that no file of a region that a read will truncate is a journal. Checks nothing for other jobs.
