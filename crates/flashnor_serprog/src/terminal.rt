@@ -27,8 +27,9 @@ const WAITING: &str =
     "Waiting for the programmer. If no line follows in 10 seconds, press Ctrl-C, disconnect the programmer \
     from power for a second, connect it again, and run:";
 
-/// What all copies of a `Terminal` know: whether a line that may be rewritten is on the screen, what was announced, and
-/// how fast data was read. Also the log of the run, which they share.
+/// What all copies of a `Terminal` know: whether the run waited for its programmer before, whether a line that may be
+/// rewritten is on the screen, what was announced, and how fast data was read. Also the log of the run, which they
+/// share.
 #[derive(Drop)]
 pub struct Screen {
     known: Cell<Known>,
@@ -37,6 +38,8 @@ pub struct Screen {
 
 #[derive(Clone, Copy)]
 struct Known {
+    // whether `print_waiting` was called before
+    has_waited: bool,
     is_line_open: bool,
     announced: Option<Announcement>,
     read: Transfer,
@@ -54,6 +57,7 @@ impl Screen {
     pub fn new() -> Screen {
         Screen {
             known: Cell::new(Known {
+                has_waited: false,
                 is_line_open: false,
                 announced: None,
                 read: Transfer::default(),
@@ -245,10 +249,21 @@ impl<'a> Terminal<'a> {
         self.log().write_line(text);
     }
 
-    /// Prints what to do if the programmer at this device never replies (`print`). A read from a port that isn't set up
-    /// waits without a limit, and std has no call that ends it.
+    /// Prints what to do if the programmer at this device never replies (`print`). A second call in a run only writes
+    /// the line to the log, since the programmer replied before. A read from a port that isn't set up waits without a
+    /// limit, and std has no call that ends it.
     pub fn print_waiting(&self, device: &str) {
-        self.print(&WaitingText { device });
+        let text = WaitingText { device };
+        let known = self.screen.known.get();
+        if known.has_waited {
+            self.log().write_line(&text);
+            return;
+        }
+        self.screen.known.set(Known {
+            has_waited: true,
+            ..known
+        });
+        self.print(&text);
     }
 
     /// Writes a line to the log that says how long the change takes or took. With `Look::Line`, also prints it, after
