@@ -175,7 +175,7 @@ def overwrites_no_journal(start):
         bench.check_nothing_sent()
     bench.check_file("log", journal)
     bench.check_absent("out")
-    hint = "It can't be created, written or locked: free disk space, or correct its permissions."
+    hint = "It can't be created, written or locked: correct its name or permissions, or free disk space."
     bench.path("place").mkdir()
     for log in "place", "missing/log":
         bench.expect("-r", "out", "-o", log, err=[f"File fault 2: {log}.", hint])

@@ -30,7 +30,7 @@ CHANGING = (0x06, 0x01, 0x02, *ERASES, 0xC7)
 # The line after that of a file fault.
 FILE_HINTS = {
     1: "It is missing or can't be read: correct its name or its permissions.",
-    2: "It can't be created, written or locked: free disk space, or correct its permissions.",
+    2: "It can't be created, written or locked: correct its name or permissions, or free disk space.",
     4: "It exists already, and is never overwritten: choose a new name.",
     5: "It has two roles in this run, or another program uses it: give each role its own file."}
 IS_JOURNAL = "It is a journal, which is never overwritten: choose a new name."

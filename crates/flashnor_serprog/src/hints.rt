@@ -136,11 +136,10 @@ fn file_hint(fault: FileFault) -> Option<&'static str> {
         FileFault::Read => Some(
             "It is missing or can't be read: correct its name or its permissions.",
         ),
-        FileFault::Write => {
-            Some(
-                "It can't be created, written or locked: free disk space, or correct its permissions.",
-            )
-        }
+        FileFault::Write => Some(
+            "It can't be created, written or locked: correct its name or permissions, or free disk \
+            space.",
+        ),
         FileFault::Exists => Some(
             "It exists already, and is never overwritten: choose a new name.",
         ),
