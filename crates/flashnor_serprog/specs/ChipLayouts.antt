@@ -84,8 +84,8 @@ pub record IsReadFirst (state : Connected → BusState) (device : Text) (named :
   pub read : HasReadLayout named layout (state start) last bytes
   pub sends : KeepsSent (state start) last
 
--- Holds if `shown` are the bytes in place of a layout's file. If the layout is on the chip, in this form, they were read
--- from there (`IsReadFirst`). If it isn't (`None`), `shown` must be `None`.
+-- Holds if `shown` are the bytes in place of a layout's file. If the layout is on the chip, in this form, they were
+-- read from there (`IsReadFirst`). If it isn't (`None`), `shown` must be `None`.
 abbrev pub IsShown : (state : Connected → BusState) → (device : Text) → Option ChipName → Option LayoutForm
     → (shown : Option (List ℕ)) → Type 0
 IsShown state device named None shown = shown ≡ None

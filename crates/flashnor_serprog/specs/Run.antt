@@ -122,8 +122,8 @@ HasPrintedAnswer operation (Ok found) out out' = Prints (AreJobLines operation f
 HasPrintedAnswer operation (Err fault) out out' = ⊥
 
 -- Holds for a run of a job on a chip; `old` and `new` are the states of the bus before and after it. The run sent only
--- what its job may send (`SendsOnly`). Its exit status is 0 or 1, and 0 only if the job ended with an answer and the
--- answer's lines were printed.
+-- what its job may send (`SendsOnly`). Its exit status is 0 or 1, and 0 only if the job ended with an answer, the
+-- answer's lines were printed, and the files of regions have the bytes that a read copies into them (`AreCopied`).
 pub record HasRun (operation : Operation) (files : List RegionFile) (ranges : Option (List Span)) (bytes : List ℕ)
     (before : View) (after : FilesState) (old new : BusState) (out out' : Option (List ℕ)) (status : ℕ)
     : Type 0 where
@@ -191,4 +191,5 @@ abbrev pub HasSucceeded : (state : Connected → BusState) → (files after : Fi
     → (used : Option Connected) → (out out' : Option (List ℕ)) → Type 0
 HasSucceeded state files after words used out out' = ArgumentsAskForHelp words
     ⊎ (HasChecked files.view words
-    ⊎ IsSomeAnd used (λ connected. HasRunJob state files after words (device_of connected) (state connected) out out' 0))
+    ⊎ IsSomeAnd used (λ connected.
+    HasRunJob state files after words (device_of connected) (state connected) out out' 0))

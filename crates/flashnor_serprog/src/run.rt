@@ -233,7 +233,8 @@ fn run_prepared<'b, R: Store, O: Write, E: Write>(
     output: &mut O,
     errors: &mut E,
 ) -> u8
-    ensures { HasRun operation.now regions.now sources.included sources.bytes.items (R.state files.old).view (R.state files.new)
+    ensures { HasRun operation.now regions.now sources.included sources.bytes.items
+        (R.state files.old).view (R.state files.new)
         (⟦<ChipBus<'b> as Bus>⟧.state bus.old) (⟦<ChipBus<'b> as Bus>⟧.state bus.new)
         (O.contents output.old) (O.contents output.new) result }
 {

@@ -62,9 +62,9 @@ pub record AreIncluded (form : LayoutForm) (text names : List ℕ) (ranges : Lis
   pub known : are_known regions names ≡ true
   pub union : (a : ℕ) → contains ranges a ≡ is_included regions names a
 
--- Holds if `text` is the text of a layout. If a file is named, `text` must have the file's first 16 MiB and one byte, or
--- the whole content of a shorter file; nothing is claimed if the file isn't known (`IsKnownFile`). If no file is named,
--- `text` must be `shown`, the bytes that the chip returned.
+-- Holds if `text` is the text of a layout. If a file is named, `text` must have the file's first 16 MiB and one byte,
+-- or the whole content of a shorter file; nothing is claimed if the file isn't known (`IsKnownFile`). If no file is
+-- named, `text` must be `shown`, the bytes that the chip returned.
 abbrev pub IsLayoutText : View → (shown : Option (List ℕ)) → (file : Option (Bor Text)) → (text : List ℕ) → Type 0
 IsLayoutText view shown (Some name) text = IsRead view name.now 16777217 text
 IsLayoutText view shown None text = shown ≡ Some text

@@ -20,8 +20,8 @@ use std::alloc::Global;
 
 /// Reads the layout, and returns the addresses of the named regions. If no regions are given, returns `None` and reads
 /// no file. The layout is read from its file. If it has no file, it is read from `shown`, the bytes that the chip
-/// returned. If the layout is an FMAP or a flash descriptor, the length of the file or of `shown` is taken as the size of
-/// the chip.
+/// returned. If the layout is an FMAP or a flash descriptor, the length of the file or of `shown` is taken as the size
+/// of the chip.
 ///
 /// Returns one of these faults:
 ///

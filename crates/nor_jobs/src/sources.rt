@@ -84,8 +84,8 @@ pub fn read_image<'a, R: Store>(rt: &R, wanted: Wanted<'a>) -> Result<Vec<u8>, F
 }
 
 /// Returns the bytes that a change asks for. `bytes` are those that were read of its image, and `size` is the size of
-/// the chip. For an erase, the bytes asked for are FFh for each byte of the chip; otherwise they are `bytes`. Returns an
-/// error only for an erase, if memory runs out.
+/// the chip. For an erase, the bytes asked for are FFh for each byte of the chip; otherwise they are `bytes`. Returns
+/// an error only for an erase, if memory runs out.
 pub fn asked_bytes(
     alloc: Global,
     wanted: Wanted<'_>,
