@@ -134,7 +134,7 @@ def takes_no_other_option(start):
             (4, "-E --journal j", "-E and --backup cannot be used together"),
             (6, "--journal j", "--journal needs -w, -E or --wp-range"),
             (7, "-l layout -i first", "-l and -i need -r, -v, -w or -E"),
-            (7, "-i first", "-i needs -l, --fmap-file or --ifd-file"),
+            (7, "-i first", "-i needs -l, --fmap, --fmap-file, --ifd or --ifd-file"),
             (8, "-n", "-n needs -w or -E"), (8, "-N", "-N needs -w, -E or --restore"),
             (8, "--unlock", "--unlock needs -w or -E"),
             (8, "--quick", "--quick needs --restore")):

@@ -102,7 +102,7 @@ def takes_one_layout(start):
             ("-r out -l a --fmap-file b --ifd-file c -i d", "-l and --ifd-file cannot be used together"),
             ("-r out --fmap-file a", "--fmap-file needs -i"), ("-r out --ifd-file a", "--ifd-file needs -i"),
             ("--ifd-file a -i b", "--ifd-file and -i need -r, -v, -w or -E"),
-            ("-r out -i b", "-i needs -l, --fmap-file or --ifd-file")):
+            ("-r out -i b", "-i needs -l, --fmap, --fmap-file, --ifd or --ifd-file")):
         bench.expect(*words.split(), err=[f"error: {why}", "Usage fault 7."])
         bench.check_nothing_sent()
 

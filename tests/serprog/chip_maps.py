@@ -1,0 +1,205 @@
+"""Cases of --fmap and --ifd: regions from the FMAP or the Intel flash descriptor on the chip.
+
+The image that is written contains neither, so a run that took its regions from there would fail.
+"""
+import termios
+
+import ports
+import reference
+import terminal
+from bench import WAITING, check
+from chip import READ_DATA
+from maps import with_descriptor, with_fmap
+from options import FREE, SIZE
+from regions import random_image
+
+AREAS = [(0, 0x1000, b"RO"), (0x1001, 0x2FFF, b"RW_A"), (0x4000, 1, b"ID")]
+ENTRIES = [(0, 0), (8, 15), (1, 7)]
+ENABLE = b"\x06"
+
+
+def reads_regions_of_the_chips_fmap(start):
+    """-r --fmap reads exactly the bytes of an area, wherever the FMAP is on the chip, also into a file of the area."""
+    for at in 0, 0x7123, SIZE - 0x200:
+        old = with_fmap(random_image("fmap"), at, AREAS)
+        bench = start(data=old)
+        bench.expect("-r", "out", "--fmap", "-i", "RW_A:a,ID", out=[reference.found("TINY64"), "Read 65536 bytes."])
+        bench.check_file("out", b"\xff" * 0x1001 + old[0x1001:0x4001] + b"\xff" * (SIZE - 0x4001))
+        bench.check_file("a", old[0x1001:0x4000])
+        bench.check_chip(old)
+
+
+def writes_regions_of_the_chips_descriptor(start):
+    """-w --ifd changes exactly the region of the chip's descriptor, -v --ifd compares it, and a restore undoes it."""
+    old, new = with_descriptor(random_image("old"), ENTRIES), random_image("new")
+    bench = start(data=old)
+    bench.write("new", new)
+    got = bench.run("-w", "new", "--journal", "j", "--ifd", "-i", "bios")
+    check("the run", (got.out[0], got.err, got.status), (reference.found("TINY64"), [], 0))
+    bench.check_chip(old[:0x8000] + new[0x8000:])
+    bench.expect("-v", "new", "--ifd", "-i", "bios", out=[reference.found("TINY64"), "Verified."])
+    got = bench.run("-v", "new", "--ifd", "-i", "me")
+    check("the run", (got.out, got.err[0][:9], got.status), ([], "Error 14:", 1))
+    got = bench.run("--restore", "j")
+    check("the restore", (got.err, got.status), ([], 0))
+    bench.check_chip(old)
+
+
+def erases_a_region_of_the_chips_fmap(start):
+    """-E --fmap erases the bytes of the area, and no others, even if the FMAP itself is in the area."""
+    old = with_fmap(random_image("erase"), 0x1234, AREAS)
+    bench = start(data=old)
+    got = bench.run("-E", "--journal", "j", "--fmap", "-i", "RW_A")
+    check("the run", (got.err, got.status), ([], 0))
+    bench.check_chip(old[:0x1001] + b"\xff" * 0x2FFF + old[0x4000:])
+    got = bench.run("--restore", "j")
+    check("the restore", (got.err, got.status), ([], 0))
+    bench.check_chip(old)
+
+
+def takes_a_region_from_its_file(start):
+    """-w --fmap -i NAME:FILE writes the bytes of the file; a file of another length is refused, and nothing changes."""
+    old = with_fmap(random_image("file"), 0x7123, AREAS)
+    bench = start(data=old)
+    bench.write("new", random_image("new"))
+    bench.write("a", random_image("a")[:0x2FFF])
+    got = bench.run("-w", "new", "--journal", "j", "--fmap", "-i", "RW_A:a")
+    check("the run", (got.err, got.status), ([], 0))
+    wanted = old[:0x1001] + random_image("a")[:0x2FFF] + old[0x4000:]
+    bench.check_chip(wanted)
+    bench.write("a", b"short")
+    got = bench.run("-w", "new", "--journal", "k", "--fmap", "-i", "RW_A:a")
+    check("the fault", (got.err, got.status), (["File fault 3: a.", "It has 5 bytes, and its region has 12287."], 1))
+    bench.check_absent("k")
+    bench.check_chip(wanted)
+
+
+def reads_only_the_descriptor(start):
+    """For --ifd only the first 4 KiB are read before the job, which reads only its region."""
+    old = with_descriptor(random_image("old"), ENTRIES)
+    bench = start(data=old)
+    bench.expect("-r", "out", "--ifd", "-i", "bios", out=[reference.found("TINY64"), "Read 65536 bytes."])
+    bench.check_file("out", b"\xff" * 0x8000 + old[0x8000:])
+    addresses = [int.from_bytes(out[1:4], "big") for out, _ in bench.server.log if out[0] == READ_DATA]
+    check("addresses between descriptor and region", [at for at in addresses if 0x1000 <= at < 0x8000], [])
+    check("whether the descriptor was read", any(at < 0x1000 for at in addresses), True)
+
+
+def refuses_a_chip_without_a_map(start):
+    """A chip without a valid map is a map fault. Nothing was sent that modifies a chip, and no file was created."""
+    bench = start(data=FREE)
+    bench.write("new", random_image("new"))
+    for words in (("-r", "out"), ("-w", "new", "--journal", "j"), ("-E", "--journal", "j"), ("-v", "new")):
+        for option in "--fmap", "--ifd":
+            got = bench.run(*words, option, "-i", "a", "-o", "log")
+            check("the fault", ("Map fault 1." in got.err, got.out, got.status), (True, [], 1))
+            check("write enables", [out for out, _ in bench.server.log if out == ENABLE], [])
+            for name in "out", "j", "log":
+                bench.check_absent(name)
+            bench.check_chip(FREE)
+
+
+def refuses_names_that_the_chip_lacks(start):
+    """A name of -i that is no region of the chip's map is layout fault 8, before a file is created."""
+    bench = start(data=with_fmap(FREE, 0x100, AREAS))
+    got = bench.run("-r", "out", "--fmap", "-i", "RW_B:b")
+    check("the run", (got.err[0], "Layout fault 8." in got.err, got.status),
+          ("error: the layout has no region 'RW_B'", True, 1))
+    bench.check_absent("out")
+    bench.check_absent("b")
+
+
+def looks_for_the_name_first(start):
+    """With -c, a chip of another name is error 3 before its map is read."""
+    bench = start(data=with_fmap(FREE, 0x100, AREAS))
+    got = bench.run("-r", "out", "--fmap", "-i", "RO", "-c", "W25Q64FV")
+    check("the run", ([it[:8] for it in got.err if it.startswith("Error")], got.status), (["Error 3:"], 1))
+    check("reads", [out for out, _ in bench.server.log if out[0] == READ_DATA], [])
+    bench.check_absent("out")
+
+
+def notices_a_wrong_bit_in_the_map(start):
+    """A map that is read with one wrong bit never decides what is written: each block of it is read twice."""
+    old, new = with_fmap(random_image("old"), 0x40, AREAS), random_image("new")
+    wanted = old[:0x1001] + new[0x1001:0x4000] + old[0x4000:]
+    words = ("-w", "new", "--journal", "j", "--fmap", "-i", "RW_A")
+    # The bytes of the area's offset and size, and of its name.
+    first = 0x40 + 56 + 42
+    for byte in (first, first + 1, first + 5, first + 8):
+        for number in reads_of(start, old, new, words):
+            bench = start(data=old, wrong_bits={number: (byte, 4)})
+            bench.write("new", new)
+            got = bench.run(*words)
+            found = bytes(bench.chip.data)
+            check(f"the chip after status {got.status}", found in ((wanted,) if got.status == 0 else (old,)), True)
+
+
+def reads_of(start, old, new, words):
+    """Returns the numbers of the reads of the first bytes of the chip that precede the first modifying command."""
+    bench = start(data=old)
+    bench.write("new", new)
+    bench.run(*words)
+    numbers = []
+    for number, (out, _) in enumerate(bench.server.log, 1):
+        if out == ENABLE:
+            break
+        if out[0] == READ_DATA and out[1:4] == b"\0\0\0":
+            numbers.append(number)
+    check("at least two reads of the map", len(numbers) >= 2, True)
+    return numbers
+
+
+def looks_at_the_files_first(start):
+    """A missing image and an existing journal are faults before anything is sent to read the layout."""
+    bench = start(data=with_fmap(FREE, 0x100, AREAS))
+    bench.write("new", random_image("new"))
+    bench.write("old", b"")
+    for words, number, name in (("-w", "missing", "--journal", "j"), 1, "missing"), (("-v", "missing"), 1, "missing"), \
+            (("-w", "new", "--journal", "old"), 4, "old"):
+        bench.expect(*words, "--fmap", "-i", "RO", err=reference.file_fault(number, name))
+        bench.check_nothing_sent()
+        bench.check_absent("j")
+
+
+def uses_no_layout_of_a_port_that_changes_bytes(start):
+    """If 0Dh is probably received as 0Ah, the layout isn't used: the run ends with programmer fault 13."""
+    old = with_fmap(random_image("port"), 0x100, AREAS)
+    bench = start(data=old)
+    bench.write("new", random_image("new"))
+    ports.set_flags(bench, received=termios.ICRNL)
+    for words in ("-r", "out"), ("-v", "new"), ("-w", "new", "--journal", "j"):
+        got = bench.run(*words, "--fmap", "-i", "RO")
+        bench.compare(got, [], [ports.changes_received("0Dh", "0Ah")])
+        bench.check_absent("out")
+        bench.check_absent("j")
+    bench.check_chip(old)
+
+
+def waits_for_the_programmer_once(start):
+    """The line about a programmer that never replies comes once, and a line precedes the read of the layout."""
+    bench = start(data=with_fmap(random_image("wait"), 0x100, AREAS))
+    status, printed, out = terminal.run(bench, "-r", "out", "--fmap", "-i", "RO")
+    check("the run", (status, len(out)), (0, 2))
+    lines = terminal.Screen(printed).others()
+    check("the lines", lines, [bench.device(WAITING), "Reading the layout from the chip."])
+
+
+def takes_one_map(start):
+    """--fmap and --ifd exclude each other and the layouts in files, and need -i and a job with regions."""
+    bench = start(data=FREE)
+    for words, why in (
+            ("-r out --fmap --ifd -i c", "--fmap and --ifd cannot be used together"),
+            ("-r out -l a --fmap -i c", "-l and --fmap cannot be used together"),
+            ("-r out --fmap-file a --ifd -i c", "--fmap-file and --ifd cannot be used together"),
+            ("-r out --fmap", "--fmap needs -i"), ("-r out --ifd", "--ifd needs -i"),
+            ("--fmap -i b", "--fmap and -i need -r, -v, -w or -E"),
+            ("--restore j --ifd -i b", "--ifd and -i need -r, -v, -w or -E")):
+        bench.expect(*words.split(), err=[f"error: {why}", "Usage fault 7."])
+        bench.check_nothing_sent()
+
+
+CASES = [reads_regions_of_the_chips_fmap, writes_regions_of_the_chips_descriptor, erases_a_region_of_the_chips_fmap,
+         takes_a_region_from_its_file, reads_only_the_descriptor, refuses_a_chip_without_a_map,
+         refuses_names_that_the_chip_lacks, looks_for_the_name_first, notices_a_wrong_bit_in_the_map,
+         looks_at_the_files_first, uses_no_layout_of_a_port_that_changes_bytes, waits_for_the_programmer_once,
+         takes_one_map]
