@@ -224,8 +224,8 @@ _flashnor_serprog() {
                 *)
                     _flashnor_options "$word" -p --programmer -r --read -w --write -v --verify -E --erase --backup \
                         --restore --check-journal --flash-name --flash-size --wp-status --wp-list --wp-range -c --chip \
-                        -l --layout --fmap-file --ifd-file -i --include --journal --unlock -n --noverify -N \
-                        --noverify-all --quick --progress -V --verbose -o --output -R --version -h --help
+                        -l --layout --fmap-file --ifd-file --fmap --ifd -i --include --journal --unlock -n --noverify \
+                        -N --noverify-all --quick --progress -V --verbose -o --output -R --version -h --help
                     ;;
             esac
             ;;
