@@ -1,6 +1,8 @@
 -- Lemmas about the parts of `apply` in turn: the effect of the parts so far, and the number of their transactions.
 use Rattle.std.proofs.Common.{ℕ, zero, suc, ◌≡◌, ◌≤◌, ◌+◌, Bool, true, refl, arith}
 use Rattle.std.specs.Prelude.{if◌then◌else◌}
+use Rattle.std.specs.List.{range_with_len}
+use Rattle.std.proofs.lemmas.List.Sums.{sum_by-le-sum_by}
 use Rattle.nor_geometry.specs.Below.{count_below}
 use Rattle.nor_geometry.specs.Counts.{sector_count}
 use Rattle.nor_model.specs.Chip.{Chip}
@@ -28,9 +30,7 @@ one_fewer b c wider = grind arith
 
 pub count_below-fewer : (n : ℕ) (p q : ℕ → Bool) → ((k : ℕ) → p k ≡ true → q k ≡ true) → count_below n p ≤ count_below n q
 unfolding count_below
-count_below-fewer zero p q wider = omega arith
-count_below-fewer (suc n) p q wider =
-    omega (arith, count_below-fewer n p q wider, one_fewer (p n) (q n) (wider n))
+count_below-fewer n p q wider = sum_by-le-sum_by _ _ (range_with_len 0 n) (λ k. one_fewer (p k) (q k) (wider k))
 
 pub raised_few : (changes : Changes) → ((s : ℕ) → raised_in changes s ≡ true → touched_in changes s ≡ true)
     → sector_count (raised_in changes) ≤ sector_count (touched_in changes)

@@ -23,8 +23,7 @@ use Rattle.nor_apply.proofs.Alone.{only-here, only-is, old_byte}
 use Rattle.nor_apply.proofs.Changing.{can_after, change_then, either_byte, made_may, made_then, changed_may}
 use Rattle.std.specs.List.{list_any, range_with_len}
 use Rattle.nor_geometry.specs.Below.{any_below, count_below}
-use Rattle.nor_geometry.proofs.Counting.{any_below-zero, any_below-more, any_below-same, count_below-zero, count_below-more, count_below-most, count_below-same}
-use Rattle.nor_geometry.proofs.CountedRanges.{count_by-range}
+use Rattle.nor_geometry.proofs.Counting.{any_below-same, count_below-most, count_below-same}
 use Rattle.nor_driver.specs.declared.waits.OperationError.{OperationError}
 use Rattle.nor_driver.specs.Waits.{OperationFails, NamesTimeout}
 use Rattle.nor_driver.specs.Limits.{programming}
@@ -178,30 +177,23 @@ filled_all {sector} {old} {wanted} {spans} {first} {new} whole are can filled =
 
 -- ---- the number of spans
 
--- Let a range consist of two adjacent ranges. Some number in one of these two passes a test if and only if some number
--- in the whole range does.
-any_of_range : (test : ℕ → Bool) (from m n at all : ℕ) → at ≡ from + m → all ≡ m + n
-    → (any_below m (λ i. test (from + i)) || list_any test (range_with_len at n)) ≡ any_below all (λ i. test (from + i))
-any_of_range test from m zero at all place sum =
-    or-false _ ∙ ap (λ (k : ℕ). any_below k (λ i. test (from + i))) (omega arith)
-any_of_range test from m (suc n) at all place sum =
-    let one_more : any_below (m + 1) (λ i. test (from + i)) ≡ (any_below m (λ i. test (from + i)) || test at) =
-    any_below-more m (λ i. test (from + i)) ∙ rw place refl in
-    sym (or_assoc (any_below m (λ i. test (from + i))) (test at) (list_any test (range_with_len (at + 1) n)))
-    ∙ rw (← one_more) (any_of_range test from (m + 1) n (at + 1) all (omega arith) (omega arith))
+-- Some number in a range passes a test if and only if the test passes at some distance from the start of the range.
+any_of_range : (test : ℕ → Bool) (from m n at : ℕ) → at ≡ from + m
+    → list_any test (range_with_len at n) ≡ list_any (λ i. test (from + i)) (range_with_len m n)
+any_of_range test from m zero at place = refl
+any_of_range test from m (suc n) at place = rw (place, any_of_range test from (m + 1) n (from + m + 1) (omega arith)) refl
 
 -- If `old` has the chip's bytes of a sector, a page differs from its target in `old` if and only if it does on the
 -- chip.
 page_same : (content : ℕ → ℕ) (sector : ℕ) (old wanted : List ℕ) → length old ≡ 4096 → IsSectorOf content sector old
     → (page : ℕ) → page < 16 → page_differs old wanted page
     ≡ is_page_other content (byte_of sector wanted) (16 * sector + page)
-unfolding is_page_other
+unfolding is_page_other any_below
 page_same content sector old wanted whole shown page small =
     let test : ℕ → Bool = λ k. not (slice_index old k == slice_index wanted k) in
     let long : min 256 (length old - page * 256) ≡ 256 = omega arith in
     ap (λ (n : ℕ). list_any test (range_with_len (page * 256) n)) long
-    ∙ ap (λ (b : Bool). b || list_any test (range_with_len (page * 256) 256)) (sym (any_below-zero _))
-    ∙ any_of_range test (page * 256) 0 256 (page * 256) 256 (omega arith) refl
+    ∙ any_of_range test (page * 256) 0 256 (page * 256) (omega arith)
     ∙ any_below-same 256 (λ i. test (page * 256 + i))
     (λ i. is_other (content (256 * (16 * sector + page) + i)) (byte_of sector wanted (256 * (16 * sector + page) + i)))
     (λ i below.
@@ -211,12 +203,10 @@ page_same content sector old wanted whole shown page small =
 
 pages_counted : (old wanted : List ℕ) → length old ≡ 4096 → pages_changed old wanted
     ≡ count_below 16 (page_differs old wanted)
+unfolding count_below
 pages_counted old wanted whole =
     let pages : page_count old ≡ 16 = omega arith in
-    let test = page_differs old wanted in
-    ap (λ (n : ℕ). count_by test (range_with_len 0 n)) pages
-    ∙ count_by-range test (λ n. count_below n test)
-    (record { begins = count_below-zero test; goes = λ n. count_below-more n test }) 16
+    ap (λ (n : ℕ). count_by (page_differs old wanted) (range_with_len 0 n)) pages
 
 pages_most : (old wanted : List ℕ) → length old ≡ 4096 → pages_changed old wanted ≤ 16
 pages_most old wanted whole =

@@ -1,7 +1,11 @@
 -- Lemmas about `any_below` (whether any number below a bound passes a test) and `count_below` (how many of them do).
-use Rattle.std.proofs.Common.{◌≡◌, ◌<◌, ◌≤◌, ◌+◌, ℕ, zero, suc, Bool, true, false, add-one, refl, sym, ap, ◌∙◌, inl, inr, arith}
+use Rattle.std.proofs.Common.{◌≡◌, ◌<◌, ◌≤◌, ◌+◌, ℕ, suc, Bool, true, false, cond, get_or, add-one, refl, sym, ap, ◌∙◌, inl, inr, arith}
 use Rattle.std.specs.Prelude.{MatchBool, if◌then◌else◌}
-use Rattle.std.proofs.lemmas.Bool.{cases_Bool, cases_eq, or_left, or_right, or_cases, both_ways, false_from_ne_true}
+use Rattle.std.specs.List.{range_with_len}
+use Rattle.std.proofs.lemmas.Bool.{cases_Bool, both_ways, false_from_ne_true}
+use Rattle.std.proofs.lemmas.List.Folds.{list_any_at, Any-from_list_any}
+use Rattle.std.proofs.lemmas.List.FromFn.{length-range_with_len, get_or-range_with_len, sum_by-map-range_with_len_more}
+use Rattle.std.proofs.lemmas.List.Sums.{sum-map, count_by-le-length}
 use Rattle.nor_geometry.specs.Below.{any_below, count_below}
 
 -- if each of the truth values `p` and `q` implies the other one, they are equal
@@ -13,22 +17,18 @@ same_tests false false to from = refl
 -- if `k` is below `n` and passes `test`, `any_below n test` is true
 pub any_below-some : (n k : ℕ) (test : ℕ → Bool) → k < n → test k ≡ true → any_below n test ≡ true
 unfolding any_below
-any_below-some zero k test below passes = absurd (omega arith)
-any_below-some (suc n) k test below passes =
-    elim (cases_eq k n) [
-      | inl same ↦ or_right (any_below n test) _ (ap test (sym same) ∙ passes)
-      | inr other ↦ or_left _ _ (any_below-some n k test (omega arith) passes)
-    ]
+any_below-some n k test below passes =
+    let here : get_or (range_with_len 0 n) k 0 ≡ k = omega (arith, get_or-range_with_len 0 n k 0 below) in
+    list_any_at test (range_with_len 0 n) k 0 (omega (arith, length-range_with_len 0 n)) (ap test here ∙ passes)
 
 -- if `any_below n test` is true, some number `k` below `n` passes `test`
 pub any_below-found : (n : ℕ) (test : ℕ → Bool) → any_below n test ≡ true → (k : ℕ) × (k < n) × (test k ≡ true)
 unfolding any_below
-any_below-found zero test some = absurd cc
-any_below-found (suc n) test some =
-    elim (or_cases (any_below n test) (test n) some) [
-      | inl earlier ↦ let found = any_below-found n test earlier in (found.0, omega (arith, found.1), found.2)
-      | inr here ↦ (n, omega arith, here)
-    ]
+any_below-found n test some =
+    let found = Any-from_list_any test (range_with_len 0 n) some in
+    let below : found.0 < n = omega (arith, found.2, length-range_with_len 0 n) in
+    let place : found.1 ≡ 0 + found.0 = sym found.3 ∙ get_or-range_with_len 0 n found.0 found.1 below in
+    (found.1, omega arith, found.4)
 
 pub any_below-cases : (n : ℕ) (test : ℕ → Bool) → MatchBool (any_below n test) ((k : ℕ) × (k < n) × (test k ≡ true)) ((k : ℕ) → k < n → test k ≡ false)
 any_below-cases n test =
@@ -45,14 +45,14 @@ count_below-zero test = refl
 
 pub count_below-more : (n : ℕ) (test : ℕ → Bool) → count_below (n + 1) test ≡ count_below n test + (if test n then 1 else 0)
 unfolding count_below
-count_below-more n test = ap (λ (m : ℕ). count_below m test) (add-one n)
+count_below-more n test =
+    let one : ℕ → ℕ = λ k. cond (test k) 1 0 in
+    sym (sum-map one (range_with_len 0 (n + 1))) ∙ sum_by-map-range_with_len_more (λ x. x) one 0 n n (omega arith)
+    ∙ ap (λ m. m + one n) (sum-map one (range_with_len 0 n))
+
+pub count_below-suc : (n : ℕ) (test : ℕ → Bool) → count_below (suc n) test ≡ count_below n test + (if test n then 1 else 0)
+count_below-suc n test = ap (λ m. count_below m test) (sym (add-one n)) ∙ count_below-more n test
 
 pub count_below-most : (n : ℕ) (test : ℕ → Bool) → count_below n test ≤ n
 unfolding count_below
-count_below-most zero test = omega arith
-count_below-most (suc n) test =
-    let rest : count_below n test ≤ n = count_below-most n test in
-    elim (cases_Bool (test n)) [
-      | inl passes ↦ rw passes (omega (arith, rest))
-      | inr fails ↦ rw fails (omega (arith, rest))
-    ]
+count_below-most n test = omega (arith, count_by-le-length test (range_with_len 0 n), length-range_with_len 0 n)

@@ -3,7 +3,7 @@ use Rattle.std.proofs.Common.{◌≡◌, ◌<◌, ◌+◌, ◌||◌, ◌∙◌, 
 use Rattle.std.specs.Prelude.{MatchBool, ◌==◌}
 use Rattle.std.proofs.lemmas.Bool.{cases_eq, or_left, ne_eqb, eq-eqb}
 use Rattle.nor_geometry.specs.Below.{any_below, count_below}
-use Rattle.nor_geometry.proofs.Below.{any_below-some}
+use Rattle.nor_geometry.proofs.Below.{any_below-some, count_below-suc}
 use Rattle.nor_geometry.proofs.Counting.{any_below-all, count_below-same}
 
 -- Suppose that a true `verdict` implies that some number below `n` passes `test`, and a false `verdict` implies that
@@ -16,7 +16,6 @@ any_below-decided n false test P Q passes fails none = sym (any_below-all n test
 -- Suppose that `k` is below `n` and fails the test `p`, and that a number passes the test `q` if and only if it is `k`
 -- or passes `p`. Then, among the numbers below `n`, one more passes `q` than `p`.
 pub count_below-insert : (n k : ℕ) (p q : ℕ → Bool) → k < n → p k ≡ false → ((s : ℕ) → q s ≡ ((s == k) || p s)) → count_below n q ≡ count_below n p + 1
-unfolding count_below
 count_below-insert zero k p q below fails inserted = absurd (omega arith)
 count_below-insert (suc n) k p q below fails inserted =
     elim (cases_eq k n) [
@@ -25,9 +24,9 @@ count_below-insert (suc n) k p q below fails inserted =
           let new : q n ≡ true = inserted n ∙ or_left (n == k) (p n) (eq-eqb n k (sym same)) in
           let rest : count_below n q ≡ count_below n p =
           count_below-same n q p (λ s lower. inserted s ∙ rw (ne_eqb s k (λ e. absurd (omega arith)))) in
-          rw (new, old, rest) (omega arith)
+          rw (count_below-suc, count_below-suc, new, old, rest) (omega arith)
       | inr other ↦
           let rest : count_below n q ≡ count_below n p + 1 = count_below-insert n k p q (omega arith) fails inserted in
           let here : q n ≡ p n = inserted n ∙ rw (ne_eqb n k (λ e. other (sym e))) in
-          rw (here, rest) (omega arith)
+          rw (count_below-suc, count_below-suc, here, rest) (omega arith)
     ]

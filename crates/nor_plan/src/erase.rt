@@ -3,7 +3,7 @@
 ghost use Rattle.std.specs.Prelude.{◌≡◌, ◌+◌, ◌*◌, ◌/◌, ◌^◌, ◌<◌, ◌≤◌, ℕ, Bool};
 ghost use Rattle.std.specs.Prelude.{true, List, length};
 ghost use Rattle.nor_model.specs.declared.config.Kinds.{Kinds};
-ghost use Rattle.nor_geometry.specs.Counts.{IsCount};
+ghost use Rattle.nor_geometry.specs.Below.{count_below};
 ghost use Rattle.nor_plan.specs.Erase.{Covers};
 ghost use Rattle.nor_plan.specs.Planned.{holds_block, holds_run, planned_block, planned, fewest_erases};
 ghost use Rattle.nor_plan.specs.Planned.{HeadsPlanned, IsLeastLength};
@@ -35,8 +35,8 @@ pub fn erases(set: &SectorSet, kinds: Kinds, size: u32) -> Erases
     ensures fewest { (others : List Erase) → Covers kinds (size / 4096) others (has set.now)
         → length (erases_left result) ≤ length others }
     ensures few { length (erases_left result) ≤ member_count set.now }
-    ensures counted { (count : ℕ → ℕ) (end : ℕ) → IsCount (has set.now) count
-        → LiesBelow set.now end → length (erases_left result) ≤ count end }
+    ensures counted { (end : ℕ) → LiesBelow set.now end
+        → length (erases_left result) ≤ count_below end (has set.now) }
     ensures planned { erases_left result ≡ planned kinds (size / 4096) (has set.now) }
 {
     let whole = is_run(set, 0, size / SECTOR_LEN);

@@ -1,9 +1,6 @@
 use Rattle.std.proofs.Common.{ℕ, ◌+◌, ◌∙◌, [], ap, sym, refl, arith, true≢false}
 use Rattle.std.proofs.lemmas.Grind.{common_steps}
-use Rattle.nor_geometry.specs.Below.{count_below}
-use Rattle.nor_geometry.proofs.Counting.{count_below-zero, count_below-more}
 use Rattle.nor_plan.specs.Erases.{erases_left}
-use Rattle.nor_plan.specs.SectorSet.{has}
 use Rattle.nor_apply.proofs.InTurn.{listed_none}
 use Rattle.nor_apply.proofs.Changing.{made_none}
 use Rattle.nor_apply.proofs.ErasingExits.{erases_more, few_units, erases_failed, leaves_ended, does_ended}
@@ -12,10 +9,7 @@ use Rattle.nor_apply.proofs.erases.erase_all.Goals as goal
 pub loop-unit-init : goal.loop-unit-init
 loop-unit-init g c =
     let listed = c.erases-unit-items.ensures in
-    let set = has c.args.raised.now in
-    let few = listed.counted (λ n. count_below n set) 4096
-    (record { begins = count_below-zero set; goes = λ n. count_below-more n set })
-    (λ s is. omega (arith, c.requires.inside s is)) in
+    let few = listed.counted 4096 (λ s is. omega (arith, c.requires.inside s is)) in
     record {
       below = c.requires.inside;
       covers = rw (← listed.planned) listed.covers;

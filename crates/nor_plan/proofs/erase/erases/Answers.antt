@@ -25,6 +25,6 @@ pub returns-clause-few : goal.returns-clause-few
 returns-clause-few c = rw c.new.ensures (planned_few c.is_run-whole.result c.args.kinds c.args.set.now 0)
 
 pub returns-clause-counted : goal.returns-clause-counted
-returns-clause-counted c count end is below =
-    rw (c.new.ensures, ← member_count-is c.args.set.now (search rules) count end is below)
+returns-clause-counted c end below =
+    rw (c.new.ensures, ← member_count-is c.args.set.now (search rules) end below)
     (planned_few c.is_run-whole.result c.args.kinds c.args.set.now 0)

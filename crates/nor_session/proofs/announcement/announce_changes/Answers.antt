@@ -1,10 +1,9 @@
 use Rattle.std.proofs.Common.{◌≡◌, ◌∙◌, ℕ, ◌/◌, ◌<◌, ◌≤◌, Bool, true, sym, ap, length, arith, inl}
-use Rattle.nor_geometry.specs.Counts.{IsCount}
 use Rattle.std.proofs.lemmas.Iterator.{items_from_drains}
 use Rattle.std.proofs.lemmas.Iterator.Consumers.{YieldsList-from_first}
 use Rattle.std.proofs.lemmas.List.{length-map}
 use Rattle.nor_geometry.specs.Below.{count_below}
-use Rattle.nor_geometry.proofs.Counting.{count_below-zero, count_below-more, count_below-most}
+use Rattle.nor_geometry.proofs.Counting.{count_below-most}
 use Rattle.nor_plan.specs.Erases.{erases_left}
 use Rattle.nor_plan.specs.Planned.{planned}
 use Rattle.nor_plan.specs.SectorSet.{has}
@@ -13,12 +12,9 @@ use Rattle.nor_session.proofs.announcement.announce_changes.Goals as goal
 -- Let the sectors of `set` lie on a chip of at most 16 MiB. If a list of erases has at most one erase for each sector
 -- of `set`, it has at most 4,096 erases.
 few_listed : (set : ℕ → Bool) (size listed : ℕ) → size ≤ 16777216 → ((s : ℕ) → set s ≡ true → s < size / 4096)
-    → ((count : ℕ → ℕ) (end : ℕ) → IsCount set count → ((s : ℕ) → set s ≡ true → s < end) → listed ≤ count end)
-    → listed ≤ 4096
+    → ((end : ℕ) → ((s : ℕ) → set s ≡ true → s < end) → listed ≤ count_below end set) → listed ≤ 4096
 few_listed set size listed small below counted =
-    let few = counted (λ n. count_below n set) (size / 4096)
-    (record { begins = count_below-zero set; goes = λ n. count_below-more n set }) below in
-    omega (arith, few, count_below-most (size / 4096) set)
+    omega (arith, counted (size / 4096) below, count_below-most (size / 4096) set)
 
 pub count-erases-requires-clause-fits : goal.count-erases-requires-clause-fits
 count-erases-requires-clause-fits g c =
