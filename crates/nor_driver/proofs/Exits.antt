@@ -1,22 +1,26 @@
 -- The effect of an operation at each of its exits: the bus stops at the write enable or at the command, the wait fails,
 -- or the operation succeeds.
-use Rattle.std.proofs.Common.{◌≡◌, ◌+◌, ◌∙◌, ◌⊎◌, ℕ, true, false, List, [], ◌∷◌, length, drop, take, ap, sym, subst, arith, inl, inr}
+use Rattle.std.proofs.Common.{◌≡◌, ◌+◌, ◌∙◌, ◌⊎◌, ℕ, true, false, List, [], ◌∷◌, length, drop, take, ap, refl, sym, subst, arith, inl, inr}
 use Rattle.std.proofs.Math.Bool.{or-true}
 use Rattle.nor_model.specs.declared.command.Command.{Command}
-use Rattle.nor_model.specs.Sent.{is_stirred}
+use Rattle.nor_model.specs.Exchange.{Exchange}
+use Rattle.nor_model.specs.History.{replied}
+use Rattle.nor_model.specs.Sent.{is_stirred, with_sent}
 use Rattle.nor_model.specs.Step.{Does, is_operation, done_of}
 use Rattle.nor_model.specs.Bus.{BusState, KeepsNature, IsHonestFor, AtStop, Stops, Carries}
 use Rattle.nor_model.proofs.Nature.{nature_then}
 use Rattle.nor_driver.proofs.Sends.{Sends}
 use Rattle.nor_driver.specs.declared.waits.Waited.{Waited}
 use Rattle.nor_driver.specs.OnlyReads.{Unchanged, KeepsChip, Falls, OnlyReads}
+use Rattle.nor_driver.specs.Polls.{PollsUntilReady}
 use Rattle.nor_driver.specs.Waits.{Waits}
 use Rattle.nor_driver.specs.Reads.{HasRead}
 use Rattle.nor_driver.specs.Limits.{Limits, limits_of, SendsWithin}
-use Rattle.nor_driver.specs.Operations.{operation_of, AsksForOperation, most_operation, MayOperate, LeavesOperation, Operates, command_operation}
+use Rattle.nor_driver.specs.Operations.{operation_of, AsksForOperation, most_operation, MayOperate, SendsOperation, LeavesOperation, Operates, command_operation}
 use Rattle.nor_driver.proofs.Limits.{enable_sends, command_sends, command_exactly, still_stirred, sends_same, exactly_same}
 use Rattle.nor_driver.proofs.Cuts.{stays_after, unchanged_then}
 use Rattle.nor_driver.proofs.Torn.{Wore, IsAsBefore, still_or_torn, still_stays, reached, reached_stays, none_begun, enable_stays}
+use Rattle.nor_driver.proofs.Polled.{replied_then}
 use Rattle.nor_driver.proofs.Readings.{carried_ignored}
 use Rattle.nor_driver.proofs.Begun.{IsEnabled, enabled, then_done, part_done, operation-ignored, idle-takes, HasBegun, operation-begins, may-before, may-after, may-unsteady, operated, latch-kept}
 
@@ -181,12 +185,33 @@ module _ (out : List ℕ) (asks : AsksForOperation out) (old : BusState) where
           may-after _ _ old begun new is stirs.nature.steady (has-begun honest is) (honest_reads honest).stays)
           (λ honest is. stays_after old begun new stirs.nature.steady (unchanged honest is) (honest_reads honest).stays)
 
+      -- After the wait, the history has exactly the transactions of the operation.
+      sends-operation : (new : BusState) (waited : Waited) → new.sent ≡ begun.sent → Waits begun new waited
+          → ready.history ≡ replied (6 ∷ []) first ∷ old.history → begun.history ≡ replied out second ∷ ready.history
+          → SendsOperation old new (waited.polls + 2)
+      sends-operation new waited same waits enabled_by begun_by = record {
+        command = out;
+        waited = waited;
+        added = same ∙ sends'.added ∙ ap (with_sent out) sends.added;
+        history = subst (λ (earlier : List Exchange). PollsUntilReady earlier new.history waited)
+            (begun_by ∙ replied_then out (6 ∷ []) none none' enabled_by) waits.history;
+        count = refl;
+      }
+
       pub operates-with : (new : BusState) (waited : Waited) → new.sent ≡ begun.sent → Waits begun new waited
+          → ready.history ≡ replied (6 ∷ []) first ∷ old.history → begun.history ≡ replied out second ∷ ready.history
           → Operates (command_operation out) old new (waited.polls + 2)
-      operates-with new waited same waits =
+      operates-with new waited same waits enabled_by begun_by =
           let wait = λ (honest : old.honest ≡ true). waits.done (stirs.nature.honest ∙ honest) in
           record {
-            ends = grind (arith, waits.some, waits.few, waits.polled_ready, wait, enabling, carried);
+            ends = record {
+              sends = sends-operation new waited same waits enabled_by begun_by;
+              least = omega (arith, waits.some);
+              few = omega (arith, waits.few);
+              polled_ready = waits.polled_ready;
+              count = λ honest. omega (arith, (enabling honest).count, (carried honest).left, (wait honest).count);
+              idle = λ honest. (wait honest).idle;
+            };
             sends = exactly_same same (command_exactly out old ready begun sends sends');
             done = λ honest is. operated _ _ old begun new waited (has-begun honest is) (wait honest);
             ignored = λ honest is.

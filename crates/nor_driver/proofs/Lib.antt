@@ -8,6 +8,7 @@ pub mod ReadBack
 pub mod RestsInTurn
 pub mod Passed
 pub mod Waiting
+pub mod Polled
 pub mod ReplyBytes
 pub mod Torn
 pub mod Begun

@@ -1,5 +1,6 @@
 pub mod OnlyReads
 pub mod Ready
+pub mod Polls
 pub mod Waits
 pub mod Reads
 pub mod ReadsInTurn

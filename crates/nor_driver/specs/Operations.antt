@@ -1,15 +1,18 @@
 -- The effect of any operation, which consists of a write enable, a command, and a wait.
-use Rattle.std.specs.Prelude.{◌≡◌, ◌≢◌, ◌≤◌, ◌+◌, ◌*◌, ◌⊎◌, ◌||◌, ℕ, Bool, true, false, List, ◌∷◌, length, drop, take, slice_index}
+use Rattle.std.specs.Prelude.{◌≡◌, ◌≢◌, ◌≤◌, ◌+◌, ◌*◌, ◌⊎◌, ◌||◌, ℕ, Bool, true, false, List, [], ◌∷◌, length, drop, take, slice_index}
 use Rattle.nor_model.specs.declared.config.Config.{Config}
 use Rattle.nor_model.specs.declared.command.Command.{Command}
 use Rattle.nor_model.specs.declared.command.Command.TheVariants.{WriteStatus, Program, Erase, Ignored}
 use Rattle.nor_model.specs.Chip.{Chip, KeptBits, IsSame}
 use Rattle.nor_model.specs.Power.{is_in_work}
 use Rattle.nor_model.specs.Command.{command_of}
-use Rattle.nor_model.specs.Sent.{is_stirred, is_unknown_to_model}
+use Rattle.nor_model.specs.History.{replied}
+use Rattle.nor_model.specs.Sent.{with_sent, is_stirred, is_unknown_to_model}
 use Rattle.nor_model.specs.Step.{is_idle, is_operation, done_of, byte_after, kept_after, running_after, wears}
 use Rattle.nor_model.specs.Bus.{BusState}
+use Rattle.nor_driver.specs.declared.waits.Waited.{Waited}
 use Rattle.nor_driver.specs.OnlyReads.{KeepsChip}
+use Rattle.nor_driver.specs.Polls.{PollsUntilReady}
 use Rattle.nor_driver.specs.Limits.{Limits, limits_of, SendsExactly, Leaves}
 
 -- the greatest number of transactions of an operation: one write enable, one command and 65,536 polls
@@ -57,9 +60,21 @@ pub record HasIgnored (old new : BusState) : Type 0 where
   pub worn : (s : ℕ) → new.worn s ≡ old.worn s
   pub latch : new.chip.latch ≡ is_idle old.chip
 
--- Holds if an operation succeeded with `sent` transactions. On every bus `sent` is from 3 to 65,538, and the last poll
--- showed that the chip is ready. On a well-behaved bus `sent` fewer transactions are left, and the chip is idle.
+-- Holds if exactly the `sent` transactions of an operation were sent, and each received a reply: a write enable, the
+-- command, and the polls of a wait. The last poll showed that the chip is ready, and all polls before it showed BUSY
+-- (`PollsUntilReady`). No reply byte was read for the write enable and the command.
+pub record SendsOperation (old new : BusState) (sent : ℕ) : Type 0 where
+  pub command : List ℕ
+  pub waited : Waited
+  pub added : new.sent ≡ with_sent command ((0x06 ∷ []) ∷ old.sent)
+  pub history : PollsUntilReady (replied command [] ∷ replied (0x06 ∷ []) [] ∷ old.history) new.history waited
+  pub count : sent ≡ waited.polls + 2
+
+-- Holds if an operation succeeded with `sent` transactions. On every bus exactly these transactions were sent
+-- (`SendsOperation`), from 3 to 65,538. The operation ended with the first poll that showed that the chip is ready. On
+-- a well-behaved bus `sent` fewer transactions are left, and the chip is idle.
 pub record EndsWaiting (old new : BusState) (sent : ℕ) : Type 0 where
+  pub sends : SendsOperation old new sent
   pub least : 3 ≤ sent
   pub few : sent ≤ most_operation
   pub polled_ready : new.polled_ready ≡ true

@@ -9,6 +9,7 @@ use Rattle.nor_driver.specs.declared.waits.OperationError.{OperationError}
 use Rattle.nor_driver.specs.declared.waits.OperationError.TheVariants.{Stopped, Timeout}
 use Rattle.nor_driver.specs.declared.waits.Waited.{Waited}
 use Rattle.nor_driver.specs.OnlyReads.{Rested, RanOut}
+use Rattle.nor_driver.specs.Polls.{PollsUntilReady}
 
 -- The effect, on a well-behaved bus, of one poll: `status` is status 1 as it was before the poll. A chip that was busy
 -- will show BUSY in one poll fewer, and the poll that shows the last BUSY clears the write enable latch.
@@ -39,11 +40,12 @@ pub record HasWaited (old new : BusState) (waited : Waited) : Type 0 where
   pub polls : waited.polls ≡ old.chip.busy + 1
   pub count : old.left ≡ new.left + waited.polls
 
--- Holds if a wait succeeded. On every bus the wait made from 1 to 65,536 polls, and the last one received `status1`,
--- which shows that the chip is ready. For each test that is false for every poll, the last reply to a transaction that
--- passes the test is as before (`keeps_other_replies`). The definition doesn't say that only polls were sent. On a
--- well-behaved bus, `HasWaited` states the effect of the wait.
+-- Holds if a wait succeeded. On every bus the wait made from 1 to 65,536 polls, and sent nothing else. It ended with the
+-- first poll that showed that the chip is ready (`PollsUntilReady`), and this poll received `status1`. For each test
+-- that is false for every poll, the last reply to a transaction that passes the test is as before
+-- (`keeps_other_replies`). On a well-behaved bus, `HasWaited` states the effect of the wait.
 pub record Waits (old new : BusState) (waited : Waited) : Type 0 where
+  pub history : PollsUntilReady old.history new.history waited
   pub keeps_other_replies : KeepsReplies is_poll old.history new.history
   pub status : last_reply is_poll new.history ≡ waited.status1 ∷ []
   pub some : 1 ≤ waited.polls

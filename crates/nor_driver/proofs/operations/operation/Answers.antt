@@ -28,3 +28,4 @@ returns-clause-does g c =
     operates-with _ c.requires _ _ _ c.transfer.auto.reply (sends_by c.transfer.ensures.nature c.transfer.ensures.records)
     c.in_ok-transfer.ensures.carries _ _ c.transfer-2.auto.reply (sends_by c.transfer-2.ensures.nature c.transfer-2.ensures.records)
     c.in_ok-transfer-2.ensures.carries _ _ c.wait.ensures.leaves.sent c.in_ok-waited.ensures.does
+    c.in_ok-transfer.ensures.records.history c.in_ok-transfer-2.ensures.records.history

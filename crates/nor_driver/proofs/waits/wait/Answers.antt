@@ -1,7 +1,8 @@
-use Rattle.std.proofs.Common.{arith}
+use Rattle.std.proofs.Common.{refl, arith}
 use Rattle.std.proofs.lemmas.Grind.{common_steps}
 use Rattle.nor_model.proofs.Nature.{nature_then}
 use Rattle.nor_model.proofs.Histories.{keeps_replies_then, answered_keeps, answered_last}
+use Rattle.nor_driver.proofs.Polled.{polled_busy, polled_ready}
 use Rattle.nor_driver.proofs.Waiting.{poll_answered, ends_busy, polled_leaves}
 use Rattle.nor_driver.proofs.waits.wait.Goals as goal
 
@@ -20,6 +21,7 @@ returns-then-not-contains-clause-leaves g c =
 pub returns-then-not-contains-clause-does : goal.returns-then-not-contains-clause-does
 returns-then-not-contains-clause-does g c =
     let polled = poll_answered c.in_ok-status1.ensures.does in record {
+      history = polled_ready c.loop-polls.invariant.polled c.in_ok-status1.ensures.does (grind (arith, common_steps)) refl refl;
       keeps_other_replies = keeps_replies_then c.loop-polls.invariant.keeps_other_replies (answered_keeps polled);
       status = answered_last polled;
       some = grind (arith, common_steps);
@@ -35,6 +37,7 @@ loop-polls-preserved g c =
     let polled = poll_answered c.in_ok-status1.ensures.does in record {
       nature = nature_then _ _ _ c.poll.ensures.leaves.nature was.nature;
       sent = grind (arith, common_steps);
+      polled = polled_busy was.polled c.in_ok-status1.ensures.does (grind (arith, common_steps)) refl;
       keeps_other_replies = keeps_replies_then was.keeps_other_replies (answered_keeps polled);
       shown_busy = λ some. ends_busy c.in_ok-status1.ensures.does (grind (arith, common_steps));
       rested = grind (arith, common_steps);

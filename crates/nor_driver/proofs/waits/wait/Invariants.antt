@@ -4,6 +4,7 @@ use Rattle.nor_model.specs.PolledReady.{is_poll}
 use Rattle.nor_model.specs.Bus.{KeepsNature}
 use Rattle.nor_driver.specs.OnlyReads.{Rested}
 use Rattle.nor_driver.specs.Waits.{latch_when_idle}
+use Rattle.nor_driver.proofs.Polled.{PollsBusy}
 use Rattle.nor_driver.proofs.waits.wait.Given as goal
 
 abbrev pub invariant-loop-polls : goal.invariant-loop-polls
@@ -12,6 +13,7 @@ invariant-loop-polls g l =
     record {
       nature : KeepsNature old now;
       sent : now.sent ≡ old.sent;
+      polled : PollsBusy old.history now.history l.polls;
       keeps_other_replies : KeepsReplies is_poll old.history now.history;
       shown_busy : 0 < l.polls → EndsBusy now.history;
       rested : old.honest ≡ true → Rested old now;
