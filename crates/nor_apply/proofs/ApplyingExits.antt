@@ -10,7 +10,8 @@ use Rattle.nor_geometry.proofs.Counting.{count_below-most}
 use Rattle.nor_model.specs.Sent.{Sent, begins_erase, begins_program, counted_once, times_sent, has_sent, erases_of, programs_of}
 use Rattle.nor_model.specs.Bus.{BusState}
 use Rattle.nor_driver.specs.declared.waits.OperationError.{OperationError}
-use Rattle.nor_driver.specs.Waits.{OperationFails}
+use Rattle.nor_driver.specs.declared.waits.OperationError.TheVariants.{Stopped, Timeout}
+use Rattle.nor_driver.specs.Waits.{OperationFails, NamesTimeout}
 use Rattle.nor_driver.specs.StatusWrites.{is_status_with_code, status_write}
 use Rattle.nor_driver.specs.Limits.{writing, no_status, SendsExactly}
 use Rattle.nor_driver.specs.Operations.{LeavesOperation, Operates, most_operation}
@@ -24,7 +25,7 @@ use Rattle.nor_apply.specs.Spending.{may_target}
 use Rattle.nor_apply.specs.Change.{MayChange, blank}
 use Rattle.nor_apply.specs.Erasing.{is_erase_of, CanEraseAll, LeavesErases, DoesErases}
 use Rattle.nor_apply.specs.Programming.{CanProgramAll, LeavesPrograms, DoesPrograms, most_sector}
-use Rattle.nor_apply.specs.Applying.{touched_in, raised_in, writes_code, status_writes, is_status_asked, most_applied, CanApply, LeavesApply, ErasesFirst, DoesApply}
+use Rattle.nor_apply.specs.Applying.{touched_in, raised_in, writes_code, status_writes, is_status_asked, most_applied, CanApply, LeavesApply, ErasesFirst, DoesApply, NamesChange}
 use Rattle.nor_apply.proofs.InTurn.{ran_none, ran_after, ran_leaves, honest_now}
 use Rattle.nor_apply.proofs.Targeting.{target_here, target_wider}
 use Rattle.nor_apply.proofs.Changing.{change_as, same_change}
@@ -175,6 +176,12 @@ has_sent-left is (out ∷ later) earlier has = elim (or_cases _ _ has) [
 ]
 
 -- ---- the last status write
+
+-- a timeout of the last status write names address 0
+pub last_names : (changes : Changes) → writes_code changes ≡ true → (error : OperationError) → NamesTimeout 0 error
+    → NamesChange changes error
+last_names changes writes Stopped names = tt
+last_names changes writes (Timeout address) names = inl (rw writes (omega arith), names)
 
 -- The effects and results of the three parts before the last status write: the unlock (from `old` to `free`), the
 -- erases (from `free` to `mid`) and the programs (from `mid` to `made`).

@@ -11,6 +11,7 @@ use Rattle.nor_driver.specs.declared.waits.OperationError.{OperationError}
 use Rattle.nor_driver.specs.Waits.{OperationFails}
 use Rattle.nor_driver.specs.Limits.{Limits, SendsWithin, SendsExactly, Leaves}
 use Rattle.nor_driver.specs.Operations.{EndsWaiting, most_operation}
+use Rattle.nor_driver.proofs.Polled.{adds_then, operation_adds}
 use Rattle.nor_driver.proofs.Limits.{IsPartOf, AreParts, IsSum, sum_parts, sends_none, sends_more, sends_then, sends_exactly, exactly_none, exactly_then}
 use Rattle.nor_apply.specs.declared.tally.Tally.{Tally}
 use Rattle.nor_apply.specs.Spending.{Tallies}
@@ -36,7 +37,15 @@ ran_none {limits} state none = record {
   nature = nature_refl state;
   sends = sends_none limits state state refl;
   exactly = rw (none.0, none.1, none.2) (exactly_none state state refl);
-  tallies = search arith;
+  tallies = record {
+    least = omega arith;
+    few = omega arith;
+    added = record { all = omega arith; few_others = omega arith };
+    polled_ready = λ ready. ready;
+    unsent = λ none. refl;
+    idle = λ honest idle. idle;
+    sent = λ honest. omega arith;
+  };
 }
 
 -- If a part succeeded and sent exactly `e` erases, `p` page programs and `w` status writes, `Ran` holds with these
@@ -51,22 +60,50 @@ pub ran_one : {e p w sent : ℕ} {limits : Limits} {Can : Chip → Type 0} {May 
     {old new : BusState} → Leaves most_operation limits Can May old new → SendsExactly e p w old new
     → EndsWaiting old new sent → Ran (record limits { erases = e; programs = p; status_writes = w }) 0 old new
     (record { count = 1; transactions = sent })
-ran_one leaves exactly ends = ran_part leaves exactly (search arith)
+ran_one leaves exactly ends = ran_part leaves exactly record {
+  least = omega (arith, ends.least);
+  few = omega (arith, ends.few);
+  added = operation_adds ends.sends;
+  polled_ready = λ ready. ends.polled_ready;
+  unsent = λ none. absurd (omega (arith, none));
+  idle = λ honest idle. ends.idle honest;
+  sent = ends.count;
+}
 
 -- ---- two successive parts that succeeded
 
 module _ {first : Limits} {r : ℕ} {old mid new : BusState} {done : Tally} (ran : Ran first r old mid done) where
+  tallies_after : {k readings : ℕ} {more all : Tally} → Tallies k mid new more → r + k ≤ readings
+      → all.count ≡ done.count + more.count → all.transactions ≡ done.transactions + more.transactions
+      → Tallies readings old new all
+  tallies_after after fits count transactions =
+      let before = ran.tallies in
+      let added = adds_then before.added after.added in
+      record {
+        least = omega (arith, before.least, after.least, count, transactions);
+        few = omega (arith, before.few, after.few, fits, count, transactions);
+        added = record {
+          all = omega (arith, added.all, transactions);
+          few_others = omega (arith, added.few_others, fits, count, transactions);
+        };
+        polled_ready = λ ready. after.polled_ready (before.polled_ready ready);
+        unsent = λ none. after.unsent (omega (arith, none, count)) ∙ before.unsent (omega (arith, none, count));
+        idle = λ honest idle. after.idle (ran.nature.honest ∙ honest) (before.idle honest idle);
+        sent = λ honest.
+            omega (arith, before.sent honest, after.sent (ran.nature.honest ∙ honest), transactions);
+      }
+
   pub ran_after : {second both : Limits} {k readings : ℕ} {more all : Tally} → IsSum first second both
       → Ran second k mid new more → r + k ≤ readings
       → all.count ≡ done.count + more.count → all.transactions ≡ done.transactions + more.transactions
       → Ran both readings old new all
-  ran_after {second} {both} sum after readings count transactions =
+  ran_after {second} {both} sum after fits count transactions =
       let nature = nature_then old mid new after.nature ran.nature in
       record {
         nature = nature;
         sends = sends_then first second both old mid new (sum_parts first second both sum) ran.sends after.sends;
         exactly = exactly_then sum.erases sum.programs sum.status_writes ran.exactly after.exactly;
-        tallies = grind (arith, ran.nature.honest, ran.tallies.sent, after.tallies.sent, ran.tallies.idle, after.tallies.idle, ran.tallies.unsent, after.tallies.unsent);
+        tallies = tallies_after after.tallies fits count transactions;
       }
 
 -- ---- each exit of the next part

@@ -34,11 +34,20 @@ module _ {sector : ℕ} {erased : Bool} {bytes bytes' : List ℕ} {reads : ℕ} 
   loads_ran : Ran (programming (only sector) 0) 1 first mid (record { count = 0; transactions = reads })
   loads_ran =
       let read = loads.honest_reads in
+      let few : reads ≤ 1 = grind (arith, loads.reads_once) in
       record {
         nature = read.nature;
         sends = sends_none (programming (only sector) 0) first mid read.same_sent;
         exactly = exactly_none first mid read.same_sent;
-        tallies = grind (arith, loads.reads_once, read.same_sent, read.polled_ready, read.rested, read.sent);
+        tallies = record {
+          least = omega arith;
+          few = omega (arith, few);
+          added = record { all = loads.added.all; few_others = omega (arith, loads.added.few_others, few) };
+          polled_ready = read.polled_ready;
+          unsent = λ none. read.same_sent;
+          idle = λ honest idle. omega (arith, (read.rested honest).unchanged.busy, idle);
+          sent = read.sent;
+        };
       }
 
   module _ {wanted : List ℕ} (blank : (i : ℕ) → i < 4096 → slice_index bytes i ≡ 255) (honest : first.honest ≡ true)

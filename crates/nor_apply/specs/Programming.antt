@@ -6,6 +6,7 @@ use Rattle.nor_driver.specs.Reads.{IsSectorOf}
 use Rattle.nor_driver.specs.ReadsInTurn.{HasOnlyRead}
 use Rattle.nor_driver.specs.Limits.{programming, SendsExactly, Leaves}
 use Rattle.nor_driver.specs.Operations.{most_operation}
+use Rattle.nor_driver.specs.Polls.{AddsTransactions}
 use Rattle.nor_apply.specs.declared.tally.Tally.{Tally}
 use Rattle.nor_geometry.specs.Below.{count_below}
 use Rattle.nor_geometry.specs.Counts.{sector_count}
@@ -59,10 +60,11 @@ pub record DoesSector (readings : ℕ) (Can : Chip → Type 0) (sector : ℕ) (w
       → tally.count ≡ count_below 16 (λ page. is_page_other old.chip.bytes (byte_of sector wanted) (16 * sector + page))
 
 -- Holds after a sector was loaded into a buffer, whose bytes were `bytes` before and are `bytes'` now. If the sector
--- was erased, no read was sent, and the buffer is as it was. Otherwise one read was sent. On a well-behaved bus with an
--- idle chip that has this sector, the buffer then has the chip's bytes.
+-- was erased, no read was sent, and the buffer is as it was. Otherwise one read was sent. Nothing else was sent. On a
+-- well-behaved bus with an idle chip that has this sector, the buffer then has the chip's bytes.
 pub record LoadsOk (sector : ℕ) (erased : Bool) (bytes bytes' : List ℕ) (old new : BusState) (reads : ℕ) : Type 0 where
   pub reads_once : reads ≡ (if erased then 0 else 1)
+  pub added : AddsTransactions reads reads old.history new.history
   pub honest_reads : HasOnlyRead reads old new
   pub kept : erased ≡ true → bytes' ≡ bytes
   pub replied : erased ≡ false → old.honest ≡ true → old.chip.busy ≡ 0 → 4096 * (sector + 1) ≤ old.chip.config.size

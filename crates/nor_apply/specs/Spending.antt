@@ -6,6 +6,7 @@ use Rattle.nor_driver.specs.declared.waits.OperationError.{OperationError}
 use Rattle.nor_driver.specs.declared.waits.OperationError.TheVariants.{Stopped, Timeout}
 use Rattle.nor_driver.specs.Ready.{StaysReady}
 use Rattle.nor_driver.specs.Operations.{most_operation}
+use Rattle.nor_driver.specs.Polls.{AddsTransactions}
 use Rattle.nor_plan.specs.Planned.{holds_run}
 use Rattle.nor_apply.specs.declared.tally.Tally.{Tally}
 
@@ -20,14 +21,17 @@ abbrev pub NamesTimeoutIn : (ℕ → Bool) → OperationError → Type 0
 NamesTimeoutIn sectors Stopped = ⊤
 NamesTimeoutIn sectors (Timeout address) = sectors (address / 4096) ≡ true
 
--- Holds after a part of the changes succeeded, with `tally.count` operations and at most `readings` reads. The part
--- took at least 3 transactions for each operation. It took at most 65,538 for each operation and one for each read. If
--- `polled_ready` was true before the part (the last poll showed that the chip is ready), it is true after the part,
--- too. If `tally.count` is 0, no transaction that may modify a chip was sent. On a well-behaved bus
--- `tally.transactions` fewer transactions are left, and a chip that was idle is idle again.
+-- Holds after a part of the changes succeeded, with `tally.count` operations and at most `readings` reads. On every bus
+-- exactly `tally.transactions` transactions were sent. These are at least 3 for each operation. They are at most 3 for
+-- each operation, one for each read, and polls that showed BUSY (`AddsTransactions`). With these polls, they are at
+-- most 65,538 for each operation and one for each read. If `polled_ready` was true before the part (the last poll
+-- showed that the chip is ready), it is true after the part, too. If `tally.count` is 0, no transaction that may modify
+-- a chip was sent. On a well-behaved bus `tally.transactions` fewer transactions are left, and a chip that was idle is
+-- idle again.
 pub record Tallies (readings : ℕ) (old new : BusState) (tally : Tally) : Type 0 where
   pub least : 3 * tally.count ≤ tally.transactions
   pub few : tally.transactions ≤ readings + most_operation * tally.count
+  pub added : AddsTransactions tally.transactions (readings + 3 * tally.count) old.history new.history
   pub polled_ready : StaysReady old new
   pub unsent : tally.count ≡ 0 → new.sent ≡ old.sent
   pub idle : old.honest ≡ true → old.chip.busy ≡ 0 → new.chip.busy ≡ 0

@@ -1,6 +1,7 @@
 use Rattle.std.proofs.Common.{◌+◌, ◌∙◌, sym, arith}
 use Rattle.std.proofs.lemmas.Grind.{common_steps}
-use Rattle.nor_apply.proofs.ApplyingExits.{Lifted, Parts, Ended, lifted, not_lifted, erased, erases_failed, programs_failed, not_written, written, last_failed, does_applied, few_sent}
+use Rattle.std.proofs.lemmas.Result.{err_from_is_err_and}
+use Rattle.nor_apply.proofs.ApplyingExits.{Lifted, Parts, Ended, lifted, not_lifted, erased, erases_failed, programs_failed, not_written, written, last_names, last_failed, does_applied, few_sent}
 use Rattle.nor_apply.proofs.changes.apply.Goals.{After-erase_all, In_ok-programmed, Joined-writes_code, then-changes+in_ok-status_transactions, else-changes, then-writes_code+in_ok-status_transactions-2, else-writes_code}
 use Rattle.nor_apply.proofs.changes.apply.Goals as goal
 
@@ -50,7 +51,16 @@ returns-in_err-status_transactions-2 g c =
     let parts = all_done g at.In_ok-programmed (lifted_here g at.After-erase_all) in
     let ends_in_error = last_failed parts (sym c.writes_code.ensures ∙ c.if-writes_code.true)
     c.write_status-then-writes_code.ensures.leaves c.in_err-status_transactions-2.ensures.fails in
-    grind (arith, common_steps, ends_in_error)
+    let names = last_names c.args.changes.now (sym c.writes_code.ensures ∙ c.if-writes_code.true) _
+    c.in_err-status_transactions-2.ensures.names in
+    let p = err_from_is_err_and c.from_residual-in_err-status_transactions-2.result
+    c.from_residual-in_err-status_transactions-2.ensures.1 in
+    record {
+      leaves = ends_in_error.0;
+      does = rw p.1 tt;
+      fails = rw (p.1, p.2) ends_in_error.1;
+      names = rw (p.1, p.2) names;
+    }
 
 -- `Ended` at the end: after the last status write, or without one.
 ended : (g : _) (c : Joined-writes_code g) (parts : Parts c.args.changes.now (g.S.Source.wanted c.args.source.now)
