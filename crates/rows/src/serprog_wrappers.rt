@@ -1,5 +1,5 @@
-//! `Paced`, which waits between polls that show BUSY, `ReadTwice`, which stops if two reads of the same bytes differ, and
-//! `CheckedStatus`, which stops if two polls differ or the chip is lost.
+//! `Paced`, which waits between polls that show BUSY, `ReadTwice`, which stops if two reads of the same bytes differ,
+//! and `CheckedStatus`, which stops if two polls differ or the chip is lost.
 
 use crate::serprog_model::{Fault, Model};
 use nor_buses::{CheckFault, CheckedStatus, Paced, ReadTwice};
@@ -159,9 +159,10 @@ fn readings_that_differ_stop_the_bus(rt: HostRuntime) {
     }
 }
 
-// A poll is transactions 2 to 5 of the bus inside: a poll, the ID, a poll and the ID again. In the second row the chip is
-// lost at the first of these IDs. In the third row it begins an operation after this ID: the second poll shows BUSY, and
-// the chip would ignore a read of its ID after that. The cause then is that the polls differ, not that the chip is lost.
+// A poll is transactions 2 to 5 of the bus inside: a poll, the ID, a poll and the ID again. In the second row the chip
+// is lost at the first of these IDs. In the third row it begins an operation after this ID: the second poll shows BUSY,
+// and the chip would ignore a read of its ID after that. The cause then is that the polls differ, not that the chip is
+// lost.
 #[test]
 fn a_busy_chip_is_not_lost(rt: HostRuntime) {
     let id = [0xFE, 0x10, 0x10];
