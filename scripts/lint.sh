@@ -44,6 +44,14 @@ each() {
     done
 }
 
+# together NAME COUNT FILE.. COMMAND..: like `each`, for a command that takes several files. Most runs find nothing, so
+# the command is run on all files at once, because most of its time is its start. If it fails, each file is checked by
+# itself, which names those at fault.
+together() {
+    local count=$2
+    if "${@:count + 3}" "${@:3:count}" > /dev/null 2>&1; then passed=$((passed + count)); else each "$@"; fi
+}
+
 # Succeeds if the file is executable and its first line names an interpreter, or neither.
 is_runnable() {
     local first
@@ -51,7 +59,10 @@ is_runnable() {
     if [[ $first == '#!'* ]]; then [[ -x $1 ]]; else [[ ! -x $1 ]]; fi
 }
 
-is_python() { python3 -c 'import ast, sys; ast.parse(open(sys.argv[1], encoding="utf-8").read(), sys.argv[1])' "$1"; }
+is_python() {
+    python3 -S -c 'import ast, sys
+for name in sys.argv[1:]: ast.parse(open(name, encoding="utf-8").read(), name)' "$@"
+}
 
 # Succeeds if the file uses no feature of bash 4: negative indices, arrays by reference, reading lines into arrays,
 # changes of case, `|&`, `&>>`, `;&` and `;;&`.
@@ -61,7 +72,7 @@ is_c() { cc -std=c11 -Wall -Wextra -Werror -fsyntax-only "$1"; }
 
 each runnable "${#files[@]}" "${files[@]}" is_runnable
 each 'bash 3.2' 1 completion/flashnor.bash is_old_bash
-each python "${#python[@]}" "${python[@]}" is_python
+together python "${#python[@]}" "${python[@]}" is_python
 if command -v shellcheck > /dev/null; then
     each shellcheck "${#shell[@]}" "${shell[@]}" shellcheck --
 else
@@ -73,9 +84,9 @@ else
     echo "skipped: the C files' look by a compiler, since there is none (cc)"
 fi
 if command -v pyflakes3 > /dev/null; then
-    each pyflakes "${#python[@]}" "${python[@]}" pyflakes3
+    together pyflakes "${#python[@]}" "${python[@]}" pyflakes3
 elif python3 -c 'import pyflakes' 2> /dev/null; then
-    each pyflakes "${#python[@]}" "${python[@]}" python3 -m pyflakes
+    together pyflakes "${#python[@]}" "${python[@]}" python3 -m pyflakes
 else
     echo "skipped: the Python files' look by pyflakes, which isn't installed"
 fi
