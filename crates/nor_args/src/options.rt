@@ -256,7 +256,8 @@ fn add_hardware_choices<'a>(
     let mut longer = command;
     for choice in choices {
         if is_for_hardware(choice.name) {
-            longer = longer.arg(choice.option(alloc).long(choice.name))?;
+            let option = choice.option(alloc).long(choice.name);
+            longer = longer.arg(option.help(choice.hardware_help()))?;
         }
     }
     Ok(longer)
@@ -313,6 +314,15 @@ fn add_choices<'a>(
 }
 
 impl Choice {
+    // Returns the help of this option in a program for hardware, which has more layouts than flashnor.
+    fn hardware_help(&self) -> &'static str {
+        if self.name == "include" {
+            "The regions to include, separated by commas; with a layout"
+        } else {
+            self.help
+        }
+    }
+
     // Returns the option that this row describes: an option that takes a value, or a flag.
     fn option<'a>(&self, alloc: Global) -> Arg<'a>
         ensures { IsOption (chosen self.now) result }
