@@ -1,5 +1,5 @@
 -- Where a job's fault is printed if a standard stream prints to one of the job's files.
-use Rattle.std.specs.Prelude.{◌≡◌, ◌++◌, ℕ, List, Option, true, ⊤}
+use Rattle.std.specs.Prelude.{◌≡◌, ℕ, List, Option, true, ⊤}
 use Rattle.std.specs.Io.KnownBytes.{Appends}
 use Rattle.nor_files.specs.Files.{Nature}
 use Rattle.nor_files.specs.Files.Failure.{Printed}

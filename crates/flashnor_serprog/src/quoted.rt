@@ -3,8 +3,8 @@ use nor_console::Escaped;
 use std::fmt;
 
 /// The name of a file as an argument in a shell: in single quotes, unless all its characters are ASCII letters, digits
-/// and those of `./_-+,=`. A name that begins with `-` has `./` before it, since it would be an option otherwise. A name
-/// with a single quote, or with characters that are printed escaped, can't be copied.
+/// and those of `./_-+,=`. A name that begins with `-` has `./` before it, since it would be an option otherwise. A
+/// name with a single quote, or with characters that are printed escaped, can't be copied.
 #[derive(Clone, Copy, Drop)]
 pub struct Quoted<'a>(pub &'a str);
 

@@ -1,6 +1,7 @@
 -- How a `CheckedStatus` confirms what it reads: it reads the ID after a reply, and status registers twice. Also the
 -- status writes that keep the bits that were read.
-use Rattle.std.specs.Prelude.{◌≡◌, ◌/◌, ◌%◌, ◌&&◌, ◌||◌, ◌==◌, ℕ, Bool, true, false, List, [], ◌∷◌, Option, None, Some, slice_index}
+use Rattle.std.specs.Prelude.{◌≡◌, ◌/◌, ◌%◌, ◌&&◌, ◌||◌, ◌==◌, ℕ, Bool, true, false, List, [], ◌∷◌, Option, None}
+use Rattle.std.specs.Prelude.{Some, slice_index}
 use Rattle.nor_model.specs.Exchange.{Exchange}
 use Rattle.nor_model.specs.History.{begins_with, bytes_or_none, replied}
 
@@ -92,8 +93,8 @@ abbrev pub ends_busy : (history : List Exchange) → Bool
 ends_busy [] = false
 ends_busy (last ∷ earlier) = begins_with 0x05 last.out && shows_busy (bytes_or_none last.reply)
 
--- True if the last transaction is a read of the ID, and the one before it is a poll that shows BUSY. A busy chip ignores
--- a read of its ID.
+-- True if the last transaction is a read of the ID, and the one before it is a poll that shows BUSY. A busy chip
+-- ignores a read of its ID.
 abbrev pub read_id_while_busy : (history : List Exchange) → Bool
 read_id_while_busy [] = false
 read_id_while_busy (last ∷ earlier) = has_read_id last && ends_busy earlier

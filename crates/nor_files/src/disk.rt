@@ -237,8 +237,8 @@ where
         sealed
     }
 
-    // Checks the name that `vault_in_new` was given, because this is the name of the vault that was taken back. Only the
-    // contract uses the argument, for the file of the failure, and it doesn't require that both names are equal.
+    // Checks the name that `vault_in_new` was given, because this is the name of the vault that was taken back. Only
+    // the contract uses the argument, for the file of the failure, and it doesn't require that both names are equal.
     fn is_kept(&self, _name: &str) -> bool {
         match &self.vaulted {
             Some(file) if self.sealed => file.check().is_ok(),
