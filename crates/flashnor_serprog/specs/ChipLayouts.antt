@@ -26,7 +26,8 @@ abbrev pub form_of_shown : Regions → (file : Option (Bor Text)) → Option Lay
 form_of_shown regions None = Some regions.form
 form_of_shown regions (Some file) = None
 
--- the form of the layout on the chip to which a task is limited, or `None` if the task has no layout or one in a file
+-- the form of the layout of these regions if it is on the chip, or `None` if there are no regions or their layout is in
+-- a file
 abbrev pub form_on_chip : Option Regions → Option LayoutForm
 form_on_chip None = None
 form_on_chip (Some regions) = form_of_shown regions regions.layout
@@ -84,8 +85,9 @@ pub record IsReadFirst (state : Connected → BusState) (device : Text) (named :
   pub read : HasReadLayout named layout (state start) last bytes
   pub sends : KeepsSent (state start) last
 
--- Holds if `shown` are the bytes in place of a layout's file. If the layout is on the chip, in this form, they were
--- read from there (`IsReadFirst`). If it isn't (`None`), `shown` must be `None`.
+-- Holds if `shown` are the bytes in place of a layout's file. If the layout of the task is on the chip, in this form,
+-- `shown` has the bytes that were read from there, and FFh for each other byte (`IsReadFirst`). If the task has no
+-- layout, or one in a file, the form is `None`, and then `shown` must be `None`, too.
 abbrev pub IsShown : (state : Connected → BusState) → (device : Text) → Option ChipName → Option LayoutForm
     → (shown : Option (List ℕ)) → Type 0
 IsShown state device named None shown = shown ≡ None

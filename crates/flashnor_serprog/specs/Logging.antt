@@ -33,8 +33,8 @@ CreatesLog None old new = AreUntouched old new
 CreatesLog (Some name) old new = (new.view.nature ≡ old.view.nature)
     × (is_lawful old.view ≡ true → OthersStay name.now old new)
 
--- Holds if `old` and `new` may be the files before and after the log was created: reads of each file that is not the log
--- return the same. Without a name of the log, all files are the same.
+-- Holds if `old` and `new` may be the files before and after the log was created: reads of each file that is not the
+-- log return the same. Without a name of the log, all files are the same.
 abbrev pub StayButLog : Option (Bor Text) → (old new : View) → Type 0
 StayButLog None old new = new ≡ old
 StayButLog (Some name) old new = (new.nature ≡ old.nature)

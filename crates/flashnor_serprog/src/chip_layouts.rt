@@ -57,8 +57,8 @@ pub fn read_shown<'a, 'b, E: Write>(
     }
 }
 
-/// Returns the form of the layout on the chip to which a task is limited, or `None` if the task has no layout, or one
-/// in a file.
+/// Returns the form of the task's layout if it is on the chip: if the task has regions, but no file with their layout.
+/// Returns `None` if the task has no regions, or their layout is in a file.
 pub fn form_on_chip(task: &Task<'_>) -> Option<LayoutForm>
     ensures { result ≡ form_on_chip (regions_of task.now) }
 {

@@ -1,4 +1,5 @@
-//! What a run does before its job: it checks and reads the job's files, starts the log, and identifies the programmer.
+//! What a run does before its job: it checks and reads the job's files and the layout on the chip, if there is one,
+//! starts the log, and identifies the programmer for the job.
 ghost use Rattle.std.specs.Prelude.{◌≡◌, IfOk, option_map};
 ghost use Rattle.nor_files.specs.Files.{AreUntouched};
 ghost use Rattle.nor_journal.specs.MemVault.{held_by};
@@ -38,9 +39,16 @@ pub struct Prepared<'a, 'b> {
     pub connected: Connected<'b>,
 }
 
-/// Checks and reads the files that the operation needs, starts the log, and identifies the programmer. If the layout is
-/// on the chip, first reads it from there, over a connection that ends before the log is started. `names` must be the
-/// names of the regions without their files (`plain_names`).
+/// Prepares the operation. `names` must be the names of the regions without their files (`plain_names`). The steps are,
+/// up to the first fault, which is returned:
+///
+/// 1. The names of the device and the files are checked: none has two roles, and the file of a backup doesn't exist.
+/// 2. If the layout is on the chip, the image is read, and the name of a new journal is checked. Then the layout is
+///    read from the chip, over a connection that ends with this step (`read_shown`).
+/// 3. The included addresses are found, the files of regions are checked, and the image or the journal is read and
+///    checked, even if that was done in step 2.
+/// 4. The log is started.
+/// 5. The programmer is identified for the job.
 #[tactic(auto, using(crate::proofs::LogMade::log_steps))]
 pub fn prepare<'a, 'b, R: Store<Log = LogFile<File>>, E: Write>(
     rt: &'b HostRuntime,

@@ -46,8 +46,9 @@ use std::io::Write;
 /// The first of the arguments is the program's name, which is skipped. If the system could not provide the arguments,
 /// `given` is an error, which is printed as a fault too.
 ///
-/// `used`, which must be `None`, receives the bus to the chip after the run, if `connect` succeeded. The clauses `done`
-/// and `ran` are about this bus.
+/// `used`, which must be `None`, receives the bus of the job, as it is after the run, if the programmer was identified
+/// for the job. The clauses `done` and `ran` are about this bus. A layout on the chip is read before the job, over
+/// another bus.
 pub fn run_words<'b, O: Write, E: Write>(
     rt: &'b HostRuntime,
     screen: &'b Screen,
