@@ -300,6 +300,7 @@ def prints_help(start):
     bench.check_nothing_sent()
 
 
+    check("the line of -i", [it.split(";")[1:] for it in got.out if "--include" in it], [[" with a layout"]])
 CASES = [unlocks, refuses_protected, refuses_locked, restores, restores_the_named_chip, restores_no_other,
          keeps_old_journals, refuses_images, refuses_regions, needs_a_chip, waits_for_the_chip, uses_small_programmers,
          fills_no_buffer, takes_stale_bytes, refuses_arguments, helps_with_the_device, prints_help]
