@@ -90,9 +90,9 @@ def refuses_a_chip_without_a_map(start):
     bench = start(data=FREE)
     bench.write("new", random_image("new"))
     for words in (("-r", "out"), ("-w", "new", "--journal", "j"), ("-E", "--journal", "j"), ("-v", "new")):
-        for option in "--fmap", "--ifd":
+        for option, table in ("--fmap", "FMAP"), ("--ifd", "flash descriptor"):
             got = bench.run(*words, option, "-i", "a", "-o", "log")
-            check("the fault", ("Map fault 1." in got.err, got.out, got.status), (True, [], 1))
+            bench.compare(got, [], [f"error: there is no {table} on the chip", "Map fault 1."])
             check("write enables", [out for out, _ in bench.server.log if out == ENABLE], [])
             for name in "out", "j", "log":
                 bench.check_absent(name)
@@ -103,8 +103,9 @@ def refuses_names_that_the_chip_lacks(start):
     """A name of -i that is no region of the chip's map is layout fault 8, before a file is created."""
     bench = start(data=with_fmap(FREE, 0x100, AREAS))
     got = bench.run("-r", "out", "--fmap", "-i", "RW_B:b")
-    check("the run", (got.err[0], "Layout fault 8." in got.err, got.status),
-          ("error: the layout has no region 'RW_B'", True, 1))
+    names = ", ".join(name.decode() for _, _, name in AREAS)
+    bench.compare(got, [], [
+        "error: the layout has no region 'RW_B'", "Layout fault 8.", f"Regions on the chip: {names}."])
     bench.check_absent("out")
     bench.check_absent("b")
 

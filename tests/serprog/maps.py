@@ -9,7 +9,7 @@ import reference
 from bench import check
 from options import FREE, SIZE
 
-MISSING = "error: the image has no FMAP, or does not begin with a flash descriptor"
+MISSING = "error: there is no {} in the file"
 
 
 def fmap(areas, size=SIZE):
@@ -70,24 +70,47 @@ def refuses_wrong_maps(start):
     """An image without a valid map is a map fault, in words and with the file's name, before anything is sent."""
     bench = start(data=FREE)
     whole = with_fmap(FREE, 0x100, [(0, SIZE, b"ALL")])
-    outside = "error: region 2 of the image does not lie in the image"
-    invalid = "error: the image has a region without a valid name"
+    table, descriptor = "FMAP", "flash descriptor"
+    lacks = MISSING.format(table)
+    outside = "error: region 2 of the {} does not lie in the file"
     for option, image, lines in (
-            ("--fmap-file", FREE, [MISSING, "Map fault 1."]), ("--fmap-file", b"", [MISSING, "Map fault 1."]),
+            ("--fmap-file", FREE, [lacks, "Map fault 1."]), ("--fmap-file", b"", [lacks, "Map fault 1."]),
             ("--fmap-file", fmap([(0, 1, b"A"), (1, 1, b"B")])[:-1],
-             ["error: the image or its table of regions is cut off", "Map fault 2."]),
-            ("--fmap-file", with_fmap(FREE, 0, [(0, SIZE, b"A"), (1, SIZE, b"B")]), [outside, "Map fault 3."]),
-            ("--fmap-file", with_fmap(FREE, 0, [(0, 1, b"A,B")]), [invalid, "Map fault 4."]),
+             ["error: the FMAP in the file is cut off", "Map fault 2."]),
+            ("--fmap-file", with_fmap(FREE, 0, [(0, SIZE, b"A"), (1, SIZE, b"B")]),
+             [outside.format(table), "Map fault 3."]),
+            ("--fmap-file", with_fmap(FREE, 0, [(0, 1, b"A,B")]),
+             ["error: the FMAP in the file has a region without a valid name", "Map fault 4."]),
             ("--fmap-file", with_fmap(FREE, 0, [(0, 1, b"A"), (1, 1, b"A")]),
-             ["error: the image has two regions with one name", "Map fault 5."]),
+             ["error: the FMAP in the file has two regions with one name", "Map fault 5."]),
             ("--fmap-file", with_fmap(FREE, 0, [(it, 1, b"A%d" % it) for it in range(65)]),
-             ["error: the image has more than 64 regions", "Map fault 6."]),
-            ("--fmap-file", whole, ["error: the layout has no region 'a'", "Layout fault 8."]),
-            ("--ifd-file", whole, [MISSING, "Map fault 1."]),
-            ("--ifd-file", whole[:4095], ["error: the image or its table of regions is cut off", "Map fault 2."]),
-            ("--ifd-file", with_descriptor(FREE, [(0, 0), (1, 1), (2, 16)]), [outside, "Map fault 3."])):
+             ["error: the FMAP in the file has more than 64 regions", "Map fault 6."]),
+            ("--ifd-file", whole, [MISSING.format(descriptor), "Map fault 1."]),
+            ("--ifd-file", whole[:4095], ["error: the flash descriptor in the file is cut off", "Map fault 2."]),
+            ("--ifd-file", with_descriptor(FREE, [(0, 0), (1, 1), (2, 16)]),
+             [outside.format(descriptor), "Map fault 3."])):
         bench.write("before", image)
         bench.expect("-r", "out", option, "before", "-i", "a", err=[*lines, "The regions are in the file before."])
+        bench.check_nothing_sent()
+        bench.check_absent("out")
+
+
+def names_the_regions_that_exist(start):
+    """If a name is no region, the names of the layout follow, until they have 200 bytes; the others are counted."""
+    bench = start(data=FREE)
+    many = [b"REGION_%02d" % it for it in range(64)]
+    shown = ", ".join(it.decode() for it in many[: -(-200 // len("REGION_00, "))])
+    for option, image, names in (
+            ("--fmap-file", with_fmap(FREE, 0x100, [(0, SIZE, b"ALL")]), "ALL."),
+            ("--fmap-file", with_fmap(FREE, 0x100, [(0, 1, b"RO"), (1, 1, b"A"), (9, 1, b"B")]), "RO, A, B."),
+            ("--fmap-file", with_fmap(FREE, 0, [(it, 1, name) for it, name in enumerate(many)]),
+             f"{shown} and {64 - len(shown.split(', '))} more."),
+            ("--fmap-file", with_fmap(FREE, 0x100, []), "none."),
+            ("--ifd-file", with_descriptor(FREE, [(0, 0), (8, 15), (1, 7)]), "fd, bios, me."),
+            ("-l", b"0:fff ab\n1000:1fff c\n", "ab, c.")):
+        bench.write("before", image)
+        bench.expect("-r", "out", option, "before", "-i", "a", err=[
+            "error: the layout has no region 'a'", "Layout fault 8.", f"Regions in the file before: {names}"])
         bench.check_nothing_sent()
         bench.check_absent("out")
 
@@ -117,5 +140,5 @@ def keeps_the_image_apart(start):
     bench.check_nothing_sent()
 
 
-CASES = [reads_regions_of_an_fmap, writes_regions_of_a_descriptor, refuses_wrong_maps, takes_one_layout,
-         keeps_the_image_apart]
+CASES = [reads_regions_of_an_fmap, writes_regions_of_a_descriptor, refuses_wrong_maps, names_the_regions_that_exist,
+         takes_one_layout, keeps_the_image_apart]

@@ -166,7 +166,7 @@ def refuses_regions(start):
                       "The regions are in the file wrong."])
     bench.check_nothing_sent()
     bench.expect("-E", "-l", "layout", "-i", "c", "--journal", "k",
-                 err=["error: the layout has no region 'c'", "Layout fault 8.", "The regions are in the file layout."])
+                 err=["error: the layout has no region 'c'", "Layout fault 8.", "Regions in the file layout: a, b."])
     bench.check_absent("k")
     bench.check_chip(bytes(SIZE))
 

@@ -13,7 +13,7 @@ from options import FREE, SIZE
 LAYOUT = b"0:fff boot\n1000:2fff data\n2800:37ff over\n4001:4001 id\n8000:ffff main\n"
 SPANS = {"boot": (0, 0xFFF), "data": (0x1000, 0x2FFF), "over": (0x2800, 0x37FF), "id": (0x4001, 0x4001),
          "main": (0x8000, 0xFFFF)}
-NO_REGION = "The regions are in the file layout."
+NO_REGION = "Regions in the file layout: boot, data, over, id, main."
 
 
 def random_image(seed):

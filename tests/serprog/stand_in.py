@@ -43,7 +43,7 @@ def regions(given):
     for name in given["-i"].split(","):
         if name not in found:
             raise Fault(f"error: the layout has no region '{name}'", "Layout fault 8.",
-                        f"The regions are in the file {given['-l']}.")
+                        f"Regions in the file {given['-l']}: {', '.join(found)}.")
     return [found[it] for it in given["-i"].split(",")]
 
 

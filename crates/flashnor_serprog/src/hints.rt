@@ -83,10 +83,9 @@ pub fn print_operation_hint<E: Write>(
     known: &Known<'_>,
 ) {
     match fault {
-        Fault::Layout(_) | Fault::Map(_) | Fault::NoRegion { .. } => print_layout(
-            errors,
-            &operation.task,
-        ),
+        Fault::Layout(_) | Fault::Map(_) | Fault::NoRegion { .. } => {
+            print_file(errors, &operation.task);
+        }
         Fault::File {
             fault: FileFault::Exists,
             name,
@@ -108,19 +107,18 @@ fn reads(operation: &Operation<'_>) -> bool {
     matches!(operation.task, Task::Read { .. }) && !operation.is_backup
 }
 
-// Prints the line that says where the layout of a task is.
-fn print_layout<E: Write>(errors: &mut E, task: &Task<'_>) {
-    let Some(Regions { layout, .. }) = regions_of(task) else {
-        return;
-    };
-    let _ = match layout {
-        Some(name) => writeln!(errors, "The regions are in the file {}.", Escaped(name)),
-        None => writeln!(errors, "{ON_CHIP}"),
-    };
+// Prints the line that names the file with the layout of a task, if the layout is in a file.
+fn print_file<E: Write>(errors: &mut E, task: &Task<'_>) {
+    if let Some(
+        Regions {
+            layout: Some(name),
+            ..
+        },
+    ) = regions_of(task)
+    {
+        let _ = writeln!(errors, "The regions are in the file {}.", Escaped(name));
+    }
 }
-
-// The line after a fault of a layout on the chip. The line of the fault calls the chip's content an image.
-const ON_CHIP: &str = "The regions are on the chip: the image is what was read from it.";
 
 // Returns the text that follows a fault, if there is one that needs no more than the fault.
 fn hint_for(fault: &Fault<'_>) -> Option<&'static str> {

@@ -9,9 +9,11 @@
 //! - `ending.rt`: the end of a run: prints an answer or a fault
 //! - `reports.rt`: what a run prints after an operation failed
 //! - `help.rt`: the text of the help that `-h` prints
+//! - `layout_lines.rt`: the lines of a fault of a layout
 //! - `hints.rt`: the line after that of a fault, for example with what to do, or what was found and expected
 //! - `quoted.rt`: names of files in commands that you may copy
 //! - `setting.rt`: the value of `-p`
+//! - `included.rt`: the addresses of the regions of `-i`
 //! - `region_files.rt`: the regions with a file of their own, whose bytes replace those of an image
 //! - `region_roles.rt`: checks the files of regions before the programmer is used
 //! - `region_copies.rt`: writes the files of regions after a read
@@ -51,8 +53,10 @@ mod following;
 mod gauge;
 mod help;
 mod hints;
+mod included;
 mod jobs;
 mod journals;
+mod layout_lines;
 mod log;
 mod port;
 mod preparing;

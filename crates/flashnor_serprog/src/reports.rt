@@ -6,6 +6,7 @@ ghost use Rattle.flashnor_serprog.specs.declared.trouble.Left.TheVariants.{Uncha
 use crate::chip_faults::JobFault;
 use crate::connect::ChipBus;
 use crate::hints::{Known, Saved, print_operation_hint, unlocks};
+use crate::layout_lines::MapLines;
 use crate::status_line::{ChangedLine, protects};
 use crate::trouble::{Left, StopLine, Trouble};
 use nor_args::{Operation, Task};
@@ -14,10 +15,13 @@ use std::io::Write;
 
 /// Prints the lines of a fault that ended a run before its job began, if they weren't printed already.
 pub fn print_trouble<E: Write>(errors: &mut E, trouble: &Trouble<'_>, operation: &Operation<'_>) {
-    if matches!(trouble, Trouble::Printed) {
-        return;
-    }
-    let _ = writeln!(errors, "{trouble}");
+    let _ = match trouble {
+        Trouble::Printed => return,
+        Trouble::Fault(Fault::Map(fault)) => {
+            writeln!(errors, "{}", MapLines::new(*fault, &operation.task))
+        }
+        _ => writeln!(errors, "{trouble}"),
+    };
     if let Trouble::Fault(fault) = trouble {
         print_operation_hint(errors, fault, operation, &Known::before());
     }

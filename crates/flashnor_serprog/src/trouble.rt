@@ -2,6 +2,7 @@
 //! failed left, and the lines that are printed for all of these.
 ghost use Rattle.std.specs.Prelude.{◌≡◌};
 
+use crate::layout_lines::NamesLine;
 use crate::port::PortFault;
 use crate::quoted::Quoted;
 use crate::region_faults::RegionFault;
@@ -22,6 +23,11 @@ pub enum Trouble<'a> {
     Setting(WrongSetting<'a>),
     /// A region of `-i` with a file, or this file, can't be used.
     Region(RegionFault<'a>),
+    /// Layout fault 8: this name of `-i` is no region. `known` has the regions of the layout.
+    NoRegion {
+        name: &'a str,
+        known: NamesLine<'a>,
+    },
     /// The programmer at this device can't be used.
     Programmer {
         fault: ProgrammerFault,
@@ -86,6 +92,9 @@ impl fmt::Display for Trouble<'_> {
             Trouble::Fault(fault) => write!(f, "{fault}"),
             Trouble::Setting(wrong) => write!(f, "{wrong}Usage fault 3."),
             Trouble::Region(fault) => write!(f, "{fault}"),
+            Trouble::NoRegion { name, known } => {
+                write!(f, "{}\n{known}", Fault::NoRegion { name: *name })
+            }
             Trouble::Printed => Ok(()),
             Trouble::Programmer { fault, device } => {
                 let advice = Advice {

@@ -12,7 +12,7 @@ returns-clause-ok g c = let same = c.try_sources.ensures.view in record {
     names = c.args.names;
     plain = c.requires;
     included = rw c.in_ok-sources.ensures.included
-        (rw (same, c.bytes_of-shown.ensures, c.named_regions.ensures) at c.in_ok-included.ensures.ok);
+        (rw (same, c.bytes_of-shown.ensures, c.named_regions.ensures) at c.in_ok-included.ensures);
     files_in = rw (same, c.bytes_of-shown.ensures) at c.in_ok-regions.ensures.ok;
   };
   names = rw c.deref.ensures.value at c.in_ok-check_region_files.ensures.names;

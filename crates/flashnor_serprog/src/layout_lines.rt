@@ -1,0 +1,130 @@
+//! The lines of a fault of a layout: what is wrong with its table, and which regions it has.
+
+use crate::region_files::regions_of;
+use nor_args::{LayoutForm, Regions, Task};
+use nor_console::Escaped;
+use nor_layout::{Layout, RegionFault};
+use nor_maps::MapFault;
+use std::fmt;
+use std::str::from_utf8;
+
+/// The lines of a map fault: what is wrong with the table that was looked for, and the number of the fault. In these
+/// lines the entries of a flash descriptor are numbered from 0, and the areas of an FMAP from 1.
+#[derive(Clone, Copy, Drop)]
+pub struct MapLines {
+    fault: MapFault,
+    // `FMAP` or `flash descriptor`.
+    table: &'static str,
+    // `on the chip` or `in the file`.
+    place: &'static str,
+}
+
+impl MapLines {
+    /// Returns the lines of this fault of the layout to which a task is limited.
+    pub fn new(fault: MapFault, task: &Task<'_>) -> MapLines {
+        let (table, place) = match regions_of(task) {
+            Some(Regions { layout, form, .. }) => (table_of(form), place_of(layout)),
+            None => (table_of(LayoutForm::Fmap), place_of(None)),
+        };
+        MapLines {
+            fault,
+            table,
+            place,
+        }
+    }
+}
+
+fn table_of(form: LayoutForm) -> &'static str {
+    match form {
+        LayoutForm::Descriptor => "flash descriptor",
+        _ => "FMAP",
+    }
+}
+
+fn place_of(file: Option<&str>) -> &'static str {
+    match file {
+        Some(_) => "in the file",
+        None => "on the chip",
+    }
+}
+
+impl fmt::Display for MapLines {
+    fn fmt<W: fmt::Write>(&self, f: &mut fmt::Formatter<W>) -> fmt::Result {
+        let MapLines {
+            fault,
+            table,
+            place,
+        } = *self;
+        match fault {
+            MapFault::Missing => writeln!(f, "error: there is no {table} {place}")?,
+            MapFault::Short => writeln!(f, "error: the {table} {place} is cut off")?,
+            MapFault::Outside { record } => {
+                writeln!(
+                    f,
+                    "error: region {record} of the {table} does not lie {place}"
+                )?
+            }
+            MapFault::Region {
+                fault: RegionFault::Memory,
+                ..
+            } => {}
+            MapFault::Region { fault, .. } => {
+                let flaw = text_of_region(fault);
+                writeln!(f, "error: the {table} {place} has {flaw}")?
+            }
+        }
+        write!(f, "Map fault {}.", fault.number())
+    }
+}
+
+fn text_of_region(fault: RegionFault) -> &'static str {
+    match fault {
+        RegionFault::Name => "a region without a valid name",
+        RegionFault::Twice => "two regions with one name",
+        _ => "more than 64 regions",
+    }
+}
+
+/// The line with the names of a layout's regions, in the order of the layout, as far as a few lines of a terminal can
+/// hold them.
+#[derive(Drop)]
+pub struct NamesLine<'a> {
+    /// The name of the file with the layout, or `None` if the layout is on the chip.
+    pub file: Option<&'a str>,
+    pub layout: Layout,
+}
+
+// Once the names that are printed have this number of bytes, with what separates them, only the number of the further
+// regions follows.
+const MOST_NAMES: usize = 200;
+
+impl fmt::Display for NamesLine<'_> {
+    fn fmt<W: fmt::Write>(&self, f: &mut fmt::Formatter<W>) -> fmt::Result {
+        match self.file {
+            Some(name) => write!(f, "Regions in the file {}: ", Escaped(name))?,
+            None => f.write_str("Regions on the chip: ")?,
+        }
+        let regions = self.layout.regions();
+        if regions.is_empty() {
+            return f.write_str("none.");
+        }
+        let (mut bytes, mut left) = (0usize, regions.len());
+        for region in regions {
+            if bytes >= MOST_NAMES {
+                break;
+            }
+            if bytes > 0 {
+                f.write_str(", ")?;
+            }
+            if let Ok(name) = from_utf8(&region.name) {
+                write!(f, "{}", Escaped(name))?;
+            }
+            bytes = bytes.saturating_add(region.name.len()).saturating_add(2);
+            left = left.saturating_sub(1);
+        }
+        match left {
+            0 => f.write_str("."),
+            more => write!(f, " and {more} more."),
+        }
+    }
+}
