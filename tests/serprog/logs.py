@@ -13,16 +13,21 @@ TIMED = re.compile(r"\d+\.\d{3} (.*)")
 TAKEN = "It has two roles in this run, or another program uses it: give each role its own file."
 INCOMPLETE = "The log is incomplete, but the job went on: free disk space, or choose another file."
 SEALED = "SEALED: the chip is changed from here on."
+# The first line of a log, and the bytes with which an existing file must begin if it is to be overwritten.
+BEGIN = "Log of flashnor-serprog"
+FIRST = f"{BEGIN} 1.0"
 EXPECTED = "The change takes about M:SS at the chip's typical times and R."
 TOOK = "The change took M:SS."
 
 
 def lines_of(bench, name="log"):
-    """Returns the lines of a log. A log has no control characters except the ends of lines."""
+    """Returns the lines of a log after its first. A log has no control characters except the ends of lines."""
     text = bench.path(name).read_bytes()
     check("bytes of the log that aren't printable", re.sub(rb"[ -~\n]", b"", text), b"")
     check("the end of the log", text[-1:], b"\n")
-    return text.decode().splitlines()
+    first, *lines = text.decode().splitlines()
+    check("the first line", first, FIRST)
+    return lines
 
 
 def split(lines):
@@ -36,7 +41,7 @@ def logs_a_run(start):
     old, new = images("logs_a_run")
     bench = start(data=old)
     bench.write("new", new)
-    bench.write("log", b"an old log, which is longer than the new one\n" * 999)
+    bench.write("log", FIRST.encode() + b"\nan old log, which is longer than the new one\n" * 999)
     plan = reference.session("TINY64", old, new)
     got = bench.run("-w", "new", "--journal", "j", "-o", "log")
     check("standard error", got.err, [])
@@ -162,19 +167,24 @@ def needs_a_file_of_its_own(start):
     bench.check_nothing_sent()
 
 
-def overwrites_no_journal(start):
-    """A log that is a journal is file fault 4, and the journal stays as it is. A directory is file fault 2."""
-    old, new = images("overwrites_no_journal")
+def overwrites_only_logs(start):
+    """A file for the log that has bytes and is no log is file fault 4, and stays as it is. An empty file is used."""
+    old, new = images("overwrites_only_logs")
     bench = start(data=old)
-    journal = reference.journal("TINY64", old, [1])
-    bench.write("log", journal)
     bench.write("new", new)
-    for words in ("-w", "new", "--journal", "j"), ("-r", "out"), ():
-        bench.expect(*words, "-o", "log", err=[
-            "File fault 4: log.", "It is a journal, which is never overwritten: choose a new name."])
-        bench.check_nothing_sent()
-    bench.check_file("log", journal)
-    bench.check_absent("out")
+    for content in (reference.journal("TINY64", old, [1]), old, b"\xff" * len(old), b"\n", BEGIN[:-1].encode(),
+                    b" " + FIRST.encode() + b"\n"):
+        bench.write("log", content)
+        for words in ("-w", "new", "--journal", "j"), ("-r", "out"), ():
+            bench.expect(*words, "-o", "log", err=["File fault 4: log.", reference.IS_NO_LOG])
+            bench.check_nothing_sent()
+        bench.check_file("log", content)
+        bench.check_absent("j")
+        bench.check_absent("out")
+    for content in b"", BEGIN.encode(), FIRST.encode() + b"\n" * 99:
+        bench.write("log", content)
+        bench.expect("--flash-size", "-o", "log", out=[str(len(old))])
+        check("the last line", lines_of(bench)[-1], str(len(old)))
     hint = "It can't be created, written or locked: correct its name or permissions, or free disk space."
     bench.path("place").mkdir()
     for log in "place", "missing/log":
@@ -190,12 +200,12 @@ def waits_for_no_other_run(start):
     """A log that another run writes is file fault 5, and stays as it is."""
     bench = start()
     with open(bench.path("log"), "wb") as log:
-        log.write(b"another run\n")
+        log.write(FIRST.encode() + b"\nanother run\n")
         log.flush()
         fcntl.flock(log, fcntl.LOCK_EX)
         bench.expect("-r", "out", "-o", "log", err=["File fault 5: log.", TAKEN])
     bench.check_nothing_sent()
-    bench.check_file("log", b"another run\n")
+    bench.check_file("log", FIRST.encode() + b"\nanother run\n")
 
 
 def goes_on_without_its_log(start):
@@ -239,5 +249,5 @@ def logs_what_could_not_be_printed(start):
 
 
 CASES = [logs_a_run, logs_plain_lines, logs_how_long_a_change_takes, logs_faults, logs_until_a_kill,
-         needs_a_file_of_its_own, overwrites_no_journal, waits_for_no_other_run, goes_on_without_its_log,
+         needs_a_file_of_its_own, overwrites_only_logs, waits_for_no_other_run, goes_on_without_its_log,
          logs_only_jobs, logs_what_could_not_be_printed]

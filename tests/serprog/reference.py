@@ -34,6 +34,7 @@ FILE_HINTS = {
     4: "It exists already, and is never overwritten: choose a new name.",
     5: "It has two roles in this run, or another program uses it: give each role its own file."}
 IS_JOURNAL = "It is a journal, which is never overwritten: choose a new name."
+IS_NO_LOG = "It exists, and is no log, so it isn't overwritten: choose a new name."
 # The lines of a journal that was not sealed.
 UNSEALED = [
     "error: the journal was never sealed, or was cut off later", "Error 15: journal fault 1.",

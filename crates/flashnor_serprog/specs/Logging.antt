@@ -1,13 +1,15 @@
 -- The log of a run (`-o`): its file has no second role, and creating it changes no other file.
-use Rattle.std.specs.Prelude.{◌≡◌, ◌⊎◌, Option, None, Some, true}
+use Rattle.std.specs.Prelude.{◌≡◌, ◌⊎◌, ℕ, List, [], Option, None, Some, codes, true}
 use Rattle.std.specs.Borrow.{Bor}
 use Rattle.nor_files.specs.Files.{AreApart, AreUntouched, FilesState, Name, Nature, OthersStay, View, is_lawful}
 use Rattle.nor_args.specs.Text.{Text}
 use Rattle.nor_args.specs.declared.job.Task.{Task}
 use Rattle.nor_console.specs.Roles.{FailsApart, FailsUnprinted}
-use Rattle.nor_console.specs.Stored.{AreTwo}
+use Rattle.nor_console.specs.Stored.{AreTwo, IsRead}
 use Rattle.nor_console.specs.Tasks.{named_by}
 use Rattle.nor_console.specs.declared.messages.Fault.{Fault}
+use Rattle.nor_console.specs.declared.messages.Fault.TheVariants as end
+use Rattle.nor_console.specs.declared.messages.FileFault.TheVariants as file
 
 -- Holds if the name of the log, if `-o` gives one, is apart from the name of the device and of each file of the job.
 pub record HasOwnLog (nature : Nature) (device : Bor Text) (job : Task) (log : Option (Bor Text)) : Type 0 where
@@ -25,6 +27,19 @@ FailsLogRole nature device job log fault = FailsApart nature (Some device) log f
     ⊎ (FailsApart nature (named_by job).wanted log fault
     ⊎ (FailsApart nature (named_by job).output log fault
     ⊎ (FailsApart nature (named_by job).journal log fault ⊎ FailsUnprinted nature log fault))))
+
+-- Holds if a file whose first 23 bytes are `start` isn't empty and doesn't begin as a log.
+pub record BeginsNoLog (start : List ℕ) : Type 0 where
+  pub some : ¬ (start ≡ [])
+  pub other : ¬ (start ≡ codes "Log of flashnor-serprog")
+
+-- Holds for file fault 4 of a file that exists, isn't empty, and doesn't begin as a log. `start` are the first 23 bytes
+-- of the file, or all its bytes if it has fewer. Nothing is claimed if the file isn't known (`IsKnownFile`).
+pub record IsExistingLog (view : View) (name : Bor Text) (fault : Fault) : Type 0 where
+  pub start : List ℕ
+  pub read : IsRead view name.now 23 start
+  pub begins : BeginsNoLog start
+  pub is : fault ≡ end.File file.Exists name
 
 -- Holds if the file of the log, if a name is given, may have been created, truncated or lent between these two states,
 -- and no other file was touched. Without a name, each file is as it was.

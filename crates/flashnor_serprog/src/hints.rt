@@ -89,7 +89,13 @@ pub fn print_operation_hint<E: Write>(
         Fault::File {
             fault: FileFault::Exists,
             name,
-        } if reads(operation) || operation.log == Some(*name) => {
+        } if operation.log == Some(*name) => {
+            let _ = writeln!(errors, "{IS_NO_LOG}");
+        }
+        Fault::File {
+            fault: FileFault::Exists,
+            ..
+        } if reads(operation) => {
             let _ = writeln!(errors, "{IS_JOURNAL}");
         }
         Fault::Refused(refusal) => match found_and_expected(*refusal, operation, known) {
@@ -149,6 +155,8 @@ fn file_hint(fault: FileFault) -> Option<&'static str> {
 }
 
 const IS_JOURNAL: &str = "It is a journal, which is never overwritten: choose a new name.";
+
+const IS_NO_LOG: &str = "It exists, and is no log, so it isn't overwritten: choose a new name.";
 
 // Returns the line for an error that says what was found and what was expected, or what to do.
 fn found_and_expected<'a>(

@@ -17,7 +17,7 @@ use crate::jobs::is_session;
 use crate::region_files::{RegionFile, find_region_files, named_regions};
 use crate::region_roles::check_region_files;
 use crate::roles::{has_own_log, have_one_role};
-use crate::run_log::start_log;
+use crate::run_log::{check_log, start_log};
 use crate::setting::Setting;
 use crate::sources::{image_of, prepare_sources};
 use crate::terminal::{Screen, Terminal};
@@ -42,7 +42,8 @@ pub struct Prepared<'a, 'b> {
 /// Prepares the operation. `names` must be the names of the regions without their files (`plain_names`). The steps are,
 /// up to the first fault, which is returned:
 ///
-/// 1. The names of the device and the files are checked: none has two roles, and the file of a backup doesn't exist.
+/// 1. The names of the device and the files are checked: none has two roles, the file of a backup doesn't exist, and
+///    that of the log may be overwritten.
 /// 2. If the layout is on the chip, the image is read, and the name of a new journal is checked. Then the layout is
 ///    read from the chip, over a connection that ends with this step (`read_shown`).
 /// 3. The included addresses are found, the files of regions are checked, and the image or the journal is read and
@@ -71,6 +72,7 @@ pub fn prepare<'a, 'b, R: Store<Log = LogFile<File>>, E: Write>(
 {
     have_one_role(files, setting.device, &operation.task)?;
     has_own_log(files, setting.device, operation)?;
+    check_log(files, operation.log)?;
     check_new(files, operation)?;
     let terminal = Terminal::new(rt, screen, operation.progress, operation.is_verbose);
     try_sources(files, &operation.task)?;

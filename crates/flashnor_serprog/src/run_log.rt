@@ -1,9 +1,10 @@
 //! The log of a run, for `-o`: a file that receives, line by line, what the run prints and the lines of `-V`.
-ghost use Rattle.std.specs.Prelude.{◌≡◌, ◌≤◌, IfErr, IsSomeAnd};
+ghost use Rattle.std.specs.Prelude.{◌≡◌, ◌≤◌, IfErr, IsSomeAnd, false};
 ghost use Rattle.nor_console.specs.Files.{IsMaking};
-ghost use Rattle.flashnor_serprog.specs.Logging.{CreatesLog};
+ghost use Rattle.flashnor_serprog.specs.Logging.{BeginsNoLog, CreatesLog, IsExistingLog};
 
-use nor_console::{Fault, create_log, print_fault, unmade};
+use crate::help::HELP;
+use nor_console::{Fault, FileFault, create_log, print_fault, unmade};
 use nor_files::{LogFile, Store};
 use std::cell::{Cell, RefCell};
 use std::fs::File;
@@ -13,6 +14,9 @@ use std::{fmt, io};
 // The line after file fault 2 of the log.
 const INCOMPLETE: &str =
     "The log is incomplete, but the job went on: free disk space, or choose another file.";
+
+// The first line of a log, before the version. An existing file is overwritten only if it begins with these bytes.
+const FIRST: &str = "Log of flashnor-serprog";
 
 /// A buffered writer to the file of a log.
 pub type LogWriter = BufWriter<LogFile<File>>;
@@ -35,12 +39,12 @@ impl RunLog {
         }
     }
 
-    /// Truncates the file, and writes each further line to it.
+    /// Truncates the file, writes its first line, and then writes each further line to it.
     pub fn start(&self, file: LogWriter) {
         let mut file = file;
-        let emptied = file.flush();
+        let begun = write_first(&mut file);
         let _ = self.file.try_replace(Some(file));
-        self.end_if_failed(emptied);
+        self.end_if_failed(begun);
     }
 
     /// Returns whether there is a file to which lines are written.
@@ -96,6 +100,11 @@ impl RunLog {
     }
 }
 
+fn write_first(file: &mut LogWriter) -> io::Result<()> {
+    writeln!(file, "{FIRST} {}", HELP.version)?;
+    file.flush()
+}
+
 /// A writer that writes to another one, and also to the log of the run. In contracts its contents are those of the
 /// other one.
 #[derive(Drop)]
@@ -130,6 +139,36 @@ impl<W: Write> Write for Logged<'_, W> {
     fn flush(&mut self) -> io::Result<()> {
         self.inner.flush()
     }
+}
+
+/// Checks that the file of the log may be created or overwritten: that it doesn't exist, is empty or begins as a log of
+/// this program. A FIFO and a device aren't read. A file that can't be read is left to `start_log`.
+///
+/// Returns file fault 4 for any other file.
+pub fn check_log<'a, R: Store>(rt: &R, name: Option<&'a str>) -> Result<(), Fault<'a>>
+    ensures { IfErr result (λ fault. IsSomeAnd name.entry (λ name.
+        IsExistingLog (R.state rt.now).view name fault)) }
+{
+    let Some(name) = name else {
+        return Ok(());
+    };
+    if rt.is_waiting(name) {
+        return Ok(());
+    }
+    match rt.read_named(name, FIRST.len() as u64) {
+        Ok(Some(start)) if !may_begin_log(&start) => {
+            let fault = FileFault::Exists;
+            Err(Fault::File { fault, name })
+        }
+        _ => Ok(()),
+    }
+}
+
+// True if a file whose first bytes are `start` is empty or begins as a log.
+fn may_begin_log(start: &[u8]) -> bool
+    ensures { result ≡ false → BeginsNoLog start.now }
+{
+    start.is_empty() || start == FIRST.as_bytes()
 }
 
 /// If `name` is given, creates or truncates this file, and starts the log in it.
