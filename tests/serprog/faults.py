@@ -227,7 +227,9 @@ def reports_causes(start):
             bench.write("new", new)
             got = bench.run("-w", "new", "--journal", "j", events={at: event})
             after = RESTORE if at > seal else UNCHANGED
-            bench.compare(got, [], ["Error 12: stopped.", f"Cause: {text}. {UNPLUG} {after}"])
+            # At the first of these transactions the journal doesn't exist yet.
+            used = [reference.used_name()] * (at == seal)
+            bench.compare(got, [], ["Error 12: stopped.", f"Cause: {text}. {UNPLUG} {after}", *used])
             # The rest of a batch is on its way already.
             batch = next(at for at in range(at, len(wire) + 1) if wire[at - 1][1])
             bench.check_carried(batch - (event == "nak"))
@@ -288,7 +290,7 @@ def reads_twice(start):
     for first in reads[0], reads[2], reads[5]:
         bench.server.traits.wrong_bits = {first: (0, 4)}
         got = bench.run("-w", "new", "--journal", f"j{first}")
-        bench.compare(got, [], ["Error 12: stopped.", f"{DIFFER} {UNCHANGED}"])
+        bench.compare(got, [], ["Error 12: stopped.", f"{DIFFER} {UNCHANGED}", reference.used_name(f"j{first}")])
         bench.check_chip(old)
         journal = bench.path(f"j{first}").read_bytes()
         whole = reference.journal("TINY64", old, (1, 2, 7, 15))

@@ -82,7 +82,7 @@ def changes_nothing_with_wrong_data(start):
         set_flags(bench, received=flag)
         for at, words in enumerate((("-w", "new"), ("-w", "new", "-N"), ("-E",))):
             got = bench.run(*words, "--journal", f"j{at}")
-            bench.compare(got, [], ["Error 12: stopped.", f"{line} {UNCHANGED}"])
+            bench.compare(got, [], ["Error 12: stopped.", f"{line} {UNCHANGED}", reference.used_name(f"j{at}")])
             bench.check_chip(old)
         bench.plug()
         check("a session with a raw port", bench.run("-w", "new", "--journal", "j").status, 0)

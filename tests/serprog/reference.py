@@ -44,6 +44,7 @@ UNSEALED = [
 NO_CHIP = ["Error 1: no chip.", "Check contacts, supply and wiring, and that cs= selects this chip."]
 LOCKED = ["Error 9: status locked.",
           "SRP0 or SRP1 is set. Clear SRP0 while WP# is high (flashrom --wp-disable), or SRP1 by a power cycle."]
+NOT_OFFERED = ["Error 8: range not offered.", "--wp-list lists the ranges that this chip can protect."]
 # The lines if -c names a chip of the table, and the chip is TINY64.
 OTHER_NAME = ["Error 3: another chip than named.", "-c names W25Q64FV. The chip is SFDP (fe1010)."]
 
@@ -60,6 +61,11 @@ def not_stored(address, journal="j"):
     return [f"Error 14: bytes differ at 0x{address:06x}.",
             "The chip did not store all bytes, or they were misread: lower the clock (spispeed=). Then restore the chip "
             f"with --restore {journal}."]
+
+
+def used_name(journal="j"):
+    """Returns the last line of a session or a backup that failed before it changed the chip, and left its journal."""
+    return f"Give the journal a new name: {journal} exists now."
 
 
 def file_fault(number, name):

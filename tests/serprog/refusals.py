@@ -40,7 +40,7 @@ def refuses_protected(start):
     bench.write("layout", LAYOUT)
     bench.expect("-w", "new", "-l", "layout", "-i", "last", "--journal", "j", err=[
         "Error 10: protected at 0x7ff000.",
-        "Include only regions that aren't protected, or use --unlock. Give the journal a new name."])
+        "Include only regions that aren't protected, or use --unlock.", reference.used_name()])
     plan = reference.identify("W25Q64FV") + [reference.read_sector(LAST)]
     bench.check_frames(reference.whole_run("W25Q64FV", reference.read_whole("W25Q64FV") + plan))
     bench.check_chip(old, b"\x04\0")
@@ -54,8 +54,8 @@ def refuses_locked(start):
         bench.write("new", new)
         bench.write("layout", LAYOUT)
         bench.expect("-w", "new", "--unlock", "-l", "layout", "-i", "last", "--journal", "j",
-                     err=reference.LOCKED)
-        bench.expect("--wp-range", "0,0", "--journal", "k", err=reference.LOCKED)
+                     err=[*reference.LOCKED, reference.used_name()])
+        bench.expect("--wp-range", "0,0", "--journal", "k", err=[*reference.LOCKED, reference.used_name("k")])
         bench.check_chip(old, status)
 
 
@@ -136,8 +136,10 @@ def refuses_images(start):
     old, new = images("refuses_images")
     bench = start(data=old)
     bench.write("short", new[:-1])
-    bench.expect("-w", "short", "--journal", "j", err=["Error 4: image of 65535 bytes, chip of 65536 bytes."])
-    bench.expect("-v", "short", err=["Error 4: image of 65535 bytes, chip of 65536 bytes."])
+    error = "Error 4: image of 65535 bytes, chip of 65536 bytes."
+    bench.expect("-w", "short", "--journal", "j", err=[error, reference.used_name()])
+    bench.check_file("j", b"")
+    bench.expect("-v", "short", err=[error])
     bench.expect("-w", "none", "--journal", "k", err=reference.file_fault(1, "none"))
     bench.check_nothing_sent()
     bench.check_absent("k")
@@ -159,7 +161,7 @@ def refuses_regions(start):
         bench.expect(*words, err=[error])
         bench.check_frames(reference.probe("TINY64"))
         bench.check_absent("j")
-        bench.expect(*words, "-N", err=[error])
+        bench.expect(*words, "-N", err=[error, reference.used_name()])
         bench.path("j").unlink()
     bench.expect("-E", "-l", "wrong", "-i", "a", "--journal", "k",
                  err=["error: the end is below the start", "Layout fault 3 at line 2.",
@@ -243,10 +245,11 @@ WRONG_SETTINGS = {
     "": EMPTY, "dev=": "invalid value in -p: 'dev='", "dev=DEV,": EMPTY,
     "dev=DEV,dev=DEV": "repeated key in -p: 'dev=DEV'", "dev=DEV,image=x": "unknown key in -p: 'image=x'",
     "dev=DEV,dev": "repeated key in -p: 'dev=DEV'", "dev": "invalid value in -p: 'dev'",
-    "dev=DEV,spispeed=0": "invalid value in -p: 'spispeed=0'",
-    "dev=DEV,spispeed=1M": "invalid value in -p: 'spispeed=1M'",
-    "dev=DEV,spispeed=4294967296": "invalid value in -p: 'spispeed=4294967296'",
-    "dev=DEV,spispeed=": "invalid value in -p: 'spispeed='", "dev=DEV,cs=256": "invalid value in -p: 'cs=256'",
+    **{f"dev=DEV,spispeed={text}":
+       f"invalid value in -p: 'spispeed={text}'; give a decimal number of hertz, 1 to 4294967295"
+       for text in ("0", "1M", "0x100", "1e6", "4294967296", "")},
+    "dev=DEV,spispeed=1,spispeed=2": "repeated key in -p: 'spispeed=1'",
+    "dev=DEV,cs=256": "invalid value in -p: 'cs=256'",
     "dev=DEV,cs=": "invalid value in -p: 'cs='", "dev=DEV,cs=1,cs=2": "repeated key in -p: 'cs=1'",
     "cs=1,image=x,cs=2": "repeated key in -p: 'cs=1'", "spispeed=1": "the value of -p lacks dev="}
 WRONG_PROGRAMMERS = {
@@ -297,10 +300,10 @@ def prints_help(start):
     options = "-p -c -r -w -v -E --flash-size --wp-status --wp-list --wp-range --restore -l -i -n --unlock --journal " \
         "--backup -N --quick"
     check("options that the help lacks", [it for it in options.split() if it not in help_text], [])
+    check("the line of -i", [it.split(";")[1:] for it in got.out if "--include" in it], [[" with a layout"]])
     bench.check_nothing_sent()
 
 
-    check("the line of -i", [it.split(";")[1:] for it in got.out if "--include" in it], [[" with a layout"]])
 CASES = [unlocks, refuses_protected, refuses_locked, restores, restores_the_named_chip, restores_no_other,
          keeps_old_journals, refuses_images, refuses_regions, needs_a_chip, waits_for_the_chip, uses_small_programmers,
          fills_no_buffer, takes_stale_bytes, refuses_arguments, helps_with_the_device, prints_help]

@@ -197,7 +197,7 @@ class Job:
         hit = protects(status, self.size, saved) if PARTS[self.part].has_row else []
         if hit and "--unlock" not in self.given:
             raise Fault(f"Error 10: protected at 0x{hit[0] * SECTOR:06x}.",
-                        "Include only regions that aren't protected, or use --unlock. Give the journal a new name.")
+                        "Include only regions that aren't protected, or use --unlock.")
         self.lifts = bool(hit)
         if hit:
             self.check_locked(status)
@@ -374,7 +374,7 @@ class Job:
         status = self.open_status()
         first, length = (int(it, 0) for it in self.given["--wp-range"].split(","))
         if (first, length) not in self.codes():
-            raise Fault("Error 8: range not offered.")
+            raise Fault(*reference.NOT_OFFERED)
         code = self.codes()[first, length]
         new = bytes([status[0] & 0x80 | code[0], status[1] & ~CMP | code[1]])
         if new != status:
@@ -429,19 +429,25 @@ def run(words):
             return lines
         print(*lines, sep="\n", flush=True)
     except Fault as why:
-        raise Fault(*why.args, *filter(None, [job.link.changed_byte()])) from None
+        raise Fault(*why.args, *filter(None, [job.link.changed_byte()]), *used_name(job)) from None
     except Stopped as why:
         after = restores(given["--restore"]) if "--restore" in given else after_change(job, journal) if journal else ""
         if str(why).startswith(("Chip fault", "Programmer fault")):
-            raise Fault("Error 12: stopped.", f"{why}{after}") from None
+            raise Fault("Error 12: stopped.", f"{why}{after}", *used_name(job)) from None
         if "two reads" in str(why):
             advice = "Lower the clock (spispeed=), shorten the wires, and try again."
         elif str(why).startswith(LOST):
             advice = "Check contacts and supply."
         else:
             advice = UNPLUG
-        raise Fault("Error 12: stopped.", f"Cause: {why}. {advice}{after}") from None
+        raise Fault("Error 12: stopped.", f"Cause: {why}. {advice}{after}", *used_name(job)) from None
     raise Fault(line)
+
+
+def used_name(job):
+    """Returns the line about the journal that a session or a backup left before it changed the chip."""
+    name = job.given.get("--journal", job.given.get("--backup"))
+    return [reference.used_name(name)] if name and Path(name).exists() and not job.link.has_changed else []
 
 
 def restores(journal):

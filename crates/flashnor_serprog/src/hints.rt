@@ -172,6 +172,7 @@ fn found_and_expected<'a>(
     match refusal {
         Refusal::NoChip => Some(Line::NoChip),
         Refusal::UnknownChip(_) => Some(Line::Unknown { id: replies.id? }),
+        Refusal::RangeNotOffered => Some(Line::Ranges),
         Refusal::StatusLocked => Some(Line::Locked),
         Refusal::Timeout { .. } => Some(Line::Busy { left }),
         Refusal::Mismatch { .. } => match left {
@@ -209,6 +210,7 @@ pub fn unlocks(task: &Task<'_>) -> bool {
 enum Line<'a> {
     NoChip,
     Unknown { id: [u8; 3] },
+    Ranges,
     Locked,
     Busy { left: Left<'a> },
     NotStored { left: Left<'a> },
@@ -231,6 +233,7 @@ impl fmt::Display for Line<'_> {
                 (spispeed=).",
                 Hex(id)
             ),
+            Line::Ranges => f.write_str("--wp-list lists the ranges that this chip can protect."),
             Line::Locked => f.write_str(
                 "SRP0 or SRP1 is set. Clear SRP0 while WP# is high (flashrom --wp-disable), or SRP1 by a power cycle.",
             ),
@@ -255,7 +258,7 @@ impl fmt::Display for Line<'_> {
                 write!(f, "-c names {named}. The chip is {}.", ChipText(id))
             }
             Line::Unlock => f.write_str(
-                "Include only regions that aren't protected, or use --unlock. Give the journal a new name.",
+                "Include only regions that aren't protected, or use --unlock.",
             ),
             Line::Chip { saved, id } => write!(
                 f,

@@ -10,7 +10,8 @@ use crate::layout_lines::MapLines;
 use crate::status_line::{ChangedLine, protects};
 use crate::trouble::{Left, StopLine, Trouble};
 use nor_args::{Operation, Task};
-use nor_console::named_by;
+use nor_console::{Escaped, Fault, named_by};
+use nor_files::Store;
 use std::io::Write;
 
 /// Prints the lines of a fault that ended a run before its job began, if they weren't printed already.
@@ -54,6 +55,40 @@ pub fn print_job_fault<E: Write>(
     }
     if let Some(note) = fault.note() {
         let _ = writeln!(errors, "{note}");
+    }
+}
+
+/// If a session or a backup that changed nothing ended with an error, and left its journal, prints that the next run
+/// needs another name for the journal. The journal is created after the chip is identified, except for `--wp-range`.
+pub fn print_used_name<R: Store, E: Write>(
+    errors: &mut E,
+    files: &R,
+    fault: &JobFault<'_>,
+    bus: &ChipBus<'_>,
+    operation: &Operation<'_>,
+) {
+    let JobFault::Fault(Fault::Refused(_)) = fault else {
+        return;
+    };
+    if let Left::Changed { .. } = left_after(fault, bus, &operation.task) {
+        return;
+    }
+    match new_journal_of(operation) {
+        Some(name) if files.is_there(name) => {
+            let name = Escaped(name);
+            let _ = writeln!(errors, "Give the journal a new name: {name} exists now.");
+        }
+        _ => {}
+    }
+}
+
+// Returns the name of the journal that a session or a backup creates. `prepare` checked that there was no such file.
+fn new_journal_of<'a>(operation: &Operation<'a>) -> Option<&'a str> {
+    let named = named_by(&operation.task);
+    match &operation.task {
+        Task::Change(_) => named.journal,
+        _ if operation.is_backup => named.output,
+        _ => None,
     }
 }
 

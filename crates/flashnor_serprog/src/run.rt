@@ -22,7 +22,7 @@ use crate::preparing::{Prepared, prepare};
 use crate::progress::{Progress, StatusWrite, Terminal};
 use crate::region_copies::{reads_out, write_region_files};
 use crate::region_files::{RegionFile, plain_names};
-use crate::reports::{print_job_fault, print_trouble, report_changed_byte};
+use crate::reports::{print_job_fault, print_trouble, print_used_name, report_changed_byte};
 use crate::run_log::end_log;
 use crate::setting::Setting;
 use crate::terminal::Screen;
@@ -256,6 +256,7 @@ fn run_prepared<'b, R: Store, O: Write, E: Write>(
         Err(fault) => {
             bus.end_progress(false);
             print_job_fault(errors, &fault, bus, operation, saved);
+            print_used_name(errors, &*files, &fault, bus, operation);
             end_log(errors, terminal.log(), operation.log, 1)
         }
     }

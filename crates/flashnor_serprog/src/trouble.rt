@@ -8,7 +8,7 @@ use crate::quoted::Quoted;
 use crate::region_faults::RegionFault;
 use crate::setting::WrongSetting;
 use crate::status_line::{DIFFERED, StatusLine};
-use nor_args::{Reason, WrongArguments};
+use nor_args::{Flaw, Reason, WrongArguments};
 use nor_buses::CheckFault;
 use nor_console::{Escaped, Fault, text_of_flaw};
 use nor_serprog::{Failure, HandshakeFault};
@@ -135,6 +135,14 @@ impl fmt::Display for WrongSetting<'_> {
             }
             WrongSetting::Flawed { setting: "", .. } => f.write_str(
                 "error: a setting in -p is empty; give serprog:dev=PATH, with commas only between settings\n",
+            ),
+            WrongSetting::Flawed {
+                setting,
+                flaw: Flaw::Value,
+            } if setting.starts_with("spispeed=") => writeln!(
+                f,
+                "error: invalid value in -p: '{}'; give a decimal number of hertz, 1 to 4294967295",
+                Escaped(setting)
             ),
             WrongSetting::Flawed { setting, flaw } => {
                 let setting = Escaped(setting);
