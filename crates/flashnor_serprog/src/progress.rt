@@ -347,6 +347,10 @@ impl<B: Bus> Bus for Shown<'_, B> {
             }
         }
     }
+
+    fn has_further_types(&self) -> bool {
+        self.bus.has_further_types()
+    }
 }
 
 impl<B: Bus + Drop> Progress for Shown<'_, ReadAhead<B>> {

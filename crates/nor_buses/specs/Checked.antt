@@ -36,6 +36,6 @@ check_fault_of checked = checked.fault
 abbrev pub history_of : {B : Type 0} {over : Ghosts B} → CheckedStatus B over → List Exchange
 history_of checked = checked.history.exchanges
 
--- The state of the bus. Only its history is known.
+-- The state of the bus. Only its history is known, and whether the bus inside has further types.
 abbrev pub checked_state : {B : Type 0} {over : Ghosts B} → CheckedStatus B over → BusState
-checked_state checked = unknown_bus (history_of checked)
+checked_state checked = record (unknown_bus (history_of checked)) { further = (inner_state checked).further }

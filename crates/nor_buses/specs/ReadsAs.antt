@@ -19,9 +19,14 @@ abbrev pub part : (bytes : List ℕ) → (at n : ℕ) → List ℕ
 part bytes at n = take n (drop at bytes)
 
 -- The state of a bus that has its own history and replaces reads of data by other reads of the bus inside. The
--- modifying commands that were sent and the result of the last poll are those of the bus inside. Nothing else is known.
+-- modifying commands that were sent, the result of the last poll, and whether the bus has further types are those of
+-- the bus inside. Nothing else is known.
 abbrev pub view_of : (inside : BusState) → (history : List Exchange) → BusState
-view_of inside history = record (unknown_bus history) { sent = inside.sent; polled_ready = inside.polled_ready }
+view_of inside history = record (unknown_bus history) {
+  sent = inside.sent;
+  polled_ready = inside.polled_ready;
+  further = inside.further;
+}
 
 -- Holds if no transaction that may modify the chip was recorded, and the result of the last poll is as it was.
 pub record KeepsRecord (old new : BusState) : Type 0 where

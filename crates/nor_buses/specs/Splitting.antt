@@ -21,6 +21,7 @@ receives_most splitting = splitting.longest_read
 abbrev pub history_of : {B : Type 0} → SplittingBus B → List Exchange
 history_of splitting = splitting.history.exchanges
 
--- The state of the bus. Only its history is known.
-abbrev pub splitting_state : {B : Type 0} → SplittingBus B → BusState
-splitting_state splitting = unknown_bus (history_of splitting)
+-- The state of the bus. Only its history is known, and whether the bus inside has further types.
+abbrev pub splitting_state : {B : Type 0} → (B → BusState) → SplittingBus B → BusState
+splitting_state state splitting =
+    record (unknown_bus (history_of splitting)) { further = (state (split_of splitting)).further }

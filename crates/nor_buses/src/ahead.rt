@@ -210,6 +210,10 @@ impl<B: Bus + Drop> Bus for ReadAhead<B> {
             }
         }
     }
+
+    fn has_further_types(&self) -> bool {
+        self.bus.has_further_types()
+    }
 }
 
 // Reads `len` bytes of the chip from `address` on into the first bytes of `block`, with one transaction.

@@ -151,6 +151,10 @@ impl<B: Bus, C: Clock> Bus for Paced<B, C> {
         };
         Ok(())
     }
+
+    fn has_further_types(&self) -> bool {
+        self.bus.has_further_types()
+    }
 }
 
 // Returns whether a transaction that sent `out` and received `reply` is a poll that shows BUSY: it sends only 05h, and

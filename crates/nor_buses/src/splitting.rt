@@ -109,19 +109,21 @@ impl<B: Bus> SplittingBus<B> {
 impl<B: Bus> Bus for SplittingBus<B> {
     ghost use Rattle.nor_buses.specs.Splitting.{split_of, sends_most, receives_most, splitting_state};
 
-    ghost state = { splitting_state };
+    ghost state = { splitting_state B.state };
 
     ghost reaches = { λ splitting honest. absurd (false≢true honest) };
 
     fn transfer(&mut self, out: &[u8], reply: &mut [u8]) -> Result<(), Stopped>
-        ensures nature { SameNature (splitting_state self.old) (splitting_state self.new) }
-        ensures stops { IsHonestFor out.now (length reply.old) (splitting_state self.old)
-            → OnErr result (Stops out.now (splitting_state self.old) (splitting_state self.new)) }
-        ensures unread { IsHonestFor out.now (length reply.old) (splitting_state self.old)
+        ensures nature { SameNature (splitting_state B.state self.old) (splitting_state B.state self.new) }
+        ensures stops { IsHonestFor out.now (length reply.old) (splitting_state B.state self.old)
+            → OnErr result (Stops out.now (splitting_state B.state self.old) (splitting_state B.state self.new)) }
+        ensures unread { IsHonestFor out.now (length reply.old) (splitting_state B.state self.old)
             → OnErr result (reply.new ≡ reply.old) }
-        ensures carries { IsHonestFor out.now (length reply.old) (splitting_state self.old)
-            → OnOk result (Carries out.now reply.new (splitting_state self.old) (splitting_state self.new)) }
-        ensures records { Records out.now reply.new result (splitting_state self.old) (splitting_state self.new) }
+        ensures carries { IsHonestFor out.now (length reply.old) (splitting_state B.state self.old)
+            → OnOk result (Carries out.now reply.new
+            (splitting_state B.state self.old) (splitting_state B.state self.new)) }
+        ensures records { Records out.now reply.new result
+            (splitting_state B.state self.old) (splitting_state B.state self.new) }
         ensures sends { sends_most self.new ≡ sends_most self.old }
         ensures receives { receives_most self.new ≡ receives_most self.old }
         ensures whole { length out.now ≤ sends_most self.old → length reply.old ≤ receives_most self.old
@@ -147,5 +149,9 @@ impl<B: Bus> Bus for SplittingBus<B> {
                 Err(Stopped)
             }
         }
+    }
+
+    fn has_further_types(&self) -> bool {
+        self.bus.has_further_types()
     }
 }

@@ -40,8 +40,7 @@ const BUSY: u8 = 0x01;
 ///   below). Each ID must equal the first one, even if the caller requested it; otherwise the call returns `Stopped`.
 ///   With this check, a wrong reply is believed only if the chip is lost each time the reply is read, and has contact
 ///   again each time for the ID after it.
-/// - The ID is read after each transaction that begins with the opcode of a read of data (03h), of SFDP (5Ah) or of the
-///   unique ID (4Bh).
+/// - The ID is read after each transaction with the opcode of a read of data (03h), SFDP (5Ah) or the unique ID (4Bh).
 /// - A poll (05h with one reply byte) is carried out with two reply bytes, since a chip repeats its status (W25Q64FV
 ///   datasheet, Read Status Register). If one of them shows BUSY, that byte is returned. If both show that the chip is
 ///   ready, they must be equal. Before the first modifying command, and until a status write is read back, the poll is
@@ -75,8 +74,7 @@ pub struct CheckedStatus<B: Bus + Drop> {
     counts: ByteCounts,
     // True if the first modifying command is refused if the port seems to change bytes.
     guards: bool,
-    // Each status byte that is known was read twice over the bus inside, and an ID was read after each of the two
-    // reads.
+    // Each known status byte was read twice over the bus inside, and an ID was read after each of the two reads.
     ghost one_read: { ForSome known.one (λ byte. was_read_twice 0x05 byte (B.state bus).history ≡ true) },
     ghost two_read: { ForSome known.two (λ byte. was_read_twice 0x35 byte (B.state bus).history ≡ true) },
 }
@@ -319,8 +317,7 @@ impl<B: Bus + Drop> CheckedStatus<B> {
         }
     }
 
-    // Makes a transaction whose own reply is not checked. Reads the ID after a read of data, of SFDP or of the unique
-    // ID.
+    // Makes a transaction whose own reply is not checked. Reads the ID after a read of data, SFDP or the unique ID.
     fn pass_confirmed(&mut self, out: &[u8], reply: &mut [u8]) -> Result<(), Stopped>
         ensures history { history_of self.new ≡ history_of self.old }
         ensures sent { (inner_state self.new).sent ≡ with_sent out.now (inner_state self.old).sent }
@@ -388,10 +385,13 @@ impl<B: Bus + Drop> Bus for CheckedStatus<B> {
             }
         }
     }
+
+    fn has_further_types(&self) -> bool {
+        self.bus.has_further_types()
+    }
 }
 
-// Returns whether a transaction begins with the opcode of a read of data (03h), of SFDP (5Ah) or of the unique ID
-// (4Bh).
+// Returns whether a transaction begins with the opcode of a read of data (03h), SFDP (5Ah) or the unique ID (4Bh).
 fn is_confirmed(out: &[u8]) -> bool
     ensures { result ≡ begins_confirmed out.now }
 {

@@ -220,6 +220,10 @@ impl<B: Bus> Bus for ReadTwice<B> {
             }
         }
     }
+
+    fn has_further_types(&self) -> bool {
+        self.bus.has_further_types()
+    }
 }
 
 // Returns whether a transaction begins with the opcode of a read of data, of the ID, of the unique ID or of SFDP. Only

@@ -11,8 +11,8 @@ use Rattle.nor_model.specs.Sent.{sent_in}
 use Rattle.nor_model.specs.PolledReady.{polled_ready_in}
 use Rattle.nor_model.specs.Bus.{BusState}
 
--- The state of a simulated bus. The bus is always well-behaved, and takes transactions of any length. It is steady if
--- and only if both `lose` and `tear` are set to `None`.
+-- The state of a simulated bus. The bus is always well-behaved, takes transactions of any length, and has no further
+-- types. It is steady if and only if both `lose` and `tear` are set to `None`.
 abbrev pub sim_state : SimBus → BusState
 sim_state bus = record {
   chip = chip_of bus.flash;
@@ -25,6 +25,7 @@ sim_state bus = record {
   steady = is_none bus.fill && is_none bus.torn;
   unlimited = true;
   polled_ready = polled_ready_in bus.history.exchanges;
+  further = false;
 }
 
 -- the value that `lose` set: the fill byte of the power failure at a stop, or `None` if the chip keeps its power at a

@@ -206,6 +206,10 @@ impl Bus for SimBus {
         self.history = self.history.replied(out, reply);
         Ok(())
     }
+
+    fn has_further_types(&self) -> bool {
+        false
+    }
 }
 
 impl Meter for SimBus {

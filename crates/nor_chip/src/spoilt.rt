@@ -110,6 +110,10 @@ impl<B: Bus> Bus for SpoiltBus<B> {
         self.history = self.history.replied(out, reply);
         Ok(())
     }
+
+    fn has_further_types(&self) -> bool {
+        self.bus.has_further_types()
+    }
 }
 
 impl<B: Meter> Meter for SpoiltBus<B> {

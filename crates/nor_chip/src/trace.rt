@@ -96,6 +96,10 @@ impl<B: Bus, L: Write> Bus for TraceBus<B, L> {
         }
         Ok(())
     }
+
+    fn has_further_types(&self) -> bool {
+        self.bus.has_further_types()
+    }
 }
 
 impl<B: Meter, L: Write> Meter for TraceBus<B, L> {

@@ -35,6 +35,8 @@ pub record BusState : Type 0 where
   pub unlimited : Bool
   -- Whether the last poll that received at least one reply byte showed that the chip is ready.
   pub polled_ready : Bool
+  -- Whether the chip may be of a further type, which only programs for real chips know. Never on a well-behaved bus.
+  pub further : Bool
 
 -- Holds if a call did not change whether the bus is well-behaved, steady or unlimited. On a well-behaved bus, the
 -- chip's configuration (its ID, size, SFDP and all else that no command changes) must also be as before the call.
@@ -134,7 +136,8 @@ unknown_chip = record {
 }
 
 -- The state of a bus that isn't well-behaved, for a chip outside the model. Only the history is known, and what follows
--- from it: `sent` and `polled_ready`. No allowance is recorded, and nothing is claimed about the chip.
+-- from it: `sent` and `polled_ready`. No allowance is recorded, nothing is claimed about the chip, and it is of no
+-- further type.
 abbrev pub unknown_bus : List Exchange → BusState
 unknown_bus history = record {
   chip = unknown_chip;
@@ -147,4 +150,5 @@ unknown_bus history = record {
   steady = false;
   unlimited = false;
   polled_ready = polled_ready_in history;
+  further = false;
 }

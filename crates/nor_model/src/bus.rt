@@ -1,5 +1,5 @@
 //! The traits of a bus to a chip.
-ghost use Rattle.std.specs.Prelude.{◌≡◌, true, length, OnOk, OnErr};
+ghost use Rattle.std.specs.Prelude.{◌≡◌, true, false, length, OnOk, OnErr};
 ghost use Rattle.nor_model.specs.Chip.{IsChip};
 ghost use Rattle.nor_model.specs.Bus.{BusState, IsHonestFor, SameNature, Stops, Carries, Records, Allows};
 
@@ -48,6 +48,13 @@ pub trait Bus {
         ensures carries { IsHonestFor out.now (length reply.old) (state self.old)
             → OnOk result (Carries out.now reply.new (state self.old) (state self.new)) }
         ensures records { Records out.now reply.new result (state self.old) (state self.new) };
+
+    /// Returns whether the chip may be of a further type: a type that only programs for real chips know. A bus to a
+    /// real chip returns true, and a bus around another bus what that one returns. A well-behaved bus returns false,
+    /// since the modelled chips have no further types.
+    fn has_further_types(&self) -> bool
+        ensures further { result ≡ (state self.now).further }
+        ensures honest { (state self.now).honest ≡ true → result ≡ false };
 
     /// Proves that the chip of a well-behaved bus satisfies `IsChip`: its non-volatile status bits, its bytes, and the
     /// number of polls that will still show BUSY are in range.

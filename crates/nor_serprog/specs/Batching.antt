@@ -1,5 +1,5 @@
 -- The bus that sends several commands together, as contracts see it.
-use Rattle.std.specs.Prelude.{ℕ, List, Bool, Option}
+use Rattle.std.specs.Prelude.{ℕ, List, Bool, true, Option}
 use Rattle.nor_model.specs.Bus.{BusState, unknown_bus}
 use Rattle.nor_model.specs.Exchange.{Exchange}
 use Rattle.nor_model.specs.PolledReady.{polled_ready_in}
@@ -44,7 +44,7 @@ cause_of batching = batching.cause
 abbrev pub is_ready : {P C : Type 0} {over : Ghosts P C} → BatchingBus P C over → Bool
 is_ready batching = is_in_step batching.batch.link
 
--- The state of the bus. Only its history is known. A command that waits is already in the history, with an empty reply,
--- and stays there even if it is dropped.
+-- The state of the bus. It has further types, and otherwise only its history is known. A command that waits is already
+-- in the history, with an empty reply, and stays there even if it is dropped.
 abbrev pub serprog_state : {P C : Type 0} {over : Ghosts P C} → BatchingBus P C over → BusState
-serprog_state batching = unknown_bus (history_of batching)
+serprog_state batching = record (unknown_bus (history_of batching)) { further = true }

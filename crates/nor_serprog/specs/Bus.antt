@@ -14,7 +14,8 @@ use Rattle.nor_serprog.specs.Link.{is_in_step}
 -- The state of a bus that has this history over a port in this state. The chip of the bus is the programmer's. A
 -- transaction takes three calls of the port: one sends the frame, one receives ACK, and one receives the reply. The bus
 -- is not `steady`, since the port can fail in the middle of a transaction, and not `unlimited`, since a frame sends at
--- most 260 bytes. The list of allowances is empty, because this bus has no call that sets one.
+-- most 260 bytes. The list of allowances is empty, because this bus has no call that sets one. It has no further types,
+-- because it may be well-behaved.
 abbrev pub over_port : PortState → (history : List Exchange) → BusState
 over_port port history = record {
   chip = port.device.chip;
@@ -27,6 +28,7 @@ over_port port history = record {
   steady = false;
   unlimited = false;
   polled_ready = polled_ready_in history;
+  further = false;
 }
 
 -- The link to the programmer.

@@ -169,4 +169,8 @@ impl<P: Port + Drop> Bus for BatchingBus<P> {
             }
         }
     }
+
+    fn has_further_types(&self) -> bool {
+        true
+    }
 }

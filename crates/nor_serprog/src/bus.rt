@@ -128,6 +128,10 @@ impl<P: Port + Drop> Bus for SerprogBus<P> {
             }
         }
     }
+
+    fn has_further_types(&self) -> bool {
+        false
+    }
 }
 
 // Carries out one transaction with one O_SPIOP.

@@ -1,5 +1,6 @@
 //! A bus for a programmer that does not speak serprog, over wires that you implement. The bus doesn't count as
 //! well-behaved (`honest`), so only the contract clauses for any bus apply to it.
+ghost use Rattle.std.specs.Prelude.{true};
 ghost use Rattle.std.proofs.lemmas.Bool.{false≢true};
 ghost use Rattle.nor_model.specs.Bus.{unknown_bus};
 
@@ -39,7 +40,7 @@ impl<W: Wires + Drop> OwnBus<W> {
 }
 
 impl<W: Wires + Drop> Bus for OwnBus<W> {
-    ghost state = { λ own. unknown_bus own.history.exchanges };
+    ghost state = { λ own. record (unknown_bus own.history.exchanges) { further = true } };
 
     ghost reaches = { λ own honest. absurd (false≢true honest) };
 
@@ -55,5 +56,9 @@ impl<W: Wires + Drop> Bus for OwnBus<W> {
                 Err(Stopped)
             }
         }
+    }
+
+    fn has_further_types(&self) -> bool {
+        true
     }
 }

@@ -113,6 +113,10 @@ impl Bus for OnceBus {
         };
         answer
     }
+
+    fn has_further_types(&self) -> bool {
+        self.bus.has_further_types()
+    }
 }
 
 impl Meter for OnceBus {

@@ -32,7 +32,8 @@ impl<B: Bus> HighBus<B> {
 }
 
 impl<B: Bus> Bus for HighBus<B> {
-    ghost state = { λ high. unknown_bus high.history.exchanges };
+    ghost state = { λ high.
+        record (unknown_bus high.history.exchanges) { further = (B.state high.bus).further } };
 
     ghost reaches = { λ high honest. absurd (false≢true honest) };
 
@@ -48,6 +49,10 @@ impl<B: Bus> Bus for HighBus<B> {
         }
         self.history = self.history.replied(out, reply);
         Ok(())
+    }
+
+    fn has_further_types(&self) -> bool {
+        self.bus.has_further_types()
     }
 }
 
