@@ -76,8 +76,8 @@ FailsToRead named file view old new fault =
 
 -- ---- chips that may be protected
 
--- true if the chip has no row in the table, so that its block protection is unknown, and at least one of the bits 2 to
--- 6 of its status 1 is set. On nearly every chip these bits protect sectors, which then ignore erases and programs.
+-- true if no row applies to the chip's ID, so that its block protection is unknown, and at least one of the bits 2 to 6
+-- of its status 1 is set. On nearly every chip these bits protect sectors, which then ignore erases and programs.
 abbrev pub may_be_protected : Found → Bool
 may_be_protected chip = not chip.scheme && not (nat_eq (bit_and chip.status1 0x7C) 0)
 

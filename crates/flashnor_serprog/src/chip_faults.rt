@@ -11,7 +11,7 @@ use std::fmt;
 pub enum JobFault<'a> {
     /// A fault that `flashnor` reports too, with the same line.
     Fault(Fault<'a>),
-    /// Chip fault 1, before a write or an erase: the chip has no row in the table, and at least one of the bits 2 to 6
+    /// Chip fault 1, before a write or an erase: no row applies to the chip's ID, and at least one of the bits 2 to 6
     /// of its status 1 is set. Nothing was changed, and the journal was not created.
     Protected { status1: u8 },
     /// The change was made, and each sector that it touched was read back. Then the comparison of the whole chip with

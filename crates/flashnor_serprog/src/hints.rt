@@ -7,7 +7,7 @@ use crate::trouble::Left;
 use nor_args::{Change, Operation, Regions, Task};
 use nor_console::{Escaped, Fault, FileFault};
 use nor_journal::Journal;
-use nor_probe::{ChipName, part_of};
+use nor_probe::{ChipName, part_for};
 use nor_session::Refusal;
 use std::fmt;
 use std::io::Write;
@@ -284,13 +284,13 @@ impl fmt::Display for Line<'_> {
     }
 }
 
-// The name of the chip with this ID in the table, or `SFDP`, and then the ID.
+// The name in the row for this ID, a row of the table or a further row, or `SFDP` without a row. Then the ID.
 #[derive(Clone, Copy, Drop)]
 struct ChipText([u8; 3]);
 
 impl fmt::Display for ChipText {
     fn fmt<W: fmt::Write>(&self, f: &mut fmt::Formatter<W>) -> fmt::Result {
-        let name = match part_of(self.0) {
+        let name = match part_for(true, self.0) {
             Some(part) => part.name.as_str(),
             None => ChipName::Sfdp.as_str(),
         };

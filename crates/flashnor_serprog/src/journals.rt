@@ -12,7 +12,7 @@ use nor_console::{Fault, print_fault, read_journal};
 use nor_files::Store;
 use nor_geometry::SECTOR_LEN;
 use nor_journal::{Journal, JournalFault};
-use nor_probe::{ChipName, part_of};
+use nor_probe::{ChipName, part_for};
 use nor_session::Refusal;
 use std::io::Write;
 use std::{fmt, io};
@@ -202,9 +202,9 @@ impl fmt::Display for Lines<'_> {
     }
 }
 
-// Returns the name of the chip with this ID and size in the table, or `SFDP` for a chip that the table lacks.
+// Returns the name in the row with this ID and size, a row of the table or a further row, or `SFDP` without such a row.
 fn name_of(id: [u8; 3], size: u32) -> &'static str {
-    match part_of(id) {
+    match part_for(true, id) {
         Some(part) if part.size == size => part.name.as_str(),
         _ => ChipName::Sfdp.as_str(),
     }

@@ -6,3 +6,4 @@ pub mod Rows
 pub mod Emulated
 pub mod Sizes
 pub mod Configs
+pub mod Applied

@@ -1,5 +1,5 @@
 -- Lemmas on the replies by which a chip was identified.
-use Rattle.std.proofs.Common.{◌≡◌, ◌∙◌, ◌==◌, ℕ, true, false, true≢false, arith, None, Ok, List, [], ◌∷◌, refl, sym}
+use Rattle.std.proofs.Common.{◌≡◌, ◌∙◌, ◌==◌, ℕ, Bool, true, false, true≢false, arith, None, Ok, List, [], ◌∷◌, refl, sym}
 use Rattle.std.proofs.lemmas.Bool.{eqb-true}
 use Rattle.nor_model.specs.Exchange.{Exchange}
 use Rattle.nor_model.specs.History.{Continues, KeepsReplies, Answered, last_reply, begins_with, names}
@@ -9,7 +9,7 @@ use Rattle.nor_probe.specs.declared.probes.Found.{Found}
 use Rattle.nor_probe.specs.declared.sfdp.Geometry.{Geometry}
 use Rattle.nor_probe.specs.Known.{part_in, sfdp_part}
 use Rattle.nor_probe.specs.Sfdp.{sfdp_says}
-use Rattle.nor_probe.specs.Table.{part_with_id}
+use Rattle.nor_probe.specs.Table.{part_for}
 use Rattle.nor_probe.specs.Replied.{RepliedSfdp, IsTypeBySfdp, IsFoundBy}
 
 -- If the bytes `out` begin with the opcode and this address, they begin with the opcode.
@@ -53,12 +53,13 @@ no_poll opcode differs (first ∷ []) is = rw (eqb-true first opcode is) differs
 no_poll opcode differs (first ∷ x ∷ rest) is = refl
 
 -- Let `polled`, `read` and `new` be the histories after the polls of a probe, after its read of the ID, and after its
--- reads of the SFDP, if any. Suppose that `found` has the status 1 of the last poll and the ID that was read. If the ID
--- has a row in the table, or the SFDP replies describe the type of `found`, then `found` is what the bus replied
+-- reads of the SFDP, if any. Suppose that `found` has the status 1 of the last poll and the ID that was read. If a row
+-- applies to the ID, or the SFDP replies describe the type of `found`, then `found` is what the bus replied
 -- (`IsFoundBy`).
-pub found_by : {polled read new : List Exchange} (found : Found) → last_reply is_poll polled ≡ found.status1 ∷ []
+pub found_by : {further : Bool} {polled read new : List Exchange} (found : Found)
+    → last_reply is_poll polled ≡ found.status1 ∷ []
     → Answered (begins_with 0x9F) polled read found.id → KeepsReplies (begins_with 0x5A) read new
-    → (part_with_id found.id ≡ None → IsTypeBySfdp new (part_in found)) → IsFoundBy new found
+    → (part_for further found.id ≡ None → IsTypeBySfdp new (part_in found)) → IsFoundBy further new found
 found_by found status answered keeps by_sfdp = record {
   id = keeps.same (begins_with 0x9F) (other_opcode 0x5A 0x9F refl) ∙ answered_last answered;
   status1 = keeps.same is_poll (no_poll 0x5A refl)
@@ -68,9 +69,9 @@ found_by found status answered keeps by_sfdp = record {
 
 -- If a chip found is what the bus replied (`IsFoundBy`), this stays so after later transactions that leave the last
 -- replies to 9Fh and to polls as they were.
-pub found_later : {old new : List Exchange} {found : Found} → Continues old new
+pub found_later : {further : Bool} {old new : List Exchange} {found : Found} → Continues old new
     → last_reply (begins_with 0x9F) new ≡ last_reply (begins_with 0x9F) old → last_reply is_poll new ≡ last_reply is_poll old
-    → IsFoundBy old found → IsFoundBy new found
+    → IsFoundBy further old found → IsFoundBy further new found
 found_later continues id status was = record {
   id = id ∙ was.id;
   status1 = status ∙ was.status1;

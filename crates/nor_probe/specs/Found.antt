@@ -1,5 +1,5 @@
 -- The result of a probe: the chip that it found, or the reason why it returned none.
-use Rattle.std.specs.Prelude.{◌≡◌, ◌+◌, ◌%◌, ◌≤◌, ◌<◌, ◌⊎◌, ℕ, true, false, List, if◌then◌else◌, ⊤}
+use Rattle.std.specs.Prelude.{◌≡◌, ◌+◌, ◌%◌, ◌≤◌, ◌<◌, ◌⊎◌, ℕ, Bool, true, false, List, if◌then◌else◌, ⊤}
 use Rattle.std.specs.Prelude.{Option, None, Some, Result, Ok, Err, IfOk, IfErr, OnOk}
 use Rattle.nor_model.specs.declared.config.Config.{Config}
 use Rattle.nor_model.specs.Chip.{Chip, status1_of}
@@ -12,7 +12,7 @@ use Rattle.nor_probe.specs.declared.probes.Found.{Found}
 use Rattle.nor_probe.specs.declared.probes.Probed.{Probed}
 use Rattle.nor_probe.specs.declared.probes.ProbeFault.{ProbeFault}
 use Rattle.nor_probe.specs.declared.probes.ProbeFault.TheVariants.{NoChip, UnknownChip, OtherName, Stopped, Timeout}
-use Rattle.nor_probe.specs.Table.{part_with_id}
+use Rattle.nor_probe.specs.Table.{part_with_id, part_for}
 use Rattle.nor_driver.specs.OnlyReads.{OnlyReads, Rested, RanOut}
 use Rattle.nor_driver.specs.Waits.{latch_when_idle}
 use Rattle.nor_probe.specs.Known.{id_of, is_no_chip, shown_as, IsKnown}
@@ -45,18 +45,23 @@ reads_by None = 4
 abbrev pub reads_of : List ℕ → ℕ
 reads_of of_id = if is_no_chip of_id then 1 else reads_by (part_with_id of_id)
 
+-- the number of reads of a probe that reads the ID `of_id` on a bus with or without further types
+abbrev pub reads_for : (further : Bool) → List ℕ → ℕ
+reads_for further of_id = if is_no_chip of_id then 1 else reads_by (part_for further of_id)
+
 -- the number of transactions that a probe of this chip needs: one poll for each BUSY that the chip still shows, one
 -- poll that shows it idle, and the reads
 abbrev pub needed : Chip → ℕ
 needed chip = chip.busy + 1 + reads_of (id_of chip.config)
 
 -- Holds for each chip that a probe finds, on every bus. The chip found has a size from 64 KiB to 16 MiB that is a power
--- of two. It has a row in the table, or was identified by its SFDP. Its ID is neither `FF FF FF` nor `00 00 00`, which
--- are read if nothing drives the bus.
-pub record IsPart (found : Found) : Type 0 where
+-- of two. It is that of the row which applies on this bus (`part_for further`): a row of the table or, if the bus has
+-- further types, a further row. If no row applies, the chip was identified by its SFDP, and has no block protection.
+-- Its ID is neither `FF FF FF` nor `00 00 00`, which are read if nothing drives the bus.
+pub record IsPart (further : Bool) (found : Found) : Type 0 where
   pub driven : is_no_chip found.id ≡ false
-  pub origin : (part_with_id found.id ≡ Some (part_in found))
-      ⊎ ((part_with_id found.id ≡ None) × (found.name ≡ Sfdp) × (found.scheme ≡ false))
+  pub origin : (part_for further found.id ≡ Some (part_in found))
+      ⊎ ((part_for further found.id ≡ None) × (found.name ≡ Sfdp) × (found.scheme ≡ false))
   pub sized : is_chip_size found.size ≡ true
   pub at_least : 65536 ≤ found.size
   pub at_most : found.size ≤ 16777216
@@ -65,7 +70,7 @@ pub record IsPart (found : Found) : Type 0 where
 -- Holds for the number of transactions of a probe that found a chip.
 pub record IsCounted (old : BusState) (probed : Probed) : Type 0 where
   -- the number is at least that of one poll and the reads
-  pub least : 1 + reads_of probed.found.id ≤ probed.transactions
+  pub least : 1 + reads_for old.further probed.found.id ≤ probed.transactions
   -- the number is at most that of 65,536 polls and four reads
   pub most : probed.transactions ≤ most_probe
   -- on a well-behaved bus (`honest`), the number is exactly what the chip needs
@@ -126,17 +131,18 @@ ProbeErrors named old new Timeout = ⊥
 pub record ProbeAlways (named : Option ChipName) (old new : BusState) (result : Result Found ProbeFault) : Type 0 where
   -- no modifying command was sent; on a well-behaved bus, at most 65,540 transactions were carried out
   pub only_reads : OnlyReads most_probe old new
-  -- a chip found has a row in the table, or was identified by SFDP, and has a size that a chip may have
-  pub part : IfOk result IsPart
+  -- a chip found is that of the row which applies on this bus or, without a row, was identified by SFDP, and has a size
+  -- that a chip may have
+  pub part : IfOk result (IsPart old.further)
   -- a chip found has the requested name, or no name is requested
   pub wanted : IfOk result (λ found. IsWanted named found.name)
   -- `OtherName` is possible only if a name is requested
   pub blames : IfErr result (BlamesName named)
   -- a chip is found only if the last poll showed that it is ready
   pub polled_ready : OnOk result (new.polled_ready ≡ true)
-  -- the ID and the status 1 of a chip found are what the bus replied and, without a row of the table, its size and
-  -- erase types are those of the SFDP replies (`IsFoundBy`)
-  pub replied : IfOk result (IsFoundBy new.history)
+  -- the ID and the status 1 of a chip found are what the bus replied and, if no row applies, its size and erase types
+  -- are those of the SFDP replies (`IsFoundBy`)
+  pub replied : IfOk result (IsFoundBy old.further new.history)
   -- after a stop or a timeout nothing more was sent
   pub last_transaction : IfErr result (ProbeEndsAt new.history)
 

@@ -1,5 +1,5 @@
 -- The replies by which a chip was identified, on every bus.
-use Rattle.std.specs.Prelude.{◌≡◌, ℕ, None, Ok, List, [], ◌∷◌, ⊤}
+use Rattle.std.specs.Prelude.{◌≡◌, ℕ, Bool, None, Ok, List, [], ◌∷◌, ⊤}
 use Rattle.nor_model.specs.Exchange.{Exchange}
 use Rattle.nor_model.specs.History.{Continues, Answered, EndsStopped, EndsBusy, last_reply, begins_with, names}
 use Rattle.nor_model.specs.PolledReady.{is_poll}
@@ -10,7 +10,7 @@ use Rattle.nor_probe.specs.declared.probes.ProbeFault.{ProbeFault}
 use Rattle.nor_probe.specs.declared.probes.ProbeFault.TheVariants.{Stopped, Timeout}
 use Rattle.nor_probe.specs.Known.{part_in, pointer_in, sfdp_part}
 use Rattle.nor_probe.specs.Sfdp.{sfdp_says}
-use Rattle.nor_probe.specs.Table.{part_with_id}
+use Rattle.nor_probe.specs.Table.{part_for}
 
 -- Holds if the last three transactions read these parts of the SFDP: the header, the first parameter header, and the
 -- table whose address that parameter header contains. Each transaction begins with 5Ah and the address of its part. The
@@ -37,12 +37,12 @@ pub record IsTypeBySfdp (history : List Exchange) (part : Part) : Type 0 where
   pub is : part ≡ sfdp_part part.id geometry
 
 -- Holds if the chip found is what the bus replied. Its ID is the last reply to 9Fh, and its status 1 the reply to the
--- last poll. If the ID has no row in the table, the size and the erase types are those of the SFDP replies
--- (`IsTypeBySfdp`).
-pub record IsFoundBy (history : List Exchange) (found : Found) : Type 0 where
+-- last poll. If no row applies to the ID on this bus (`part_for further`), the size and the erase types are those of
+-- the SFDP replies (`IsTypeBySfdp`).
+pub record IsFoundBy (further : Bool) (history : List Exchange) (found : Found) : Type 0 where
   pub id : last_reply (begins_with 0x9F) history ≡ found.id
   pub status1 : last_reply is_poll history ≡ found.status1 ∷ []
-  pub by_sfdp : part_with_id found.id ≡ None → IsTypeBySfdp history (part_in found)
+  pub by_sfdp : part_for further found.id ≡ None → IsTypeBySfdp history (part_in found)
 
 -- The end of the history of a probe that returned this fault. After `Stopped`, the last transaction is the one at which
 -- the bus stopped. After `Timeout`, the last transaction is a poll that showed BUSY. Nothing is stated for other

@@ -1,5 +1,5 @@
 -- The effect and the result of each step of a probe.
-use Rattle.std.specs.Prelude.{◌≡◌, ◌+◌, ◌<◌, ◌⊎◌, ℕ, true, false, None, Some, Ok, Err, List, ⊤}
+use Rattle.std.specs.Prelude.{◌≡◌, ◌+◌, ◌<◌, ◌⊎◌, ℕ, Bool, true, false, None, Some, Ok, Err, List, ⊤}
 use Rattle.nor_model.specs.declared.config.Config.{Config}
 use Rattle.nor_model.specs.Size.{is_chip_size}
 use Rattle.nor_model.specs.Bus.{BusState}
@@ -12,10 +12,10 @@ use Rattle.nor_probe.specs.declared.probes.ProbeFault.{ProbeFault}
 use Rattle.nor_probe.specs.declared.probes.ProbeFault.TheVariants.{NoChip, UnknownChip, OtherName, Stopped, Timeout}
 use Rattle.nor_driver.specs.declared.waits.OperationError.{OperationError}
 use Rattle.nor_driver.specs.declared.waits.OperationError.TheVariants as OperationFails
-use Rattle.nor_probe.specs.Table.{part_with_id}
+use Rattle.nor_probe.specs.Table.{part_for}
 use Rattle.nor_driver.specs.OnlyReads.{Rested, RanOut}
 use Rattle.nor_probe.specs.Known.{id_of, is_no_chip, shown, pointer_in, chip_says, shown_as}
-use Rattle.nor_probe.specs.Found.{reads_of}
+use Rattle.nor_probe.specs.Found.{reads_of, reads_for}
 
 -- the fault that a probe returns if a wait failed for this reason
 abbrev pub fault_of : OperationError → ProbeFault
@@ -34,15 +34,16 @@ pub record AreParameters (config : Config) (parameters : Parameters) : Type 0 wh
   pub table : parameters.table ≡ shown config (pointer_in (shown config 8 8)) 36
 
 -- Holds, on every bus, for the type of a chip that was identified after its ID was read as `of_id`. The type has this
--- ID and a size that a chip may have, and comes from the table or the SFDP. The ID isn't one that is read if nothing
--- drives the bus. The name of the type requires the same number of reads (`reads_under`) as the ID (`reads_of`).
-pub record IsIdentified (of_id : List ℕ) (part : Part) : Type 0 where
+-- ID and a size that a chip may have, and comes from the row that applies on this bus (`part_for further`) or the SFDP.
+-- The ID isn't one that is read if nothing drives the bus. The name of the type requires the same number of reads
+-- (`reads_under`) as the ID (`reads_for further`).
+pub record IsIdentified (further : Bool) (of_id : List ℕ) (part : Part) : Type 0 where
   pub driven : is_no_chip of_id ≡ false
   pub same_id : part.id ≡ of_id
-  pub origin : (part_with_id of_id ≡ Some part)
-      ⊎ ((part_with_id of_id ≡ None) × (part.name ≡ Sfdp) × (part.scheme ≡ false))
+  pub origin : (part_for further of_id ≡ Some part)
+      ⊎ ((part_for further of_id ≡ None) × (part.name ≡ Sfdp) × (part.scheme ≡ false))
   pub sized : is_chip_size part.size ≡ true
-  pub reads : reads_under part.name ≡ reads_of of_id
+  pub reads : reads_under part.name ≡ reads_for further of_id
 
 -- Holds on a well-behaved bus (`honest`) after the parts of the SFDP were read. Three transactions were sent, and the
 -- chip's bytes and non-volatile status bits are unchanged.

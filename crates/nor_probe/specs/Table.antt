@@ -1,15 +1,26 @@
--- The table of the chips that are known by their ID, the emulated chips, and the names of chips.
-use Rattle.std.specs.Prelude.{◌≡◌, ℕ, true, false, Option, None, Some, List, [], ◌∷◌, find, bytes_eq, codes, if◌then◌else◌}
+-- The table of the chips that are known by their ID, the emulated chips, the further rows that only programs for real
+-- chips use, and the names of chips.
+use Rattle.std.specs.Prelude.{◌≡◌, ℕ, Bool, true, false, Option, None, Some, List, [], ◌∷◌, find, bytes_eq, codes}
+use Rattle.std.specs.Prelude.{if◌then◌else◌}
 use Rattle.nor_model.specs.Makers.{all_kinds, IsEmulatedWith}
 use Rattle.nor_model.specs.declared.config.Config.{Config}
 use Rattle.nor_probe.specs.declared.table.ChipName.{ChipName}
 use Rattle.nor_probe.specs.declared.table.ChipName.TheVariants.{W25Q64FV, W25Q128FV, Sfdp, Other}
+use Rattle.nor_probe.specs.declared.table.ChipName.TheVariants.{W25Q32FV, W25Q32FW, W25Q64FW, W25Q128FW}
+use Rattle.nor_probe.specs.declared.table.ChipName.TheVariants.{W25Q32JVM, W25Q64JVM, W25Q128JVM}
 use Rattle.nor_probe.specs.declared.table.Part.{Part}
 
 -- the text of a name; no chip has the name `other`, which is the text of `Other`
 abbrev pub name_text : ChipName → List ℕ
 name_text W25Q64FV = codes "W25Q64FV"
 name_text W25Q128FV = codes "W25Q128FV"
+name_text W25Q32FV = codes "W25Q32FV"
+name_text W25Q32FW = codes "W25Q32FW"
+name_text W25Q64FW = codes "W25Q64FW"
+name_text W25Q128FW = codes "W25Q128FW"
+name_text W25Q32JVM = codes "W25Q32JV-M"
+name_text W25Q64JVM = codes "W25Q64JV-M"
+name_text W25Q128JVM = codes "W25Q128JV-M"
 name_text Sfdp = codes "SFDP"
 name_text Other = codes "other"
 
@@ -26,22 +37,58 @@ chips =
     ∷ winbond W25Q128FV (0xEF ∷ 0x40 ∷ 0x18 ∷ []) 16777216
     ∷ []
 
+-- The further rows, of chips of further types. They have the instructions and the block protection of the chips of the
+-- table. (Winbond datasheets W25Q32FV, W25Q32FW, W25Q64FW, W25Q128FW, W25Q32JV-DTR, W25Q64JV-DTR and W25Q128JV-DTR:
+-- manufacturer and device identification, status register memory protection.)
+abbrev pub further_chips : List Part
+further_chips =
+    winbond W25Q32FV (0xEF ∷ 0x40 ∷ 0x16 ∷ []) 4194304
+    ∷ winbond W25Q32FW (0xEF ∷ 0x60 ∷ 0x16 ∷ []) 4194304
+    ∷ winbond W25Q64FW (0xEF ∷ 0x60 ∷ 0x17 ∷ []) 8388608
+    ∷ winbond W25Q128FW (0xEF ∷ 0x60 ∷ 0x18 ∷ []) 16777216
+    ∷ winbond W25Q32JVM (0xEF ∷ 0x70 ∷ 0x16 ∷ []) 4194304
+    ∷ winbond W25Q64JVM (0xEF ∷ 0x70 ∷ 0x17 ∷ []) 8388608
+    ∷ winbond W25Q128JVM (0xEF ∷ 0x70 ∷ 0x18 ∷ []) 16777216
+    ∷ []
+
 -- the row of the table with this ID, or `None` if no row has it
 abbrev pub part_with_id : (of_id : List ℕ) → Option Part
 part_with_id of_id = find (λ part. bytes_eq part.id of_id) chips
 
+-- the further row with this ID, or `None` if no further row has it
+abbrev pub further_with_id : (of_id : List ℕ) → Option Part
+further_with_id of_id = find (λ part. bytes_eq part.id of_id) further_chips
+
+-- the row or, without a row, the given `other`
+abbrev pub row_or : (other : Option Part) → Option Part → Option Part
+row_or other (Some part) = Some part
+row_or other None = other
+
+-- The row that applies to a chip with this ID on a bus: the row of the table or, if the bus has further types
+-- (`further`), the further row. `None` if no row applies.
+abbrev pub part_for : (further : Bool) → (of_id : List ℕ) → Option Part
+part_for false of_id = part_with_id of_id
+part_for true of_id = row_or (further_with_id of_id) (part_with_id of_id)
+
 -- the row of the table with this name, or `None` if no row has it
 abbrev pub part_with_name : (text : List ℕ) → Option Part
 part_with_name text = find (λ part. bytes_eq (name_text part.name) text) chips
+
+-- the further row with this name, or `None` if no further row has it
+abbrev pub further_with_name : (text : List ℕ) → Option Part
+further_with_name text = find (λ part. bytes_eq (name_text part.name) text) further_chips
 
 -- the name of a row or, without a row, the given name `unlisted`
 abbrev pub name_or : (unlisted : ChipName) → Option Part → ChipName
 name_or unlisted (Some part) = part.name
 name_or unlisted None = unlisted
 
--- the name that a text spells: that of a chip of the table, `Sfdp` for "SFDP", or `Other` for any other text
+-- the name that a text spells: that of a chip of the table or of a further row, `Sfdp` for "SFDP", or `Other` for any
+-- other text
 abbrev pub name_of : List ℕ → ChipName
-name_of text = name_or (if bytes_eq text (codes "SFDP") then Sfdp else Other) (part_with_name text)
+name_of text =
+    name_or (if bytes_eq text (codes "SFDP") then Sfdp else Other)
+    (row_or (further_with_name text) (part_with_name text))
 
 -- the type of the emulated chip TINY64, with the size and erase types that its SFDP gives; its ID isn't in the table
 abbrev pub tiny64 : Part

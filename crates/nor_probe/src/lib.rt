@@ -1,7 +1,8 @@
 //! Identifies the chip on a bus: by a table of IDs or, if the ID isn't in the table, by its SFDP (JESD216). The crate
 //! sends only polls and reads of the ID and SFDP.
 //!
-//! - `table.rt`: the names of chips, the table of the chips that are known by their ID, and the emulated chips
+//! - `table.rt`: the names of chips, the table of the chips that are known by their ID, the emulated chips, and the
+//!   further rows that only programs for real chips use
 //! - `sfdp.rt`: decodes SFDP bytes into the size and the erase types of a chip
 //! - `probes.rt`: finds the chip on a bus, over nor_driver
 //! - `laws.rt`: a theorem: the emulated chips are known, and a known chip may have any unique ID
@@ -36,4 +37,4 @@ pub use laws::emulated_are_known;
 pub use nor_model::Kinds;
 pub use probes::{Found, ProbeFault, Probed, probe, probe_counted};
 pub use sfdp::{Geometry, SfdpFault, read_sfdp};
-pub use table::{ChipName, Part, chips, emulated_part, part_of};
+pub use table::{ChipName, Part, chips, emulated_part, part_for, part_of};

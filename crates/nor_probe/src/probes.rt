@@ -1,6 +1,6 @@
 //! Finds the chip on a bus.
 
-ghost use Rattle.std.specs.Prelude.{◌≡◌, ◌<◌, ◌^◌, ◌↔◌, ℕ, true, List, None, IsTrue, IfOk, IfErr, OnOk, OnErr};
+ghost use Rattle.std.specs.Prelude.{◌≡◌, ◌<◌, ◌^◌, ◌↔◌, ℕ, true, false, List, None, IsTrue, IfOk, IfErr, OnOk, OnErr};
 ghost use Rattle.nor_model.specs.Size.{is_chip_size};
 ghost use Rattle.nor_probe.specs.declared.probes.ProbeFault.TheVariants as Faults;
 ghost use Rattle.nor_driver.specs.OnlyReads.{OnlyReads, HasStopped};
@@ -8,11 +8,11 @@ ghost use Rattle.nor_probe.specs.Known.{id_of, pointer_in, is_no_chip, sfdp_part
 ghost use Rattle.nor_probe.specs.Found.{found_in, part_in, IsConfigOf, IsCounted, IsWanted, ProbeAlways, ProbeHonest};
 ghost use Rattle.nor_model.specs.History.{KeepsReplies, begins_with};
 ghost use Rattle.nor_probe.specs.Replied.{IsTypeBySfdp, RepliedSfdp, ProbeEndsAt};
-ghost use Rattle.nor_probe.specs.Table.{part_with_id};
+ghost use Rattle.nor_probe.specs.Table.{part_for};
 ghost use Rattle.nor_probe.specs.Steps.{Identifies, IdentityErrors, IsIdentified, IsIdentityFault};
 ghost use Rattle.nor_probe.specs.Steps.{GeometryErrors, ReadsGeometry, ReadsParameters, reads_under, fault_of};
 
-use crate::{ChipName, Geometry, Part, SfdpFault, part_of, read_sfdp};
+use crate::{ChipName, Geometry, Part, SfdpFault, part_for, read_sfdp};
 use byteorder::{ByteOrder, LittleEndian};
 use nor_driver::{OperationError, read_id, read_parameters, wait};
 use nor_model::{Bus, Kinds, Stopped};
@@ -24,7 +24,7 @@ pub enum ProbeFault {
     /// The ID reads `FF FF FF` or `00 00 00`, as it does if nothing drives the bus.
     #[error("there is no chip")]
     NoChip,
-    /// The ID isn't in the table, and the chip's SFDP is refused for this reason.
+    /// No row applies to the ID, and the chip's SFDP is refused for this reason.
     #[error("the chip isn't known: {0}")]
     UnknownChip(SfdpFault),
     /// The chip was identified, and has another name than the given one.
@@ -41,7 +41,7 @@ pub enum ProbeFault {
 /// The chip that was found, with its status 1.
 #[derive(Clone, Copy, Debug, PartialEq, Eq)]
 pub struct Found {
-    /// The chip's name in the table, or `Sfdp` if it was identified by its SFDP.
+    /// The name in the chip's row, or `Sfdp` if it was identified by its SFDP.
     pub name: ChipName,
     /// The ID, as 9Fh returned it.
     pub id: [u8; 3],
@@ -63,12 +63,13 @@ pub struct Probed {
 }
 
 /// Identifies the chip on the bus. Waits until the chip is idle, with at most 65,536 polls (05h), and reads its ID
-/// (9Fh). If the ID isn't in the table, and isn't `FF FF FF` or `00 00 00`, also reads its SFDP with three reads (5Ah).
-/// If `named` is given, the chip must have this name.
+/// (9Fh). If no row applies to the ID on this bus (`part_for`), and the ID isn't `FF FF FF` or `00 00 00`, also reads
+/// its SFDP with three reads (5Ah). The further rows apply if `has_further_types` of the bus returns true. If `named`
+/// is given, the chip must have this name.
 ///
 /// On any bus, a returned chip has the given name, if one is given, and the last poll showed that it is ready. Its ID
-/// and status 1 are the last replies of the bus to 9Fh and 05h. Its size is supported. The chip has a row in the table,
-/// or was identified by the SFDP that the bus replied.
+/// and status 1 are the last replies of the bus to 9Fh and 05h. Its size is supported. The chip has the row that
+/// applies on this bus or, if no row applies, was identified by the SFDP that the bus replied.
 ///
 /// On a well-behaved bus (`honest`), the returned chip is what the chip on the bus shows about itself. That chip is
 /// idle, and its bytes and non-volatile status bits are unchanged. On a modelled bus (well-behaved, with a genuine
@@ -103,9 +104,10 @@ pub fn probe_counted<B: Bus>(bus: &mut B, named: Option<ChipName>) -> Result<Pro
         → IfOk (found_in result) (IsConfigOf (B.state bus.old).chip.config) }
     ensures counted { IfOk result (IsCounted (B.state bus.old)) }
 {
+    let further = bus.has_further_types();
     let waited = wait(bus, 0)?;
     let id = read_id(bus)?;
-    let part = identify(bus, id)?;
+    let part = identify(bus, further, id)?;
     if !is_wanted(named, part.name) {
         return Err(ProbeFault::OtherName);
     }
@@ -139,30 +141,30 @@ impl Part {
     }
 }
 
-// Returns the type of the chip whose ID was read as `id`: its row of the table or, without a row, the type that its
-// SFDP describes. The clauses `shown` and `errors` hold only on a well-behaved bus, if the chip is idle and `id` is its
-// ID.
-fn identify<B: Bus>(bus: &mut B, id: [u8; 3]) -> Result<Part, ProbeFault>
+// Returns the type of the chip whose ID was read as `id`: the row that applies or, without a row, the type that its
+// SFDP describes. `further` says whether further rows apply. The clauses `shown` and `errors` hold only on a
+// well-behaved bus without further types, if the chip is idle and `id` is its ID.
+fn identify<B: Bus>(bus: &mut B, further: bool, id: [u8; 3]) -> Result<Part, ProbeFault>
     ensures leaves { OnlyReads 3 (B.state bus.old) (B.state bus.new) }
     ensures polled_ready { (B.state bus.new).polled_ready ≡ (B.state bus.old).polled_ready }
-    ensures part { IfOk result (IsIdentified id) }
+    ensures part { IfOk result (IsIdentified further id) }
     ensures faults { IfErr result IsIdentityFault }
     ensures replies { OnOk result
         (KeepsReplies (begins_with 0x5A) (B.state bus.old).history (B.state bus.new).history) }
-    ensures by_sfdp { part_with_id id ≡ None → IfOk result (IsTypeBySfdp (B.state bus.new).history) }
+    ensures by_sfdp { part_for further id ≡ None → IfOk result (IsTypeBySfdp (B.state bus.new).history) }
     ensures last { IfErr result (ProbeEndsAt (B.state bus.new).history) }
 
-    ensures shown { (B.state bus.old).honest ≡ true → (B.state bus.old).chip.busy ≡ 0
+    ensures shown { further ≡ false → (B.state bus.old).honest ≡ true → (B.state bus.old).chip.busy ≡ 0
         → id ≡ id_of (B.state bus.old).chip.config
         → IfOk result (Identifies (B.state bus.old) (B.state bus.new)) }
-    ensures errors { (B.state bus.old).honest ≡ true → (B.state bus.old).chip.busy ≡ 0
+    ensures errors { further ≡ false → (B.state bus.old).honest ≡ true → (B.state bus.old).chip.busy ≡ 0
         → id ≡ id_of (B.state bus.old).chip.config
         → IfErr result (IdentityErrors (B.state bus.old) (B.state bus.new)) }
 {
     if is_no_chip(id) {
         return Err(ProbeFault::NoChip);
     }
-    if let Some(part) = part_of(id) {
+    if let Some(part) = part_for(further, id) {
         return Ok(part);
     }
     let geometry = read_geometry(bus)?;

@@ -1,7 +1,9 @@
-//! The table of the chips that are known by their ID, the emulated chips, and the names of chips.
+//! The table of the chips that are known by their ID, the emulated chips, the further rows that only programs for real
+//! chips use, and the names of chips.
 
 ghost use Rattle.std.specs.Prelude.{◌≡◌, IfSome};
-ghost use Rattle.nor_probe.specs.Table.{name_of, name_text, chips, part_with_id, part_with_name};
+ghost use Rattle.nor_probe.specs.Table.{name_of, name_text, chips, part_with_id, part_with_name, row_or};
+ghost use Rattle.nor_probe.specs.Table.{further_with_id, further_with_name, part_for};
 ghost use Rattle.nor_probe.specs.Table.{emulated_named, IsEmulatedPart};
 
 use nor_model::{ALL_KINDS, Kinds};
@@ -13,6 +15,20 @@ pub enum ChipName {
     W25Q64FV,
     /// Winbond W25Q128FV, 16 MiB.
     W25Q128FV,
+    /// Winbond W25Q32FV, 4 MiB.
+    W25Q32FV,
+    /// Winbond W25Q32FW, 4 MiB.
+    W25Q32FW,
+    /// Winbond W25Q64FW, 8 MiB.
+    W25Q64FW,
+    /// Winbond W25Q128FW, 16 MiB.
+    W25Q128FW,
+    /// Winbond W25Q32JV-M, 4 MiB.
+    W25Q32JVM,
+    /// Winbond W25Q64JV-M, 8 MiB.
+    W25Q64JVM,
+    /// Winbond W25Q128JV-M, 16 MiB.
+    W25Q128JVM,
     /// The name of every chip that is known only by its SFDP.
     Sfdp,
     /// Any other name. No chip has it.
@@ -20,12 +36,12 @@ pub enum ChipName {
 }
 
 impl ChipName {
-    /// Returns the name whose text is `text`: the name of a chip of the table, or `Sfdp` for `SFDP`. The text must be
-    /// in upper case. Returns `Other` for any other text.
+    /// Returns the name whose text is `text`: the name of a chip of the table or of a further row, or `Sfdp` for
+    /// `SFDP`. The text must be in upper case. Returns `Other` for any other text.
     pub fn of(text: &str) -> ChipName
         ensures { result ≡ name_of text.now }
     {
-        match part_named(text) {
+        match part_named(text).or(further_named(text)) {
             Some(part) => part.name,
             None if text == "SFDP" => ChipName::Sfdp,
             None => ChipName::Other,
@@ -40,6 +56,13 @@ impl ChipName {
         match self {
             ChipName::W25Q64FV => "W25Q64FV",
             ChipName::W25Q128FV => "W25Q128FV",
+            ChipName::W25Q32FV => "W25Q32FV",
+            ChipName::W25Q32FW => "W25Q32FW",
+            ChipName::W25Q64FW => "W25Q64FW",
+            ChipName::W25Q128FW => "W25Q128FW",
+            ChipName::W25Q32JVM => "W25Q32JV-M",
+            ChipName::W25Q64JVM => "W25Q64JV-M",
+            ChipName::W25Q128JVM => "W25Q128JV-M",
             ChipName::Sfdp => "SFDP",
             ChipName::Other => "other",
         }
@@ -60,22 +83,36 @@ pub struct Part {
     pub scheme: bool,
 }
 
+// A row for a Winbond chip, which has all erase types and block protection. It is a macro because the value of a
+// constant can't call a function.
+macro_rules! winbond {
+    ($name:ident, $id:expr, $size:expr) => {
+        Part {
+            name: ChipName::$name,
+            id: $id,
+            size: $size,
+            kinds: ALL_KINDS,
+            scheme: true,
+        }
+    };
+}
+
 // The rows of the table. Source: Winbond W25Q64FV and W25Q128FV datasheets.
 const CHIPS: [Part; 2] = [
-    Part {
-        name: ChipName::W25Q64FV,
-        id: [0xEF, 0x40, 0x17],
-        size: 8_388_608,
-        kinds: ALL_KINDS,
-        scheme: true,
-    },
-    Part {
-        name: ChipName::W25Q128FV,
-        id: [0xEF, 0x40, 0x18],
-        size: 16_777_216,
-        kinds: ALL_KINDS,
-        scheme: true,
-    },
+    winbond!(W25Q64FV, [0xEF, 0x40, 0x17], 8_388_608),
+    winbond!(W25Q128FV, [0xEF, 0x40, 0x18], 16_777_216),
+];
+
+// The further rows. Source: Winbond datasheets W25Q32FV, W25Q32FW, W25Q64FW, W25Q128FW, W25Q32JV-DTR, W25Q64JV-DTR and
+// W25Q128JV-DTR.
+const FURTHER: [Part; 7] = [
+    winbond!(W25Q32FV, [0xEF, 0x40, 0x16], 4_194_304),
+    winbond!(W25Q32FW, [0xEF, 0x60, 0x16], 4_194_304),
+    winbond!(W25Q64FW, [0xEF, 0x60, 0x17], 8_388_608),
+    winbond!(W25Q128FW, [0xEF, 0x60, 0x18], 16_777_216),
+    winbond!(W25Q32JVM, [0xEF, 0x70, 0x16], 4_194_304),
+    winbond!(W25Q64JVM, [0xEF, 0x70, 0x17], 8_388_608),
+    winbond!(W25Q128JVM, [0xEF, 0x70, 0x18], 16_777_216),
 ];
 
 // The emulated chip TINY64, with the size and erase types that its SFDP gives. Its ID isn't in the table.
@@ -101,11 +138,41 @@ pub fn part_of(id: [u8; 3]) -> Option<Part>
     CHIPS.iter().find(|part| part.id == id).copied()
 }
 
+/// Returns the row that applies to a chip with this ID: the row of the table or, if `further` is true, the further row.
+/// Returns `None` if no row applies.
+pub fn part_for(further: bool, id: [u8; 3]) -> Option<Part>
+    ensures { result ≡ part_for further id }
+{
+    let listed = part_of(id);
+    if further {
+        listed.or(further_part(id))
+    } else {
+        listed
+    }
+}
+
+// Returns the further row with this ID, or `None` if no further row has it.
+fn further_part(id: [u8; 3]) -> Option<Part>
+    ensures { result ≡ further_with_id id }
+{
+    FURTHER.iter().find(|part| part.id == id).copied()
+}
+
 // Returns the row of the table with this name, or `None` if no row has it.
 fn part_named(name: &str) -> Option<Part>
     ensures { result ≡ part_with_name name.now }
 {
     CHIPS
+        .iter()
+        .find(|part| part.name.as_str() == name)
+        .copied()
+}
+
+// Returns the further row with this name, or `None` if no further row has it.
+fn further_named(name: &str) -> Option<Part>
+    ensures { result ≡ further_with_name name.now }
+{
+    FURTHER
         .iter()
         .find(|part| part.name.as_str() == name)
         .copied()

@@ -69,7 +69,7 @@ report_is probed reads report found touched erases programs sent = λ i.
 -- Holds if the promises about the report of a call are kept, on each kind of bus.
 pub record Reports (named : Option ChipName) (included : Option (List Span)) (old new : BusState)
     (report : Report) : Type 0 where
-  pub part : ReportsPart named report
+  pub part : ReportsPart named old.further report
   pub polled_ready : new.polled_ready ≡ true
   pub reads : old.honest ≡ true → ReportsReads (sectors_included included report.found.size) old new report
   pub config : IsModelled old → IsConfigOf old.chip.config report.found

@@ -1,6 +1,6 @@
 -- Definitions that the calls of this crate share: the chip that was found and its checks, the bounds on the
 -- transactions, the report of `read_out` and `verify`, and the errors.
-use Rattle.std.specs.Prelude.{◌≡◌, ◌≤◌, ◌+◌, ◌/◌, ℕ, true, Option, Ok, List, ⊤}
+use Rattle.std.specs.Prelude.{◌≡◌, ◌≤◌, ◌+◌, ◌/◌, ℕ, Bool, true, Option, Ok, List, ⊤}
 use Rattle.nor_model.specs.declared.config.Config.{Config}
 use Rattle.nor_model.specs.Chip.{status1_of}
 use Rattle.nor_model.specs.Bus.{BusState}
@@ -23,11 +23,11 @@ use Rattle.nor_request.specs.declared.report.Report.{Report}
 abbrev pub most_status : ℕ
 most_status = 65541
 
--- Holds if `found` describes the chip that was found. On every bus, `found` is in the table or was identified by SFDP,
--- and has the requested name, if any. On a well-behaved bus, `found` has the chip type that the replies of the chip on
--- the bus show. On a modelled bus, `found` has the configuration of that chip.
+-- Holds if `found` describes the chip that was found. On every bus, `found` has the row that applies on this bus or was
+-- identified by SFDP (`IsPart`), and has the requested name, if any. On a well-behaved bus, `found` has the chip type
+-- that the replies of the chip on the bus show. On a modelled bus, `found` has the configuration of that chip.
 pub record IsFound (named : Option ChipName) (old : BusState) (found : Found) : Type 0 where
-  pub part : IsPart found
+  pub part : IsPart old.further found
   pub has_name : IsWanted named found.name
   pub shown : old.honest ≡ true → shown_as old.chip.config ≡ Ok (part_in found)
   pub config : IsModelled old → IsConfigOf old.chip.config found
@@ -66,10 +66,11 @@ most_read size = most_probe + size / 4096
 -- ---- the report
 
 -- Holds if the report has a chip with the requested name, if any, counts no change, and counts at most the bound
--- `most_read` of transactions. `read_out` and `verify` promise this on every bus.
-pub record ReportsPart (named : Option ChipName) (report : Report) : Type 0 where
-  -- The chip is in the table, or was identified by SFDP.
-  pub part : IsPart report.found
+-- `most_read` of transactions. `read_out` and `verify` promise this on every bus. `further` says whether the bus has
+-- further types.
+pub record ReportsPart (named : Option ChipName) (further : Bool) (report : Report) : Type 0 where
+  -- The chip has the row that applies on this bus, or was identified by SFDP.
+  pub part : IsPart further report.found
   -- The chip has the requested name, if there is one.
   pub has_name : IsWanted named report.found.name
   -- No sector was touched, and nothing was erased or programmed.

@@ -102,7 +102,7 @@ pub record VerifyAlways (named : Option ChipName) (included : Option (List Span)
   -- for the largest chip, of 16 MiB.
   pub only_reads : OnlyReads (most_read 16777216) old new
   -- After success the report has a chip with the requested name, if any, and counts no change.
-  pub reports : IfOk result (ReportsPart named)
+  pub reports : IfOk result (ReportsPart named old.further)
   -- After success no included address is past the end of the chip that was found.
   pub fits : IfOk result (λ report. FitsInto included report.found.size)
   -- After success the image is as long as the chip that was found.

@@ -17,7 +17,7 @@ use std::fmt;
 pub enum Refusal {
     /// 1: the ID reads `FF FF FF` or `00 00 00`, as it does if nothing drives the bus.
     NoChip,
-    /// 2: the ID isn't in the table of chips, and the chip's SFDP is refused for the given reason.
+    /// 2: no row applies to the ID, and the chip's SFDP is refused for the given reason.
     UnknownChip(SfdpFault),
     /// 3: the name of the chip differs from the requested one.
     OtherName,

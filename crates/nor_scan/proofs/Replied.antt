@@ -1,6 +1,6 @@
 -- Lemmas about the replies to the identification and to the scan. `bytes_read` has the bytes that were last read at
 -- each address.
-use Rattle.std.proofs.Common.{◌≡◌, ◌≢◌, ◌<◌, ◌+◌, ◌*◌, ◌/◌, ◌%◌, ◌∙◌, ℕ, List, length, slice_index, refl, sym, ap, arith}
+use Rattle.std.proofs.Common.{◌≡◌, ◌≢◌, ◌<◌, ◌+◌, ◌*◌, ◌/◌, ◌%◌, ◌∙◌, ℕ, Bool, List, length, slice_index, refl, sym, ap, arith}
 use Rattle.nor_model.specs.Exchange.{Exchange}
 use Rattle.nor_model.specs.History.{Continues, KeepsReplies, Answered, begins_with, names}
 use Rattle.nor_model.specs.PolledReady.{is_poll}
@@ -43,8 +43,9 @@ module _ (n : ℕ) {old new : List Exchange} {bytes : List ℕ}
 
 -- ---- the identification
 
-pub identified_by : {probed : Probed} {old new : BusState} {identity : Identity} → IsFoundBy old.history probed.found
-    → ReadsRest probed old new identity → IsIdentifiedBy new.history identity
+pub identified_by : {further : Bool} {probed : Probed} {old new : BusState} {identity : Identity}
+    → IsFoundBy further old.history probed.found → ReadsRest probed old new identity
+    → IsIdentifiedBy further new.history identity
 identified_by found rest =
     let first = answered_keeps rest.read_status2 in
     let second = answered_keeps rest.read_unique in record {
@@ -58,8 +59,9 @@ identified_by found rest =
 
 -- `IsIdentifiedBy` stays true if the history continues, provided that only the last replies to transactions that begin
 -- with 03h differ.
-pub identified_later : {old new : List Exchange} {identity : Identity} → Continues old new
-    → KeepsReplies (begins_with 0x03) old new → IsIdentifiedBy old identity → IsIdentifiedBy new identity
+pub identified_later : {further : Bool} {old new : List Exchange} {identity : Identity} → Continues old new
+    → KeepsReplies (begins_with 0x03) old new → IsIdentifiedBy further old identity
+    → IsIdentifiedBy further new identity
 identified_later continues keeps was = record {
   found = found_later continues (keeps.same _ (other_opcode 0x03 0x9F refl)) (keeps.same is_poll (no_poll 0x03 refl))
       was.found;

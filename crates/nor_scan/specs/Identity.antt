@@ -44,15 +44,15 @@ pub record ReadsRest (probed : Probed) (old new : BusState) (identity : Identity
   pub status2 : old.honest ≡ true → identity.status2 ≡ old.chip.kept.two
   pub unique : old.honest ≡ true → old.chip.busy ≡ 0 → identity.unique ≡ unique_of old.chip.config
 
--- Holds after an identification that succeeded. On every bus the chip that was found is in the table or was identified
--- by SFDP, and has the requested name, if any. The values in `identity` are those that the bus replied
--- (`IsIdentifiedBy`), and the last poll showed ready. On a well-behaved bus the contents and non-volatile status bits
--- are unchanged, and the chip is idle. On such a bus ID, status and unique ID are the chip's own, and the number of
--- transactions is the one that the chip needs (`needed_to_identify`). The size, erase types and block protection that
--- were found are known to be the chip's own only on a modelled bus.
+-- Holds after an identification that succeeded. On every bus the chip that was found has the row that applies on this
+-- bus or was identified by SFDP (`IsPart`), and it has the requested name, if any. The values in `identity` are those
+-- that the bus replied (`IsIdentifiedBy`), and the last poll showed ready. On a well-behaved bus the contents and
+-- non-volatile status bits are unchanged, and the chip is idle. On such a bus ID, status and unique ID are the chip's
+-- own, and the number of transactions is the one that the chip needs (`needed_to_identify`). The size, erase types and
+-- block protection that were found are known to be the chip's own only on a modelled bus.
 pub record ReadsIdentity (named : Option ChipName) (old new : BusState) (identity : Identity) : Type 0 where
-  pub part : IsPart identity.found
-  pub replied : IsIdentifiedBy new.history identity
+  pub part : IsPart old.further identity.found
+  pub replied : IsIdentifiedBy old.further new.history identity
   pub wanted : IsWanted named identity.found.name
   pub least : 4 ≤ identity.transactions
   pub most : identity.transactions ≤ most_identity

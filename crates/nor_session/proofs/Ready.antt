@@ -52,7 +52,7 @@ changes_of identity kept status code =
     }
 
 pub record Ready (request : Request) (identity : Identity) (status : Status) (code : ℕ) (kept : SavedScan) (old mid : BusState) : Type 0 where
-  pub part : IsPart identity.found
+  pub part : IsPart old.further identity.found
   pub honest_reads : HasOnlyRead (identity.transactions + kept.scanned.reads) old mid
   pub least : 4 ≤ identity.transactions
   pub few : identity.transactions ≤ most_identity

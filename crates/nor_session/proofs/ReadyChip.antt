@@ -4,7 +4,7 @@ use Rattle.std.proofs.Common.{◌+◌, ◌≡◌, ◌<◌, ◌≤◌, ◌/◌, �
 use Rattle.std.specs.Prelude.{Option, Err}
 use Rattle.std.proofs.lemmas.Bool.Decides.{nat_tests}
 use Rattle.nor_model.specs.declared.config.Config.{Config}
-use Rattle.nor_model.specs.Chip.{KeptBits, status1_of}
+use Rattle.nor_model.specs.Chip.{Chip, KeptBits, status1_of}
 use Rattle.nor_model.specs.Bus.{BusState}
 use Rattle.nor_driver.specs.Reads.{unique_of}
 use Rattle.nor_driver.specs.OnlyReads.{OnlyReads}
@@ -32,13 +32,17 @@ use Rattle.nor_session.proofs.Ready.{scanned_most, scanned_few}
 
 -- ---- what the identification says about the chip as it was before the identification
 
+-- The non-volatile bits of status 1 are those above BUSY and WEL.
+kept_one : (status1 one : ℕ) (chip : Chip) → status1 ≡ status1_of chip → chip.kept.one ≡ one → status1 / 4 ≡ one
+kept_one status1 one chip read kept = grind (arith, nat_tests)
+
 pub opening_of : {named : Option ChipName} {identity : Identity} {old mid : BusState} → IsModelled old
     → ReadsIdentity named old mid identity → IsIdentityOf old.chip identity
-opening_of is opens =
+opening_of {mid = mid} is opens =
     let same = (opens.rested is.honest).unchanged.same in
     record {
       config = opens.genuine is;
-      one = let read = opens.status1 is.honest in let kept = ap (λ (bits : KeptBits). bits.one) same.kept in grind (arith, nat_tests);
+      one = kept_one _ _ mid.chip (opens.status1 is.honest) (ap (λ (bits : KeptBits). bits.one) same.kept);
       two = opens.status2 is.honest ∙ ap (λ (bits : KeptBits). bits.two) same.kept;
       unique = opens.unique is.honest ∙ ap unique_of same.config;
     }

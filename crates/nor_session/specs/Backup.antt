@@ -47,11 +47,12 @@ writable_addresses first a = nat_lt a first.config.size && not (is_locked first.
 
 -- ---- on every bus
 
--- Describes the report of a backup. The chip that was found has the requested name, if any, and the counts of touched
--- sectors, erases and programs are 0. The number of transactions is at least four (the shortest identification) plus
--- one for each sector, and at most `most_reads`.
-pub record ReportsBackup (named : Option ChipName) (report : Report) : Type 0 where
-  pub part : IsPart report.found
+-- Describes the report of a backup on a bus with or without further types (`further`). The chip that was found
+-- satisfies `IsPart` and has the requested name, if any, and the counts of touched sectors, erases and programs are 0.
+-- The number of transactions is at least four (the shortest identification) plus one for each sector, and at most
+-- `most_reads`.
+pub record ReportsBackup (named : Option ChipName) (further : Bool) (report : Report) : Type 0 where
+  pub part : IsPart further report.found
   pub has_name : IsWanted named report.found.name
   pub touched : report.touched ≡ 0
   pub erases : report.erases ≡ 0
@@ -60,13 +61,13 @@ pub record ReportsBackup (named : Option ChipName) (report : Report) : Type 0 wh
   pub most : report.transactions ≤ most_reads (report.found.size / 4096)
 
 -- Holds if the bytes are a journal that contains what the bus replied during the backup. Its header has the ID, the
--- unique ID and the non-volatile status bits that the bus replied. The size in the header is the size in the table's
--- row for the ID or, without a row, the size in the SFDP replies. Every sector of a chip of this size is saved, with
--- the bytes of the last reply to a read of it.
-pub record IsBackupOfReplies (found : Found) (new : BusState) (bytes : List ℕ) : Type 0 where
+-- unique ID and the non-volatile status bits that the bus replied. The size in the header is the size in the row that
+-- applies to the ID on this bus or, without a row, the size in the SFDP replies. Every sector of a chip of this size is
+-- saved, with the bytes of the last reply to a read of it. `further` says whether the bus has further types.
+pub record IsBackupOfReplies (further : Bool) (found : Found) (new : BusState) (bytes : List ℕ) : Type 0 where
   pub identity : Identity
   pub same : identity.found ≡ found
-  pub replied : IsIdentifiedBy new.history identity
+  pub replied : IsIdentifiedBy further new.history identity
   pub saves : JournalSaves (header_found identity) (bytes_read new.history) (sectors_below (found.size / 4096)) bytes
 
 -- Holds if a backup may return this error and leave this vault. After errors 1 to 3 and 13, which come from the
@@ -117,10 +118,11 @@ pub record BackupAlways (named : Option ChipName) (old new : BusState) (vault va
   -- start, is still unsealed
   pub answers : IfErr result (BackupReturns vault vault')
   -- after success a faithful vault holds a journal that has every sector as the bus replied it (`IsBackupOfReplies`)
-  pub replied : IfOk result (λ report. vault'.telling ≡ true → IsBackupOfReplies report.found new vault'.bytes)
+  pub replied : IfOk result (λ report. vault'.telling ≡ true
+      → IsBackupOfReplies old.further report.found new vault'.bytes)
   -- after success the report has a chip with the requested name and counts no change, and its number of transactions is
   -- within the bounds of `ReportsBackup`
-  pub reported : IfOk result (ReportsBackup named)
+  pub reported : IfOk result (ReportsBackup named old.further)
   -- a backup succeeds only if the last poll showed that the chip is ready
   pub polled_ready : OnOk result (new.polled_ready ≡ true)
   -- after error 12 the last transaction is the one at which the bus stopped; after error 13 it is a poll that showed

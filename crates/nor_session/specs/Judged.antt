@@ -1,11 +1,11 @@
 -- The state of a session after its request was checked, and the bus states to which its promises refer.
-use Rattle.std.specs.Prelude.{◌≡◌, ◌≤◌, ◌<◌, ℕ, true, Option, List, Result, length}
+use Rattle.std.specs.Prelude.{◌≡◌, ◌≤◌, ◌<◌, ◌%◌, ℕ, true, Option, List, Result, length}
 use Rattle.nor_model.specs.Guard.{code_of}
+use Rattle.nor_model.specs.Size.{is_chip_size}
 use Rattle.nor_model.specs.Chip.{Chip, kept_in}
 use Rattle.nor_model.specs.Bus.{BusState}
 use Rattle.nor_driver.specs.OnlyReads.{OnlyReads}
 use Rattle.nor_probe.specs.declared.table.ChipName.{ChipName}
-use Rattle.nor_probe.specs.Found.{IsPart}
 use Rattle.nor_scan.specs.declared.identity.Identity.{Identity}
 use Rattle.nor_request.specs.declared.request.Request.{Request}
 use Rattle.nor_request.specs.declared.report.Report.{Report}
@@ -19,10 +19,12 @@ use Rattle.nor_scan.specs.Verdict.{IsNamed, IdentityAccepts}
 use Rattle.nor_probe.specs.Known.{IsModelled}
 use Rattle.nor_session.specs.Session.{SessionAlways, SessionHonest, SessionModelled}
 
--- Holds if the identification found a chip type with at most 65,542 transactions, and if the checks accepted the
--- request for an image of `image` bytes, with the target protection bits `code`.
+-- Holds if the identification found a chip type whose size a chip may have, with at most 65,542 transactions, and if
+-- the checks accepted the request for an image of `image` bytes, with the target protection bits `code`.
 pub record IsJudged (request : Request) (image : ℕ) (identity : Identity) (code : ℕ) : Type 0 where
-  pub part : IsPart identity.found
+  pub is_size : is_chip_size identity.found.size ≡ true
+  pub at_most : identity.found.size ≤ 16777216
+  pub in_blocks : identity.found.size % 65536 ≡ 0
   pub few : identity.transactions ≤ most_identity
   pub six_bits : code < 64
   pub sized : is_data request.what ≡ true → image ≡ identity.found.size

@@ -144,16 +144,16 @@ abbrev pub HasUniqueRead : Content → Identity → Type 0
 HasUniqueRead journal identity = (journal.unique ≡ None) ⊎ (journal.unique ≡ Some identity.unique)
 
 -- Holds if the journal fits what the bus replied to a restore's identification: the ID, the size, the unique ID (a
--- journal of format 1 has none), and the status bits that flashnor never changes. The size is the size in the table's
--- row for the ID or, without a row, the size in the SFDP replies. `read` is the history of the bus at some point of the
--- restore; the proof gives the history after the identification.
+-- journal of format 1 has none), and the status bits that flashnor never changes. The size is the size in the row that
+-- applies to the ID on this bus or, without a row, the size in the SFDP replies. `read` is the history of the bus at
+-- some point of the restore; the proof gives the history after the identification.
 pub record FitsReplies (journal : Content) (old new : BusState) : Type 0 where
   pub read : List Exchange
   pub before : Continues old.history read
   pub after : Continues read new.history
   pub identity : Identity
-  pub part : IsPart identity.found
-  pub replied : IsIdentifiedBy read identity
+  pub part : IsPart old.further identity.found
+  pub replied : IsIdentifiedBy old.further read identity
   pub kind : IsOfTypeFound journal identity.found
   pub device : HasUniqueRead journal identity
   pub fixed : HasFixedRead journal identity

@@ -216,17 +216,17 @@ HoldsBegun request image chip bytes = (bytes ≡ [])
     × IsJournalPrefix (header_of chip) chip.bytes (is_touched chip.bytes (wanted request image chip)) bytes)
 
 -- Holds if the bytes are a journal that contains what the bus last replied before the seal. Its header has the ID, the
--- unique ID and the non-volatile status bits that the bus replied. The size in the header is the size in the table's
--- row for the ID or, without a row, the size in the SFDP replies. Each record has the bytes of the last reply to a read
--- of its sector. `at_seal` is the history of the bus at some point of the session; the proof gives the history at the
--- seal.
+-- unique ID and the non-volatile status bits that the bus replied. The size in the header is the size in the row that
+-- applies to the ID on this bus or, without a row, the size in the SFDP replies. Each record has the bytes of the last
+-- reply to a read of its sector. `at_seal` is the history of the bus at some point of the session; the proof gives the
+-- history at the seal.
 pub record IsJournalOfReplies (old new : BusState) (bytes : List ℕ) : Type 0 where
   pub at_seal : List Exchange
   pub before : Continues old.history at_seal
   pub after : Continues at_seal new.history
   pub identity : Identity
-  pub part : IsPart identity.found
-  pub replied : IsIdentifiedBy at_seal identity
+  pub part : IsPart old.further identity.found
+  pub replied : IsIdentifiedBy old.further at_seal identity
   pub sectors : ℕ → Bool
   pub saves : JournalSaves (header_found identity) (bytes_read at_seal) sectors bytes
 

@@ -1,8 +1,10 @@
 use Rattle.std.proofs.Common.{◌∙◌, sym, ap, arith, rules}
+use Rattle.std.specs.Prelude.{Ok}
 use Rattle.std.proofs.lemmas.Grind.{common_steps}
 use Rattle.nor_driver.proofs.ReadsInTurn.{only_reads_within}
 use Rattle.nor_driver.proofs.Readings.{rested_then}
-use Rattle.nor_probe.specs.Known.{id_of}
+use Rattle.nor_probe.specs.Known.{id_of, shown_as}
+use Rattle.nor_probe.proofs.Configs.{shown_config}
 use Rattle.nor_probe.proofs.Errors.{blames_other, probe_errors}
 use Rattle.nor_probe.proofs.Replied.{found_by}
 use Rattle.nor_probe.proofs.probes.probe_counted.Goals as goal
@@ -55,6 +57,20 @@ returns-in_err-part-clause-honest g c honest =
     (omega (arith, waited.count, waited.polls, read.count))
     (omega (arith, waited.polls, c.in_ok-waited.ensures.does.few)) (g.B.Bus.state c.identify.new.bus)
     c.in_err-part.field-0.0 (search rules)
-    (c.in_err-part.ensures.errors (c.read_id.ensures.leaves.nature.honest ∙ still) idle
+    (c.in_err-part.ensures.errors (c.has_further_types-further.ensures.honest honest)
+    (c.read_id.ensures.leaves.nature.honest ∙ still) idle
     (c.in_ok-id.ensures.does.replied still waited.idle ∙ ap id_of (sym read.rested.unchanged.same.config))) in
     search rules
+
+pub returns-clause-modelled : goal.returns-clause-modelled
+returns-clause-modelled g c modelled =
+    let honest = modelled.honest in
+    let waited = c.in_ok-waited.ensures.does.done honest in
+    let still = c.wait.ensures.leaves.nature.honest ∙ honest in
+    let read = c.in_ok-id.ensures.does.read still in
+    let shown = c.in_ok-part.ensures.shown (c.has_further_types-further.ensures.honest honest)
+    (c.read_id.ensures.leaves.nature.honest ∙ still) (read.busy ∙ waited.idle)
+    (c.in_ok-id.ensures.does.replied still waited.idle ∙ ap id_of (sym read.rested.unchanged.same.config)) in
+    let same = read.rested.unchanged.same.config ∙ waited.rested.unchanged.same.config in
+    shown_config (g.B.Bus.state c.args.bus.now).chip.config c.found.result modelled.genuine
+    (ap shown_as (sym same) ∙ shown.shows ∙ ap Ok (sym c.found.ensures.part))

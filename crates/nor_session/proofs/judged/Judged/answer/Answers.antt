@@ -27,7 +27,7 @@ finish-requires-clause-sourced g c = λ s touched.
     let scans = c.in_ok-saved.ensures.keeps.scans in
     let judged = c.requires.judged in
     let long = judged.sized
-    (touched_data c.args.self.request.now _ s judged.part.at_most scans.marks scans.few scans.reads touched) in
+    (touched_data c.args.self.request.now _ s judged.at_most scans.marks scans.few scans.reads touched) in
     let same = c.save.auto.image in
     let below = scans.marks.below s touched in
     lt-ltb (4096 * s + 4095) (length c.save.new.image) (omega arith)

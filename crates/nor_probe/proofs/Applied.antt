@@ -1,0 +1,40 @@
+-- Properties of the row that applies to an ID on a bus with or without further types (`part_for`).
+use Rattle.std.proofs.Common.{◌≡◌, ◌∙◌, ◌==◌, ℕ, Bool, true, false, List, refl, inl}
+use Rattle.std.specs.Prelude.{Option, None, Some, bytes_eq}
+use Rattle.std.specs.List.{list_all}
+use Rattle.std.proofs.lemmas.Bool.{eqb-true}
+use Rattle.std.proofs.lemmas.Slice.Eq.{bytes_eq-Decides}
+use Rattle.nor_model.specs.Size.{is_chip_size}
+use Rattle.nor_probe.specs.declared.table.Part.{Part}
+use Rattle.nor_probe.specs.Table.{chips, further_chips, part_with_id, further_with_id, row_or, part_for}
+use Rattle.nor_probe.specs.Known.{is_no_chip}
+use Rattle.nor_probe.specs.Steps.{IsIdentified, reads_under}
+use Rattle.nor_probe.proofs.Configs.{found_has}
+
+module _ (holds : Part → Bool) (of_id : List ℕ) (part : Part) (all : list_all holds chips ≡ true)
+    (more : list_all holds further_chips ≡ true) where
+  either_has : (row : Option Part) → part_with_id of_id ≡ row → row_or (further_with_id of_id) row ≡ Some part
+      → (bytes_eq part.id of_id ≡ true) × (holds part ≡ true)
+  either_has (Some row) listed is = found_has (λ p. bytes_eq p.id of_id) holds chips part all (listed ∙ is)
+  either_has None listed is = found_has (λ p. bytes_eq p.id of_id) holds further_chips part more is
+
+  -- If all rows of the table and all further rows have the property `holds`, the row that applies to the ID `of_id` has
+  -- this ID and this property.
+  applied_has : (further : Bool) → part_for further of_id ≡ Some part
+      → (bytes_eq part.id of_id ≡ true) × (holds part ≡ true)
+  applied_has false is = found_has (λ p. bytes_eq p.id of_id) holds chips part all is
+  applied_has true is = either_has (part_with_id of_id) refl is
+
+-- If a row applies to an ID that isn't read when nothing drives the bus, the chip is identified (`IsIdentified`).
+pub row_identified : (further : Bool) (of_id : List ℕ) (part : Part) → is_no_chip of_id ≡ false
+    → part_for further of_id ≡ Some part → IsIdentified further of_id part
+row_identified further of_id part driven is =
+    let sized = applied_has (λ p. is_chip_size p.size) of_id part refl refl further is in
+    let one = applied_has (λ p. reads_under p.name == 1) of_id part refl refl further is in
+    record {
+      driven = driven;
+      same_id = (bytes_eq-Decides part.id of_id).0 sized.0;
+      origin = inl is;
+      sized = sized.1;
+      reads = rw (driven, is) (eqb-true (reads_under part.name) 1 one.1);
+    }

@@ -1,0 +1,11 @@
+use Rattle.std.proofs.Common.{◌∙◌, rules, tests}
+use Rattle.std.specs.Prelude.{bytes_eq}
+use Rattle.std.proofs.lemmas.Iterator.{YieldsList-from_slice}
+use Rattle.std.proofs.lemmas.Iterator.Search.{find_from_yields_List}
+use Rattle.nor_probe.specs.Table.{further_chips}
+use Rattle.nor_probe.proofs.table.further_part.Goals as goal
+
+pub returns : goal.returns
+returns c =
+    c.copied.ensures
+    ∙ find_from_yields_List {all = further_chips} (λ part. bytes_eq part.id c.args.id) _ _ c.find.result c.find.ensures.ran (YieldsList-from_slice further_chips cc) (λ x b q k. search (rules, tests))
