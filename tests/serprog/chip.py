@@ -21,7 +21,7 @@ SECONDS = {0x01: 0.010, 0x02: 0.0007, 0x20: 0.045, 0x52: 0.120, 0xD8: 0.150}
 
 
 class Part(NamedTuple):
-    """What never changes of a chip. `has_row`: the table of the program has it. `chip_erase` is in seconds."""
+    """What never changes of a chip. `has_row`: the program knows its ID. `chip_erase` is in seconds."""
 
     id: bytes
     size: int
@@ -30,11 +30,22 @@ class Part(NamedTuple):
     chip_erase: float
 
 
+# Chips that the program knows by their ID, like W25Q64FV, but that flashnor doesn't emulate. The chip erase takes as
+# long as that of a W25Q of the same size.
+FURTHER = {
+    name: Part(bytes.fromhex(number), size, True, True, chip_erase)
+    for name, number, size, chip_erase in (
+        ("W25Q32FV", "ef4016", 1 << 22, 10.0), ("W25Q32FW", "ef6016", 1 << 22, 10.0),
+        ("W25Q64FW", "ef6017", 1 << 23, 20.0), ("W25Q128FW", "ef6018", 1 << 24, 40.0),
+        ("W25Q32JV-M", "ef7016", 1 << 22, 10.0), ("W25Q64JV-M", "ef7017", 1 << 23, 20.0),
+        ("W25Q128JV-M", "ef7018", 1 << 24, 40.0))}
+
 PARTS = {
     "W25Q64FV": Part(bytes.fromhex("ef4017"), 1 << 23, True, True, 20.0),
     "W25Q128FV": Part(bytes.fromhex("ef4018"), 1 << 24, True, True, 40.0),
     "TINY64": Part(bytes.fromhex("fe1010"), 1 << 16, False, False, 1.0),
     "GUARD64": Part(bytes.fromhex("fe1110"), 1 << 16, False, True, 1.0),
+    **FURTHER,
 }
 
 

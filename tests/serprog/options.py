@@ -7,7 +7,7 @@ import random
 
 import reference
 from bench import check
-from chip import ERASES, SECTOR, protected_range
+from chip import ERASES, FURTHER, SECTOR, protected_range
 
 SIZE = 65536
 FREE = b"\xff" * SIZE
@@ -33,6 +33,17 @@ def identifies(start):
         bench = start(part)
         bench.expect(out=[reference.found(part)])
         bench.check_frames(reference.probe(part))
+
+
+def identifies_further_chips(start):
+    """The further chips are identified by their ID, and -c takes their names. A name of another chip is error 3."""
+    for part in FURTHER:
+        bench = start(part)
+        bench.expect("-c", part, out=[reference.found(part)])
+        bench.check_frames(reference.probe(part))
+    bench.expect("-c", "W25Q32FV", err=[
+        reference.OTHER_NAME[0], "-c names W25Q32FV. The chip is W25Q128JV-M (ef7018)."])
+    bench.check_frames(reference.probe(part))
 
 
 def sets_the_clock(start):
@@ -345,20 +356,28 @@ def shows_protection(start):
         bench.chip.status[:] = bytes.fromhex(status)
         bench.expect("--wp-status", out=[f"Range: {protected}", f"Mode: {mode}"])
         bench.check_frames(reference.probe("W25Q64FV") + [reference.READ_STATUS_2])
+    bench = start("W25Q32FV", status=b"\x04\0")
+    bench.expect("--wp-status", out=["Range: 0x3f0000,0x010000", "Mode: open"])
     start().expect("--wp-status", err=["Error 6: no protection on this chip."])
 
 
-def lists_ranges(start):
-    """--wp-list prints each range that can be protected once, in the order of the least bits that select it."""
-    size, seen = 1 << 23, []
+def offered_ranges(size):
+    """Returns each range of such a chip that can be protected once, in the order of the least bits that select it."""
+    seen = []
     for bits in range(64):
         if bits & 0x17 != 0x16:
             first, after = protected_range(bytes([(bits & 0x1F) << 2, (bits & 0x20) << 1]), size)
             it = (first, after - first) if after > first else (0, 0)
             seen += [it] * (it not in seen)
-    check("ranges", len(seen), 40)
-    bench = start("W25Q64FV")
-    bench.expect("--wp-list", out=[f"0x{first:06x},0x{length:06x}" for first, length in seen])
+    return seen
+
+
+def lists_ranges(start):
+    """--wp-list prints each range that can be protected once, in the order of the least bits that select it."""
+    for part, size in ("W25Q64FV", 1 << 23), ("W25Q32FV", 1 << 22):
+        seen = offered_ranges(size)
+        check("ranges", len(seen), 40)
+        start(part).expect("--wp-list", out=[f"0x{first:06x},0x{length:06x}" for first, length in seen])
     start().expect("--wp-list", err=["Error 6: no protection on this chip."])
 
 
@@ -550,9 +569,9 @@ def needs_its_output(start):
     bench.check_chip(new)
 
 
-CASES = [identifies, sets_the_clock, selects_a_chip, keeps_to_the_protocol, names_the_chip, reads, reads_regions,
-         reads_inside, verifies, verifies_regions, writes, writes_without_verification, leaves_out_the_comparison,
-         refuses_needless_options, restores_quickly, writes_regions, writes_at_random, writes_large_chips,
-         changes_nothing, erases, erases_regions, prints_the_size, shows_protection, lists_ranges, protects,
-         shows_progress, shows_long_progress, shows_what_a_power_loss_means, takes_long_names,
+CASES = [identifies, identifies_further_chips, sets_the_clock, selects_a_chip, keeps_to_the_protocol, names_the_chip,
+         reads, reads_regions, reads_inside, verifies, verifies_regions, writes, writes_without_verification,
+         leaves_out_the_comparison, refuses_needless_options, restores_quickly, writes_regions, writes_at_random,
+         writes_large_chips, changes_nothing, erases, erases_regions, prints_the_size, shows_protection, lists_ranges,
+         protects, shows_progress, shows_long_progress, shows_what_a_power_loss_means, takes_long_names,
          prints_the_version, prints_the_name, takes_modes_of_progress, needs_its_output]

@@ -32,6 +32,27 @@ def unlocks(start):
     bench.check_frames(reference.whole_run("W25Q64FV", plan, True, True))
 
 
+def unlocks_further_chips(start):
+    """--unlock changes protected sectors of a further chip, and the restore of its journal does so, too."""
+    size = 1 << 22
+    old, new = b"\xff" * size, b"\xff" * (size - 1) + b"\0"
+    found, last = "Found W25Q32FV (ef4016), 4194304 bytes.", size // SECTOR - 1
+    bench = start("W25Q32FV", data=old, status=b"\x04\0")
+    bench.write("new", new)
+    bench.write("layout", b"3ff000:3fffff last\n")
+    job = ("-w", "new", "-l", "layout", "-i", "last", "--journal", "j")
+    bench.expect(*job, err=[
+        "Error 10: protected at 0x3ff000.",
+        "Include only regions that aren't protected, or use --unlock. Give the journal a new name."])
+    bench.check_chip(old, b"\x04\0")
+    bench.path("j").unlink(missing_ok=True)
+    bench.expect(*job, "--unlock", out=[found, "Done: touched 1, erases 0, programs 1, transactions 16."])
+    bench.check_chip(new, b"\x04\0")
+    bench.check_file("j", reference.journal("W25Q32FV", old, [last], b"\x04\0"))
+    bench.expect("--restore", "j", out=[found, "Done: touched 1, erases 1, programs 0, transactions 14."])
+    bench.check_chip(old, b"\x04\0")
+
+
 def refuses_protected(start):
     """Without --unlock a protected sector is error 10, and nothing is changed."""
     old, new = large_images()
@@ -304,6 +325,7 @@ def prints_help(start):
     bench.check_nothing_sent()
 
 
-CASES = [unlocks, refuses_protected, refuses_locked, restores, restores_the_named_chip, restores_no_other,
-         keeps_old_journals, refuses_images, refuses_regions, needs_a_chip, waits_for_the_chip, uses_small_programmers,
-         fills_no_buffer, takes_stale_bytes, refuses_arguments, helps_with_the_device, prints_help]
+CASES = [unlocks, unlocks_further_chips, refuses_protected, refuses_locked, restores, restores_the_named_chip,
+         restores_no_other, keeps_old_journals, refuses_images, refuses_regions, needs_a_chip, waits_for_the_chip,
+         uses_small_programmers, fills_no_buffer, takes_stale_bytes, refuses_arguments, helps_with_the_device,
+         prints_help]
