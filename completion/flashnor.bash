@@ -8,6 +8,9 @@
 # The chips of the table, as -L lists them.
 _flashnor_chips=(W25Q64FV W25Q128FV)
 
+# The further chips, which only flashnor-serprog knows by their ID.
+_flashnor_further_chips=(W25Q32FV W25Q32FW W25Q64FW W25Q128FW W25Q32JV-M W25Q64JV-M W25Q128JV-M)
+
 # Stores the words of the line up to the cursor in the array `words`, the one that is being typed last. Words are
 # separated only by spaces, as the shell separates them. Bash also splits the words that it passes at ':' and '='.
 _flashnor_words() {
@@ -208,7 +211,7 @@ _flashnor_serprog() {
     _flashnor_letter "$before"
     case $letter in
         -p) _flashnor_serprog_programmer "$word" ;;
-        -c) _flashnor_answer "$word" "${_flashnor_chips[@]}" SFDP ;;
+        -c) _flashnor_answer "$word" "${_flashnor_chips[@]}" "${_flashnor_further_chips[@]}" SFDP ;;
         -w | -v | -l | --restore | --check-journal | --fmap-file | --ifd-file) _flashnor_files "$word" "" -f ;;
         -o | -r | --journal | --backup) _flashnor_files "$word" "" -d ;;
         --progress) _flashnor_answer "$word" auto plain none ;;

@@ -93,7 +93,7 @@ NAMES = {
     "is_known_running": "`is_known_running running`: the operation isn't `Unknown`.",
     "Journal": "`Journal`: a journal that was read; in contracts, a `Content`.",
     "JournalFault": "`JournalFault`: why bytes are no journal.",
-    "ChipName": "`ChipName`: W25Q64FV, W25Q128FV, SFDP for a chip without a row, or a name that no chip has.",
+    "ChipName": "`ChipName`: the name of a row, SFDP for a chip without a row, or a name that no chip has.",
     "Ranges": "`Ranges`: at most 64 spans of one or more addresses.",
     "is_requested":
         "`is_requested request size a`: the request is a write or an erase, and `a` is below `size` and included: in "

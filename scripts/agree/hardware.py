@@ -6,8 +6,8 @@ import re
 import rust
 from faults import blank, line_of, refusals
 from sources import CRATES
-from texts import finish, manual, only, read, rows, same, tags, tokens
-from words import completed
+from texts import finish, manual, only, read, rows, rows_of, same, tags, tokens
+from words import completed, in_bytes
 
 NAME = "flashnor-serprog"
 PAGE = "man/flashnor-serprog.8"
@@ -60,6 +60,19 @@ def take_options(page):
          completion={name for name in names if not any(word[0] == "-" for word in offered[name])})
     same("options with files", sources={it for spellings, value in known if value == "FILE" for it in spellings},
          completion={name for name in names if "there" in offered[name]})
+
+
+def take_chips(page):
+    """Compares the rows that apply to real chips, and the names for `-c`."""
+    text = code("nor_probe/src/table.rt")
+    texts = dict(re.findall(r'ChipName::(\w+) => "([^"]+)"', text))
+    table = [(texts[name], number.replace(", 0x", " "), int(size.replace("_", "")))
+             for name, number, size in re.findall(r"winbond!\((\w+), \[0x([^]]+)\], ([\d_]+)\)", text)]
+    listed = rows_of("docs/SPECIFICATION.md", "Name") + rows_of("docs/SPECIFICATION.md", "Further name")
+    same("rows for hardware", sources=table, SPECIFICATION=[(row[0], row[1], in_bytes(row[2])) for row in listed])
+    shown = [part.text for part in page if "Require the name" in part.text]
+    same("names for -c for hardware", sources={"SFDP", *(name for name, _, _ in table)},
+         manual=re.findall(r"W25Q[-\w]+|SFDP", shown[0] if shown else ""), completion=completed("-c ", NAME))
 
 
 def take_keys(page):
@@ -133,7 +146,7 @@ def take_numbers(page):
 def main():
     """Compares all."""
     page = manual(PAGE)
-    for take in take_options, take_keys, take_names, take_lines, take_numbers:
+    for take in take_options, take_chips, take_keys, take_names, take_lines, take_numbers:
         take(page)
     finish()
 

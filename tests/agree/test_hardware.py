@@ -10,8 +10,8 @@ import unittest
 
 TOP = pathlib.Path(__file__).resolve().parent.parent.parent
 PAGE, HELP, COMPLETION = "man/flashnor-serprog.8", "crates/flashnor_serprog/src/help.rt", "completion/flashnor.bash"
-SOURCES = "crates/flashnor_serprog crates/nor_args crates/nor_console crates/nor_layout crates/nor_request " \
-    "crates/nor_serprog scripts man docs completion"
+SOURCES = "crates/flashnor_serprog crates/nor_args crates/nor_console crates/nor_layout crates/nor_probe " \
+    "crates/nor_request crates/nor_serprog scripts man docs completion"
 # The file of each plant, a pattern whose first match is replaced, the new text, and the expected message.
 PLANTS = {
     "an option that the page lacks": (
@@ -28,6 +28,10 @@ PLANTS = {
         COMPLETION, r"--quick --progress", "-L --quick --progress", "completion has '-L', sources hasn't"),
     "a file that the completion doesn't offer": (
         COMPLETION, r"-r \| --journal \| --backup\)", "-r | --journal)", "sources has '--backup', completion hasn't"),
+    "another ID of a further chip": (
+        "docs/SPECIFICATION.md", r"\| EF 60 17 \|", "| EF 61 17 |", "'EF 61 17', 8388608)', sources hasn't"),
+    "a chip that the completion lacks": (
+        COMPLETION, r" W25Q32JV-M", "", "sources has 'W25Q32JV-M', completion hasn't"),
     "a key that the completion lacks": (
         COMPLETION, "for key in dev spispeed cs", "for key in dev spispeed", "help has 'cs', completion hasn't"),
     "a key that the parser lacks": (
