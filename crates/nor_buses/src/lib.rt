@@ -7,6 +7,7 @@
 //! - `parts.rt`: reads and programs that are carried out in parts
 //! - `status.rt`: a bus that notices a lost chip, reads the status registers twice, and checks status writes
 //! - `status/reads.rt`: how the bus of `status.rt` reads IDs and status registers
+//! - `status/passing.rt`: how the bus of `status.rt` makes transactions whose own reply it does not check
 //! - `known.rt`: what the bus of `status.rt` knows about the chip, and why it stops
 //! - `counts.rt`: how often each value occurs in the data that was read
 //! - `twice.rt`: a bus that reads IDs, SFDP and data twice and compares the replies

@@ -10,6 +10,7 @@ ghost use Rattle.nor_buses.specs.KnownStatus.{BelievesStatus, IsWritten, KeepsTa
 ghost use Rattle.nor_buses.specs.StatusRead.{HasStored, IsConfirmed, IsReadTwice, IsStatusKept, KeepsId};
 ghost use Rattle.nor_buses.specs.StatusRead.{begins_confirmed, ends_in_poll, read_id_while_busy, second, was_read_twice};
 
+mod passing;
 mod reads;
 
 use crate::counts::{ByteCounts, ChangedByte};
@@ -21,14 +22,6 @@ const WRITE_STATUS: u8 = 0x01;
 const READ_STATUS1: u8 = 0x05;
 
 const READ_STATUS2: u8 = 0x35;
-
-const READ_DATA: u8 = 0x03;
-
-const READ_UNIQUE: u8 = 0x4B;
-
-const READ_SFDP: u8 = 0x5A;
-
-const READ_ID: u8 = 0x9F;
 
 const BUSY: u8 = 0x01;
 
@@ -296,48 +289,6 @@ impl<B: Bus + Drop> CheckedStatus<B> {
         self.changed_byte()
             .map(|changed| CheckFault::ChangedByte(changed))
     }
-
-    // Makes a transaction that is neither a poll, nor a read of status 2, nor a status write.
-    fn pass_on(&mut self, out: &[u8], reply: &mut [u8]) -> Result<(), Stopped>
-        ensures history { history_of self.new ≡ history_of self.old }
-        ensures sent { (inner_state self.new).sent ≡ with_sent out.now (inner_state self.old).sent }
-        ensures begun { (known_of self.new).is_changing ≡ ((known_of self.old).is_changing || begins_change out.now) }
-        ensures id { KeepsId (known_of self.old).id (known_of self.new).id }
-        ensures identified { out.now ≡ 0x9F ∷ [] → length reply.new ≡ 3
-            → OnOk result ((known_of self.new).id ≡ Some reply.new) }
-        ensures read { begins_confirmed out.now ≡ true → OnOk result (IsConfirmed (replied out.now reply.new)
-            (known_of self.new).id (inner_state self.old).history (inner_state self.new).history) }
-    {
-        match (out, reply.len()) {
-            ([READ_ID], 3) => {
-                reply.copy_from_slice(&self.read_id()?);
-                Ok(())
-            }
-            _ => self.pass_confirmed(out, reply),
-        }
-    }
-
-    // Makes a transaction whose own reply is not checked. Reads the ID after a read of data, SFDP or the unique ID.
-    fn pass_confirmed(&mut self, out: &[u8], reply: &mut [u8]) -> Result<(), Stopped>
-        ensures history { history_of self.new ≡ history_of self.old }
-        ensures sent { (inner_state self.new).sent ≡ with_sent out.now (inner_state self.old).sent }
-        ensures begun { (known_of self.new).is_changing ≡ ((known_of self.old).is_changing || begins_change out.now) }
-        ensures id { KeepsId (known_of self.old).id (known_of self.new).id }
-        ensures read { begins_confirmed out.now ≡ true → OnOk result (IsConfirmed (replied out.now reply.new)
-            (known_of self.new).id (inner_state self.old).history (inner_state self.new).history) }
-    {
-        if is_changing(out) {
-            self.known.is_changing = true;
-        }
-        self.pass(out, reply)?;
-        if let [READ_DATA, ..] = out {
-            self.counts.add(reply);
-        }
-        if is_confirmed(out) {
-            self.read_id()?;
-        }
-        Ok(())
-    }
 }
 
 impl<B: Bus + Drop> Bus for CheckedStatus<B> {
@@ -389,11 +340,4 @@ impl<B: Bus + Drop> Bus for CheckedStatus<B> {
     fn has_further_types(&self) -> bool {
         self.bus.has_further_types()
     }
-}
-
-// Returns whether a transaction begins with the opcode of a read of data (03h), SFDP (5Ah) or the unique ID (4Bh).
-fn is_confirmed(out: &[u8]) -> bool
-    ensures { result ≡ begins_confirmed out.now }
-{
-    matches!(out, [READ_DATA | READ_SFDP | READ_UNIQUE, ..])
 }

@@ -1,0 +1,72 @@
+//! How a `CheckedStatus` makes transactions whose own reply it does not check.
+ghost use Rattle.std.specs.Prelude.{◌≡◌, ◌||◌, ◌∷◌, [], true, length, Some, OnOk};
+ghost use Rattle.nor_model.specs.Command.{begins_change};
+ghost use Rattle.nor_model.specs.History.{replied};
+ghost use Rattle.nor_model.specs.Sent.{with_sent};
+ghost use Rattle.nor_buses.specs.StatusRead.{IsConfirmed, KeepsId, begins_confirmed};
+
+use super::CheckedStatus;
+use nor_model::{Bus, Stopped, is_changing};
+
+const READ_DATA: u8 = 0x03;
+
+const READ_UNIQUE: u8 = 0x4B;
+
+const READ_SFDP: u8 = 0x5A;
+
+const READ_ID: u8 = 0x9F;
+
+impl<B: Bus + Drop> CheckedStatus<B> {
+    ghost use Rattle.nor_buses.specs.Checked.{history_of, inner_state, known_of};
+
+    // Makes a transaction that is neither a poll, nor a read of status 2, nor a status write.
+    pub(super) fn pass_on(&mut self, out: &[u8], reply: &mut [u8]) -> Result<(), Stopped>
+        ensures history { history_of self.new ≡ history_of self.old }
+        ensures sent { (inner_state self.new).sent ≡ with_sent out.now (inner_state self.old).sent }
+        ensures begun { (known_of self.new).is_changing ≡ ((known_of self.old).is_changing || begins_change out.now) }
+        ensures id { KeepsId (known_of self.old).id (known_of self.new).id }
+        ensures identified { out.now ≡ 0x9F ∷ [] → length reply.new ≡ 3
+            → OnOk result ((known_of self.new).id ≡ Some reply.new) }
+        ensures read { begins_confirmed out.now ≡ true → OnOk result (IsConfirmed (replied out.now reply.new)
+            (known_of self.new).id (inner_state self.old).history (inner_state self.new).history) }
+    {
+        match (out, reply.len()) {
+            ([READ_ID], 3) => {
+                reply.copy_from_slice(&self.read_id()?);
+                Ok(())
+            }
+            _ => self.pass_confirmed(out, reply),
+        }
+    }
+
+    // Makes a transaction whose own reply is not checked. Reads the ID after a read of data, of SFDP or of the unique
+    // ID.
+    fn pass_confirmed(&mut self, out: &[u8], reply: &mut [u8]) -> Result<(), Stopped>
+        ensures history { history_of self.new ≡ history_of self.old }
+        ensures sent { (inner_state self.new).sent ≡ with_sent out.now (inner_state self.old).sent }
+        ensures begun { (known_of self.new).is_changing ≡ ((known_of self.old).is_changing || begins_change out.now) }
+        ensures id { KeepsId (known_of self.old).id (known_of self.new).id }
+        ensures read { begins_confirmed out.now ≡ true → OnOk result (IsConfirmed (replied out.now reply.new)
+            (known_of self.new).id (inner_state self.old).history (inner_state self.new).history) }
+    {
+        if is_changing(out) {
+            self.known.is_changing = true;
+        }
+        self.pass(out, reply)?;
+        if let [READ_DATA, ..] = out {
+            self.counts.add(reply);
+        }
+        if is_confirmed(out) {
+            self.read_id()?;
+        }
+        Ok(())
+    }
+}
+
+// Returns whether a transaction begins with the opcode of a read of data (03h), of SFDP (5Ah) or of the unique ID
+// (4Bh).
+fn is_confirmed(out: &[u8]) -> bool
+    ensures { result ≡ begins_confirmed out.now }
+{
+    matches!(out, [READ_DATA | READ_SFDP | READ_UNIQUE, ..])
+}
