@@ -28,6 +28,10 @@ has_begun checked = checked.known.is_changing
 abbrev pub written_of : {B : Type 0} {over : Ghosts B} → CheckedStatus B over → Option (List ℕ)
 written_of checked = checked.known.written
 
+-- True if a status write may change only SRP0, false if it may change only the protection bits.
+abbrev pub locks_of : {B : Type 0} {over : Ghosts B} → CheckedStatus B over → Bool
+locks_of checked = checked.known.locks
+
 -- The reason of the last stop that the bus inside did not cause, if there was one.
 abbrev pub check_fault_of : {B : Type 0} {over : Ghosts B} → CheckedStatus B over → Option CheckFault
 check_fault_of checked = checked.fault

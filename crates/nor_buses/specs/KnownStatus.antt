@@ -1,15 +1,30 @@
 -- What a `CheckedStatus` knows about the chip, which replies it believes, and which status writes it sends.
-use Rattle.std.specs.Prelude.{◌≡◌, ◌/◌, ◌%◌, ◌||◌, ◌⊎◌, ℕ, true, false, List, [], ◌∷◌, Option, None, Some, length, slice_index}
+use Rattle.std.specs.Prelude.{◌≡◌, ◌/◌, ◌%◌, ◌||◌, ◌⊎◌, ℕ, Bool, true, false, List, [], ◌∷◌, Option, None, Some, length, slice_index}
 use Rattle.nor_model.specs.Bus.{BusState}
 use Rattle.nor_model.specs.Command.{begins_change}
 use Rattle.nor_model.specs.Exchange.{Exchange}
 use Rattle.nor_model.specs.Sent.{begins_status_write, with_sent}
-use Rattle.nor_buses.specs.StatusRead.{AgreesWithSent, IsReadTwice, IsStatusKept, pair, second}
+use Rattle.nor_buses.specs.StatusRead.{AgreesWithSent, IsReadTwice, IsStatusAllowed, pair, second}
 use Rattle.nor_buses.specs.declared.known.Known.{Known}
 
+-- Holds if the bytes `one` and `two` have SRP0 and bits 0 to 5 of status 2 as in `one_known` and `two_known`.
+pub record KeepsFixed (one two one_known two_known : ℕ) : Type 0 where
+  pub srp0 : one / 128 ≡ one_known / 128
+  pub low : two % 64 ≡ two_known % 64
+
+-- Holds if the bytes `one` and `two` have all non-volatile bits except SRP0 as in `one_known` and `two_known`.
+pub record KeepsAllButLock (one two one_known two_known : ℕ) : Type 0 where
+  pub protection : one % 128 / 4 ≡ one_known % 128 / 4
+  pub whole : two % 128 ≡ two_known % 128
+
+-- Holds if the bytes `one` and `two` keep the bits of `one_known` and `two_known` that a status write must keep. With
+-- `locks` only SRP0 may differ, otherwise only the protection bits.
+abbrev pub KeepsBits : (locks : Bool) → (one two one_known two_known : ℕ) → Type 0
+KeepsBits true one two one_known two_known = KeepsAllButLock one two one_known two_known
+KeepsBits false one two one_known two_known = KeepsFixed one two one_known two_known
+
 -- Holds if a transaction that sends `out` is a status write of the two bytes `sent`, and keeps what is known: both
--- status registers are known, and `sent` has SRP0 and bits 0 to 5 of status 2 as they are known. BUSY, WEL and SUS are
--- clear in `sent`.
+-- status registers are known, and `sent` keeps their bits (`KeepsBits`). BUSY, WEL and SUS are clear in `sent`.
 pub record KeepsKnown (known : Known) (out sent : List ℕ) : Type 0 where
   pub one : ℕ
   pub two : ℕ
@@ -19,8 +34,7 @@ pub record KeepsKnown (known : Known) (out sent : List ℕ) : Type 0 where
   pub two_known : ℕ
   pub first : known.one ≡ Some one_known
   pub last : known.two ≡ Some two_known
-  pub srp0 : one / 128 ≡ one_known / 128
-  pub low : two % 64 ≡ two_known % 64
+  pub keeps : KeepsBits known.locks one two one_known two_known
   pub idle : one % 4 ≡ 0
   pub awake : two / 128 ≡ 0
 
@@ -41,11 +55,12 @@ pub record IsWritten (out : List ℕ) (remembered : Option (List ℕ)) : Type 0 
   pub is : out ≡ 0x01 ∷ one ∷ two ∷ []
   pub written : remembered ≡ Some (one ∷ two ∷ [])
 
--- Holds if two facts are as before: whether a modifying command was passed on, and which status write is to be read
--- back.
+-- Holds if three facts are as before: whether a modifying command was passed on, which status write is to be read
+-- back, and which bits a status write may change.
 pub record KeepsTask (old new : Known) : Type 0 where
   pub is_changing : new.is_changing ≡ old.is_changing
   pub written : new.written ≡ old.written
+  pub locks : new.locks ≡ old.locks
 
 -- Holds if all knowledge except the ID is as before.
 pub record KeepsStatus (old new : Known) : Type 0 where
@@ -53,13 +68,14 @@ pub record KeepsStatus (old new : Known) : Type 0 where
   pub two : new.two ≡ old.two
   pub is_changing : new.is_changing ≡ old.is_changing
   pub written : new.written ≡ old.written
+  pub locks : new.locks ≡ old.locks
 
 -- Holds after a transaction that sends `out`, whether it succeeded or not, if the bus inside was sent nothing that may
 -- modify the chip, except this transaction itself, at most once. A status write was sent only if it keeps the bits that
--- were read (`IsStatusKept`).
-pub record SendsKept (out : List ℕ) (old new : BusState) : Type 0 where
+-- were read, except the protection bits or, with `locks`, except SRP0 (`IsStatusAllowed`).
+pub record SendsKept (locks : Bool) (out : List ℕ) (old new : BusState) : Type 0 where
   pub sent : (new.sent ≡ old.sent) ⊎ (new.sent ≡ with_sent out old.sent)
-  pub kept : begins_status_write out ≡ true → (new ≡ old) ⊎ IsStatusKept out old.history
+  pub kept : begins_status_write out ≡ true → (new ≡ old) ⊎ IsStatusAllowed locks out old.history
 
 -- Holds after a transaction that sent `out` and succeeded with the reply `answer`. The fields say which transactions
 -- the bus inside made before the reply was believed, and what is remembered.

@@ -1,7 +1,7 @@
 //! What a `CheckedStatus` knows about the chip, and why it stops.
 ghost use Rattle.std.specs.Prelude.{◌≡◌, true, IfSome};
 ghost use Rattle.nor_model.specs.Status.{bytes_of};
-ghost use Rattle.nor_buses.specs.KnownStatus.{KeepsKnown};
+ghost use Rattle.nor_buses.specs.KnownStatus.{KeepsBits, KeepsKnown};
 
 use crate::counts::ChangedByte;
 use nor_model::Status;
@@ -15,9 +15,10 @@ pub enum CheckFault {
     /// differed although both showed that the chip is ready. This also covers a poll that showed that the chip is ready
     /// and a second one that showed BUSY.
     Differs,
-    /// A status write was not sent, because it could change a bit that is not a protection bit, and some of these bits
-    /// can be set only once. The reason is one of these: status 1 or status 2 was not read yet; such a bit differs from
-    /// the one that was read; BUSY, WEL or SUS is set in the write; or the write doesn't have exactly two data bytes.
+    /// A status write was not sent, because it could change a bit that this bus keeps, and some of these bits can be
+    /// set only once. The bus keeps all bits except the protection bits; one that `locking` made keeps all bits except
+    /// SRP0. The reason is one of these: status 1 or status 2 was not read yet; such a bit differs from the one that
+    /// was read; BUSY, WEL or SUS is set in the write; or the write doesn't have exactly two data bytes.
     Refused,
     /// The status write of `sent` was not stored: afterwards the status registers are `found`, which differs in a
     /// non-volatile bit.
@@ -43,10 +44,13 @@ pub(crate) struct Known {
     pub(crate) written: Option<[u8; 2]>,
     // The ID of the chip: the reply to the first 9Fh with three reply bytes.
     pub(crate) id: Option<[u8; 3]>,
+    // True if a status write may change only SRP0, false if it may change only the protection bits.
+    pub(crate) locks: bool,
 }
 
-// Returns the two bytes of the status write `out`, if both status registers are known and `out` keeps all their bits
-// except the protection bits, with BUSY, WEL and SUS clear. Returns `None` for any other transaction.
+// Returns the two bytes of the status write `out`, if both status registers are known and `out` keeps their bits, with
+// BUSY, WEL and SUS clear. It may change only the protection bits, or with `known.locks` only SRP0. Returns `None` for
+// any other transaction.
 pub(crate) fn kept_status(known: &Known, out: &[u8]) -> Option<[u8; 2]>
     ensures { IfSome result (KeepsKnown known.now out.now) }
 {
@@ -54,13 +58,26 @@ pub(crate) fn kept_status(known: &Known, out: &[u8]) -> Option<[u8; 2]>
         ([WRITE_STATUS, one, two], Some(one_read), Some(two_read)) => {
             let sent = Status::of([*one, *two]);
             let read = Status::of([one_read, two_read]);
-            if are_same(sent.fixed(), read.fixed()) && are_same(sent.kept(), sent) {
+            if keeps_bits(known.locks, sent, read) && are_same(sent.kept(), sent) {
                 Some([*one, *two])
             } else {
                 None
             }
         }
         _ => None,
+    }
+}
+
+// True if `sent` has the bits of `read` that a status write must keep: all non-volatile bits except SRP0 if `locks` is
+// true, otherwise all except the protection bits.
+fn keeps_bits(locks: bool, sent: Status, read: Status) -> bool
+    ensures { result ≡ true → KeepsBits locks sent.one.0 sent.two.0 read.one.0 read.two.0 }
+{
+    let ([one, two], [one_read, two_read]) = (sent.bytes(), read.bytes());
+    if locks {
+        one % 128 / 4 == one_read % 128 / 4 && two % 128 == two_read % 128
+    } else {
+        are_same(sent.fixed(), read.fixed())
     }
 }
 

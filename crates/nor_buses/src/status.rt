@@ -7,7 +7,7 @@ ghost use Rattle.nor_model.specs.Command.{begins_change};
 ghost use Rattle.nor_model.specs.History.{replied};
 ghost use Rattle.nor_model.specs.Sent.{with_sent};
 ghost use Rattle.nor_buses.specs.KnownStatus.{BelievesStatus, IsWritten, KeepsTask, PollAgrees, SendsKept};
-ghost use Rattle.nor_buses.specs.StatusRead.{HasStored, IsConfirmed, IsReadTwice, IsStatusKept, KeepsId};
+ghost use Rattle.nor_buses.specs.StatusRead.{HasStored, IsConfirmed, IsReadTwice, IsStatusAllowed, KeepsId};
 ghost use Rattle.nor_buses.specs.StatusRead.{begins_confirmed, ends_in_poll, read_id_while_busy, second, was_read_twice};
 
 mod passing;
@@ -26,7 +26,7 @@ const READ_STATUS2: u8 = 0x35;
 const BUSY: u8 = 0x01;
 
 /// A bus that notices a lost chip, reads status registers twice, refuses status writes that would change other bits
-/// than the protection bits, and reads each status write back.
+/// than the protection bits (than SRP0, if `locking` made the bus), and reads each status write back.
 ///
 /// - If contact or supply fails, each reply is FFh or 00h, however often it is read. Therefore the ID is read (9Fh with
 ///   three reply bytes) after each reply on which a decision depends, except for polls that are believed at once (see
@@ -42,7 +42,8 @@ const BUSY: u8 = 0x01;
 /// - Status 2 (35h with one reply byte) is read twice, and the ID is read after each read. Both replies must be equal.
 /// - A status write (01h) is passed on only if both status registers were read in this way before. Outside the
 ///   protection bits it must have the bits that were read: SRP0, SRP1, QE, the reserved bit, and the one-time bits LB1,
-///   LB2 and LB3. BUSY, WEL and SUS must be clear. Otherwise nothing is sent.
+///   LB2 and LB3. BUSY, WEL and SUS must be clear. Otherwise nothing is sent. Over a bus that `locking` made, a status
+///   write must have all bits that were read, also the protection bits, except SRP0.
 /// - After a status write, the first poll that shows that the chip is ready also reads status 2, twice. If a
 ///   non-volatile bit isn't as it was sent, the poll returns `Stopped`.
 /// - The bus counts how often each value occurs in the data that is read. If the port seems to change one value into
@@ -73,7 +74,7 @@ pub struct CheckedStatus<B: Bus + Drop> {
 }
 
 impl<B: Bus + Drop> CheckedStatus<B> {
-    ghost use Rattle.nor_buses.specs.Checked.{bus_of, check_fault_of, history_of, has_begun, written_of};
+    ghost use Rattle.nor_buses.specs.Checked.{bus_of, check_fault_of, history_of, has_begun, locks_of, written_of};
 
     /// Returns a bus over `bus` that checks the status registers. It sends modifying commands even if the port seems to
     /// change bytes: a restore writes what its journal saved, not data that was read.
@@ -82,8 +83,9 @@ impl<B: Bus + Drop> CheckedStatus<B> {
         ensures begun { has_begun result ≡ false }
         ensures written { written_of result ≡ None }
         ensures history { history_of result ≡ [] }
+        ensures locks { locks_of result ≡ false }
     {
-        CheckedStatus::with(bus, false)
+        CheckedStatus::with(bus, false, false)
     }
 
     /// Returns a bus over `bus` that checks the status registers, and refuses the first modifying command if the port
@@ -93,15 +95,29 @@ impl<B: Bus + Drop> CheckedStatus<B> {
         ensures begun { has_begun result ≡ false }
         ensures written { written_of result ≡ None }
         ensures history { history_of result ≡ [] }
+        ensures locks { locks_of result ≡ false }
     {
-        CheckedStatus::with(bus, true)
+        CheckedStatus::with(bus, true, false)
     }
 
-    fn with(bus: B, guards: bool) -> CheckedStatus<B>
+    /// Returns a bus over `bus` that checks the status registers, and lets a status write change no bit except SRP0,
+    /// not even a protection bit.
+    pub fn locking(bus: B) -> CheckedStatus<B>
         ensures bus { bus_of result ≡ bus }
         ensures begun { has_begun result ≡ false }
         ensures written { written_of result ≡ None }
         ensures history { history_of result ≡ [] }
+        ensures locks { locks_of result ≡ true }
+    {
+        CheckedStatus::with(bus, false, true)
+    }
+
+    fn with(bus: B, guards: bool, locks: bool) -> CheckedStatus<B>
+        ensures bus { bus_of result ≡ bus }
+        ensures begun { has_begun result ≡ false }
+        ensures written { written_of result ≡ None }
+        ensures history { history_of result ≡ [] }
+        ensures locks { locks_of result ≡ locks }
     {
         CheckedStatus {
             bus,
@@ -111,6 +127,7 @@ impl<B: Bus + Drop> CheckedStatus<B> {
                 is_changing: false,
                 written: None,
                 id: None,
+                locks,
             },
             fault: None,
             history: History::new(),
@@ -148,7 +165,8 @@ impl<B: Bus + Drop> CheckedStatus<B> {
 }
 
 impl<B: Bus + Drop> CheckedStatus<B> {
-    ghost use Rattle.nor_buses.specs.Checked.{check_fault_of, has_begun, history_of, inner_state, known_of, written_of};
+    ghost use Rattle.nor_buses.specs.Checked.{check_fault_of, has_begun, history_of, inner_state, known_of, locks_of};
+    ghost use Rattle.nor_buses.specs.Checked.{written_of};
 
     // Reads status 2 twice. If both replies are equal, the byte is known from now on.
     #[tactic(auto, using(crate::proofs::StatusRead::second_read))]
@@ -173,6 +191,7 @@ impl<B: Bus + Drop> CheckedStatus<B> {
     #[tactic(auto, using(crate::proofs::StatusRead::pair_read, crate::proofs::StatusRead::still_known))]
     fn poll(&mut self) -> Result<u8, Stopped>
         ensures history { history_of self.new ≡ history_of self.old }
+        ensures locks { locks_of self.new ≡ locks_of self.old }
         ensures begun { has_begun self.new ≡ has_begun self.old }
         ensures id { KeepsId (known_of self.old).id (known_of self.new).id }
         ensures sent { (inner_state self.new).sent ≡ (inner_state self.old).sent }
@@ -199,6 +218,7 @@ impl<B: Bus + Drop> CheckedStatus<B> {
     // the bytes of the status write.
     fn read_back(&mut self, one: u8) -> Result<(), Stopped>
         ensures history { history_of self.new ≡ history_of self.old }
+        ensures locks { locks_of self.new ≡ locks_of self.old }
         ensures begun { has_begun self.new ≡ has_begun self.old }
         ensures id { KeepsId (known_of self.old).id (known_of self.new).id }
         ensures sent { (inner_state self.new).sent ≡ (inner_state self.old).sent }
@@ -221,12 +241,13 @@ impl<B: Bus + Drop> CheckedStatus<B> {
         Ok(())
     }
 
-    // Passes a status write on if both status registers are known, and the write keeps all their bits except the
-    // protection bits, with BUSY, WEL and SUS clear (`kept_status`). Otherwise stops.
+    // Passes a status write on if both status registers are known, and the write keeps the bits that it must keep, with
+    // BUSY, WEL and SUS clear (`kept_status`). Otherwise stops.
     fn write(&mut self, out: &[u8], reply: &mut [u8]) -> Result<(), Stopped>
         ensures history { history_of self.new ≡ history_of self.old }
+        ensures locks { locks_of self.new ≡ locks_of self.old }
         ensures kept { (inner_state self.new ≡ inner_state self.old)
-            ⊎ IsStatusKept out.now (inner_state self.old).history }
+            ⊎ IsStatusAllowed (locks_of self.old) out.now (inner_state self.old).history }
         ensures sent { ((inner_state self.new).sent ≡ (inner_state self.old).sent)
             ⊎ ((inner_state self.new).sent ≡ with_sent out.now (inner_state self.old).sent) }
         ensures begun { OnOk result (has_begun self.new ≡ true) }
@@ -245,12 +266,13 @@ impl<B: Bus + Drop> CheckedStatus<B> {
 }
 
 impl<B: Bus + Drop> CheckedStatus<B> {
-    ghost use Rattle.nor_buses.specs.Checked.{check_fault_of, history_of, inner_state, known_of};
+    ghost use Rattle.nor_buses.specs.Checked.{check_fault_of, history_of, inner_state, known_of, locks_of};
 
     // Makes one transaction, and does not add it to the history.
     fn carry(&mut self, out: &[u8], reply: &mut [u8]) -> Result<(), Stopped>
         ensures history { history_of self.new ≡ history_of self.old }
-        ensures sends { SendsKept out.now (inner_state self.old) (inner_state self.new) }
+        ensures locks { locks_of self.new ≡ locks_of self.old }
+        ensures sends { SendsKept (locks_of self.old) out.now (inner_state self.old) (inner_state self.new) }
         ensures believes { OnOk result (BelievesStatus out.now reply.new (known_of self.old) (known_of self.new)
             (inner_state self.old).history (inner_state self.new).history) }
         ensures id { KeepsId (known_of self.old).id (known_of self.new).id }
@@ -292,7 +314,7 @@ impl<B: Bus + Drop> CheckedStatus<B> {
 }
 
 impl<B: Bus + Drop> Bus for CheckedStatus<B> {
-    ghost use Rattle.nor_buses.specs.Checked.{check_fault_of, checked_state, inner_state, known_of};
+    ghost use Rattle.nor_buses.specs.Checked.{check_fault_of, checked_state, inner_state, known_of, locks_of};
 
     ghost state = { checked_state };
 
@@ -307,7 +329,8 @@ impl<B: Bus + Drop> Bus for CheckedStatus<B> {
         ensures carries { IsHonestFor out.now (length reply.old) (checked_state self.old)
             → OnOk result (Carries out.now reply.new (checked_state self.old) (checked_state self.new)) }
         ensures records { Records out.now reply.new result (checked_state self.old) (checked_state self.new) }
-        ensures sends { SendsKept out.now (inner_state self.old) (inner_state self.new) }
+        ensures locks { locks_of self.new ≡ locks_of self.old }
+        ensures sends { SendsKept (locks_of self.old) out.now (inner_state self.old) (inner_state self.new) }
         ensures believes { OnOk result (BelievesStatus out.now reply.new (known_of self.old) (known_of self.new)
             (inner_state self.old).history (inner_state self.new).history) }
         ensures id { KeepsId (known_of self.old).id (known_of self.new).id }

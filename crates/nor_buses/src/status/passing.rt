@@ -17,11 +17,12 @@ const READ_SFDP: u8 = 0x5A;
 const READ_ID: u8 = 0x9F;
 
 impl<B: Bus + Drop> CheckedStatus<B> {
-    ghost use Rattle.nor_buses.specs.Checked.{history_of, inner_state, known_of};
+    ghost use Rattle.nor_buses.specs.Checked.{history_of, inner_state, known_of, locks_of};
 
     // Makes a transaction that is neither a poll, nor a read of status 2, nor a status write.
     pub(super) fn pass_on(&mut self, out: &[u8], reply: &mut [u8]) -> Result<(), Stopped>
         ensures history { history_of self.new ≡ history_of self.old }
+        ensures locks { locks_of self.new ≡ locks_of self.old }
         ensures sent { (inner_state self.new).sent ≡ with_sent out.now (inner_state self.old).sent }
         ensures begun { (known_of self.new).is_changing ≡ ((known_of self.old).is_changing || begins_change out.now) }
         ensures id { KeepsId (known_of self.old).id (known_of self.new).id }
@@ -43,6 +44,7 @@ impl<B: Bus + Drop> CheckedStatus<B> {
     // ID.
     fn pass_confirmed(&mut self, out: &[u8], reply: &mut [u8]) -> Result<(), Stopped>
         ensures history { history_of self.new ≡ history_of self.old }
+        ensures locks { locks_of self.new ≡ locks_of self.old }
         ensures sent { (inner_state self.new).sent ≡ with_sent out.now (inner_state self.old).sent }
         ensures begun { (known_of self.new).is_changing ≡ ((known_of self.old).is_changing || begins_change out.now) }
         ensures id { KeepsId (known_of self.old).id (known_of self.new).id }
