@@ -3,7 +3,7 @@ use Rattle.std.proofs.Common.{◌≡◌, Bool, None, Option, Some, arith, codes,
 use Rattle.std.specs.Prelude.{is_some, not}
 use Rattle.std.specs.Borrow.{Bor}
 use Rattle.nor_args.specs.Text.{Text}
-use Rattle.nor_args.specs.Given.{Texts, progress_mode}
+use Rattle.nor_args.specs.Given.{Texts, progress_mode, srp0_of}
 use Rattle.nor_args.specs.Faults.{first_fault, usage_faults}
 use Rattle.nor_args.specs.Job.{IsAsked, IsOperation, IsTask}
 use Rattle.nor_args.specs.declared.job.ChipJob.{ChipJob}
@@ -29,8 +29,8 @@ given_text (Some text) is same = same
 -- Let the options ask for the job `on_chip` on an emulated chip. A program for hardware is then asked for the operation
 -- with the same name and task; its other fields have the values of their options.
 pub operation-asked : (given : Texts) (on_chip : ChipJob) (backup : Bool)
-    (progress : ProgressMode) (log : Option (Bor Text)) → backup ≡ is_some given.backup
-    → progress ≡ progress_mode given → option_map (λ (file : Bor Text). file.now) log ≡ given.log
+    (srp0 : Option Bool) (progress : ProgressMode) (log : Option (Bor Text)) → backup ≡ is_some given.backup
+    → srp0 ≡ srp0_of given → progress ≡ progress_mode given → option_map (λ (file : Bor Text). file.now) log ≡ given.log
     → (first_fault (usage_faults (emulated given)) ≡ None) × IsAsked (emulated given) (job.Chip on_chip)
     → IsOperation given (record {
       named = on_chip.named;
@@ -38,9 +38,10 @@ pub operation-asked : (given : Texts) (on_chip : ChipJob) (backup : Bool)
       is_quick = given.quick;
       is_backup = backup;
       is_flash_name = given.flash_name;
+      srp0 = srp0;
       progress = progress;
       is_verbose = given.verbose;
       log = log;
       task = on_chip.task;
     })
-operation-asked given on_chip backup progress log same shown logged is = search task-same
+operation-asked given on_chip backup srp0 progress log same set shown logged is = search task-same

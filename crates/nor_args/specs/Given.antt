@@ -1,5 +1,5 @@
 -- The values of the options in the arguments.
-use Rattle.std.specs.Prelude.{◌||◌, ℕ, Bool, false, Option, Some, None, List, [], ◌∷◌, codes, is_some}
+use Rattle.std.specs.Prelude.{◌||◌, ℕ, Bool, true, false, Option, Some, None, List, [], ◌∷◌, codes, is_some}
 use Rattle.std.specs.Prelude.{nat_lt, option_and_then, option_map, unwrap_or, if◌then◌else◌}
 use Rattle.std.specs.List.{count_by}
 use Rattle.std.specs.Option.{option_map_or, option_or}
@@ -36,6 +36,9 @@ pub record Texts : Type 0 where
   -- The values of `--backup FILE` and `--check-journal FILE`.
   pub backup : Option Text
   pub check_journal : Option Text
+  -- Whether `--wp-enable` and `--wp-disable` are set.
+  pub wp_enable : Bool
+  pub wp_disable : Bool
   -- Whether `--quick` is set.
   pub quick : Bool
   -- The values of `--journal FILE` and `--rehearse N,N,..`.
@@ -89,6 +92,8 @@ given_in rows = record {
   restore = text_in rows (codes "restore");
   backup = None;
   check_journal = None;
+  wp_enable = false;
+  wp_disable = false;
   quick = false;
   journal = text_in rows (codes "journal");
   rehearse = text_in rows (codes "rehearse");
@@ -119,6 +124,8 @@ hardware_given_in rows = record (given_in rows) {
   flash_name = is_set_in rows (codes "flash-name");
   backup = text_in rows (codes "backup");
   check_journal = text_in rows (codes "check-journal");
+  wp_enable = is_set_in rows (codes "wp-enable");
+  wp_disable = is_set_in rows (codes "wp-disable");
   quick = is_set_in rows (codes "quick");
   fmap_file = text_in rows (codes "fmap-file");
   ifd_file = text_in rows (codes "ifd-file");
@@ -153,6 +160,8 @@ texts_of given = record {
   restore = option_map (λ text. text.now) given.restore;
   backup = option_map (λ text. text.now) given.backup;
   check_journal = option_map (λ text. text.now) given.check_journal;
+  wp_enable = given.wp_enable;
+  wp_disable = given.wp_disable;
   quick = given.quick;
   journal = option_map (λ text. text.now) given.journal;
   rehearse = option_map (λ text. text.now) given.rehearse;
@@ -180,7 +189,7 @@ operations given = how_many (
     given.list ∷ given.flash_size ∷ given.flash_name ∷ given.wp_status ∷ given.wp_list
     ∷ is_some given.read ∷ is_some given.verify
     ∷ is_some given.write ∷ given.erase ∷ is_some given.wp_range ∷ is_some given.restore
-    ∷ is_some given.backup ∷ is_some given.check_journal ∷ [])
+    ∷ is_some given.backup ∷ is_some given.check_journal ∷ given.wp_enable ∷ given.wp_disable ∷ [])
 
 -- the file name of the layout: the value of the first of `-l`, `--fmap-file` and `--ifd-file` that is given, or `None`
 -- if none is given
@@ -217,6 +226,10 @@ progress_of text =
 -- the mode that `--progress` names, or `Auto` if the option is missing or its value isn't a mode
 abbrev pub progress_mode : Texts → ProgressMode
 progress_mode given = unwrap_or (option_and_then progress_of given.progress) mode.Auto
+
+-- the value that SRP0 must get: true with `--wp-enable`, false with `--wp-disable`, `None` without either
+abbrev pub srp0_of : Texts → Option Bool
+srp0_of given = if given.wp_enable then Some true else if given.wp_disable then Some false else None
 
 -- the file into which the chip is read: the value of `-r`, or if `-r` is missing the value of `--backup`
 abbrev pub output_of : Texts → Option Text

@@ -7,7 +7,7 @@ use Rattle.std.specs.Option.{IsSomeAnd}
 use Rattle.nor_probe.specs.Table.{name_of}
 use Rattle.nor_args.specs.Faults.{first_fault, operation_faults}
 use Rattle.nor_args.specs.Given.{Texts, gives_layout, how_many, layout_file, layout_form, operations, output_of}
-use Rattle.nor_args.specs.Given.{progress_mode}
+use Rattle.nor_args.specs.Given.{progress_mode, srp0_of}
 use Rattle.nor_args.specs.Numbers.{range_of}
 use Rattle.nor_args.specs.Programmer.{IsProgrammer}
 use Rattle.nor_args.specs.Reasons.{IsReason}
@@ -66,9 +66,9 @@ pub record IsChange (given : Texts) (change : Change) : Type 0 where
   pub journal_use : IsJournalUse given change.journal_use
 
 -- Holds if the options ask for this operation. They ask for `Probe` if they contain no operation except perhaps
--- `--flash-name`.
+-- `--flash-name`, `--wp-enable` or `--wp-disable`.
 abbrev pub IsTask : Texts → Task → Type 0
-IsTask given task.Probe = operations given ≡ how_many (given.flash_name ∷ [])
+IsTask given task.Probe = operations given ≡ how_many (given.flash_name ∷ given.wp_enable ∷ given.wp_disable ∷ [])
 IsTask given task.FlashSize = given.flash_size ≡ true
 IsTask given task.WpStatus = given.wp_status ≡ true
 IsTask given task.WpList = given.wp_list ≡ true
@@ -100,6 +100,7 @@ pub record IsOperation (given : Texts) (operation : Operation) : Type 0 where
   pub is_quick : operation.is_quick ≡ given.quick
   pub is_backup : operation.is_backup ≡ is_some given.backup
   pub is_flash_name : operation.is_flash_name ≡ given.flash_name
+  pub srp0 : operation.srp0 ≡ srp0_of given
   pub progress : operation.progress ≡ progress_mode given
   pub is_verbose : operation.is_verbose ≡ given.verbose
   pub log : option_map (λ (file : Bor Text). file.now) operation.log ≡ given.log

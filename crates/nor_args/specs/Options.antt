@@ -111,6 +111,8 @@ own_rules =
     ∷ by_name (flag (codes "quick"))
     ∷ by_name (flag (codes "flash-name"))
     ∷ by_name (valued (codes "check-journal"))
+    ∷ by_name (flag (codes "wp-enable"))
+    ∷ by_name (flag (codes "wp-disable"))
     ∷ by_name (valued (codes "fmap-file"))
     ∷ by_name (valued (codes "ifd-file"))
     ∷ by_name (flag (codes "fmap"))

@@ -34,6 +34,8 @@ option_text option.WpRange = codes "--wp-range"
 option_text option.Restore = codes "--restore"
 option_text option.Backup = codes "--backup"
 option_text option.CheckJournal = codes "--check-journal"
+option_text option.WpEnable = codes "--wp-enable"
+option_text option.WpDisable = codes "--wp-disable"
 option_text option.Journal = codes "--journal"
 option_text option.Rehearse = codes "--rehearse"
 option_text option.Layout = codes "-l"
@@ -91,7 +93,8 @@ operation_choices given =
     ∷ (is_some given.verify, option.Verify)
     ∷ (is_some given.write, option.Write) ∷ (given.erase, option.Erase)
     ∷ (is_some given.wp_range, option.WpRange) ∷ (is_some given.restore, option.Restore)
-    ∷ (is_some given.backup, option.Backup) ∷ (is_some given.check_journal, option.CheckJournal) ∷ []
+    ∷ (is_some given.backup, option.Backup) ∷ (is_some given.check_journal, option.CheckJournal)
+    ∷ (given.wp_enable, option.WpEnable) ∷ (given.wp_disable, option.WpDisable) ∷ []
 
 -- the first option in the list that is given, or `None` if none is given
 abbrev pub first_given : List Choosing → Option OptionName

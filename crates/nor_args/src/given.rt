@@ -7,7 +7,7 @@ ghost use Rattle.clap.specs.Words.{found_of, rows_of};
 ghost use Rattle.nor_args.specs.Given.{given_in, hardware_given_in, operations, is_new_content, asks_change};
 ghost use Rattle.nor_args.specs.Given.{takes_regions};
 ghost use Rattle.nor_args.specs.Given.{gives_layout, has_two_layouts, layout_file, layout_form, progress_mode};
-ghost use Rattle.nor_args.specs.Given.{progress_of};
+ghost use Rattle.nor_args.specs.Given.{progress_of, srp0_of};
 ghost use Rattle.nor_args.specs.Faults.{first_fault, has_unneeded, has_wrong_journal, has_wrong_regions, is_no};
 ghost use Rattle.nor_args.specs.Faults.{operation_faults, passes_test, usage_faults};
 ghost use Rattle.nor_args.specs.Job.{IsAsked, IsHardwareAsked, IsJournalUse, IsOperation, IsRegions, IsTask};
@@ -58,6 +58,8 @@ pub struct Given<'a> {
     restore: Option<&'a str>,
     backup: Option<&'a str>,
     check_journal: Option<&'a str>,
+    wp_enable: bool,
+    wp_disable: bool,
     quick: bool,
     layout: Option<&'a str>,
     fmap_file: Option<&'a str>,
@@ -99,6 +101,8 @@ impl<'a> Given<'a> {
             restore: matches.get_str("restore"),
             backup: None,
             check_journal: None,
+            wp_enable: false,
+            wp_disable: false,
             quick: false,
             layout: matches.get_str("layout"),
             fmap_file: None,
@@ -128,6 +132,8 @@ impl<'a> Given<'a> {
             flash_name: is_set(matches, "flash-name"),
             backup: matches.get_str("backup"),
             check_journal: matches.get_str("check-journal"),
+            wp_enable: is_set(matches, "wp-enable"),
+            wp_disable: is_set(matches, "wp-disable"),
             quick: is_set(matches, "quick"),
             fmap_file: matches.get_str("fmap-file"),
             ifd_file: matches.get_str("ifd-file"),
@@ -198,6 +204,7 @@ impl<'a> Given<'a> {
                 is_quick: self.quick,
                 is_backup: self.backup.is_some(),
                 is_flash_name: self.flash_name,
+                srp0: self.srp0(),
                 progress: self.progress_mode(),
                 is_verbose: self.verbose,
                 log: self.log,
@@ -217,6 +224,19 @@ impl<'a> Given<'a> {
         Given {
             programmer: Some(ANY_CHIP),
             ..*self
+        }
+    }
+
+    // Returns the value that SRP0 must get, or `None` without `--wp-enable` and `--wp-disable`.
+    fn srp0(&self) -> Option<bool>
+        ensures { result ≡ srp0_of (texts_of self.now) }
+    {
+        if self.wp_enable {
+            Some(true)
+        } else if self.wp_disable {
+            Some(false)
+        } else {
+            None
         }
     }
 

@@ -61,6 +61,9 @@ pub struct Operation<'a> {
     pub is_backup: bool,
     /// True with `--flash-name`: `task` is `Task::Probe`, and the program prints only the name of the identified chip.
     pub is_flash_name: bool,
+    /// `Some(true)` with `--wp-enable`, `Some(false)` with `--wp-disable`: `task` is `Task::Probe`, and the program
+    /// sets or clears SRP0, bit 7 of status 1.
+    pub srp0: Option<bool>,
     /// The mode of `--progress MODE`: how the program shows its progress.
     pub progress: ProgressMode,
     /// True with `-V`: the program prints more about the run.
@@ -106,8 +109,8 @@ impl ProgressMode {
 /// An operation on a chip.
 #[derive(Drop)]
 pub enum Task<'a> {
-    /// Only identify the chip, because no operation is given. For `--flash-name` of a program for hardware the task is
-    /// the same, and `Operation::is_flash_name` is true.
+    /// Only identify the chip, because no operation is given. For `--flash-name`, `--wp-enable` and `--wp-disable` of a
+    /// program for hardware the task is the same; `Operation::is_flash_name` or `Operation::srp0` tells them apart.
     Probe,
     /// `--flash-size`: print the size of the chip.
     FlashSize,

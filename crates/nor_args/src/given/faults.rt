@@ -109,6 +109,8 @@ impl Given<'_> {
             self.restore.is_some(),
             self.backup.is_some(),
             self.check_journal.is_some(),
+            self.wp_enable,
+            self.wp_disable,
         ];
         asked.iter().filter(|asked| **asked).count()
     }

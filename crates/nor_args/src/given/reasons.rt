@@ -87,7 +87,7 @@ impl<'a> Given<'a> {
 
     // Returns each operation with whether it is given. The operations are in the order of the help, except that
     // `--flash-name` follows `--flash-size`.
-    fn operation_choices(&self) -> [(bool, OptionName); 13]
+    fn operation_choices(&self) -> [(bool, OptionName); 15]
         ensures { result ≡ operation_choices (texts_of self.now) }
     {
         [
@@ -104,6 +104,8 @@ impl<'a> Given<'a> {
             (self.restore.is_some(), OptionName::Restore),
             (self.backup.is_some(), OptionName::Backup),
             (self.check_journal.is_some(), OptionName::CheckJournal),
+            (self.wp_enable, OptionName::WpEnable),
+            (self.wp_disable, OptionName::WpDisable),
         ]
     }
 

@@ -6,7 +6,7 @@ use crate::options::Choice;
 
 // The options that only programs for hardware have, except `-R`, in the order of the help. The help prints them after
 // the options of `CHOICES`, and before `-R` and `-h`.
-static HARDWARE_CHOICES: [Choice; 12] = [
+static HARDWARE_CHOICES: [Choice; 14] = [
     Choice {
         letter: None,
         name: "backup",
@@ -36,6 +36,18 @@ static HARDWARE_CHOICES: [Choice; 12] = [
         name: "check-journal",
         value: Some("FILE"),
         help: "Describe a journal; needs no programmer",
+    },
+    Choice {
+        letter: None,
+        name: "wp-enable",
+        value: None,
+        help: "Set SRP0: the status is locked while WP# is low",
+    },
+    Choice {
+        letter: None,
+        name: "wp-disable",
+        value: None,
+        help: "Clear SRP0: the status can be changed",
     },
     Choice {
         letter: None,
@@ -82,7 +94,7 @@ static HARDWARE_CHOICES: [Choice; 12] = [
 ];
 
 // Returns the table `HARDWARE_CHOICES`. Its rows describe the options that the specification lists as `own_rules`.
-pub(super) fn hardware_choices() -> &'static [Choice; 12]
+pub(super) fn hardware_choices() -> &'static [Choice; 14]
     ensures { map chosen result.now ≡ own_rules }
 {
     &HARDWARE_CHOICES
