@@ -43,7 +43,7 @@ def unlocks_further_chips(start):
     job = ("-w", "new", "-l", "layout", "-i", "last", "--journal", "j")
     bench.expect(*job, err=[
         "Error 10: protected at 0x3ff000.",
-        "Include only regions that aren't protected, or use --unlock. Give the journal a new name."])
+        "Include only regions that aren't protected, or use --unlock.", reference.used_name()])
     bench.check_chip(old, b"\x04\0")
     bench.path("j").unlink(missing_ok=True)
     bench.expect(*job, "--unlock", out=[found, "Done: touched 1, erases 0, programs 1, transactions 16."])

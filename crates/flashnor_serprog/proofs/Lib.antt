@@ -16,3 +16,4 @@ pub mod RegionsKept
 pub mod RegionApart
 pub mod RegionsCopied
 pub mod ReadLayouts
+pub mod Locks

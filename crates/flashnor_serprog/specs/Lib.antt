@@ -13,5 +13,6 @@ pub mod RegionRoles
 pub mod RegionCopies
 pub mod Journals
 pub mod Run
+pub mod StatusLocks
 pub mod ChipLayouts
 pub mod Estimates

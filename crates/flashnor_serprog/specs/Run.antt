@@ -1,5 +1,5 @@
 -- A run of flashnor-serprog: what its arguments ask for, how its job ends, what it prints, and its exit status.
-use Rattle.std.specs.Prelude.{◌≡◌, ◌≤◌, ◌⊎◌, ◌&&◌, ◌++◌, ℕ, Bool, true, false, List, [], ◌∷◌, IsSomeAnd, Option, Result, Ok, Err}
+use Rattle.std.specs.Prelude.{◌≡◌, ◌≤◌, ◌⊎◌, ◌&&◌, ◌++◌, ℕ, Bool, true, false, List, [], ◌∷◌, IsSomeAnd, Option, None, Some, Result, Ok, Err}
 use Rattle.std.specs.Prelude.{codes, not}
 use Rattle.std.specs.Borrow.{Bor}
 use Rattle.clap.specs.Words.{IsAmong}
@@ -26,6 +26,7 @@ use Rattle.flashnor_serprog.specs.Journals.{IsSealedIn}
 use Rattle.flashnor_serprog.specs.Jobs.{DoesTask, FailsPerform, changes_bytes}
 use Rattle.flashnor_serprog.specs.Logging.{HasOwnLog, StayButLog}
 use Rattle.flashnor_serprog.specs.Sends.{SendsOnly}
+use Rattle.flashnor_serprog.specs.StatusLocks.{HasRunLock}
 use Rattle.flashnor_serprog.specs.Setting.{IsDeviceOf}
 use Rattle.flashnor_serprog.specs.RegionCopies.{AreCopied}
 use Rattle.flashnor_serprog.specs.Regions.{regions_of}
@@ -134,6 +135,16 @@ pub record HasRun (operation : Operation) (files : List RegionFile) (ranges : Op
   pub printed : status ≡ 0 → HasPrintedAnswer operation outcome out out'
   pub copied : status ≡ 0 → AreCopied operation files after.view
 
+-- Holds for a run of an operation on a chip: of `--wp-enable` or `--wp-disable` if there is a value for SRP0
+-- (`HasRunLock`; every file is then as it was), and of any other operation otherwise (`HasRun`).
+abbrev pub HasRunBy : (srp0 : Option Bool) → Operation → List RegionFile → Option (List Span) → (bytes : List ℕ)
+    → (before : View) → (after : FilesState) → (old new : BusState) → (out out' : Option (List ℕ)) → (status : ℕ)
+    → Type 0
+HasRunBy None operation files ranges bytes before after old new out out' status =
+    HasRun operation files ranges bytes before after old new out out' status
+HasRunBy (Some srp0) operation files ranges bytes before after old new out out' status =
+    HasRunLock operation.named srp0 old new out out' status × (after.view ≡ before)
+
 -- Holds if the arguments ask for the help or the version, so that `clap` may reject them with the error that contains
 -- the help, or with the one that contains the version.
 abbrev pub ArgumentsAskForHelp : List Text → Type 0
@@ -168,7 +179,7 @@ pub record HasRunOperation (state : Connected → BusState) (files after : Files
   pub prepared : IsPrepared state files.view name operation regions ranges bytes
   pub made : View
   pub logged : StayButLog operation.log files.view made
-  pub ran : HasRun operation regions ranges bytes made after (state start) last out out' status
+  pub ran : HasRunBy operation.srp0 operation regions ranges bytes made after (state start) last out out' status
 
 -- Holds if the operation that the arguments ask for was run on the device that `dev=` names (`HasRunOperation`).
 pub record HasRunJob (state : Connected → BusState) (files after : FilesState) (words : List Text) (device : Text)

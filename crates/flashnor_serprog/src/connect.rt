@@ -1,10 +1,11 @@
 //! Opens the device of a programmer and identifies the programmer.
 ghost use Rattle.std.specs.Prelude.{◌≡◌, [], IfOk, option_map, string_bytes};
+ghost use Rattle.nor_buses.specs.Checked.{bus_of, history_of as checked_history};
 ghost use Rattle.nor_buses.specs.Twice.{expected_of, history_of, twice_of};
 ghost use Rattle.flashnor_serprog.specs.Connected.{IsUnused, device_of, expected_by};
 
 use crate::port::{DevicePort, PortFault};
-use crate::progress::{Shown, Terminal};
+use crate::progress::{Shown, StatusWrite, Terminal};
 use crate::setting::Setting;
 use crate::trouble::{ProgrammerFault, Trouble};
 use nor_buses::{CheckedStatus, Paced, ReadAhead, ReadTwice, SplittingBus};
@@ -51,7 +52,7 @@ pub fn connect_by<'a, 'b>(
     terminal: Terminal<'b>,
     setting: &Setting<'a>,
     image: Option<Vec<u8>>,
-    guards: bool,
+    checks: Checks,
 ) -> Result<Connected<'b>, Trouble<'a>>
     ensures fresh { IfOk result (λ connected. IsUnused (⟦<ChipBus<'b> as Bus>⟧.state connected.bus)) }
     ensures named { IfOk result (λ connected. device_of connected ≡ setting.now.device.now) }
@@ -65,7 +66,7 @@ pub fn connect_by<'a, 'b>(
         setting.hertz,
         setting.chip_select,
         image,
-        guards,
+        checks,
     ) {
         Ok(connected) => Ok(connected),
         Err(fault) => Err(Trouble::Programmer {
@@ -98,8 +99,7 @@ fn name_of<'a>(alloc: Global, device: &str) -> Result<String, Fault<'a>>
 // gets into a journal. If a sector was misread as equal to `image`, the comparison after a write detects the misread,
 // unless it misreads the sector in the same way; `-v` doesn't detect it.
 //
-// If `guards` is true and the port seems to change bytes that are received, the bus refuses the first modifying
-// command (`CheckedStatus::guarding`). Set `guards` for a session, because a journal of changed bytes would be wrong.
+// `checks` says which modifying commands the bus refuses.
 fn connect<'a>(
     rt: &'a HostRuntime,
     terminal: Terminal<'a>,
@@ -107,7 +107,7 @@ fn connect<'a>(
     hertz: Option<u32>,
     chip_select: Option<u8>,
     image: Option<Vec<u8>>,
-    guards: bool,
+    checks: Checks,
 ) -> Result<Connected<'a>, ProgrammerFault>
     ensures fresh { IfOk result (λ connected. IsUnused (⟦<ChipBus<'a> as Bus>⟧.state connected.bus)) }
     ensures named { IfOk result (λ connected. device_of connected ≡ string_bytes device) }
@@ -126,16 +126,48 @@ fn connect<'a>(
     let longest_read = programmer.longest_read();
     let paced = Paced::new(BatchingBus::over(link, programmer), rt);
     let splitting = SplittingBus::new(paced, programmer.longest_part(), longest_read);
-    let checked = if guards {
-        CheckedStatus::guarding(splitting)
-    } else {
-        CheckedStatus::new(splitting)
-    };
-    let bus = reading_twice(checked, image);
+    let bus = reading_twice(checking(splitting, checks), image);
     Ok(Connected {
         device,
-        bus: Shown::new(ReadAhead::new(bus, longest_read), terminal),
+        bus: Shown::new(
+            ReadAhead::new(bus, longest_read),
+            terminal,
+            status_write_by(checks),
+        ),
     })
+}
+
+/// Which modifying commands the bus to a chip refuses.
+#[derive(Clone, Copy)]
+pub enum Checks {
+    /// Status writes that would change other bits than the protection bits.
+    Protection,
+    /// For a session: also the first modifying command, if the port seems to change bytes that are received, because a
+    /// journal of changed bytes would be wrong (`CheckedStatus::guarding`).
+    Guarded,
+    /// For `--wp-enable` and `--wp-disable`: status writes that would change another bit than SRP0, also a protection
+    /// bit (`CheckedStatus::locking`).
+    Lock,
+}
+
+// Returns whether a job may write the status, as far as `checks` says it.
+fn status_write_by(checks: Checks) -> StatusWrite {
+    match checks {
+        Checks::Lock => StatusWrite::OnAnyChip,
+        _ => StatusWrite::Never,
+    }
+}
+
+// Returns a bus over `bus` that checks the status registers.
+fn checking<B: Bus + Drop>(bus: B, checks: Checks) -> CheckedStatus<B>
+    ensures bus { bus_of result ≡ bus }
+    ensures history { checked_history result ≡ [] }
+{
+    match checks {
+        Checks::Protection => CheckedStatus::new(bus),
+        Checks::Guarded => CheckedStatus::guarding(bus),
+        Checks::Lock => CheckedStatus::locking(bus),
+    }
 }
 
 // Returns a bus over `bus` that reads data twice. If `image` is given, data that equals `image` is read only once.

@@ -173,6 +173,7 @@ fn found_and_expected<'a>(
         Refusal::NoChip => Some(Line::NoChip),
         Refusal::UnknownChip(_) => Some(Line::Unknown { id: replies.id? }),
         Refusal::RangeNotOffered => Some(Line::Ranges),
+        Refusal::StatusLocked if operation.srp0.is_some() => Some(Line::PowerLocked),
         Refusal::StatusLocked => Some(Line::Locked),
         Refusal::Timeout { .. } => Some(Line::Busy { left }),
         Refusal::Mismatch { .. } => match left {
@@ -212,6 +213,7 @@ enum Line<'a> {
     Unknown { id: [u8; 3] },
     Ranges,
     Locked,
+    PowerLocked,
     Busy { left: Left<'a> },
     NotStored { left: Left<'a> },
     Name { named: ChipName, id: [u8; 3] },
@@ -235,7 +237,11 @@ impl fmt::Display for Line<'_> {
             ),
             Line::Ranges => f.write_str("--wp-list lists the ranges that this chip can protect."),
             Line::Locked => f.write_str(
-                "SRP0 or SRP1 is set. Clear SRP0 while WP# is high (flashrom --wp-disable), or SRP1 by a power cycle.",
+                "SRP0 or SRP1 is set. Clear SRP0 while WP# is high (--wp-disable), or SRP1 by a power cycle.",
+            ),
+            Line::PowerLocked => f.write_str(
+                "SRP1 is set, so nothing was sent. A power cycle clears SRP1 if SRP0 is clear; otherwise the status \
+                may be locked for good.",
             ),
             Line::Busy { left } => write!(
                 f,

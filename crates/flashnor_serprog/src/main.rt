@@ -36,6 +36,8 @@
 //! - `backups.rt`: saves a whole chip in a new journal
 //! - `restoring.rt`: restores the chip from a journal
 //! - `rest.rt`: the sectors that a restore's journal does not save, and the comparison of them after the restore
+//! - `status_lock.rt`: sets and clears SRP0, for `--wp-enable` and `--wp-disable`
+//! - `lock_job.rt`: a run of `--wp-enable` or `--wp-disable`, and what it prints
 //! - `following.rt`: the target of a change, and the comparison of the whole chip with it
 //! - `status_line.rt`: the lines for replies that differ, for a lost chip, for a status write that was refused or not
 //!   stored, and for a port that changes bytes
@@ -57,6 +59,7 @@ mod included;
 mod jobs;
 mod journals;
 mod layout_lines;
+mod lock_job;
 mod log;
 mod port;
 mod preparing;
@@ -75,6 +78,7 @@ mod run_log;
 mod setting;
 mod sources;
 mod status_line;
+mod status_lock;
 mod step_lines;
 mod steps;
 mod terminal;

@@ -11,7 +11,7 @@ ghost use Rattle.flashnor_serprog.specs.Sources.{ArePlainNames};
 
 use crate::backups::check_new;
 use crate::chip_layouts::{form_on_chip, read_shown};
-use crate::connect::{ChipBus, Connected, connect_by};
+use crate::connect::{Checks, ChipBus, Connected, connect_by};
 use crate::included::find_included;
 use crate::jobs::is_session;
 use crate::region_files::{RegionFile, find_region_files, named_regions};
@@ -84,12 +84,23 @@ pub fn prepare<'a, 'b, R: Store<Log = LogFile<File>>, E: Write>(
     let sources = prepare_sources(files, &operation.task, included, &regions)?;
     let image = image_of(&sources, operation);
     start_log(files, screen.log(), operation.log)?;
-    let connected = connect_by(rt, terminal, setting, image, is_session(&operation.task))?;
+    let connected = connect_by(rt, terminal, setting, image, checks_for(operation))?;
     Ok(Prepared {
         regions,
         sources,
         connected,
     })
+}
+
+// Returns which modifying commands the bus refuses during this operation.
+fn checks_for(operation: &Operation<'_>) -> Checks {
+    if operation.srp0.is_some() {
+        Checks::Lock
+    } else if is_session(&operation.task) {
+        Checks::Guarded
+    } else {
+        Checks::Protection
+    }
 }
 
 // If the layout of the task is on the chip, reads and checks the task's image or journal, and returns a fault of it

@@ -102,8 +102,9 @@ pub enum StatusWrite {
 }
 
 impl<'a, B: Bus + Drop> Shown<'a, B> {
-    /// Returns a bus that shows the progress of the job on `bus` on `terminal`.
-    pub fn new(bus: B, terminal: Terminal<'a>) -> Shown<'a, B>
+    /// Returns a bus that shows the progress of the job on `bus` on `terminal`. `status_write` says whether the job may
+    /// write the status, unless `begin_job` says it.
+    pub fn new(bus: B, terminal: Terminal<'a>, status_write: StatusWrite) -> Shown<'a, B>
         ensures { result.bus ≡ bus }
     {
         Shown {
@@ -115,7 +116,7 @@ impl<'a, B: Bus + Drop> Shown<'a, B> {
             counts: Counts::default(),
             gauge: Gauge::new(terminal.now()),
             changed: None,
-            status_write: StatusWrite::Never,
+            status_write,
             replies: Replies::default(),
         }
     }

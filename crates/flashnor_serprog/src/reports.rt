@@ -39,7 +39,7 @@ pub fn print_job_fault<E: Write>(
     saved: Option<Saved>,
 ) {
     let _ = writeln!(errors, "{fault}");
-    let left = left_after(fault, bus, &operation.task);
+    let left = left_after(fault, bus, operation);
     if let JobFault::Fault(fault) = fault {
         let known = Known {
             saved,
@@ -70,7 +70,7 @@ pub fn print_used_name<R: Store, E: Write>(
     let JobFault::Fault(Fault::Refused(_)) = fault else {
         return;
     };
-    if let Left::Changed { .. } = left_after(fault, bus, &operation.task) {
+    if let Left::Changed { .. } = left_after(fault, bus, operation) {
         return;
     }
     match new_journal_of(operation) {
@@ -121,12 +121,16 @@ fn print_cause<E: Write>(errors: &mut E, bus: &ChipBus<'_>, left: Left<'_>) {
 }
 
 // Returns in which state a job that ended with this fault left the chip.
-fn left_after<'a>(fault: &JobFault<'_>, bus: &ChipBus<'_>, task: &Task<'a>) -> Left<'a> {
+fn left_after<'a>(fault: &JobFault<'_>, bus: &ChipBus<'_>, operation: &Operation<'a>) -> Left<'a> {
     if fault.follows_completion() {
         return Left::Completed;
     }
-    let is_lifted = unlocks(task) && protects(bus.replies().status);
-    left_by(task, bus.inner().inner().inner().has_begun(), is_lifted)
+    let begun = bus.inner().inner().inner().has_begun();
+    if begun && operation.srp0.is_some() {
+        return Left::EitherLock;
+    }
+    let task = &operation.task;
+    left_by(task, begun, unlocks(task) && protects(bus.replies().status))
 }
 
 // Returns in which state a task that failed left the chip. `begun` is true if a modifying command may have been sent,

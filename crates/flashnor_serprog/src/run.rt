@@ -4,7 +4,7 @@ ghost use Rattle.nor_files.specs.Disk.{unknown};
 ghost use Rattle.nor_args.specs.Words.{arguments_of};
 ghost use Rattle.nor_console.specs.Printing.{Prints};
 ghost use Rattle.flashnor_serprog.specs.Connected.{device_of};
-ghost use Rattle.flashnor_serprog.specs.Run.{AreJobLines, AsksForHelp, EndsJob, HasRun, HasRunJob, HasRunOperation};
+ghost use Rattle.flashnor_serprog.specs.Run.{AreJobLines, AsksForHelp, EndsJob, HasRun, HasRunBy, HasRunJob, HasRunOperation};
 ghost use Rattle.flashnor_serprog.specs.Run.{HasSucceeded, IsAskedByArguments, IsEndedAs, IsHelpAskedBy};
 ghost use Rattle.flashnor_serprog.specs.RegionCopies.{AreCopied, KeepsOutput};
 ghost use Rattle.flashnor_serprog.specs.Regions.{regions_of};
@@ -18,6 +18,7 @@ use crate::help::HELP;
 use crate::hints::Saved;
 use crate::jobs::{changes_bytes, is_session, perform};
 use crate::journals::check_journal;
+use crate::lock_job::run_lock;
 use crate::preparing::{Prepared, prepare};
 use crate::progress::{Progress, StatusWrite, Terminal};
 use crate::region_copies::{reads_out, write_region_files};
@@ -224,8 +225,29 @@ fn read_words<'a>(alloc: Global, words: &'a [String]) -> Result<Asked<'a>, Troub
     }
 }
 
-// Performs a job, prints its answer or its fault, and returns the exit status.
+// Performs an operation, prints its answer or its fault, and returns the exit status.
 fn run_prepared<'b, R: Store, O: Write, E: Write>(
+    files: &mut R,
+    bus: &mut ChipBus<'b>,
+    operation: &Operation<'_>,
+    regions: &[RegionFile<'_>],
+    sources: Sources,
+    output: &mut O,
+    errors: &mut E,
+) -> u8
+    ensures { HasRunBy operation.now.srp0 operation.now regions.now sources.included sources.bytes.items
+        (R.state files.old).view (R.state files.new)
+        (⟦<ChipBus<'b> as Bus>⟧.state bus.old) (⟦<ChipBus<'b> as Bus>⟧.state bus.new)
+        (O.contents output.old) (O.contents output.new) result }
+{
+    match operation.srp0 {
+        Some(srp0) => run_lock(bus, operation, srp0, output, errors),
+        None => run_job(files, bus, operation, regions, sources, output, errors),
+    }
+}
+
+// Performs an operation other than a change of SRP0, prints its answer or its fault, and returns the exit status.
+fn run_job<'b, R: Store, O: Write, E: Write>(
     files: &mut R,
     bus: &mut ChipBus<'b>,
     operation: &Operation<'_>,
@@ -262,9 +284,9 @@ fn run_prepared<'b, R: Store, O: Write, E: Write>(
     }
 }
 
-// Ends a run whose answer was printed with the exit status `printed`: reports a port that probably changes bytes, and a
-// lost line of the log. Returns the exit status.
-fn end_run<'b, E: Write>(
+/// Ends a run whose answer was printed with the exit status `printed`: reports a port that probably changes bytes, and
+/// a lost line of the log. Returns the exit status.
+pub fn end_run<'b, E: Write>(
     errors: &mut E,
     bus: &ChipBus<'b>,
     operation: &Operation<'_>,

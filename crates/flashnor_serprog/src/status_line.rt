@@ -49,8 +49,8 @@ pub const DIFFERED: &str =
     and try again.";
 
 const REFUSED: &str =
-    "Chip fault 2: a status write was not sent, because it would change status bits other than the \
-    protection bits. Some of these can never be cleared again. Please report this fault of the program.";
+    "Chip fault 2: a status write was not sent, because it would change status bits that this job must \
+    keep. Some of these can never be cleared again. Please report this fault of the program.";
 
 // An ID as six hexadecimal digits.
 #[derive(Clone, Copy, Drop)]
@@ -84,12 +84,22 @@ impl fmt::Display for NotStored {
             f,
             "{one:02X}h {two:02X}h was read back (these bits differ:{differing}). "
         )?;
-        f.write_str("Check WP#, SRP0 and the supply.")?;
+        let advice = if keeps_srp0(self.sent, self.found) {
+            "SRP0 is set, so WP# is probably low: connect WP# to the supply."
+        } else {
+            "Check WP#, SRP0 and the supply."
+        };
+        f.write_str(advice)?;
         if protects(self.sent) && !protects(self.found) {
             f.write_str(" The chip is unprotected.")?;
         }
         Ok(())
     }
+}
+
+// True if a status write was to clear SRP0, and SRP0 is still set.
+fn keeps_srp0(sent: [u8; 2], found: [u8; 2]) -> bool {
+    sent[0] & 0x80 == 0 && found[0] & 0x80 != 0
 }
 
 /// Returns whether status bytes may protect an address: if BP0 to BP2 and CMP are clear, they protect none (W25Q64FV

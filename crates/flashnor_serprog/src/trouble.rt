@@ -325,6 +325,8 @@ pub enum Left<'a> {
     },
     /// A session or a restore that was completed. Only the comparison after it failed, which another line says.
     Completed,
+    /// A change of SRP0 that may have sent its status write: SRP0 may have either value.
+    EitherLock,
 }
 
 impl fmt::Display for Left<'_> {
@@ -336,6 +338,11 @@ impl fmt::Display for Left<'_> {
         else {
             return match self {
                 Left::Unchanged => f.write_str(" The chip was not changed."),
+                Left::EitherLock => {
+                    f.write_str(
+                        " Then repeat the run: until it succeeds, SRP0 may have either value.",
+                    )
+                }
                 _ => Ok(()),
             };
         };

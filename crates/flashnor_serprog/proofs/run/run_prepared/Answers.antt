@@ -1,20 +1,22 @@
-use Rattle.std.proofs.Common.{◌∙◌, Ok, sym}
-use Rattle.flashnor_serprog.proofs.RegionsKept.{sends_kept, task_kept}
+use Rattle.std.proofs.Common.{◌≡◌, ℕ, Bool, List, refl}
+use Rattle.std.specs.Prelude.{Option, None}
+use Rattle.nor_model.specs.Bus.{BusState}
+use Rattle.nor_layout.specs.declared.ranges.Span.{Span}
+use Rattle.nor_files.specs.Files.{FilesState, View}
+use Rattle.nor_args.specs.declared.job.Operation.{Operation}
+use Rattle.flashnor_serprog.specs.declared.region_files.RegionFile.{RegionFile}
+use Rattle.flashnor_serprog.specs.Run.{HasRun, HasRunBy}
 use Rattle.flashnor_serprog.proofs.run.run_prepared.Goals as goal
 
-pub returns-in-Ok : goal.returns-in-Ok
-returns-in-Ok g c =
-    let reads = sym c.reads_out.ensures ∙ c.if-reads_out.true in
-    record {
-      outcome = Ok c.in-Ok.answer;
-      ends = task_kept _ _ _ _ _ c.end_with_files-printed.ensures.nature _ _ c.args.operation.now
-          c.args.operation.now.task c.in-Ok.answer reads c.end_with_files-printed.ensures.output
-          (rw c.mark_job.ensures at c.in-Ok.ensures.ends);
-      sends = sends_kept c.args.sources.included c.args.sources.bytes.items (g.R.Store.state c.args.files.now).view
-          (g.R.Store.state c.end_job.new.files) (g.R.Store.state c.end_with_files-printed.new.files)
-          c.end_with_files-printed.ensures.nature _ _ c.args.operation.now c.args.operation.now.task reads
-          (rw c.mark_job.ensures at c.end_job.ensures.sends);
-      few = c.end_run.ensures.few c.end_with_files-printed.ensures.few;
-      printed = λ zero. c.end_with_files-printed.ensures.printed (c.end_run.ensures.failed zero);
-      copied = λ zero. c.end_with_files-printed.ensures.copied (c.end_run.ensures.failed zero);
-    }
+-- Without a value for SRP0, a run of the operation is a run of any other job.
+other_job : {operation : Operation} {files : List RegionFile} {ranges : Option (List Span)} {bytes : List ℕ}
+    {before : View} {after : FilesState} {old new : BusState} {out out' : Option (List ℕ)} {status : ℕ}
+    (srp0 : Option Bool) → srp0 ≡ None → HasRun operation files ranges bytes before after old new out out' status
+    → HasRunBy srp0 operation files ranges bytes before after old new out out' status
+other_job srp0 none run = rw none run
+
+pub returns-in-Some : goal.returns-in-Some
+returns-in-Some g c = rw c.in-Some.is (c.run_lock.ensures, refl)
+
+pub returns-in-None : goal.returns-in-None
+returns-in-None g c = other_job c.args.operation.now.srp0 c.in-None.is c.run_job.ensures

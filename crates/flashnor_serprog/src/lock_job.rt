@@ -1,0 +1,169 @@
+//! A run of `--wp-enable` or `--wp-disable`: changes SRP0, prints the result, and returns the exit status.
+ghost use Rattle.std.specs.Prelude.{◌≡◌, ◌≤◌, ◌++◌, ◌∷◌, [], OnOk};
+ghost use Rattle.std.specs.Io.KnownBytes.{Appends};
+ghost use Rattle.nor_console.specs.Lines.{line};
+ghost use Rattle.nor_console.specs.Printing.{Prints};
+ghost use Rattle.flashnor_serprog.specs.StatusLocks.{HasRunLock, lock_lines, meaning_lines, registers_line};
+ghost use Rattle.flashnor_serprog.specs.StatusLocks.{registers_lines};
+
+use crate::chip_faults::JobFault;
+use crate::connect::ChipBus;
+use crate::ending::status_of;
+use crate::reports::{print_job_fault, report_changed_byte};
+use crate::run::end_run;
+use crate::run_log::end_log;
+use crate::status_line::StatusLine;
+use crate::status_lock::{LockChange, LockFault, set_srp0};
+use nor_args::Operation;
+use nor_buses::CheckFault;
+use nor_chip::Bus;
+use nor_console::{Answer, print_answer};
+use std::io;
+use std::io::Write;
+
+/// Sets or clears SRP0, prints the lines of the change or of its fault, and returns the exit status.
+pub fn run_lock<'b, O: Write, E: Write>(
+    bus: &mut ChipBus<'b>,
+    operation: &Operation<'_>,
+    srp0: bool,
+    output: &mut O,
+    errors: &mut E,
+) -> u8
+    ensures { HasRunLock operation.now.named srp0 (⟦<ChipBus<'b> as Bus>⟧.state bus.old)
+        (⟦<ChipBus<'b> as Bus>⟧.state bus.new) (O.contents output.old) (O.contents output.new) result }
+{
+    match set_srp0(bus, operation.named, srp0) {
+        Ok(change) => {
+            bus.end_progress(true);
+            let printed = end_changed(output, errors, srp0, &change);
+            end_run(errors, bus, operation, printed)
+        }
+        Err(fault) => {
+            bus.end_progress(false);
+            print_lock_fault(errors, fault, bus, operation);
+            end_log(errors, bus.terminal().log(), operation.log, 1)
+        }
+    }
+}
+
+// Prints the lines of a change of SRP0, and returns the exit status, which is 0 only if all lines were printed.
+fn end_changed<O: Write, E: Write>(
+    output: &mut O,
+    errors: &mut E,
+    srp0: bool,
+    change: &LockChange,
+) -> u8
+    ensures few { result ≤ 1 }
+    ensures printed { result ≡ 0 → Prints (λ text. text ≡ lock_lines srp0 change.now) (O.contents output.old)
+        (O.contents output.new) }
+{
+    status_of(print_change(output, srp0, change), errors)
+}
+
+// Prints the line of the fault with which a change of SRP0 ended, and the lines that may follow it.
+fn print_lock_fault<E: Write>(
+    errors: &mut E,
+    fault: LockFault<'_>,
+    bus: &ChipBus<'_>,
+    operation: &Operation<'_>,
+) {
+    match fault {
+        LockFault::Fault(fault) => {
+            print_job_fault(errors, &JobFault::Fault(fault), bus, operation, None);
+        }
+        LockFault::NotStored { sent, found } => {
+            let _ = writeln!(
+                errors,
+                "{}",
+                StatusLine(CheckFault::NotStored { sent, found })
+            );
+            report_changed_byte(errors, bus, 1);
+        }
+    }
+}
+
+// Prints the lines of a change of SRP0 to the value `srp0`: the chip, its status registers, what the value means, and
+// how to change it back. Then flushes the writer.
+fn print_change<W: Write>(output: &mut W, srp0: bool, change: &LockChange) -> io::Result<()>
+    ensures { OnOk result
+        (Prints (λ text. text ≡ lock_lines srp0 change.now) (W.contents output.old) (W.contents output.new)) }
+{
+    print_answer(output, Answer::Found(change.found))?;
+    print_lock_lines(output, srp0, change.before, change.after)?;
+    output.flush()
+}
+
+// Prints the lines of a change of SRP0 that follow the line with the chip.
+#[tactic(auto, using(nor_console::proofs::Printed::appends_then))]
+fn print_lock_lines<W: Write>(
+    output: &mut W,
+    srp0: bool,
+    before: [u8; 2],
+    after: Option<[u8; 2]>,
+) -> io::Result<()>
+    ensures { OnOk result (Appends (W.contents output.old) (W.contents output.new)
+        (registers_lines before after ++ meaning_lines srp0)) }
+{
+    print_registers(output, before, after)?;
+    print_meaning(output, srp0)
+}
+
+// Prints the lines with the status registers before and after a change, or the line with those that stay.
+#[tactic(auto, using(nor_console::proofs::Printed::appends_then))]
+fn print_registers<W: Write>(
+    output: &mut W,
+    before: [u8; 2],
+    after: Option<[u8; 2]>,
+) -> io::Result<()>
+    ensures { OnOk result
+        (Appends (W.contents output.old) (W.contents output.new) (registers_lines before after)) }
+{
+    match after {
+        Some(after) => {
+            print_status(output, "Status before", before)?;
+            print_status(output, "Status now", after)
+        }
+        None => print_status(output, "Status (unchanged)", before),
+    }
+}
+
+#[tactic(auto, using(nor_request::proofs::Printed::padded_hex), unfolding(nor_console::specs::Lines::line))]
+fn print_status<W: Write>(output: &mut W, label: &str, bytes: [u8; 2]) -> io::Result<()>
+    ensures { OnOk result
+        (Appends (W.contents output.old) (W.contents output.new) (registers_line label.now bytes)) }
+{
+    let (one, two) = (bytes[0], bytes[1]);
+    writeln!(output, "{label}: 0x{one:02x} 0x{two:02x}")
+}
+
+// Prints the lines that say what this value of SRP0 means, and how to change it back.
+#[tactic(auto, using(nor_console::proofs::Printed::appends_then))]
+fn print_meaning<W: Write>(output: &mut W, srp0: bool) -> io::Result<()>
+    ensures { OnOk result (Appends (W.contents output.old) (W.contents output.new) (meaning_lines srp0)) }
+{
+    if srp0 {
+        print_text(output, IS_SET)?;
+        print_text(output, TO_CLEAR)
+    } else {
+        print_text(output, IS_CLEAR)?;
+        print_text(output, TO_SET)
+    }
+}
+
+#[tactic(auto, unfolding(nor_console::specs::Lines::line))]
+fn print_text<W: Write>(output: &mut W, text: &str) -> io::Result<()>
+    ensures { OnOk result (Appends (W.contents output.old) (W.contents output.new) (line (text.now ∷ []))) }
+{
+    writeln!(output, "{text}")
+}
+
+const IS_SET: &str =
+    "SRP0 is set: while WP# is low, the status and the protected range can't be changed.";
+
+const TO_CLEAR: &str = "To clear SRP0, connect WP# to the supply, and use --wp-disable.";
+
+const IS_CLEAR: &str =
+    "SRP0 is clear: the status can be changed. The protected range is as before.";
+
+const TO_SET: &str =
+    "To set SRP0 again, also before a restore from a journal that has it set, use --wp-enable.";
