@@ -43,8 +43,17 @@ UNSEALED = [
 # The lines after errors.
 NO_CHIP = ["Error 1: no chip.", "Check contacts, supply and wiring, and that cs= selects this chip."]
 LOCKED = ["Error 9: status locked.",
-          "SRP0 or SRP1 is set. Clear SRP0 while WP# is high (flashrom --wp-disable), or SRP1 by a power cycle."]
+          "SRP0 or SRP1 is set. Clear SRP0 while WP# is high (--wp-disable), or SRP1 by a power cycle."]
 NOT_OFFERED = ["Error 8: range not offered.", "--wp-list lists the ranges that this chip can protect."]
+POWER_LOCKED = ["Error 9: status locked.",
+                "SRP1 is set, so nothing was sent. A power cycle clears SRP1 if SRP0 is clear; otherwise the status "
+                "may be locked for good."]
+# The lines that say what SRP0 means, by whether it is set.
+LOCK_MEANING = {
+    True: ["SRP0 is set: while WP# is low, the status and the protected range can't be changed.",
+           "To clear SRP0, connect WP# to the supply, and use --wp-disable."],
+    False: ["SRP0 is clear: the status can be changed. The protected range is as before.",
+            "To set SRP0 again, also before a restore from a journal that has it set, use --wp-enable."]}
 # The lines if -c names a chip of the table, and the chip is TINY64.
 OTHER_NAME = ["Error 3: another chip than named.", "-c names W25Q64FV. The chip is SFDP (fe1010)."]
 

@@ -2,9 +2,9 @@
 """tests/serprog/run.py PROGRAM: the program flashnor-serprog with a serial programmer at a pseudo-terminal.
 
 The programmer is server.py, and its chip is a model from the datasheets (chip.py). The cases are in options.py,
-journals.py, maps.py, chip_maps.py, regions.py, terminal.py, logs.py, backups.py, refusals.py, faults.py, wire.py,
-contact.py, rest.py, narrow.py and ports.py; manual.py and rescue.py play the manual page. bits.py tries each single
-wrong bit of each reply, and misses each single frame. losses.py kills the program, and loses replies, at each
+journals.py, locks.py, maps.py, chip_maps.py, regions.py, terminal.py, logs.py, backups.py, refusals.py, faults.py,
+wire.py, contact.py, rest.py, narrow.py and ports.py; manual.py and rescue.py play the manual page. bits.py tries each
+single wrong bit of each reply, and misses each single frame. losses.py kills the program, and loses replies, at each
 transaction of a session and of its restores; busy.py does so while the chip is busy. What the program must send and
 print is computed by reference.py, without the program.
 
@@ -27,6 +27,7 @@ import chip_maps
 import contact
 import faults
 import journals
+import locks
 import logs
 import losses
 import manual
@@ -44,7 +45,7 @@ from bench import Bench, Differs
 
 MODULES = (
     options, journals, maps, chip_maps, regions, terminal, backups, refusals, faults, wire, contact, rest, narrow, busy,
-    ports, manual, rescue, logs,
+    ports, manual, rescue, logs, locks,
 )
 CASES = {case.__name__: case for module in MODULES for case in module.CASES}
 

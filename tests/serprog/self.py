@@ -70,6 +70,8 @@ MISTAKES = {
     "reads saved sectors": "restores_marginal_bytes",
     "reads ahead into saved sectors": "restores",
     "changes any chip": "refuses_unknown_protection",
+    "always writes SRP0": "changes_srp0",
+    "unprotects when it locks": "changes_srp0",
     "always restores": "reads_twice",
     "calls each chip unchanged": "reports_causes",
     "saves half of the chip": "saves_the_chip",

@@ -357,6 +357,29 @@ class Job:
             text = "undefined"
         return f"Range: {text}", f"Mode: {'locked' if status[0] & SRP0 or status[1] & SRP1 else 'open'}"
 
+    def lock(self):
+        """--wp-enable and --wp-disable."""
+        wanted, self.link.locks = SRP0 * ("--wp-enable" in self.given), True
+        line = self.found(self.given.get("-c"))
+        if not PARTS[self.part].has_row:
+            raise Fault("Error 6: no protection on this chip.")
+        before = self.read_status()
+        if before[1] & SRP1:
+            raise Fault(*reference.POWER_LOCKED)
+        after = bytes([before[0] & 0x7C | wanted, before[1]])
+        if after == before and MISTAKE != "always writes SRP0":
+            registers = [f"Status (unchanged): 0x{before[0]:02x} 0x{before[1]:02x}"]
+        else:
+            sent = bytes([after[0] & 0x80, after[1]]) if MISTAKE == "unprotects when it locks" else after
+            self.link.run(reference.write_status(sent))
+            now = self.read_status()
+            registers = [f"Status {when}: 0x{it[0]:02x} 0x{it[1]:02x}"
+                         for when, it in (("before", before), ("now", now))]
+        return line, *registers, *reference.LOCK_MEANING[wanted > 0]
+
+    def read_status(self):
+        return self.link.run([reference.POLL]) + self.link.transfer(b"\x35", 1)
+
     def codes(self):
         """Returns each range that can be protected, with the least bits that select it."""
         found = {}
@@ -389,7 +412,8 @@ def job_of(given):
     """Returns the function that does the operation."""
     for words, job in ((("-r",), Job.read), (("--backup",), Job.backup), (("-v",), Job.verify),
                        (("-w", "-E"), Job.change), (("--restore",), Job.restore),
-                       (("--wp-status", "--wp-list", "--wp-range"), Job.protection)):
+                       (("--wp-status", "--wp-list", "--wp-range"), Job.protection),
+                       (("--wp-enable", "--wp-disable"), Job.lock)):
         if any(it in given for it in words):
             return job
     if "--flash-size" in given:

@@ -17,12 +17,13 @@ FIRMWARE = ". Disconnect the programmer from power for a second, connect it agai
 # A chip that sleeps shows BUSY for ever. The mistake that lets it sleep gives up soon, since only its failure counts.
 MOST_POLLS = 50 if MISTAKE == "does not wake" else 65536
 OPERATIONS = ("--flash-size", "--wp-status", "--wp-list", "-r", "-v", "-w", "-E", "--wp-range", "--restore",
-              "--backup")
+              "--backup", "--wp-enable", "--wp-disable")
 TAKE_VALUES = ("-p", "-c", "-r", "-w", "-v", "--wp-range", "--restore", "--backup", "-l", "-i", "--journal")
 # Mistakes that don't forget what was read at these opcodes.
 KEPT = {"keeps blocks at programs": (0x05, 0x06, 0x02), "keeps blocks at erases": (0x05, 0x06, *ERASES, 0xC7),
         "keeps blocks at status writes": (0x05, 0x06, 0x01)}
-FLAGS = ("-E", "-n", "-N", "--quick", "--unlock", "--flash-size", "--wp-status", "--wp-list", "-h")
+FLAGS = ("-E", "-n", "-N", "--quick", "--unlock", "--flash-size", "--wp-status", "--wp-list", "--wp-enable",
+         "--wp-disable", "-h")
 # The letters that the long names mean, as in flashrom.
 LONG_NAMES = {
     "--programmer": "-p", "--chip": "-c", "--read": "-r", "--write": "-w", "--verify": "-v", "--erase": "-E",
@@ -135,6 +136,8 @@ class Link:
         self.path, self.count, self.status = path, 0, 0
         # The status bytes that were received twice, the last modifying command, and whether there was one.
         self.seen, self.last, self.has_changed = bytearray(2), b"", False
+        # Whether a status write may change SRP0, and not the protection bits.
+        self.locks = False
         self.sends = self.receives = 1 << 24
         self.waiting, self.frames, self.buffer, self.longest, self.image = b"", 0, 0, BLOCK, b""
         # The first ID that was received.
@@ -401,8 +404,9 @@ class Link:
         return status[:1]
 
     def check_status(self, sent):
-        """Refuses a status write that would change other bits than those of the protection."""
-        if (sent[0] ^ self.seen[0]) & 0x80 or (sent[1] ^ self.seen[1]) & ~CMP:
+        """Refuses a status write that would change other bits than those of the protection, or than SRP0."""
+        may_change = (0x80, 0) if self.locks else (0x7F, CMP)
+        if (sent[0] ^ self.seen[0]) & ~may_change[0] & 0xFC or (sent[1] ^ self.seen[1]) & ~may_change[1]:
             raise Stopped("Chip fault 2: a status write would change other bits.")
 
     def read_back(self):
@@ -412,8 +416,11 @@ class Link:
         if got == sent or MISTAKE == "does not compare a status write":
             return
         names = [name for bit, name in BITS if (got[0] ^ sent[0]) & bit] + ["CMP"] * ((got[1] ^ sent[1]) & CMP > 0)
+        advice = "Check WP#, SRP0 and the supply."
+        if got[0] & ~sent[0] & 0x80:
+            advice = "SRP0 is set, so WP# is probably low: connect WP# to the supply."
         line = f"Chip fault 3: the chip did not store a status write: {sent[0]:02X}h {sent[1]:02X}h was sent, " \
-               f"{got[0]:02X}h {got[1]:02X}h was read back ({', '.join(names)}). Check WP#, SRP0 and the supply."
+               f"{got[0]:02X}h {got[1]:02X}h was read back ({', '.join(names)}). " + advice
         if got == reference.without_protection(got) and MISTAKE != "does not say what is unprotected":
             line += " The chip is unprotected."
         raise Stopped(line)

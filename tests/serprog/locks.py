@@ -1,0 +1,161 @@
+"""Cases of --wp-enable and --wp-disable, which set and clear SRP0 (bit 7 of status 1).
+
+The chip is a W25Q64FV, whose block protection is known. Its WP# pin is high, except where a case says so.
+"""
+import reference
+from bench import check
+from options import images
+from refusals import LARGE
+from wire import STOPPED, numbers_of
+
+PART = "W25Q64FV"
+FOUND = "Found W25Q64FV (ef4017), 8388608 bytes."
+SET, CLEAR = reference.LOCK_MEANING[True], reference.LOCK_MEANING[False]
+AGAIN = " Then repeat the run: until it succeeds, SRP0 may have either value."
+# What is sent to read the status, after the identification and after the status write.
+READ = [reference.POLL, reference.READ_STATUS_2]
+
+
+def text(status):
+    return f"0x{status[0]:02x} 0x{status[1]:02x}"
+
+
+def changed(before, after, meaning):
+    """Returns the lines of a run that changed SRP0."""
+    return [FOUND, f"Status before: {text(before)}", f"Status now: {text(after)}", *meaning]
+
+
+def kept(status, meaning):
+    """Returns the lines of a run that found SRP0 as wanted."""
+    return [FOUND, f"Status (unchanged): {text(status)}", *meaning]
+
+
+def bench_with(start, status, wp_low=False, **chosen):
+    """Returns a bench whose chip has these status bytes."""
+    bench = start(PART, status=status, **chosen)
+    bench.chip.wp_low = wp_low
+    return bench
+
+
+def changes_srp0(start):
+    """Both options change SRP0 and no other bit, by one status write, and read the status back. No file is made."""
+    for rest in b"\0\0", b"\x04\0", b"\x58\x7a", b"\x7c\x42":
+        clear, is_set = rest, bytes([rest[0] | 0x80, rest[1]])
+        bench = bench_with(start, clear)
+        files = sorted(it.name for it in bench.folder.iterdir())
+        for option, before, after, meaning in (("--wp-enable", clear, is_set, SET),
+                                               ("--wp-disable", is_set, clear, CLEAR)):
+            bench.expect(option, out=changed(before, after, meaning))
+            check("status bytes", bytes(bench.chip.status), after)
+            bench.check_frames(reference.probe(PART) + READ + reference.write_status(after) + READ)
+            bench.expect(option, out=kept(after, meaning))
+            bench.check_frames(reference.probe(PART) + READ)
+            check("status bytes", bytes(bench.chip.status), after)
+        check("ignored transactions", bench.chip.ignored, 0)
+        check("files", sorted(it.name for it in bench.folder.iterdir()), files)
+
+
+def locks_the_protection(start):
+    """--wp-enable locks the status while WP# is low: the chip then ignores --wp-disable, which is chip fault 3."""
+    bench = bench_with(start, b"\x04\0", wp_low=True)
+    bench.expect("--wp-enable", out=changed(b"\x04\0", b"\x84\0", SET))
+    for _ in range(2):
+        bench.expect("--wp-disable", err=[STOPPED, (
+            "Chip fault 3: the chip did not store a status write: 04h 00h was sent, 84h 00h was read back (these bits "
+            "differ: SRP0). SRP0 is set, so WP# is probably low: connect WP# to the supply." + AGAIN)])
+        check("status bytes", bytes(bench.chip.status), b"\x84\0")
+    bench.expect("--wp-range", "0,0", "--journal", "j", err=[*reference.LOCKED, reference.used_name()])
+    bench.chip.wp_low = False
+    # A status write that the chip ignored leaves WEL (bit 1) set.
+    bench.expect("--wp-disable", out=changed(b"\x86\0", b"\x04\0", CLEAR))
+
+
+def reports_a_missed_write(start):
+    """A status write that the chip missed is chip fault 3. A run that the programmer ends may leave either value."""
+    bench = bench_with(start, b"\x04\x02")
+    bench.expect("--wp-enable", out=changed(b"\x04\x02", b"\x84\x02", SET))
+    number = numbers_of(bench, 0x01)[0]
+    bench.chip.status[:] = b"\x04\x02"
+    bench.server.traits.misses = {number: 0xFF}
+    bench.expect("--wp-enable", err=[STOPPED, (
+        "Chip fault 3: the chip did not store a status write: 84h 02h was sent, 04h 02h was read back (these bits "
+        "differ: SRP0). Check WP#, SRP0 and the supply." + AGAIN)])
+    got = bench.run("--wp-enable", events={number: "nak"})
+    check("the cause", (got.err[:1], got.err[1].endswith(AGAIN)), ([STOPPED], True))
+    got = bench.run("--wp-enable", events={number - 2: "nak"})
+    check("the cause", (got.err[:1], AGAIN in got.err[1]), ([STOPPED], False))
+    check("status bytes", bytes(bench.chip.status), b"\x04\x02")
+
+
+def refuses_to_lock(start):
+    """SRP1 is error 9, a chip without known block protection error 6, another name error 3. No write is sent."""
+    for status in b"\0\x01", b"\x80\x01":
+        bench = bench_with(start, status)
+        for option in "--wp-enable", "--wp-disable":
+            bench.expect(option, err=reference.POWER_LOCKED)
+            bench.check_frames(reference.probe(PART) + READ)
+    bench = start()
+    for option in "--wp-enable", "--wp-disable":
+        bench.expect(option, err=["Error 6: no protection on this chip."])
+        bench.check_frames(reference.probe("TINY64"))
+        bench.expect(option, "-c", PART, err=reference.OTHER_NAME)
+    bench_with(start, b"\x80\0").expect("--wp-disable", "-c", PART, out=changed(b"\x80\0", b"\0\0", CLEAR))
+
+
+def takes_one_lock(start):
+    """Both options are operations: a second one is usage fault 4, and they take no journal, regions, -n or --unlock."""
+    bench = start(PART)
+    bench.write("image", b"")
+    for fault, words, why in (
+            (4, "--wp-enable --wp-disable", "--wp-enable and --wp-disable cannot be used together"),
+            (4, "-w image --wp-disable --journal j", "-w and --wp-disable cannot be used together"),
+            (4, "--wp-status --wp-enable", "--wp-status and --wp-enable cannot be used together"),
+            (4, "--wp-range 0,0 --wp-disable --journal j", "--wp-range and --wp-disable cannot be used together"),
+            (6, "--wp-disable --journal j", "--journal needs -w, -E or --wp-range"),
+            (7, "--wp-enable -l image -i a", "-l and -i need -r, -v, -w or -E"),
+            (8, "--wp-enable -n", "-n needs -w or -E"), (8, "--wp-disable --unlock", "--unlock needs -w or -E")):
+        bench.expect(*words.split(), err=[f"error: {why}", f"Usage fault {fault}."])
+    got = bench.run("--wp-enable", "image")
+    check("the last line", (got.out, got.err[-1:], got.status), ([], ["Usage fault 1."], 1))
+    bench.check_nothing_sent()
+
+
+def logs_the_status_write(start):
+    """-V and the log show the status write of both options, and the line before it."""
+    bench = bench_with(start, b"\x84\0")
+    got = bench.run("--wp-disable", "-V", "-o", "log")
+    check("standard output", got.out, changed(b"\x84\0", b"\x04\0", CLEAR))
+    commands = [line.split(" ", 1)[1] for line in got.err]
+    check("lines of -V", commands, ["identify", "write enable", "write status, bytes 2"])
+    lines = bench.path("log").read_text().splitlines()
+    check("the line before the change", "The chip is changed from here on." in lines, True)
+    check("the last lines of the log", lines[-5:], got.out)
+
+
+def changes_a_locked_chip(start):
+    """A chip with SRP0 and protected sectors is unlocked, changed, restored and locked again, and is as at first."""
+    first, status = images("changes_a_locked_chip"), b"\x9c\x02"
+    old, new = (data + b"\xff" * (LARGE - len(data)) for data in first)
+    bench = bench_with(start, status, data=old)
+    bench.remembers = False
+    bench.write("new", new)
+    bench.write("layout", b"0:ffff low\n")
+    words = "-w", "new", "--unlock", "-N", "-l", "layout", "-i", "low"
+    bench.expect(*words, "--journal", "refused", err=[*reference.LOCKED, reference.used_name("refused")])
+    bench.expect("--wp-disable", out=changed(status, b"\x1c\x02", CLEAR))
+    check("the change", bench.run(*words, "--journal", "j").status, 0)
+    bench.check_chip(new, b"\x1c\x02")
+    bench.expect("--wp-enable", out=changed(b"\x1c\x02", status, SET))
+    # The journal has SRP0 clear.
+    bench.expect("--restore", "j", "-N", err=[
+        "Error 17: status differs from the journal's.",
+        "Status in the journal: 1c 02 BP0 BP1 BP2 QE. Status of the chip: 9c 02 BP0 BP1 BP2 SRP0 QE."])
+    bench.expect("--wp-disable", out=changed(status, b"\x1c\x02", CLEAR))
+    check("the restore", bench.run("--restore", "j", "-N").status, 0)
+    bench.check_chip(old, b"\x1c\x02")
+    bench.expect("--wp-enable", out=changed(b"\x1c\x02", status, SET))
+    bench.check_chip(old, status)
+
+
+CASES = [changes_srp0, locks_the_protection, reports_a_missed_write, refuses_to_lock, takes_one_lock,
+         logs_the_status_write, changes_a_locked_chip]
