@@ -148,7 +148,7 @@ _flashnor_letter() {
 _flashnor_is_operation() {
     case ${1%%=*} in
         -r | -w | -v | -E | -L | --flash-size | --flash-name | --wp-status | --wp-list | --wp-range) ;;
-        --restore | --backup | --check-journal) ;;
+        --restore | --backup | --check-journal | --wp-enable | --wp-disable) ;;
         *) return 1 ;;
     esac
 }
@@ -226,9 +226,10 @@ _flashnor_serprog() {
                 --progress=*) _flashnor_answer "$word" --progress={auto,plain,none} ;;
                 *)
                     _flashnor_options "$word" -p --programmer -r --read -w --write -v --verify -E --erase --backup \
-                        --restore --check-journal --flash-name --flash-size --wp-status --wp-list --wp-range -c --chip \
-                        -l --layout --fmap-file --ifd-file --fmap --ifd -i --include --journal --unlock -n --noverify \
-                        -N --noverify-all --quick --progress -V --verbose -o --output -R --version -h --help
+                        --restore --check-journal --flash-name --flash-size --wp-status --wp-list --wp-range \
+                        --wp-enable --wp-disable -c --chip -l --layout --fmap-file --ifd-file --fmap --ifd \
+                        -i --include --journal --unlock -n --noverify -N --noverify-all --quick --progress \
+                        -V --verbose -o --output -R --version -h --help
                     ;;
             esac
             ;;
