@@ -10,6 +10,7 @@ use Rattle.nor_model.specs.Bus.{BusState}
 use Rattle.nor_model.proofs.Sizes.{sized_bounds}
 use Rattle.nor_driver.specs.OnlyReads.{Rested}
 use Rattle.nor_driver.proofs.Limits.{exactly_same}
+use Rattle.nor_driver.proofs.Polled.{adds_then}
 use Rattle.nor_geometry.proofs.Below.{count_below-most}
 use Rattle.nor_plan.specs.Planned.{fewest_erases, IsLeastLength}
 use Rattle.nor_plan.proofs.Fewest.{fewest_least}
@@ -84,6 +85,12 @@ checked changes wanted verify old mid new written work inside leaves does checki
       fewer_erases = omega (arith, raised);
       fewer_programs = omega arith;
       few = omega (arith, raised);
+      added =
+          let both = adds_then tallies.added checking.added in
+          record {
+            all = omega (arith, both.all, checking.transactions);
+            few_others = omega (arith, both.few_others, checking.transactions, checking.erases, checking.programs);
+          };
       least = omega arith;
       exactly = rw (checking.erases, checking.programs) (exactly_same checking.unsent does.exactly);
       in_order = record {

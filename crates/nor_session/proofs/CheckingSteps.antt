@@ -10,7 +10,9 @@ use Rattle.nor_model.specs.Exchange.{Exchange}
 use Rattle.nor_model.specs.History.{Answered, EndsReading, names, replied as returned}
 use Rattle.nor_model.specs.Bus.{BusState}
 use Rattle.nor_driver.specs.OnlyReads.{OnlyReads, HasStopped}
+use Rattle.nor_driver.specs.Polls.{AddsTransactions}
 use Rattle.nor_driver.specs.Reads.{IsSectorOf, ReadsSector}
+use Rattle.nor_driver.proofs.Polled.{adds_none, adds_one, adds_then}
 use Rattle.nor_driver.proofs.RestsInTurn.{HasOnlyRead, has_only_read-none, has_only_read-then, only_reads_after, runs_out}
 use Rattle.nor_plan.specs.Bytes.{AllAgree, IsFirstDifference}
 use Rattle.nor_apply.specs.Change.{only, byte_of}
@@ -52,8 +54,12 @@ module _ {sector : ℕ} {bytes : List ℕ} {old new : BusState} (long : length b
 
   pub agrees : (wanted : List ℕ) → sector < 4096 → HasOnlyRead 1 old new → AllAgree bytes wanted
       → DoesChecks (only sector) (byte_of sector wanted) old new 1
-  agrees wanted below honest_reads agree =
-      grind (arith, sector_count-only sector below, honest_reads, read_at, agree, nat_tests)
+  agrees wanted below honest_reads agree = record {
+    reads = sym (sector_count-only sector below);
+    added = adds_one reads.answered.history;
+    honest_reads = honest_reads;
+    same = grind (arith, read_at, agree, nat_tests);
+  }
 
   pub differs : (wanted : List ℕ) {first : ℕ} → IsFirstDifference bytes wanted first
       → CheckErrors (only sector) (byte_of sector wanted) old new (Mismatch (4096 * sector + first))
@@ -76,6 +82,7 @@ read_whole {bytes = bytes} reads long is = record { bytes = bytes; answered = re
 -- a well-behaved bus, if `CanCheck` held at the start, the chip's bytes in these sectors are the target bytes.
 pub record HasChecked (sectors : ℕ → Bool) (wanted : ℕ → ℕ) (n : ℕ) (old new : BusState) (sent : ℕ) : Type 0 where
   pub honest_reads : HasOnlyRead sent old new
+  pub added : AddsTransactions sent sent old.history new.history
   pub few : sent ≤ n
   pub counted : sent ≡ count_below n sectors
   pub reads : AddsSectorReads old.history new.history
@@ -86,6 +93,7 @@ pub record HasChecked (sectors : ℕ → Bool) (wanted : ℕ → ℕ) (n : ℕ) 
 pub checked_none : {t : ℕ → Bool} {w : ℕ → ℕ} (state : BusState) → HasChecked t w 0 state state 0
 checked_none {t} state = record {
   honest_reads = has_only_read-none state;
+  added = adds_none state.history;
   few = omega arith;
   counted = sym (count_below-zero t);
   reads = record { later = []; is = refl; each = All-nil IsSectorRead };
@@ -102,6 +110,7 @@ module _ {t : ℕ → Bool} {w : ℕ → ℕ} {n sent : ℕ} {old mid : BusState
   pub checked_without : t n ≡ false → HasChecked t w (n + 1) old mid sent
   checked_without not = record {
     honest_reads = has.honest_reads;
+    added = has.added;
     few = let few = has.few in omega arith;
     counted = has.counted ∙ sym (count_below-without n t not);
     reads = has.reads;
@@ -166,6 +175,7 @@ module _ {t : ℕ → Bool} {w : ℕ → ℕ} {n sent : ℕ} {old mid : BusState
         let honest_reads = has_only_read-then has.honest_reads does.honest_reads in
         let long = back.whole in record {
           honest_reads = honest_reads;
+          added = adds_then has.added does.added;
           few = let few = has.few in omega arith;
           counted = let next = count_below-with n t is in let counted = has.counted in omega arith;
           reads = reads_more back;

@@ -34,7 +34,7 @@ use Rattle.nor_scan.specs.SavedScan.{HasSaved}
 use Rattle.nor_driver.proofs.RestsInTurn.{HasOnlyRead, rested_then}
 use Rattle.nor_session.specs.Bounds.{most_of}
 use Rattle.nor_session.specs.Changing.{read_back, most_changed, DoesChange}
-use Rattle.nor_session.specs.Session.{most_status_writes, IsWithinBound}
+use Rattle.nor_session.specs.Session.{most_status_writes, IsWithinBound, CountsChanges}
 use Rattle.nor_session.proofs.Changed.{two_writes, write_once}
 
 -- the changes of a session for a chip with this identification and status, the result `kept` of its scan, and the
@@ -162,3 +162,26 @@ bounded_by request identity status code kept old mid new wanted verify work sent
     let checks : (if verify then kept.scanned.count else 0) ≡ read_back (changes_of identity kept status code) verify
     = ap (λ (n : ℕ). if verify then n else 0) is.marks.count in
     omega arith
+
+-- After success, only the transactions that `CountsChanges` allows were sent, if the changes need at most `most` status
+-- writes.
+pub counts_changes : (request : Request) (identity : Identity) (status : Status) (code : ℕ) (kept : SavedScan) (old mid new : BusState) (wanted : ℕ → ℕ) (verify : Bool) (work : Work) (sent most : ℕ) → sent ≡ kept.scanned.reads
+    → Ready request identity status code kept old mid → status_writes (changes_of identity kept status code) ≤ most
+    → DoesChange (changes_of identity kept status code) wanted verify mid new work
+    → CountsChanges (scanned_sectors request identity.found.size) most verify old new
+    (record { found = identity.found; touched = kept.scanned.count; erases = work.erases; programs = work.programs; transactions = identity.transactions + sent + work.transactions })
+counts_changes request identity status code kept old mid new wanted verify work sent most is_sent is writes does =
+    let checks : (if verify then kept.scanned.count else 0) ≡ read_back (changes_of identity kept status code) verify
+    = ap (λ (n : ℕ). if verify then n else 0) is.marks.count in
+    record {
+      before = mid;
+      first = identity.transactions + kept.scanned.reads;
+      changing = work.transactions;
+      only_read = is.honest_reads;
+      few = omega (arith, is.few, is.reads);
+      sum = omega (arith, is_sent);
+      added = record {
+        all = does.added.all;
+        few_others = omega (arith, does.added.few_others, checks, is.marks.count, writes);
+      };
+    }

@@ -31,7 +31,7 @@ use Rattle.nor_session.specs.declared.prepare_restore.PreparedRestore.{PreparedR
 use Rattle.nor_probe.specs.Known.{IsModelled}
 use Rattle.nor_scan.specs.Saving.{SomeProtected}
 use Rattle.nor_session.specs.Bounds.{most_reads, most_of}
-use Rattle.nor_session.specs.Session.{HonestErrors, IsWithinCounts}
+use Rattle.nor_session.specs.Session.{HonestErrors, IsWithinCounts, CountsChanges}
 use Rattle.nor_session.specs.Changing.{HasBytes, LeavesChange, DoesChange, ChangeErrors}
 use Rattle.nor_session.specs.declared.announcement.Announcement.{Announcement}
 use Rattle.nor_session.specs.Announcing.{Announces}
@@ -196,6 +196,28 @@ module _ (choice : Choice) (journal : Content) (prepared : PreparedRestore) (old
     pub restored_bounded : sent ≡ prepared.transactions + work.transactions
         → IsWithinCounts (choice.reads (length journal.saved)) (length journal.saved) 2 true (report_of prepared work sent)
     restored_bounded sum = restored_within 2 sum (two_writes prepared.changes)
+
+    -- only the transactions that `CountsChanges` allows were sent
+    pub restored_changing : sent ≡ prepared.transactions + work.transactions
+        → CountsChanges (choice.reads (length journal.saved)) 2 true old new (report_of prepared work sent)
+    restored_changing sum = record {
+      before = mid;
+      first = prepared.transactions;
+      changing = work.transactions;
+      only_read = record {
+        nature = are.only_reads.nature;
+        same_sent = are.only_reads.sent;
+        polled_ready = λ ready. are.is.polled_ready;
+        rested = are.is.rested;
+        sent = are.is.sent;
+      };
+      few = are.is.most;
+      sum = sum;
+      added = record {
+        all = does.added.all;
+        few_others = omega (arith, does.added.few_others, are.is.count, two_writes prepared.changes);
+      };
+    }
 
     -- on a modelled bus, if no status write is needed, the report is within the bound without status writes
     pub restored_sparing : sent ≡ prepared.transactions + work.transactions → IsModelled old

@@ -9,6 +9,7 @@ use Rattle.nor_driver.specs.ReadBack.{EndsReadBack, EndsReadOther}
 use Rattle.nor_driver.specs.OnlyReads.{Rested, HasStopped}
 use Rattle.nor_driver.specs.Limits.{SendsExactly, Leaves}
 use Rattle.nor_driver.specs.Operations.{most_operation}
+use Rattle.nor_driver.specs.Polls.{AddsTransactions}
 use Rattle.nor_geometry.specs.Below.{count_below}
 use Rattle.nor_plan.specs.Planned.{fewest_erases}
 use Rattle.nor_apply.specs.declared.changes.Changes.{Changes}
@@ -39,7 +40,7 @@ read_back changes verify = if verify then touched_count changes else 0
 
 -- Holds after the check succeeded. `written` has the counts before the check, and `work` those after it. The check
 -- sends one transaction for each touched sector if `verify` is set, and otherwise none; `work` includes them. No
--- modifying command was sent. On a well-behaved bus exactly these transactions were carried out, and contents and
+-- other transaction was sent. On a well-behaved bus exactly these transactions were carried out, and contents and
 -- non-volatile status bits are as they were. If in addition `verify` is set and the chip was idle with the touched
 -- sectors on it (`CanCheck`), each byte of a touched sector is the target byte.
 pub record DoesCheck (changes : Changes) (wanted : ℕ → ℕ) (verify : Bool) (written : Work) (old new : BusState)
@@ -48,6 +49,7 @@ pub record DoesCheck (changes : Changes) (wanted : ℕ → ℕ) (verify : Bool) 
   pub programs : work.programs ≡ written.programs
   pub transactions : work.transactions ≡ written.transactions + read_back changes verify
   pub unsent : new.sent ≡ old.sent
+  pub added : AddsTransactions (read_back changes verify) (read_back changes verify) old.history new.history
   pub polled_ready : StaysReady old new
   pub sent : old.honest ≡ true → old.left ≡ new.left + read_back changes verify
   pub rested : old.honest ≡ true → Rested old new
@@ -84,8 +86,10 @@ LeavesChange changes wanted =
     (MayChange (touched_in changes) (raised_in changes) wanted)
 
 -- Holds after the changes and their check succeeded, with the counts of `work`. If there was nothing to change, no
--- modifying command was sent. On every bus an erase was sent for each raised sector before anything was programmed. On
--- a well-behaved bus, if `CanApply` held at the start, all changes were made (`HasApplied`). On such a bus, if `verify`
+-- modifying command was sent. On every bus an erase was sent for each raised sector before anything was programmed.
+-- Exactly `work.transactions` transactions were sent. These are one read for each sector that is read back, at most one
+-- other read for each touched sector, at most three transactions for each operation, and polls that showed BUSY. On a
+-- well-behaved bus, if `CanApply` held at the start, all changes were made (`HasApplied`). On such a bus, if `verify`
 -- is set and the chip was idle with the touched sectors on it (`CanCheck`), each byte of a touched sector is the target
 -- byte. This is true even if the chip ignored commands.
 pub record DoesChange (changes : Changes) (wanted : ℕ → ℕ) (verify : Bool) (old new : BusState)
@@ -96,6 +100,9 @@ pub record DoesChange (changes : Changes) (wanted : ℕ → ℕ) (verify : Bool)
   pub few : work.transactions
       ≤ touched_count changes + read_back changes verify
       + most_operation * (work.erases + work.programs + status_writes changes)
+  pub added : AddsTransactions work.transactions
+      (touched_count changes + read_back changes verify
+      + 3 * (work.erases + work.programs + status_writes changes)) old.history new.history
   pub least : 3 * (work.erases + work.programs + status_writes changes) + read_back changes verify ≤ work.transactions
   pub exactly : SendsExactly work.erases work.programs (status_writes changes) old new
   pub in_order : ErasesFirst (raised_in changes) old new

@@ -6,6 +6,7 @@ use Rattle.nor_model.specs.History.{Answered, EndsReading, names}
 use Rattle.nor_model.specs.Bus.{BusState}
 use Rattle.nor_driver.specs.OnlyReads.{HasStopped}
 use Rattle.nor_driver.specs.ReadsInTurn.{HasOnlyRead}
+use Rattle.nor_driver.specs.Polls.{AddsTransactions}
 use Rattle.nor_driver.specs.ReadBack.{ReadsBack, ReadsOther}
 use Rattle.nor_plan.specs.Bytes.{AllAgree, IsFirstDifference}
 use Rattle.nor_apply.specs.Within.{addresses_of}
@@ -26,11 +27,12 @@ pub record IsFirstMismatch (sectors : ℕ → Bool) (wanted content : ℕ → �
   pub differs : content address ≢ wanted address
   pub before : (a : ℕ) → a < address → sectors (a / 4096) ≡ true → content a ≡ wanted a
 
--- Holds if the verification succeeded with `sent` transactions, one for each sector. On a well-behaved bus bytes,
--- non-volatile status bits and erased sectors are as they were (`Rested`). If `CanCheck` held on such a bus, each byte
--- of these sectors is the target byte.
+-- Holds if the verification succeeded with `sent` transactions, one for each sector. On every bus nothing else was
+-- sent. On a well-behaved bus bytes, non-volatile status bits and erased sectors are as they were (`Rested`). If
+-- `CanCheck` held on such a bus, each byte of these sectors is the target byte.
 pub record DoesChecks (sectors : ℕ → Bool) (wanted : ℕ → ℕ) (old new : BusState) (sent : ℕ) : Type 0 where
   pub reads : sent ≡ sector_count sectors
+  pub added : AddsTransactions sent sent old.history new.history
   pub honest_reads : HasOnlyRead sent old new
   pub same : old.honest ≡ true → CanCheck sectors old.chip
       → (a : ℕ) → sectors (a / 4096) ≡ true → old.chip.bytes a ≡ wanted a

@@ -33,7 +33,7 @@ use Rattle.nor_session.specs.Bounds.{most_reads, most_of}
 use Rattle.nor_session.specs.Made.{IsTargetChip, IsReportedFor}
 use Rattle.nor_session.specs.Changing.{HasBytes}
 use Rattle.nor_session.specs.Headline.{IsOfType}
-use Rattle.nor_session.specs.Session.{NamesSector, IsWithinCounts, IsSavedCode, SendsSaved, SendsCounted, WritesStatusAtMost, HonestErrors}
+use Rattle.nor_session.specs.Session.{NamesSector, IsWithinCounts, CountsChanges, IsSavedCode, SendsSaved, SendsCounted, WritesStatusAtMost, HonestErrors}
 
 -- ---- the target
 
@@ -235,6 +235,8 @@ pub record AlwaysBy (choice : Choice) (journal : Content) (old new : BusState)
   -- are those that were sent (`SendsCounted`)
   pub bounded : IfOk result (IsWithinCounts (choice.reads (length journal.saved)) (length journal.saved) 2 true)
   pub reported : IfOk result (λ report. SendsCounted report.erases report.programs old new)
+  -- after success only the transactions that `CountsChanges` allows were sent
+  pub changing : IfOk result (CountsChanges (choice.reads (length journal.saved)) 2 true old new)
   -- After success, each saved sector was read with its saved bytes. For a touched sector, that read followed all
   -- writes. Error 14 names the first address in a touched sector whose byte was read otherwise.
   pub read_back : RestoreReadsBack choice journal old.history new.history result

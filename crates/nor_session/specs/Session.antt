@@ -11,6 +11,8 @@ use Rattle.nor_driver.specs.OnlyReads.{OnlyReads, Falls, RanOut}
 use Rattle.nor_driver.specs.StatusWrites.{fixed_of, with_code}
 use Rattle.nor_geometry.specs.Counts.{sector_count}
 use Rattle.nor_driver.specs.Operations.{most_operation}
+use Rattle.nor_driver.specs.Polls.{AddsTransactions}
+use Rattle.nor_driver.specs.ReadsInTurn.{HasOnlyRead}
 use Rattle.nor_plan.specs.Content.{is_touched, is_raised}
 use Rattle.nor_journal.specs.Text.{Content}
 use Rattle.nor_journal.specs.Vault.{VaultState, CountsRefusal}
@@ -151,8 +153,23 @@ pub record IsWithinCounts (reads sectors writes : ℕ) (verify : Bool) (report :
 abbrev pub IsWithinBound : (scanned writes : ℕ) → (verify : Bool) → Report → Type 0
 IsWithinBound scanned writes verify report = IsWithinCounts scanned scanned writes verify report
 
+-- Limits the transactions of a call with this report, on every bus. Until the state `before`, the call only read, with
+-- at most `most_reads reads` transactions. From then on exactly `changing` transactions were sent. These are at most
+-- one read for each touched sector, another one if `verify` is set, three transactions for each operation, and polls
+-- that showed BUSY (`AddsTransactions`). The report counts all transactions of the call.
+pub record CountsChanges (reads writes : ℕ) (verify : Bool) (old new : BusState) (report : Report) : Type 0 where
+  pub before : BusState
+  pub first : ℕ
+  pub changing : ℕ
+  pub only_read : HasOnlyRead first old before
+  pub few : first ≤ most_reads reads
+  pub sum : report.transactions ≡ first + changing
+  pub added : AddsTransactions changing
+      (report.touched + (if verify then report.touched else 0) + 3 * (report.erases + report.programs + writes))
+      before.history new.history
+
 -- Holds if a session ended with this report. The vault is sealed and did not fail. The report is within its bounds, and
--- counts the erases and page programs that were sent.
+-- counts the erases and page programs that were sent. Only the transactions that `CountsChanges` allows were sent.
 pub record EndsSealed (request : Request) (old new : BusState) (vault vault' : VaultState)
     (report : Report) : Type 0 where
   pub sealed : vault'.sealed ≡ true
@@ -160,6 +177,8 @@ pub record EndsSealed (request : Request) (old new : BusState) (vault vault' : V
   pub sent : SendsCounted report.erases report.programs old new
   pub bounded : IsWithinBound (scanned_sectors request report.found.size)
       (most_status_writes request.what request.unlock) request.verify report
+  pub changing : CountsChanges (scanned_sectors request report.found.size)
+      (most_status_writes request.what request.unlock) request.verify old new report
 
 -- ---- on a well-behaved bus
 

@@ -1,9 +1,9 @@
-use Rattle.std.proofs.Common.{◌≡◌, ◌⊎◌, ◌+◌, inl, inr, length, rules, arith}
+use Rattle.std.proofs.Common.{◌≡◌, ◌⊎◌, ◌+◌, inl, inr, length, refl, rules, arith}
 use Rattle.std.proofs.lemmas.Result.{err_from_is_err_and}
 use Rattle.nor_driver.specs.OnlyReads.{OnlyReads}
 use Rattle.nor_session.specs.Restore.{IsCheckedFirst, FitsReplies}
 use Rattle.nor_session.specs.Bounds.{most_reads}
-use Rattle.nor_session.proofs.Restoring.{AreChanged, change_last, changed_spends, changed_fits, changed_leaves, changed_can_restore, change_answers, change_not_judged, change_fails, change_errors, change_stops, work_fits, restored_bounded, restored_counted, restored_checked, restored_sparing, restored_done, restored_original}
+use Rattle.nor_session.proofs.Restoring.{AreChanged, change_last, changed_spends, changed_fits, changed_leaves, changed_can_restore, change_answers, change_not_judged, change_fails, change_errors, change_stops, work_fits, restored_bounded, restored_changing, restored_counted, restored_checked, restored_sparing, restored_done, restored_original}
 use Rattle.nor_session.proofs.Changed.{two_writes, no_write}
 use Rattle.nor_session.proofs.Naming.{change_names}
 use Rattle.nor_session.proofs.ReadBack.{restore_read_back, restore_read_other}
@@ -86,6 +86,7 @@ returns g c =
                 let sends = change_sends old are.only_reads.sent are.leaves _ journal (restore_of_journal are.is) in
                 let writes = change_writes old are.only_reads.sent are.leaves (two_writes prepared.changes) in
                 let bounded = restored_bounded choice journal prepared old mid new work sent are does (omega arith) in
+                let changing = restored_changing choice journal prepared old mid new work sent are does refl in
                 let polled_ready = does.polled_ready are.is.polled_ready in
                 let counts = counted old are.only_reads.sent does in
                 let read_back = restore_read_back choice journal prepared.changes old.history mid.history new.history

@@ -8,7 +8,7 @@ use Rattle.nor_driver.specs.Limits.{Spends}
 use Rattle.nor_session.specs.Bounds.{most_reads, most_of}
 use Rattle.nor_session.specs.Session.{CanBeUndone, most_status_writes}
 use Rattle.nor_scan.specs.Verdict.{NeedsStatusWrite}
-use Rattle.nor_session.proofs.Ready.{changes_of, has_opened, ready, scanned_few, spends_only_reads, spends_more, spends_ready, writes_few, bounded_by, touched_data}
+use Rattle.nor_session.proofs.Ready.{changes_of, has_opened, ready, scanned_few, spends_only_reads, spends_more, spends_ready, writes_few, bounded_by, counts_changes, touched_data}
 use Rattle.nor_session.proofs.ReadyChip.{small_first, opening_of, shows, named, most_sized, refused_puts, save_fails, save_errors, save_early, save_last}
 use Rattle.nor_session.proofs.SessionChanges.{never_written, change_fails, change_errors}
 use Rattle.nor_session.proofs.SessionEnds.{ready_chip, can_be_undone, done, session_checked, spared}
@@ -154,6 +154,7 @@ returns-clause-keeps g c = λ first only_reads opens.
           replied_saved only_reads opens c.save.ensures.leaves c.in_ok-saved.ensures.replies
           (c.in_ok-saved.ensures.replied telling) leaves.spends.nature in
           let bounded = bounded_by _ _ _ _ _ _ _ _ _ _ _ c.from.result _ c.from.ensures is (writes_few is) does in
+          let changing = counts_changes _ _ _ _ _ _ _ _ _ _ _ c.from.result _ c.from.ensures is (writes_few is) does in
           let polled_ready = does.polled_ready (keeps.scans.polled_ready opens.polled_ready) in
           let counts = counted first is.honest_reads.same_sent does in
           let read_back = session_read_back request image c.in_ok-saved.saved.scanned
