@@ -310,7 +310,7 @@ SUBJECTS = {
     "A loss of power": "nor_model: specs/Power",
     "The bus, and its stops":
         "nor_model: specs/Bus src/bus specs/Exchange specs/History src/history specs/Sent specs/PolledReady",
-    "Reading, and counting transactions": "nor_driver: specs/OnlyReads specs/Limits",
+    "Reading, and counting transactions": "nor_driver: specs/OnlyReads specs/Ready specs/ReadsInTurn specs/Polls specs/Limits",
     "IDs and status bits": "nor_model: src/status nor_driver: specs/Reads specs/StatusWrites",
     "SFDP": "nor_probe: src/sfdp specs/Sfdp",
     "Genuine chips": "nor_probe: src/table specs/Table src/probes specs/Known specs/Found specs/Replied",
