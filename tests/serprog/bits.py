@@ -10,7 +10,7 @@ from functools import partial
 from typing import NamedTuple
 
 import reference
-from bench import Bench, Differs, check
+from bench import STRIDE, Bench, Differs, check
 from chip import ONCE, PARTS, READ_DATA, SECTOR
 
 SAMPLE = 64
@@ -135,14 +135,18 @@ def tries(program, names):
 
 
 def faults(work, sweep):
-    """Returns the faults of a sweep, each as the traits of the programmer."""
+    """Returns the faults of a sweep, each as the traits of the programmer. With a STRIDE of 9 these are each third one
+    (a reply has few bits), and for another transaction other ones."""
     bits = range(8 * sweep.replies)
     if sweep.opcode == READ_DATA:
         differing = {8 * at + bit for at in range(SECTOR) for bit in range(8)
                      if (sector_of(work, work.before)[at] ^ sector_of(work, work.after)[at]) >> bit & 1}
         step = len(bits) // SAMPLE
         bits = sorted({step * i + 37 * i % step for i in range(SAMPLE)} | set(sorted(differing)[:16]))
-    return [("wrong_bits", divmod(it, 8)) for it in bits] + [("misses", it) for it in (0xFF, 0x00)]
+    found = [("wrong_bits", divmod(it, 8)) for it in bits] + [("misses", it) for it in (0xFF, 0x00)]
+    number = sweep.at if isinstance(sweep.at, int) else sweep.at[0]
+    stride = max(1, STRIDE // 3)
+    return found[number % stride :: stride]
 
 
 def sector_of(work, data):
