@@ -205,6 +205,7 @@ APPENDICES = {
             "IsHonestFor": "nor_model/specs/Bus.antt",
             "AtStop": "nor_model/specs/Bus.antt",
             "Carries": "nor_model/specs/Bus.antt",
+            "Transfers": "nor_model/specs/Bus.antt",
             "Records": "nor_model/specs/Bus.antt",
             "Continues": "nor_model/specs/History.antt",
             "last_reply": "nor_model/specs/History.antt",

@@ -1,7 +1,7 @@
 //! A bus that reads ahead.
-ghost use Rattle.std.specs.Prelude.{◌≡◌, ◌<◌, ◌≤◌, ◌+◌, ◌-◌, ◌∷◌, [], true, false, length, take, OnOk, OnErr, IfSome};
+ghost use Rattle.std.specs.Prelude.{◌≡◌, ◌<◌, ◌≤◌, ◌+◌, ◌-◌, ◌∷◌, [], true, false, length, take, OnOk, IfSome};
 ghost use Rattle.std.proofs.lemmas.Bool.{false≢true};
-ghost use Rattle.nor_model.specs.Bus.{IsHonestFor, SameNature, Stops, Carries, Records};
+ghost use Rattle.nor_model.specs.Bus.{Records, Transfers};
 ghost use Rattle.nor_model.specs.History.{exchange_of};
 ghost use Rattle.nor_buses.specs.ReadsAs.{reads_data, address_in, view_of, KeepsRecord};
 ghost use Rattle.nor_buses.specs.ReadsAs.{HoldsReply, EndsWithRead, EndsWithData};
@@ -187,14 +187,7 @@ impl<B: Bus + Drop> Bus for ReadAhead<B> {
     ghost reaches = { λ ahead honest. absurd (false≢true honest) };
 
     fn transfer(&mut self, out: &[u8], reply: &mut [u8]) -> Result<(), Stopped>
-        ensures nature { SameNature (ahead_state self.old) (ahead_state self.new) }
-        ensures stops { IsHonestFor out.now (length reply.old) (ahead_state self.old)
-            → OnErr result (Stops out.now (ahead_state self.old) (ahead_state self.new)) }
-        ensures unread { IsHonestFor out.now (length reply.old) (ahead_state self.old)
-            → OnErr result (reply.new ≡ reply.old) }
-        ensures carries { IsHonestFor out.now (length reply.old) (ahead_state self.old)
-            → OnOk result (Carries out.now reply.new (ahead_state self.old) (ahead_state self.new)) }
-        ensures records { Records out.now reply.new result (ahead_state self.old) (ahead_state self.new) }
+        ensures law { Transfers out.now reply.old reply.new result (ahead_state self.old) (ahead_state self.new) }
         ensures forgets { reads_data out.now ≡ false → held self.new ≡ 0 }
         ensures read { reads_data out.now ≡ true → 0 < length reply.old
             → OnOk result (EndsWithData (address_in out.now) reply.new (inside_of self.new).history) }

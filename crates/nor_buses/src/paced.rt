@@ -1,6 +1,6 @@
 //! A bus that pauses between polls of a busy chip.
-ghost use Rattle.std.specs.Prelude.{◌≡◌, ◌≤◌, not, true, ℕ, length, OnOk, OnErr, IfSome};
-ghost use Rattle.nor_model.specs.Bus.{IsHonestFor, SameNature, Stops, Carries, Records};
+ghost use Rattle.std.specs.Prelude.{◌≡◌, ◌≤◌, not, true, ℕ, OnOk, OnErr, IfSome};
+ghost use Rattle.nor_model.specs.Bus.{Transfers};
 ghost use Rattle.nor_model.specs.PolledReady.{polled_ready_after};
 ghost use Rattle.nor_buses.specs.Pace.{pause_before, pauses, typical_of, typical_after, busy_row_after};
 
@@ -119,14 +119,8 @@ impl<B: Bus, C: Clock> Bus for Paced<B, C> {
     ghost reaches = { λ paced honest. B.reaches paced.bus honest };
 
     fn transfer(&mut self, out: &[u8], reply: &mut [u8]) -> Result<(), Stopped>
-        ensures nature { SameNature (B.state (paced_of self.old)) (B.state (paced_of self.new)) }
-        ensures stops { IsHonestFor out.now (length reply.old) (B.state (paced_of self.old))
-            → OnErr result (Stops out.now (B.state (paced_of self.old)) (B.state (paced_of self.new))) }
-        ensures unread { IsHonestFor out.now (length reply.old) (B.state (paced_of self.old))
-            → OnErr result (reply.new ≡ reply.old) }
-        ensures carries { IsHonestFor out.now (length reply.old) (B.state (paced_of self.old))
-            → OnOk result (Carries out.now reply.new (B.state (paced_of self.old)) (B.state (paced_of self.new))) }
-        ensures records { Records out.now reply.new result (B.state (paced_of self.old)) (B.state (paced_of self.new)) }
+        ensures law { Transfers out.now reply.old reply.new result
+            (B.state (paced_of self.old)) (B.state (paced_of self.new)) }
         ensures row { OnOk result (busy_row self.new ≡ busy_row_after out.now reply.new (busy_row self.old)) }
         ensures operation { OnOk result (typical_in self.new ≡ typical_after out.now (typical_in self.old)) }
         ensures stopped { OnErr result (busy_row self.new ≡ busy_row self.old) }

@@ -1,7 +1,7 @@
 //! A bus that splits transactions that exceed the limits of a programmer.
-ghost use Rattle.std.specs.Prelude.{◌≡◌, ◌<◌, ◌≤◌, [], true, false, length, drop, OnOk, OnErr};
+ghost use Rattle.std.specs.Prelude.{◌≡◌, ◌<◌, ◌≤◌, [], true, false, length, drop, OnOk};
 ghost use Rattle.std.proofs.lemmas.Bool.{false≢true};
-ghost use Rattle.nor_model.specs.Bus.{IsHonestFor, SameNature, Stops, Carries, Records};
+ghost use Rattle.nor_model.specs.Bus.{Records, Transfers};
 ghost use Rattle.nor_buses.specs.ReadsAs.{address_in};
 ghost use Rattle.nor_model.specs.Sent.{begins_program};
 ghost use Rattle.nor_buses.specs.Parts.{can_split_read, SplitsRead, SplitsProgram};
@@ -114,15 +114,7 @@ impl<B: Bus> Bus for SplittingBus<B> {
     ghost reaches = { λ splitting honest. absurd (false≢true honest) };
 
     fn transfer(&mut self, out: &[u8], reply: &mut [u8]) -> Result<(), Stopped>
-        ensures nature { SameNature (splitting_state B.state self.old) (splitting_state B.state self.new) }
-        ensures stops { IsHonestFor out.now (length reply.old) (splitting_state B.state self.old)
-            → OnErr result (Stops out.now (splitting_state B.state self.old) (splitting_state B.state self.new)) }
-        ensures unread { IsHonestFor out.now (length reply.old) (splitting_state B.state self.old)
-            → OnErr result (reply.new ≡ reply.old) }
-        ensures carries { IsHonestFor out.now (length reply.old) (splitting_state B.state self.old)
-            → OnOk result (Carries out.now reply.new
-            (splitting_state B.state self.old) (splitting_state B.state self.new)) }
-        ensures records { Records out.now reply.new result
+        ensures law { Transfers out.now reply.old reply.new result
             (splitting_state B.state self.old) (splitting_state B.state self.new) }
         ensures sends { sends_most self.new ≡ sends_most self.old }
         ensures receives { receives_most self.new ≡ receives_most self.old }

@@ -2,7 +2,7 @@
 ghost use Rattle.std.specs.Prelude.{◌≡◌, ◌⊎◌, ◌%◌, ◌||◌, ◌∷◌, [], true, false, length, ℕ, List, None, Some, OnOk, OnErr, IfOk};
 ghost use Rattle.std.specs.Option.{ForSome};
 ghost use Rattle.std.proofs.lemmas.Bool.{false≢true};
-ghost use Rattle.nor_model.specs.Bus.{IsHonestFor, SameNature, Stops, Carries, Records};
+ghost use Rattle.nor_model.specs.Bus.{Transfers};
 ghost use Rattle.nor_model.specs.Command.{begins_change};
 ghost use Rattle.nor_model.specs.History.{replied};
 ghost use Rattle.nor_model.specs.Sent.{with_sent};
@@ -321,14 +321,7 @@ impl<B: Bus + Drop> Bus for CheckedStatus<B> {
     ghost reaches = { λ checked honest. absurd (false≢true honest) };
 
     fn transfer(&mut self, out: &[u8], reply: &mut [u8]) -> Result<(), Stopped>
-        ensures nature { SameNature (checked_state self.old) (checked_state self.new) }
-        ensures stops { IsHonestFor out.now (length reply.old) (checked_state self.old)
-            → OnErr result (Stops out.now (checked_state self.old) (checked_state self.new)) }
-        ensures unread { IsHonestFor out.now (length reply.old) (checked_state self.old)
-            → OnErr result (reply.new ≡ reply.old) }
-        ensures carries { IsHonestFor out.now (length reply.old) (checked_state self.old)
-            → OnOk result (Carries out.now reply.new (checked_state self.old) (checked_state self.new)) }
-        ensures records { Records out.now reply.new result (checked_state self.old) (checked_state self.new) }
+        ensures law { Transfers out.now reply.old reply.new result (checked_state self.old) (checked_state self.new) }
         ensures locks { locks_of self.new ≡ locks_of self.old }
         ensures sends { SendsKept (locks_of self.old) out.now (inner_state self.old) (inner_state self.new) }
         ensures believes { OnOk result (BelievesStatus out.now reply.new (known_of self.old) (known_of self.new)

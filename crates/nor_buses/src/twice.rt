@@ -1,7 +1,7 @@
 //! A bus that reads IDs, SFDP and data twice.
 ghost use Rattle.std.specs.Prelude.{◌≡◌, ◌≤◌, ◌⊎◌, ◌∷◌, [], true, false, None, Some, length, OnOk, OnErr, IfOk};
 ghost use Rattle.std.proofs.lemmas.Bool.{false≢true};
-ghost use Rattle.nor_model.specs.Bus.{BusState, IsHonestFor, SameNature, Stops, Carries, Records};
+ghost use Rattle.nor_model.specs.Bus.{BusState, IsHonestFor, SameNature, Carries, Records, Transfers};
 ghost use Rattle.nor_model.specs.History.{exchange_of, replied};
 ghost use Rattle.nor_buses.specs.ReadsAs.{view_of, KeepsRecord};
 ghost use Rattle.nor_buses.specs.Again.{FirstRead};
@@ -184,14 +184,7 @@ impl<B: Bus> Bus for ReadTwice<B> {
     ghost reaches = { λ twice honest. absurd (false≢true honest) };
 
     fn transfer(&mut self, out: &[u8], reply: &mut [u8]) -> Result<(), Stopped>
-        ensures nature { SameNature (twice_state B.state self.old) (twice_state B.state self.new) }
-        ensures stops { IsHonestFor out.now (length reply.old) (twice_state B.state self.old)
-            → OnErr result (Stops out.now (twice_state B.state self.old) (twice_state B.state self.new)) }
-        ensures unread { IsHonestFor out.now (length reply.old) (twice_state B.state self.old)
-            → OnErr result (reply.new ≡ reply.old) }
-        ensures carries { IsHonestFor out.now (length reply.old) (twice_state B.state self.old)
-            → OnOk result (Carries out.now reply.new (twice_state B.state self.old) (twice_state B.state self.new)) }
-        ensures records { Records out.now reply.new result
+        ensures law { Transfers out.now reply.old reply.new result
             (twice_state B.state self.old) (twice_state B.state self.new) }
         ensures once { IsHonestFor out.now (length reply.old) (B.state (twice_of self.old))
             → begins_read out.now ≡ false

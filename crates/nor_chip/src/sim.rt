@@ -1,7 +1,8 @@
 //! A simulated bus, whose chip is a modelled chip in memory.
 ghost use Rattle.std.specs.Prelude.{◌≡◌, ◌≢◌, ◌<◌, ◌||◌, ◌&&◌, ◌↔◌, ℕ, true, false, length, slice_index_or, vec_len};
-ghost use Rattle.std.specs.Prelude.{IsErr, IfOk, OnOk, OnErr};
+ghost use Rattle.std.specs.Prelude.{IsErr, IfOk};
 ghost use Rattle.nor_model.specs.Addresses.{HasValidAddress};
+ghost use Rattle.nor_model.specs.Bus.{Transfers};
 ghost use Rattle.nor_model.specs.Step.{wears};
 
 use bitflags::Flags;
@@ -172,7 +173,6 @@ impl SimBus {
 }
 
 impl Bus for SimBus {
-    ghost use Rattle.nor_model.specs.Bus.{IsHonestFor, SameNature, Stops, Carries, Records};
     ghost use Rattle.nor_chip.specs.Sim.{sim_state, Simulates};
 
     ghost state = { sim_state };
@@ -185,14 +185,7 @@ impl Bus for SimBus {
     } };
 
     fn transfer(&mut self, out: &[u8], reply: &mut [u8]) -> Result<(), Stopped>
-        ensures nature { SameNature (sim_state self.old) (sim_state self.new) }
-        ensures stops { IsHonestFor out.now (length reply.old) (sim_state self.old)
-            → OnErr result (Stops out.now (sim_state self.old) (sim_state self.new)) }
-        ensures unread { IsHonestFor out.now (length reply.old) (sim_state self.old)
-            → OnErr result (reply.new ≡ reply.old) }
-        ensures carries { IsHonestFor out.now (length reply.old) (sim_state self.old)
-            → OnOk result (Carries out.now reply.new (sim_state self.old) (sim_state self.new)) }
-        ensures records { Records out.now reply.new result (sim_state self.old) (sim_state self.new) }
+        ensures law { Transfers out.now reply.old reply.new result (sim_state self.old) (sim_state self.new) }
         ensures simulates { Simulates out.now reply.new result self.old self.new }
     {
         if self.left == 0 {

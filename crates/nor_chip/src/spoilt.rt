@@ -1,8 +1,8 @@
 //! A faulty bus, for tests.
-ghost use Rattle.std.specs.Prelude.{◌≡◌, [], Bool, true, false, length, OnOk, OnErr, MatchBool, EachIndex, slice_index, ⊤};
+ghost use Rattle.std.specs.Prelude.{◌≡◌, [], Bool, false, MatchBool, EachIndex, slice_index, ⊤};
 ghost use Rattle.std.proofs.Common.{subst};
 ghost use Rattle.nor_model.specs.Chip.{IsChip};
-ghost use Rattle.nor_model.specs.Bus.{IsHonestFor, SameNature, Stops, Carries, Records, Allows};
+ghost use Rattle.nor_model.specs.Bus.{Allows, Transfers};
 ghost use Rattle.nor_chip.specs.Spoilt.{bus_in, spoil_of, succeeded_of, history_of, spoilt_state, withheld, spoilt_byte, Spoils};
 
 use nor_model::{Bus, History, Meter, Stopped};
@@ -85,14 +85,7 @@ impl<B: Bus> Bus for SpoiltBus<B> {
         subst (λ (b : Bool). MatchBool b (IsChip (spoilt_state B.state spoilt).chip) ⊤) honest tt };
 
     fn transfer(&mut self, out: &[u8], reply: &mut [u8]) -> Result<(), Stopped>
-        ensures nature { SameNature (spoilt_state B.state self.old) (spoilt_state B.state self.new) }
-        ensures stops { IsHonestFor out.now (length reply.old) (spoilt_state B.state self.old)
-            → OnErr result (Stops out.now (spoilt_state B.state self.old) (spoilt_state B.state self.new)) }
-        ensures unread { IsHonestFor out.now (length reply.old) (spoilt_state B.state self.old)
-            → OnErr result (reply.new ≡ reply.old) }
-        ensures carries { IsHonestFor out.now (length reply.old) (spoilt_state B.state self.old)
-            → OnOk result (Carries out.now reply.new (spoilt_state B.state self.old) (spoilt_state B.state self.new)) }
-        ensures records { Records out.now reply.new result
+        ensures law { Transfers out.now reply.old reply.new result
             (spoilt_state B.state self.old) (spoilt_state B.state self.new) }
         ensures spoils { Spoils B.state out.now reply.old reply.new result self.old self.new }
     {

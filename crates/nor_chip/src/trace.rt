@@ -1,8 +1,8 @@
 //! A bus that logs each transaction that succeeds.
-ghost use Rattle.std.specs.Prelude.{◌≡◌, true, false, length, OnOk, OnErr};
+ghost use Rattle.std.specs.Prelude.{◌≡◌, true, false, OnOk};
 ghost use Rattle.std.specs.Io.KnownBytes.{Appends, Keeps};
 ghost use Rattle.hex.specs.Hex.{encode_lower};
-ghost use Rattle.nor_model.specs.Bus.{IsHonestFor, SameNature, Stops, Carries, Records, Allows};
+ghost use Rattle.nor_model.specs.Bus.{Allows, Transfers};
 ghost use Rattle.nor_chip.specs.Trace.{traced_by, log_of, has_lost, traced_line, Traces};
 
 use nor_model::{Bus, Meter, Stopped};
@@ -79,14 +79,7 @@ impl<B: Bus, L: Write> Bus for TraceBus<B, L> {
     ghost reaches = { λ traced honest. B.reaches traced.bus honest };
 
     fn transfer(&mut self, out: &[u8], reply: &mut [u8]) -> Result<(), Stopped>
-        ensures nature { SameNature (B.state (traced_by self.old)) (B.state (traced_by self.new)) }
-        ensures stops { IsHonestFor out.now (length reply.old) (B.state (traced_by self.old))
-            → OnErr result (Stops out.now (B.state (traced_by self.old)) (B.state (traced_by self.new))) }
-        ensures unread { IsHonestFor out.now (length reply.old) (B.state (traced_by self.old))
-            → OnErr result (reply.new ≡ reply.old) }
-        ensures carries { IsHonestFor out.now (length reply.old) (B.state (traced_by self.old))
-            → OnOk result (Carries out.now reply.new (B.state (traced_by self.old)) (B.state (traced_by self.new))) }
-        ensures records { Records out.now reply.new result
+        ensures law { Transfers out.now reply.old reply.new result
             (B.state (traced_by self.old)) (B.state (traced_by self.new)) }
         ensures traces { Traces L.contents out.now reply.new result self.old self.new }
     {

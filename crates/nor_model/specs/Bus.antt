@@ -104,6 +104,16 @@ pub record Carries (out answer : List ℕ) (old new : BusState) : Type 0 where
   pub step : Step old.chip out answer new.chip
   pub worn : (s : ℕ) → new.worn s ≡ (old.worn s || wears (done_of old.chip out (length answer)) s)
 
+-- The effect of a transaction, which sends `out` and makes `answer` of the bytes `before` of the reply. `nature` and
+-- `records` hold on every bus. If the bus is well-behaved and takes a transaction of this length, it stopped (`stops`)
+-- and left the reply as it was (`unread`), or the chip made one step (`carries`).
+pub record Transfers (out before answer : List ℕ) (outcome : Result Unit Stopped) (old new : BusState) : Type 0 where
+  pub nature : SameNature old new
+  pub stops : IsHonestFor out (length before) old → OnErr outcome (Stops out old new)
+  pub unread : IsHonestFor out (length before) old → OnErr outcome (answer ≡ before)
+  pub carries : IsHonestFor out (length before) old → OnOk outcome (Carries out answer old new)
+  pub records : Records out answer outcome old new
+
 -- The effect of `allow`. The allowance `n` is recorded. On a well-behaved bus, `n` transactions are left; for any other
 -- bus the definition doesn't say how many are left. Nothing else changed.
 pub record Allows (n : ℕ) (old new : BusState) : Type 0 where

@@ -1,7 +1,7 @@
 //! The traits of a bus to a chip.
-ghost use Rattle.std.specs.Prelude.{◌≡◌, true, false, length, OnOk, OnErr};
+ghost use Rattle.std.specs.Prelude.{◌≡◌, true, false};
 ghost use Rattle.nor_model.specs.Chip.{IsChip};
-ghost use Rattle.nor_model.specs.Bus.{BusState, IsHonestFor, SameNature, Stops, Carries, Records, Allows};
+ghost use Rattle.nor_model.specs.Bus.{BusState, Transfers, Allows};
 
 use std::fmt;
 
@@ -24,30 +24,23 @@ impl std::error::Error for Stopped {}
 /// Contracts see a bus as a `BusState`. A *well-behaved* bus (`honest`) stops if and only if it has no transaction
 /// left; otherwise the chip makes one step. On an *unlimited* well-behaved bus this holds for every transaction. On any
 /// other well-behaved bus it holds for transactions that send at most 260 bytes (a page program) and read at most 4,096
-/// (a sector). For a longer transaction on such a bus, `transfer` promises only its clauses `nature` and `records`.
+/// (a sector). For a longer transaction on such a bus, `transfer` promises only `nature` and `records` of `Transfers`.
 ///
 /// If a *steady* well-behaved bus stops, it sends no byte of the transaction and keeps the chip's power. Any other
 /// well-behaved bus that stops may have sent the first bytes of the transaction: none, some or all. Such a bus may also
 /// have read and lost bytes of the reply, and the chip may have lost its power.
 ///
-/// A faulty bus, which isn't well-behaved, may do anything that the clauses `nature` and `records` allow, because these
-/// clauses hold for every bus. `nature` says that a transaction doesn't change whether a bus is well-behaved, steady or
-/// unlimited; `allow` doesn't change this either. `records` says that the bus records each transaction with its reply,
-/// and in `polled_ready` whether the last poll that received a reply byte showed that the chip is ready.
+/// A faulty bus, which isn't well-behaved, may do anything that `nature` and `records` allow, because these two hold
+/// for every bus. `nature` says that a transaction doesn't change whether a bus is well-behaved, steady or unlimited;
+/// `allow` doesn't change this either. `records` says that the bus records each transaction with its reply, and in
+/// `polled_ready` whether the last poll that received a reply byte showed that the chip is ready.
 pub trait Bus {
     ghost state: { Self → BusState };
 
     /// Sends `out`, then reads `reply`. Returns `Stopped` if the transaction failed. If the bus is well-behaved and
     /// takes a transaction of this length, `reply` is then as it was before the call.
     fn transfer(&mut self, out: &[u8], reply: &mut [u8]) -> Result<(), Stopped>
-        ensures nature { SameNature (state self.old) (state self.new) }
-        ensures stops { IsHonestFor out.now (length reply.old) (state self.old)
-            → OnErr result (Stops out.now (state self.old) (state self.new)) }
-        ensures unread { IsHonestFor out.now (length reply.old) (state self.old)
-            → OnErr result (reply.new ≡ reply.old) }
-        ensures carries { IsHonestFor out.now (length reply.old) (state self.old)
-            → OnOk result (Carries out.now reply.new (state self.old) (state self.new)) }
-        ensures records { Records out.now reply.new result (state self.old) (state self.new) };
+        ensures { Transfers out.now reply.old reply.new result (state self.old) (state self.new) };
 
     /// Returns whether the chip may be of a further type: a type that only programs for real chips know. A bus to a
     /// real chip returns true, and a bus around another bus what that one returns. A well-behaved bus returns false,

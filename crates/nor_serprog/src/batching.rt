@@ -1,7 +1,7 @@
 //! A bus to the chip at a serial programmer that needs few round trips.
 ghost use Rattle.std.specs.Prelude.{◌≡◌, ◌<◌, ◌⊎◌, [], true, false, length, OnOk, OnErr, IsSome, option_copied};
 ghost use Rattle.std.proofs.lemmas.Bool.{false≢true};
-ghost use Rattle.nor_model.specs.Bus.{IsHonestFor, SameNature, Records, Stops, Carries};
+ghost use Rattle.nor_model.specs.Bus.{Transfers};
 ghost use Rattle.nor_model.specs.Command.{begins_change};
 
 use crate::batch::Batch;
@@ -137,14 +137,7 @@ impl<P: Port + Drop> Bus for BatchingBus<P> {
     ghost reaches = { λ batching honest. absurd (false≢true honest) };
 
     fn transfer(&mut self, out: &[u8], reply: &mut [u8]) -> Result<(), Stopped>
-        ensures nature { SameNature (serprog_state self.old) (serprog_state self.new) }
-        ensures stops { IsHonestFor out.now (length reply.old) (serprog_state self.old)
-            → OnErr result (Stops out.now (serprog_state self.old) (serprog_state self.new)) }
-        ensures unread { IsHonestFor out.now (length reply.old) (serprog_state self.old)
-            → OnErr result (reply.new ≡ reply.old) }
-        ensures carries { IsHonestFor out.now (length reply.old) (serprog_state self.old)
-            → OnOk result (Carries out.now reply.new (serprog_state self.old) (serprog_state self.new)) }
-        ensures records { Records out.now reply.new result (serprog_state self.old) (serprog_state self.new) }
+        ensures law { Transfers out.now reply.old reply.new result (serprog_state self.old) (serprog_state self.new) }
         ensures silent { is_ready self.old ≡ false → link_of self.new ≡ link_of self.old }
         ensures was_ready { OnOk result (is_ready self.old ≡ true) }
         ensures ok { OnOk result (is_ready self.new ≡ true) }

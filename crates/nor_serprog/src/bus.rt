@@ -1,6 +1,6 @@
 //! A bus to the chip at a serial programmer.
 ghost use Rattle.std.specs.Prelude.{◌≡◌, ◌≤◌, ◌⊎◌, true, false, length, OnOk, OnErr, [], IsSome, option_copied};
-ghost use Rattle.nor_model.specs.Bus.{IsHonestFor, SameNature, Records, Stops, Carries};
+ghost use Rattle.nor_model.specs.Bus.{Carries, Transfers};
 ghost use Rattle.nor_serprog.specs.Device.{IsIdle, Exchanged, Interrupted};
 ghost use Rattle.nor_serprog.specs.Link.{port_of, is_in_step, IsSettled};
 
@@ -97,14 +97,7 @@ impl<P: Port + Drop> Bus for SerprogBus<P> {
     ghost reaches = { λ bus honest. P.reaches bus.link.port honest };
 
     fn transfer(&mut self, out: &[u8], reply: &mut [u8]) -> Result<(), Stopped>
-        ensures nature { SameNature (serprog_state self.old) (serprog_state self.new) }
-        ensures stops { IsHonestFor out.now (length reply.old) (serprog_state self.old)
-            → OnErr result (Stops out.now (serprog_state self.old) (serprog_state self.new)) }
-        ensures unread { IsHonestFor out.now (length reply.old) (serprog_state self.old)
-            → OnErr result (reply.new ≡ reply.old) }
-        ensures carries { IsHonestFor out.now (length reply.old) (serprog_state self.old)
-            → OnOk result (Carries out.now reply.new (serprog_state self.old) (serprog_state self.new)) }
-        ensures records { Records out.now reply.new result (serprog_state self.old) (serprog_state self.new) }
+        ensures law { Transfers out.now reply.old reply.new result (serprog_state self.old) (serprog_state self.new) }
         ensures silent { is_ready self.old ≡ false → link_of self.new ≡ link_of self.old }
         ensures was_ready { OnOk result (is_ready self.old ≡ true) }
         ensures ok { OnOk result (is_ready self.new ≡ true) }
