@@ -110,30 +110,31 @@ was_read_twice opcode byte (d ∷ c ∷ b ∷ a ∷ earlier) =
     (has_read_id d && has_read opcode byte c && has_read_id b && has_read opcode byte a)
     || was_read_twice opcode byte (c ∷ b ∷ a ∷ earlier)
 
--- Holds if a transaction that sends `out` is a status write that keeps all non-volatile bits except SRP0 (bit 7 of
--- status 1). Both status registers were read twice with equal replies before, and the ID was read after each read
--- (`was_read_twice`).
-pub record IsOnlyLock (out : List ℕ) (history : List Exchange) : Type 0 where
-  -- the two bytes that the status write sends
-  pub one : ℕ
-  pub two : ℕ
-  pub is : out ≡ 0x01 ∷ one ∷ two ∷ []
-  -- the values of the status registers, as they were read
-  pub one_read : ℕ
-  pub two_read : ℕ
-  pub first : was_read_twice 0x05 one_read history ≡ true
-  pub last : was_read_twice 0x35 two_read history ≡ true
-  -- bits 2 to 6 of status 1, the protection bits, are as they were read
+-- Holds if a status write of `one` and `two` keeps all non-volatile bits that were read, except SRP0 (bit 7 of
+-- status 1).
+pub record ChangesOnlySrp0 (one two one_read two_read : ℕ) : Type 0 where
+  -- bits 2 to 6 of status 1, the protection bits
   pub protection : one % 128 / 4 ≡ one_read % 128 / 4
-  -- bits 0 to 6 of status 2 are as they were read
+  -- bits 0 to 6 of status 2
   pub whole : two % 128 ≡ two_read % 128
-  -- BUSY and WEL (bits 0 and 1 of status 1) are clear, and so is SUS (bit 7 of status 2)
-  pub idle : one % 4 ≡ 0
-  pub awake : two / 128 ≡ 0
 
--- Holds if a transaction that sends `out` is a status write that keeps the bits outside the protection bits. Both
--- status registers were read twice with equal replies before, and the ID was read after each read (`was_read_twice`).
-pub record IsStatusKept (out : List ℕ) (history : List Exchange) : Type 0 where
+-- Holds if a status write of `one` and `two` keeps the bits outside the protection bits as they were read.
+pub record ChangesOnlyProtection (one two one_read two_read : ℕ) : Type 0 where
+  -- SRP0 (bit 7 of status 1)
+  pub srp0 : one / 128 ≡ one_read / 128
+  -- the one-time bits LB1, LB2 and LB3 (bits 3 to 5 of status 2)
+  pub locks : two / 8 % 8 ≡ two_read / 8 % 8
+  -- SRP1, QE and the reserved bit (bits 0 to 2 of status 2)
+  pub low : two % 8 ≡ two_read % 8
+
+-- Holds if a status write changes only what it may: with `locks` only SRP0, otherwise only the protection bits.
+abbrev pub ChangesAsAllowed : (locks : Bool) → (one two one_read two_read : ℕ) → Type 0
+ChangesAsAllowed true one two one_read two_read = ChangesOnlySrp0 one two one_read two_read
+ChangesAsAllowed false one two one_read two_read = ChangesOnlyProtection one two one_read two_read
+
+-- Holds if a transaction that sends `out` is a status write that a `CheckedStatus` may pass on. Both status registers
+-- were read twice with equal replies before, and the ID was read after each read (`was_read_twice`).
+pub record IsStatusAllowed (locks : Bool) (out : List ℕ) (history : List Exchange) : Type 0 where
   -- the two bytes that the status write sends
   pub one : ℕ
   pub two : ℕ
@@ -143,18 +144,7 @@ pub record IsStatusKept (out : List ℕ) (history : List Exchange) : Type 0 wher
   pub two_read : ℕ
   pub first : was_read_twice 0x05 one_read history ≡ true
   pub last : was_read_twice 0x35 two_read history ≡ true
-  -- SRP0 (bit 7 of status 1) is as it was read
-  pub srp0 : one / 128 ≡ one_read / 128
-  -- the one-time bits LB1, LB2 and LB3 (bits 3 to 5 of status 2) are as they were read
-  pub locks : two / 8 % 8 ≡ two_read / 8 % 8
-  -- SRP1, QE and the reserved bit (bits 0 to 2 of status 2) are as they were read
-  pub low : two % 8 ≡ two_read % 8
+  pub changes : ChangesAsAllowed locks one two one_read two_read
   -- BUSY and WEL (bits 0 and 1 of status 1) are clear, and so is SUS (bit 7 of status 2)
   pub idle : one % 4 ≡ 0
   pub awake : two / 128 ≡ 0
-
--- Holds if a transaction that sends `out` is a status write that a `CheckedStatus` may pass on. With `locks` it may
--- change only SRP0 (`IsOnlyLock`), otherwise only the protection bits (`IsStatusKept`).
-abbrev pub IsStatusAllowed : (locks : Bool) → (out : List ℕ) → List Exchange → Type 0
-IsStatusAllowed true out history = IsOnlyLock out history
-IsStatusAllowed false out history = IsStatusKept out history
