@@ -28,8 +28,8 @@ pub record PollsUntilReady (old new : List Exchange) (waited : Waited) : Type 0 
   pub ready : waited.status1 % 2 ≡ 0
   pub is : new ≡ poll_of waited.status1 ∷ (map poll_of busy ++ old)
 
--- Holds if `new` has exactly `sent` transactions more than `old`, and at most `others` of these aren't polls that showed
--- BUSY. (`KeepsNature` says that `new` continues `old`.)
+-- Holds if `new` has exactly `sent` transactions more than `old`, and at most `others` of these aren't polls that
+-- showed BUSY. (`KeepsNature` says that `new` continues `old`.)
 pub record AddsTransactions (sent others : ℕ) (old new : List Exchange) : Type 0 where
   pub all : length new ≡ length old + sent
   pub few_others : sent + busy_polls old ≤ others + busy_polls new

@@ -40,9 +40,9 @@ pub record HasWaited (old new : BusState) (waited : Waited) : Type 0 where
   pub polls : waited.polls ≡ old.chip.busy + 1
   pub count : old.left ≡ new.left + waited.polls
 
--- Holds if a wait succeeded. On every bus the wait made from 1 to 65,536 polls, and sent nothing else. It ended with the
--- first poll that showed that the chip is ready (`PollsUntilReady`), and this poll received `status1`. For each test
--- that is false for every poll, the last reply to a transaction that passes the test is as before
+-- Holds if a wait succeeded. On every bus the wait made from 1 to 65,536 polls, and sent nothing else. It ended with
+-- the first poll that showed that the chip is ready (`PollsUntilReady`), and this poll received `status1`. For each
+-- test that is false for every poll, the last reply to a transaction that passes the test is as before
 -- (`keeps_other_replies`). On a well-behaved bus, `HasWaited` states the effect of the wait.
 pub record Waits (old new : BusState) (waited : Waited) : Type 0 where
   pub history : PollsUntilReady old.history new.history waited
