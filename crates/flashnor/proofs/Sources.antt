@@ -1,15 +1,13 @@
 -- Reading the files of a task before the call to the engine: which faults may occur, and that no file changes.
-use Rattle.std.proofs.Common.{ap, arith, inl, inr}
+use Rattle.std.proofs.Common.{ap, inl, inr}
 use Rattle.nor_files.specs.Files.{AreUntouched, FilesState, KeepsFile, Name, View}
 use Rattle.nor_args.specs.declared.job.Task.{Task}
 use Rattle.nor_args.specs.declared.job.Task.TheVariants as task
 use Rattle.nor_args.specs.declared.job.Wanted.{Wanted}
 use Rattle.nor_args.specs.declared.job.Wanted.TheVariants as wanted
-use Rattle.nor_args.specs.Text.{Text}
 use Rattle.nor_jobs.specs.Sources.{FailsImage, FailsSources}
-use Rattle.nor_console.specs.Files.{IsSharingFault}
 use Rattle.nor_console.specs.declared.messages.Fault.{Fault}
-use Rattle.flashnor.specs.Run.{FailsTask, FailsToReadImage, FailsToRestore}
+use Rattle.flashnor.specs.Run.{FailsTask, FailsToReadImage}
 
 image_fails : (view : View) (what : Wanted) (fault : Fault) → FailsImage view what fault
     → FailsToReadImage view what fault

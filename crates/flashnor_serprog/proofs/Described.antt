@@ -1,6 +1,6 @@
 -- If `n` of the first `i` saved sectors of a journal are blank (all FFh), then `n + 1` of the first `i + 1` are blank
 -- if the saved sector with index `i` is blank (`one_more`), and `n` if it isn't (`no_more`).
-use Rattle.std.proofs.Common.{◌≡◌, ◌+◌, ◌<◌, ◌∙◌, ℕ, List, Some, ap, arith, false, length, sym, take, true}
+use Rattle.std.proofs.Common.{◌≡◌, ◌+◌, ◌<◌, ◌∙◌, ℕ, List, Some, ap, false, length, sym, take, true}
 use Rattle.std.specs.Prelude.{slice_get}
 use Rattle.std.specs.List.{count_by}
 use Rattle.std.proofs.lemmas.List.Sums.{count_by_more_no, count_by_more_yes}

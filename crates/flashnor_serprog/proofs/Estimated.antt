@@ -1,5 +1,5 @@
 -- Examples of the numbers of the progress line, calculated by hand.
-use Rattle.std.proofs.Common.{◌≡◌, ◌*◌, ◌^◌, ◌-◌, None, Some, refl}
+use Rattle.std.proofs.Common.{◌≡◌, ◌^◌, ◌-◌, None, Some, refl}
 use Rattle.flashnor_serprog.specs.Estimates.{change_time, minutes_in, percent_of, seconds_in, tenths_of, time_for}
 
 -- The percentages of 0, 15, 16 and 17 of 16, of 0 of 0, of all but one sector of 16 MiB, and of the greatest numbers.

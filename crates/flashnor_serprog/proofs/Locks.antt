@@ -1,13 +1,13 @@
 -- Lemmas on a change of SRP0: the last replies after a read of the status registers, and the limits of a status write.
-use Rattle.std.proofs.Common.{◌≡◌, ◌∙◌, ◌<◌, ◌⊎◌, ◌+◌, ◌*◌, ◌/◌, ◌%◌, ℕ, Bool, true, false, List, [], ◌∷◌, ap, arith, inl, inr, refl, sym}
-use Rattle.std.specs.Prelude.{◌==◌, ◌&&◌, slice_index}
+use Rattle.std.proofs.Common.{◌≡◌, ◌∙◌, ◌<◌, ◌+◌, ◌*◌, ◌/◌, ◌%◌, ℕ, Bool, true, false, List, [], ◌∷◌, ap, arith, inl, inr, refl, sym}
+use Rattle.std.specs.Prelude.{◌==◌, slice_index}
 use mathlib.Core.Bool.{beq}
 use Rattle.std.proofs.lemmas.Bool.{eqb-true, false≢true}
 use Rattle.nor_model.specs.declared.status.Status.{Status}
 use Rattle.nor_model.specs.Bus.{BusState}
 use Rattle.nor_model.specs.Chip.{kept_in}
 use Rattle.nor_model.specs.Guard.{code_of}
-use Rattle.nor_model.specs.History.{begins_with, last_reply}
+use Rattle.nor_model.specs.History.{begins_with}
 use Rattle.nor_model.specs.PolledReady.{is_poll}
 use Rattle.nor_model.specs.Status.{bytes_of}
 use Rattle.nor_driver.specs.Limits.{Limits, SendsWithin, writing}

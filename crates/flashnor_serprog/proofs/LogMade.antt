@@ -1,7 +1,7 @@
 -- The files after the log of a run was created, compared with those before the files of the job were read.
-use Rattle.std.proofs.Common.{◌≡◌, ◌∙◌, None, Option, Some, ap}
+use Rattle.std.proofs.Common.{◌∙◌, None, Option, Some, ap}
 use Rattle.std.specs.Borrow.{Bor}
-use Rattle.nor_files.specs.Files.{AreUntouched, FilesState, KeepsFile, Name, Nature, View}
+use Rattle.nor_files.specs.Files.{AreUntouched, FilesState, KeepsFile, Name, View}
 use Rattle.nor_args.specs.Text.{Text}
 use Rattle.flashnor_serprog.specs.Logging.{CreatesLog, StayButLog}
 

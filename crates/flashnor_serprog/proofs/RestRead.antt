@@ -19,7 +19,7 @@ use Rattle.nor_driver.proofs.RestsInTurn.{HasOnlyRead, has_only_read-none, has_o
 use Rattle.nor_journal.specs.Saved.{IsWholeSector, is_saved}
 use Rattle.nor_journal.specs.Text.{Content as Journal}
 use Rattle.nor_plan.proofs.Parts.{HasPart, put_back}
-use Rattle.flashnor_serprog.specs.Rest.{AreUnsaved, HasReadRest, HasStoppedInRest, IsRestRead}
+use Rattle.flashnor_serprog.specs.Rest.{HasReadRest, HasStoppedInRest, IsRestRead}
 
 -- A transaction that names the address `at` doesn't name another address `other`.
 names_other : (opcode at other : ℕ) → at ≢ other → (out : List ℕ) → names opcode at out ≡ true

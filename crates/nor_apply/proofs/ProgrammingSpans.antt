@@ -1,7 +1,7 @@
 -- Lemmas about the page programs of a sector. There is one for each span: the bytes of a page from the first to the
 -- last one that differs from its target. The lemmas state the state between two programs, the number of programs, and
 -- each exit.
-use Rattle.std.proofs.Common.{◌≡◌, ◌<◌, ◌≤◌, ◌+◌, ◌-◌, ◌*◌, ◌/◌, ◌⊎◌, inl, inr, ◌∙◌, ℕ, Bool, true, List, [], ◌∷◌, ◌++◌, length, take, drop, slice_index, refl, ap, sym, arith, length-take, length-drop, ◌||◌, zero, suc}
+use Rattle.std.proofs.Common.{◌≡◌, ◌<◌, ◌≤◌, ◌+◌, ◌-◌, ◌*◌, ◌/◌, ◌⊎◌, inl, inr, ◌∙◌, ℕ, Bool, true, List, [], ◌∷◌, ◌++◌, length, take, drop, slice_index, refl, ap, arith, length-take, length-drop, ◌||◌, zero, suc}
 use Rattle.std.specs.Prelude.{◌&&◌, ◌||◌, nat_le, nat_lt, bit_and, if◌then◌else◌, ◌==◌, not, min, count_by}
 use Rattle.std.specs.Int.Bits.{and_self}
 use Rattle.std.proofs.lemmas.Nat.{and_comm}
@@ -9,7 +9,7 @@ use Rattle.std.proofs.lemmas.List.{get_or-take, get_or-drop}
 use Rattle.std.proofs.lemmas.List.Folds.{list_any-append}
 use Rattle.std.proofs.lemmas.Bool.Decides.{nat_tests}
 use Rattle.std.proofs.lemmas.Bool.{cases_Bool, and_parts, leb-true, ltb-true}
-use Rattle.std.proofs.Math.Bool.{or-false, and-or_distrib_right, or_assoc}
+use Rattle.std.proofs.Math.Bool.{or-false, and-or_distrib_right}
 use Rattle.nor_model.specs.Bus.{BusState}
 use Rattle.nor_driver.specs.Programs.{CanProgram, MayProgram, HasProgrammed, programmed, is_in_page, is_sector_of, page_program}
 use Rattle.nor_driver.specs.Reads.{IsSectorOf}

@@ -18,7 +18,7 @@ use Rattle.nor_geometry.proofs.Below.{count_below-zero, count_below-more}
 use Rattle.nor_plan.specs.Bytes.{AllAgree, IsFirstDifference}
 use Rattle.nor_driver.proofs.RestsInTurn.{has_only_read-none, has_only_read-one, has_only_read-then, open_later, same_bytes}
 use Rattle.nor_read.specs.declared.verifying.Compared.{Compared}
-use Rattle.nor_driver.specs.ReadBack.{sector_read, bytes_read, IsSectorRead, AddsSectorReads}
+use Rattle.nor_driver.specs.ReadBack.{bytes_read, IsSectorRead, AddsSectorReads}
 use Rattle.nor_driver.proofs.ReadBack.{adds_none, read_other, read_here}
 use Rattle.nor_read.specs.Verifying.{AgreeIn, IsFirstOther, FindsFirst}
 use Rattle.nor_read.specs.Verifying.{ReadsDifference, ComparesReply, ComparesPart, ComparesBelow}

@@ -1,5 +1,5 @@
 -- Lemmas about what was read back. They lead from the check of the changes to the whole session or restore.
-use Rattle.std.proofs.Common.{◌≡◌, ◌/◌, ◌∙◌, ℕ, Bool, true, List, slice_index, Result, Ok, Err, refl, ap, sym, subst, true≢false}
+use Rattle.std.proofs.Common.{◌≡◌, ◌/◌, ◌∙◌, ℕ, Bool, true, List, slice_index, Result, Ok, Err, refl, sym, subst, true≢false}
 use mathlib.Core.Path.{fun_ext}
 use Rattle.nor_model.specs.Exchange.{Exchange}
 use Rattle.nor_model.specs.History.{Continues}

@@ -8,7 +8,7 @@ use Rattle.nor_model.proofs.Sizes.{is_chip_size-in_blocks}
 use Rattle.nor_model.specs.Bus.{BusState}
 use Rattle.nor_driver.specs.OnlyReads.{IsOpen}
 use Rattle.nor_driver.specs.ReadBack.{bytes_read, HaveBeenRead}
-use Rattle.nor_driver.proofs.ReadBack.{none_read, fewer_read, more_read}
+use Rattle.nor_driver.proofs.ReadBack.{fewer_read, more_read}
 use Rattle.nor_scan.proofs.Replied.{read_others, read_whole}
 use Rattle.nor_journal.specs.Text.{SavedSector, Content, IsContent, least_after}
 use Rattle.nor_journal.specs.Saved.{saved_in, is_saved, saved_byte}

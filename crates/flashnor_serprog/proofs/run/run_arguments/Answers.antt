@@ -1,4 +1,4 @@
-use Rattle.std.proofs.Common.{inl, inr}
+use Rattle.std.proofs.Common.{inr}
 use Rattle.flashnor_serprog.proofs.Ran.{is_used, job_ran}
 use Rattle.flashnor_serprog.proofs.run.run_arguments.Goals as goal
 
