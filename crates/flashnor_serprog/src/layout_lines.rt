@@ -2,7 +2,7 @@
 
 use crate::region_files::regions_of;
 use nor_args::{LayoutForm, Regions, Task};
-use nor_console::Escaped;
+use nor_console::{Escaped, Fault};
 use nor_layout::{Layout, RegionFault};
 use nor_maps::MapFault;
 use std::fmt;
@@ -73,7 +73,7 @@ impl fmt::Display for MapLines {
                 writeln!(f, "error: the {table} {place} has {flaw}")?
             }
         }
-        write!(f, "Map fault {}.", fault.number())
+        write!(f, "{}", Fault::Map(fault))
     }
 }
 

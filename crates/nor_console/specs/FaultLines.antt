@@ -10,7 +10,7 @@ use Rattle.nor_args.specs.Faults.{usage_fault_text as usage_text}
 use Rattle.nor_args.specs.Text.{Text}
 use Rattle.nor_console.specs.Escapes.{escaped}
 use Rattle.nor_console.specs.Messages.{file_number}
-use Rattle.nor_console.specs.ReasonLines.{journal_line, layout_line, map_line, reason_line}
+use Rattle.nor_console.specs.ReasonLines.{journal_line, layout_line, reason_line}
 use Rattle.nor_console.specs.declared.messages.Fault.{Fault}
 use Rattle.nor_console.specs.declared.messages.Fault.TheVariants as end
 use Rattle.nor_console.specs.declared.messages.FileFault.{FileFault}
@@ -34,8 +34,7 @@ text_of end.NoText = Some (codes "error: invalid UTF-8 was detected in one or mo
 text_of (end.Layout fault) =
     Some (concat (layout_line fault ∷ codes "Layout fault " ∷ decimal (layout_number fault)
     ∷ place (line_of_fault fault) ∷ codes "." ∷ []))
-text_of (end.Map fault) =
-    Some (concat (map_line fault ∷ codes "Map fault " ∷ decimal (map_fault_number fault) ∷ codes "." ∷ []))
+text_of (end.Map fault) = Some (concat (codes "Map fault " ∷ decimal (map_fault_number fault) ∷ codes "." ∷ []))
 text_of (end.NoRegion name) =
     Some (concat (codes "error: the layout has no region '" ∷ escaped name.now ∷ codes "'\nLayout fault 8." ∷ []))
 text_of (end.File fault name) = Some (file_text fault name.now)

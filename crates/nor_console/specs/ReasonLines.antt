@@ -1,15 +1,11 @@
 -- The lines that say what is wrong, byte by byte. Each is printed before the numbered line of a fault.
-use Rattle.std.specs.Prelude.{ℕ, List, [], ◌∷◌, codes, decimal}
+use Rattle.std.specs.Prelude.{ℕ, List, [], ◌∷◌, codes}
 use Rattle.std.specs.List.{concat}
 use Rattle.nor_journal.specs.declared.fault.JournalFault.TheVariants as journal
 use Rattle.nor_layout.specs.declared.fault.LayoutFault.{LayoutFault}
 use Rattle.nor_layout.specs.declared.fault.LayoutFault.TheVariants as layout
 use Rattle.nor_layout.specs.declared.fault.LineFault.{LineFault}
 use Rattle.nor_layout.specs.declared.fault.LineFault.TheVariants as in_line
-use Rattle.nor_layout.specs.declared.layout.adding.RegionFault.{RegionFault}
-use Rattle.nor_layout.specs.declared.layout.adding.RegionFault.TheVariants as region
-use Rattle.nor_maps.specs.declared.fault.MapFault.{MapFault}
-use Rattle.nor_maps.specs.declared.fault.MapFault.TheVariants as map
 use Rattle.nor_request.specs.declared.refusal.Refusal.{Refusal}
 use Rattle.nor_request.specs.declared.refusal.Refusal.TheVariants.{BadJournal}
 use Rattle.nor_args.specs.Reasons.{option_text}
@@ -69,21 +65,6 @@ layout_line (layout.InLine line fault) = concat (codes "error: " ∷ line_fault_
 layout_line layout.TooMany = codes "error: the layout has more than 64 regions\n"
 layout_line layout.Memory = []
 layout_line layout.NoRegion = codes "error: a name of -i is no region\n"
-
--- the line that says why a layout can't have a region of an image, or no bytes if memory ran out
-abbrev pub region_fault_text : RegionFault → List ℕ
-region_fault_text region.Name = codes "error: the image has a region without a valid name\n"
-region_fault_text region.Twice = codes "error: the image has two regions with one name\n"
-region_fault_text region.TooMany = codes "error: the image has more than 64 regions\n"
-region_fault_text region.Memory = []
-
--- the line that says what is wrong with an FMAP or a flash descriptor, or no bytes if memory ran out
-abbrev pub map_line : MapFault → List ℕ
-map_line map.Missing = codes "error: the image has no FMAP, or does not begin with a flash descriptor\n"
-map_line map.Short = codes "error: the image or its table of regions is cut off\n"
-map_line (map.Outside number) =
-    concat (codes "error: region " ∷ decimal number ∷ codes " of the image does not lie in the image\n" ∷ [])
-map_line (map.Region number fault) = region_fault_text fault
 
 -- the line that says what may be wrong with an invalid journal (never sealed, cut off, damaged, or no journal), or no
 -- bytes for any other error

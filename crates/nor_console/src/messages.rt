@@ -3,7 +3,7 @@ ghost use Rattle.std.specs.Prelude.{◌≡◌, Some};
 ghost use Rattle.nor_console.specs.Messages.{IsReportedAs};
 
 use crate::escapes::Escaped;
-use crate::reasons::{JournalLine, LayoutLine, MapLine, ReasonLine};
+use crate::reasons::{JournalLine, LayoutLine, ReasonLine};
 use nor_args::{Reason, UsageFault};
 use nor_layout::LayoutFault;
 use nor_maps::MapFault;
@@ -56,7 +56,8 @@ pub enum Fault<'a> {
     NoText,
     /// A layout that can't be used.
     Layout(LayoutFault),
-    /// An FMAP or a flash descriptor that can't be used, or that is missing in the image.
+    /// An FMAP or a flash descriptor that can't be used, or that is missing in the image. The text is only the numbered
+    /// line: `flashnor-serprog` prints what is wrong before it, and `flashnor` reads neither.
     Map(MapFault),
     /// Layout fault 8: the first of the given names that is not the name of a region.
     NoRegion {
@@ -137,10 +138,7 @@ impl fmt::Display for Fault<'_> {
                 let (number, place) = (fault.number(), Place(fault.line()));
                 write!(f, "{}Layout fault {number}{place}.", LayoutLine(*fault))
             }
-            Fault::Map(fault) => {
-                let number = fault.number();
-                write!(f, "{}Map fault {number}.", MapLine(*fault))
-            }
+            Fault::Map(fault) => write!(f, "Map fault {}.", fault.number()),
             Fault::NoRegion { name } => {
                 let name = Escaped(name);
                 write!(

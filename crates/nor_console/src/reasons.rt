@@ -1,13 +1,12 @@
 //! The lines that say what is wrong, such as `error: the option -p is missing`. Each of these lines is printed before
 //! the numbered line of its fault.
 ghost use Rattle.std.specs.Prelude.{◌≡◌, Some};
-ghost use Rattle.nor_console.specs.ReasonLines.{flaw_text, line_fault_text, region_fault_text};
+ghost use Rattle.nor_console.specs.ReasonLines.{flaw_text, line_fault_text};
 
 use crate::escapes::Escaped;
 use nor_args::{Flaw, Reason};
 use nor_journal::JournalFault;
-use nor_layout::{LayoutFault, LineFault, RegionFault};
-use nor_maps::MapFault;
+use nor_layout::{LayoutFault, LineFault};
 use nor_session::Refusal;
 use std::fmt;
 
@@ -113,46 +112,6 @@ fn text_of_line(fault: LineFault) -> &'static str
         LineFault::Backwards => "the end is below the start",
         LineFault::Name => "the name is not 1 to 32 visible ASCII characters other than , and :",
         LineFault::Twice => "an earlier line has this name",
-    }
-}
-
-/// The line that says what is wrong with an FMAP or a flash descriptor, or no text if memory ran out. In this line the
-/// entries of a flash descriptor are numbered from 0, and the areas of an FMAP from 1.
-#[derive(Drop)]
-pub struct MapLine(pub MapFault);
-
-impl fmt::Display for MapLine {
-    ghost use Rattle.nor_console.specs.ReasonLines.{map_line};
-
-    ghost output = { λ shown. Some (map_line shown.0) };
-
-    fn fmt<W: fmt::Write>(&self, f: &mut fmt::Formatter<W>) -> fmt::Result {
-        match self.0 {
-            MapFault::Missing => {
-                f.write_str(
-                    "error: the image has no FMAP, or does not begin with a flash descriptor\n",
-                )
-            }
-            MapFault::Short => f.write_str("error: the image or its table of regions is cut off\n"),
-            MapFault::Outside { record } => {
-                writeln!(
-                    f,
-                    "error: region {record} of the image does not lie in the image"
-                )
-            }
-            MapFault::Region { fault, .. } => f.write_str(text_of_region(fault)),
-        }
-    }
-}
-
-fn text_of_region(fault: RegionFault) -> &'static str
-    ensures { result.now ≡ region_fault_text fault }
-{
-    match fault {
-        RegionFault::Name => "error: the image has a region without a valid name\n",
-        RegionFault::Twice => "error: the image has two regions with one name\n",
-        RegionFault::TooMany => "error: the image has more than 64 regions\n",
-        RegionFault::Memory => "",
     }
 }
 
