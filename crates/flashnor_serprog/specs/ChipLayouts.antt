@@ -69,8 +69,8 @@ pub record HasNoLayout (named : Option ChipName) (layout : LayoutForm) (old new 
 
 -- Holds if reading the bytes of a layout from the chip may fail with this fault: in the identification, or in the read
 -- that follows it.
-abbrev pub FailsToReadLayout : Option ChipName → LayoutForm → (old new : BusState) → Fault → Type 0
-FailsToReadLayout named layout old new fault = FailsToFind named old new fault ⊎ HasNoLayout named layout old new fault
+abbrev pub FailsToReadShown : Option ChipName → LayoutForm → (old new : BusState) → Fault → Type 0
+FailsToReadShown named layout old new fault = FailsToFind named old new fault ⊎ HasNoLayout named layout old new fault
 
 -- Holds if `bytes` were read from the chip for a layout of this form, over a bus of their own that belongs to this
 -- device. `start` is the bus before its first transaction, and `last` is its state at the end. The bus expected no

@@ -1,7 +1,7 @@
 //! A layout on the chip itself (`--fmap`, `--ifd`): reads the bytes that contain it, before the job.
 ghost use Rattle.std.specs.Prelude.{◌≡◌, IfErr, IfOk, option_map};
 ghost use Rattle.nor_journal.specs.MemVault.{held_by};
-ghost use Rattle.flashnor_serprog.specs.ChipLayouts.{AreReadFor, FailsToReadLayout, HasReadLayout, IsReadFirst};
+ghost use Rattle.flashnor_serprog.specs.ChipLayouts.{AreReadFor, FailsToReadShown, HasReadLayout, IsReadFirst};
 ghost use Rattle.flashnor_serprog.specs.ChipLayouts.{IsShown, form_on_chip};
 ghost use Rattle.flashnor_serprog.specs.Regions.{regions_of};
 
@@ -128,7 +128,7 @@ fn read_layout<'a, B: Progress>(
 ) -> Result<MemVault, Fault<'a>>
     ensures ok { IfOk result (λ chip.
         HasReadLayout named form (B.state bus.old) (B.state bus.new) (held_by chip).bytes) }
-    ensures err { IfErr result (FailsToReadLayout named form (B.state bus.old) (B.state bus.new)) }
+    ensures err { IfErr result (FailsToReadShown named form (B.state bus.old) (B.state bus.new)) }
 {
     let found = find_first(bus, named)?;
     let ranges = ranges_for(form);
