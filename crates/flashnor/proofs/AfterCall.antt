@@ -78,7 +78,7 @@ layout_before : (trace : Option (Bor Text)) (old amid : View) (file : Option (Bo
     → IsLayoutText old None file text
 layout_before trace old amid None text two but is = is
 layout_before trace old amid (Some name) text two but is =
-    reads_before trace name.now 16777217 _ old amid (not_that old.nature trace name two) but is
+    (reads_before trace name.now 16777217 _ old amid (not_that old.nature trace name two) but is.0, is.1)
 
 pub ranges_before : (trace : Option (Bor Text)) (old amid : View) (regions : Option Regions)
     (ranges : Option (List Span)) → AreTwo old.nature trace (layout_of regions) → IsViewBut trace old amid
@@ -88,7 +88,6 @@ ranges_before trace old amid (Some regions) None two but are = absurd are
 ranges_before trace old amid (Some regions) (Some ranges) two but are = record {
   text = are.text;
   read = layout_before trace old amid regions.layout are.text two but are.read;
-  whole = are.whole;
   included = are.included;
 }
 

@@ -1,12 +1,12 @@
 -- Lemmas about the fault if no addresses are included: the layout's text has a fault, or a name is unknown.
-use Rattle.std.proofs.Common.{◌≡◌, ◌≤◌, ℕ, ◌+◌, Bool, true, List, [], ◌∷◌, None, Option, Some, Result, Ok, Err, arith}
-use Rattle.std.proofs.Common.{find, length, not, refl, subst, sym}
+use Rattle.std.proofs.Common.{◌≡◌, ◌∙◌, ℕ, ◌+◌, Bool, false, true, List, [], ◌∷◌, None, Option, Some, Result, Ok, Err, arith}
+use Rattle.std.proofs.Common.{find, not, option_map, refl, subst, sym, unwrap_or}
+use Rattle.std.proofs.lemmas.Bool.{false≢true}
 use Rattle.std.specs.Borrow.{Bor}
 use Rattle.std.specs.List.{list_all}
 use Rattle.std.specs.Prelude.{⊤}
 use Rattle.nor_layout.specs.declared.fault.LayoutFault.{LayoutFault}
 use Rattle.nor_layout.specs.declared.fault.LayoutFault.TheVariants as layout
-use Rattle.nor_layout.specs.declared.ranges.Span.{Span}
 use Rattle.nor_layout.specs.declared.region.Region.{Region}
 use Rattle.nor_layout.specs.Grammar.{IsLayout}
 use Rattle.nor_layout.specs.Included.{are_known, names_of}
@@ -16,9 +16,8 @@ use Rattle.nor_args.specs.declared.job.LayoutForm.{LayoutForm}
 use Rattle.nor_args.specs.declared.job.LayoutForm.TheVariants as form
 use Rattle.nor_args.specs.declared.job.Regions.{Regions}
 use Rattle.nor_files.specs.Files.{View}
-use Rattle.nor_console.specs.Requests.{AreIncluded, AreRangesOf, FailsToInclude, IncludesNone, IsLayoutFault}
+use Rattle.nor_console.specs.Requests.{FailsToReadLayout, HasLayout, IsLayoutOf}
 use Rattle.nor_console.specs.Requests.{IsLayoutText, IsUnparsed, LacksLayout, first_unknown}
-use Rattle.nor_console.specs.Stored.{IsRead}
 use Rattle.nor_console.specs.declared.messages.Fault.{Fault}
 use Rattle.nor_console.specs.declared.messages.Fault.TheVariants as end
 
@@ -65,6 +64,13 @@ pub all_known : (regions : List Region) (names : List ℕ) → first_unknown reg
     → are_known regions names ≡ true
 all_known regions names none = all_pass (is_region_named regions) (names_of names) none
 
+-- If one of the names belongs to no region, `first_unknown` finds such a name.
+pub named_unknown : (regions : List Region) (names : List ℕ) (found : Option (Bor Text)) (or : Bor Text)
+    → option_map (λ name. name.now) found ≡ first_unknown regions names → are_known regions names ≡ false
+    → first_unknown regions names ≡ Some (unwrap_or found or).now
+named_unknown regions names None or is unknown = absurd (false≢true (sym unknown ∙ all_known regions names (sym is)))
+named_unknown regions names (Some name) or is unknown = sym is
+
 -- Holds if the fault is `Layout` or `Map`.
 abbrev IsOfLayout : Fault → Type 0
 IsOfLayout (end.Layout fault) = ⊤
@@ -77,27 +83,18 @@ lacks-only form.Fmap text (end.Map fault) is = tt
 lacks-only form.Descriptor text (end.Map fault) is = tt
 lacks-only _ text _ is = absurd is
 
--- A fault of the layout's text or of the names (`IsLayoutFault`) is one of the faults with which including regions may
--- fail.
-pub fails_included : (view : View) (shown : Option (List ℕ)) (regions : Regions) (fault : Fault)
-    → IsLayoutFault view shown regions fault → FailsToInclude view shown (Some regions) fault
-fails_included view shown regions (end.Layout fault) is = is
-fails_included view shown regions (end.Map fault) is = is
-fails_included view shown regions (end.NoRegion name) is = is
-fails_included view shown regions _ is = absurd (lacks-only regions.form _ _ is.why)
-
--- Let `text` be what was read of the layout in the file `name`. If `ranges` are those of the names in this text, they are
--- the ranges of the regions. A fault of the text or of the names is one with which including the regions may fail.
+-- Let `text` be what was read of the layout in the file `name`.
 module _ (view : View) (shown : Option (List ℕ)) (regions : Regions) (name : Bor Text) (text : List ℕ)
-    (named : regions.layout ≡ Some name) (read : IsRead view name.now 16777217 text × (length text ≤ 16777216)) where
+    (named : regions.layout ≡ Some name) (read : IsLayoutText view None (Some name) text) where
   is-text : IsLayoutText view shown regions.layout text
-  is-text = subst (λ (file : Option (Bor Text)). IsLayoutText view shown file text) (sym named) read.0
+  is-text = subst (λ (file : Option (Bor Text)). IsLayoutText view shown file text) (sym named) read
 
-  pub file_included : (ranges : List Span) → AreIncluded regions.form text regions.names.now ranges
-      → AreRangesOf view shown (Some regions) (Some ranges)
-  file_included ranges included = record { text = text; read = is-text; whole = read.1; included = included }
+  -- If the text has these regions, the layout was read.
+  pub layout_read : (layout : List Region) → HasLayout regions.form text layout → IsLayoutOf view shown regions layout
+  layout_read layout has = record { text = text; read = is-text; has = has }
 
-  pub file_fails : (fault : Fault) → IncludesNone regions.form text regions.names.now fault
-      → FailsToInclude view shown (Some regions) fault
-  file_fails fault why =
-      fails_included view shown regions fault (record { text = text; read = is-text; whole = read.1; why = why })
+  -- If parsing the text failed, reading the layout fails.
+  pub layout_fails : (fault : Fault) → LacksLayout regions.form text fault → FailsToReadLayout view shown regions fault
+  layout_fails (end.Layout fault) why = record { text = text; read = is-text; why = why }
+  layout_fails (end.Map fault) why = record { text = text; read = is-text; why = why }
+  layout_fails _ why = absurd (lacks-only regions.form text _ why)

@@ -62,20 +62,22 @@ pub record AreIncluded (form : LayoutForm) (text names : List ℕ) (ranges : Lis
   pub known : are_known regions names ≡ true
   pub union : (a : ℕ) → contains ranges a ≡ is_included regions names a
 
--- Holds if `text` is the text of a layout. If a file is named, `text` must have the file's first 16 MiB and one byte,
--- or the whole content of a shorter file; nothing is claimed if the file isn't known (`IsKnownFile`). If no file is
--- named, `text` must be `shown`, the bytes that the chip returned.
+-- Holds if `text` is the text of a layout, and has at most 16 MiB. If a file is named and known (`IsKnownFile`), `text`
+-- must be its content. If no file is named, `text` must be `shown`, the bytes that the chip returned.
 abbrev pub IsLayoutText : View → (shown : Option (List ℕ)) → (file : Option (Bor Text)) → (text : List ℕ) → Type 0
-IsLayoutText view shown (Some name) text = IsRead view name.now 16777217 text
-IsLayoutText view shown None text = shown ≡ Some text
+IsLayoutText view shown (Some name) text = IsRead view name.now 16777217 text × (length text ≤ 16777216)
+IsLayoutText view shown None text = (shown ≡ Some text) × (length text ≤ 16777216)
 
--- Holds if `ranges` are those of the named regions in the layout `text`, which has at most 16 MiB. If the layout has a
--- file and the file is known (`IsKnownFile`), `text` is its content. If the layout has no file, `text` is `shown`, the
--- bytes that the chip returned.
+-- Holds if `layout` has the regions, in order, of the layout that `regions` refers to.
+pub record IsLayoutOf (view : View) (shown : Option (List ℕ)) (regions : Regions) (layout : List Region) : Type 0 where
+  pub text : List ℕ
+  pub read : IsLayoutText view shown regions.layout text
+  pub has : HasLayout regions.form text layout
+
+-- Holds if `ranges` are those of the named regions in the layout `text`.
 pub record AreOfLayout (view : View) (shown : Option (List ℕ)) (regions : Regions) (ranges : List Span) : Type 0 where
   pub text : List ℕ
   pub read : IsLayoutText view shown regions.layout text
-  pub whole : length text ≤ 16777216
   pub included : AreIncluded regions.form text regions.names.now ranges
 
 -- Holds if `ranges` are those of the named regions. If no regions are given, `ranges` must be `None` (the whole chip).
@@ -94,12 +96,11 @@ pub record IsNoLayout (text : List ℕ) (fault : LayoutFault) : Type 0 where
 abbrev pub first_unknown : List Region → (names : List ℕ) → Option (List ℕ)
 first_unknown regions names = find (λ name. not (is_region_named regions name)) (names_of names)
 
--- Holds if the text is a layout of the given form, and `name` is the first of the comma-separated `names` that none of
--- its regions has.
-pub record IsUnknown (form : LayoutForm) (text names name : List ℕ) : Type 0 where
-  pub regions : List Region
-  pub layout : HasLayout form text regions
-  pub first : first_unknown regions names ≡ Some name
+-- Holds if `name` is the first of the names in `regions` that no region of their layout has.
+pub record IsUnknown (view : View) (shown : Option (List ℕ)) (regions : Regions) (name : Text) : Type 0 where
+  pub layout : List Region
+  pub read : IsLayoutOf view shown regions layout
+  pub first : first_unknown layout regions.names.now ≡ Some name
 
 -- Holds if the text may fail to be parsed with this fault: memory may run out, or the text isn't a layout and this is
 -- its fault.
@@ -117,20 +118,11 @@ LacksLayout form.Descriptor text (end.Map fault) =
     ReadsTable (descriptor_says (length text) text) (AsksInDescriptor (length text) text) (Err fault)
 LacksLayout form text fault = ⊥
 
--- Holds if no regions are included because of this fault: parsing the text as a layout failed, or a name doesn't belong
--- to any region.
-abbrev pub IncludesNone : LayoutForm → (text names : List ℕ) → Fault → Type 0
-IncludesNone form text names (end.NoRegion name) = IsUnknown form text names name.now
-IncludesNone form text names fault = LacksLayout form text fault
-
--- Holds if the layout's text has at most 16 MiB, and no regions are included because of this fault of the text or of
--- the names. If the layout has a file and the file is known (`IsKnownFile`), `text` is its content. If the layout has
--- no file, `text` is `shown`, the bytes that the chip returned.
+-- Holds if parsing the text of the layout failed with this fault.
 pub record IsLayoutFault (view : View) (shown : Option (List ℕ)) (regions : Regions) (fault : Fault) : Type 0 where
   pub text : List ℕ
   pub read : IsLayoutText view shown regions.layout text
-  pub whole : length text ≤ 16777216
-  pub why : IncludesNone regions.form text regions.names.now fault
+  pub why : LacksLayout regions.form text fault
 
 -- Holds if the chip returned no bytes for a layout, or more than 16 MiB, the size of the largest chip.
 abbrev pub LacksShown : (shown : Option (List ℕ)) → Type 0
@@ -146,12 +138,18 @@ LacksText view shown (Some name) fault =
 LacksText view shown None (end.Usage usage.Layout because.Unsaid) = LacksShown shown
 LacksText view shown None fault = ⊥
 
--- Holds if including the regions may fail with this fault: a fault of the layout's text or of the names, or a fault of
--- getting this text (`LacksText`). Without regions there is no fault. `shown` are the bytes that the chip returned, if
--- it was read for a layout without a file.
+-- Holds if reading the layout of these regions may fail with this fault: a fault of the layout's text, or a fault of
+-- getting this text (`LacksText`). `shown` are the bytes that the chip returned, if it was read for a layout without a
+-- file.
+abbrev pub FailsToReadLayout : View → (shown : Option (List ℕ)) → Regions → Fault → Type 0
+FailsToReadLayout view shown regions (end.Layout fault) = IsLayoutFault view shown regions (end.Layout fault)
+FailsToReadLayout view shown regions (end.Map fault) = IsLayoutFault view shown regions (end.Map fault)
+FailsToReadLayout view shown regions (end.NoRegion name) = ⊥
+FailsToReadLayout view shown regions fault = LacksText view shown regions.layout fault
+
+-- Holds if including the regions may fail with this fault: a name is no region of the layout, or reading the layout
+-- fails. Without regions there is no fault.
 abbrev pub FailsToInclude : View → (shown : Option (List ℕ)) → Option Regions → Fault → Type 0
 FailsToInclude view shown None fault = ⊥
-FailsToInclude view shown (Some regions) (end.Layout fault) = IsLayoutFault view shown regions (end.Layout fault)
-FailsToInclude view shown (Some regions) (end.Map fault) = IsLayoutFault view shown regions (end.Map fault)
-FailsToInclude view shown (Some regions) (end.NoRegion name) = IsLayoutFault view shown regions (end.NoRegion name)
-FailsToInclude view shown (Some regions) fault = LacksText view shown regions.layout fault
+FailsToInclude view shown (Some regions) (end.NoRegion name) = IsUnknown view shown regions name.now
+FailsToInclude view shown (Some regions) fault = FailsToReadLayout view shown regions fault

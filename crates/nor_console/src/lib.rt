@@ -43,7 +43,7 @@ pub use files::{
 pub use messages::{Fault, FileFault, or_fault};
 pub use printing::{help_of, print_answer, print_fault, print_help, version_of};
 pub use reasons::text_of_flaw;
-pub use requests::{read_included, request_for};
+pub use requests::{include_regions, read_included, read_layout, request_for};
 pub use roles::{
     Named, apart, found_streams, is_printed, journal_of, look_ahead, named_by, unprinted,
 };

@@ -1,11 +1,13 @@
 //! The request that a change makes to a session, and the addresses of the regions to which the change is limited.
-ghost use Rattle.std.specs.Prelude.{◌≡◌, ◌≤◌, IfOk, IfErr, None, Some, length, option_map};
+ghost use Rattle.std.specs.Prelude.{◌≡◌, ◌≤◌, ℕ, IfOk, IfErr, None, OnOk, Some, length, option_map, true};
+ghost use Rattle.nor_layout.specs.Included.{are_known, is_included};
+ghost use Rattle.nor_layout.specs.Ranges.{contains};
 ghost use Rattle.nor_layout.specs.Text.{is_region_named};
 ghost use Rattle.nor_args.specs.declared.reasons.Reason.TheVariants as Reasons;
 ghost use Rattle.nor_args.specs.declared.words.UsageFault.TheVariants as Usage;
-ghost use Rattle.nor_console.specs.Requests.{AreIncluded, AreRangesOf, FailsToInclude, HasLayout, IncludesNone};
-ghost use Rattle.nor_console.specs.Requests.{LacksLayout, LacksShown, LacksText, first_unknown, request_for, what_of};
-ghost use Rattle.nor_console.specs.Stored.{IsRead};
+ghost use Rattle.nor_console.specs.Requests.{AreRangesOf, FailsToInclude, FailsToReadLayout, HasLayout, IsLayoutOf};
+ghost use Rattle.nor_console.specs.Requests.{IsLayoutText, LacksLayout, LacksShown, LacksText, first_unknown};
+ghost use Rattle.nor_console.specs.Requests.{request_for, what_of};
 ghost use Rattle.nor_console.specs.declared.messages.Fault.TheVariants as Faults;
 
 use crate::files::{MOST_LAYOUT_BYTES, read_file, unread};
@@ -18,20 +20,10 @@ use nor_probe::ChipName;
 use nor_session::{Request, What};
 use std::alloc::Global;
 
-/// Reads the layout, and returns the addresses of the named regions. If no regions are given, returns `None` and reads
-/// no file. The layout is read from its file. If it has no file, it is read from `shown`, the bytes that the chip
-/// returned. If the layout is an FMAP or a flash descriptor, the length of the file or of `shown` is taken as the size
-/// of the chip.
+/// Reads the layout of these regions (`read_layout`), and returns the addresses of the named regions. If no regions are
+/// given, returns `None` and reads no file.
 ///
-/// Returns one of these faults:
-///
-/// - file fault 1 if the file is missing, can't be read, or has more than 16 MiB
-/// - usage fault 7 without a reason if the layout has no file, and `shown` is `None` or has more than 16 MiB
-/// - a layout fault if the layout or the names of the regions are wrong, or if memory runs out while the layout is
-///   parsed
-/// - a map fault if the file or `shown` has no valid FMAP or flash descriptor, or if memory runs out while the FMAP or
-///   descriptor is parsed
-/// - error 18 if memory runs out while the file is read
+/// Returns the faults of `read_layout`, or layout fault 8 with the first of the names that no region has.
 pub fn read_included<'a, R: Store>(
     rt: &R,
     regions: Option<Regions<'a>>,
@@ -42,30 +34,49 @@ pub fn read_included<'a, R: Store>(
     ensures err { IfErr result (FailsToInclude ((R.state rt.now).view)
         (option_map (λ bytes. bytes.now) shown.entry) regions.entry) }
 {
-    let Some(
-        Regions {
-            layout,
-            form,
-            names,
-        },
-    ) = regions
-    else {
+    let Some(regions) = regions else {
         return Ok(None);
     };
-    let Some(name) = layout else {
-        let included = included_in(rt.alloc(), form, shown_layout(shown)?, names)?;
-        return Ok(Some(included));
+    let layout = read_layout(rt, regions, shown)?;
+    match include_regions(&layout, regions.names) {
+        Ok(included) => Ok(Some(included)),
+        Err(name) => Err(Fault::NoRegion { name }),
+    }
+}
+
+/// Reads the layout of these regions from its file. If it has no file, reads it from `shown`, the bytes that the chip
+/// returned. If the layout is an FMAP or a flash descriptor, the length of the file or of `shown` is taken as the size of
+/// the chip.
+///
+/// Returns one of these faults:
+///
+/// - file fault 1 if the file is missing, can't be read, or has more than 16 MiB
+/// - usage fault 7 without a reason if the layout has no file, and `shown` is `None` or has more than 16 MiB
+/// - a layout fault if the layout is wrong, or if memory runs out while the layout is parsed
+/// - a map fault if the file or `shown` has no valid FMAP or flash descriptor, or if memory runs out while the FMAP or
+///   descriptor is parsed
+/// - error 18 if memory runs out while the file is read
+pub fn read_layout<'a, R: Store>(
+    rt: &R,
+    regions: Regions<'a>,
+    shown: Option<&[u8]>,
+) -> Result<Layout, Fault<'a>>
+    ensures ok { IfOk result (IsLayoutOf ((R.state rt.now).view)
+        (option_map (λ bytes. bytes.now) shown.entry) regions.entry) }
+    ensures err { IfErr result (FailsToReadLayout ((R.state rt.now).view)
+        (option_map (λ bytes. bytes.now) shown.entry) regions.entry) }
+{
+    let Some(name) = regions.layout else {
+        return parse_layout(rt.alloc(), regions.form, shown_layout(shown)?);
     };
     let text = read_layout_file(rt, name)?;
-    let included = included_in(rt.alloc(), form, &text, names)?;
-    Ok(Some(included))
+    parse_layout(rt.alloc(), regions.form, &text)
 }
 
 // Reads the file of a layout. Returns file fault 1 if the file is missing, can't be read, or has more than 16 MiB, or
 // error 18 if memory runs out.
 fn read_layout_file<'a, R: Store>(rt: &R, name: &'a str) -> Result<Vec<u8>, Fault<'a>>
-    ensures ok { IfOk result (λ text. IsRead ((R.state rt.now).view) name.now 16777217 text.items
-        × (length text.items ≤ 16777216)) }
+    ensures ok { IfOk result (λ text. IsLayoutText ((R.state rt.now).view) None (Some name.entry) text.items) }
     ensures err { IfErr result (LacksText ((R.state rt.now).view) None (Some name.entry)) }
 {
     let text = read_file(rt, name, MOST_LAYOUT_BYTES + 1)?;
@@ -92,32 +103,9 @@ fn shown_layout<'b>(shown: Option<&'b [u8]>) -> Result<&'b [u8], Fault<'static>>
     }
 }
 
-// Parses `text` as a layout of the given form, and returns the addresses of the regions with the comma-separated
-// `names`.
-#[tactic(auto, using(crate::proofs::Included::all_known))]
-fn included_in<'a>(
-    alloc: Global,
-    form: LayoutForm,
-    text: &[u8],
-    names: &'a str,
-) -> Result<Ranges, Fault<'a>>
-    requires { length text.now ≤ 16777216 }
-    ensures ok { IfOk result (AreIncluded form text.now names.now) }
-    ensures err { IfErr result (IncludesNone form text.now names.now) }
-{
-    let layout = read_layout(alloc, form, text)?;
-    if let Some(name) = first_unknown(layout.regions(), names) {
-        return Err(Fault::NoRegion { name });
-    }
-    match layout.include(names) {
-        Ok(ranges) => Ok(ranges),
-        Err(fault) => Err(Fault::Layout(fault)),
-    }
-}
-
 // Parses `text` as a layout of the given form.
 #[tactic(auto, using(crate::proofs::Included::is_unparsed))]
-fn read_layout<'a>(alloc: Global, form: LayoutForm, text: &[u8]) -> Result<Layout, Fault<'a>>
+fn parse_layout<'a>(alloc: Global, form: LayoutForm, text: &[u8]) -> Result<Layout, Fault<'a>>
     requires { length text.now ≤ 16777216 }
     ensures ok { IfOk result (λ layout. HasLayout form text.now layout) }
     ensures err { IfErr result (LacksLayout form text.now) }
@@ -136,6 +124,21 @@ fn read_layout<'a>(alloc: Global, form: LayoutForm, text: &[u8]) -> Result<Layou
             Ok(layout) => Ok(layout),
             Err(fault) => Err(Fault::Map(fault)),
         },
+    }
+}
+
+/// Returns the addresses of the regions of `layout` with the comma-separated `names`. If one of the names is no region,
+/// returns the first such name as the error.
+#[tactic(auto, using(crate::proofs::Included::named_unknown))]
+pub fn include_regions<'a>(layout: &Layout, names: &'a str) -> Result<Ranges, &'a str>
+    ensures known { OnOk result (are_known layout.now names.now ≡ true) }
+    ensures union { IfOk result (λ ranges. (address : ℕ)
+        → contains ranges address ≡ is_included layout.now names.now address) }
+    ensures unknown { IfErr result (λ name. first_unknown layout.now names.now ≡ Some name.now) }
+{
+    match layout.include(names) {
+        Ok(ranges) => Ok(ranges),
+        Err(_) => Err(first_unknown(layout.regions(), names).unwrap_or(names)),
     }
 }
 
