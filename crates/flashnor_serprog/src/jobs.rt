@@ -55,10 +55,6 @@ pub fn perform<'a, R: Store, B: Progress>(
 {
     let named = operation.named;
     match &operation.task {
-        Task::Probe => Ok(find_chip(bus, named)),
-        Task::FlashSize => Ok(report_size(bus, named)),
-        Task::WpStatus => Ok(report_protection(bus, named)),
-        Task::WpList => Ok(list_ranges(bus, named)),
         Task::Read { file, .. } if operation.is_backup => Ok(backup_chip(rt, bus, named, *file)?),
         Task::Read { file, .. } => Ok(read_chip(rt, bus, named, *file, sources.included.as_ref())?),
         Task::Verify { .. } => Ok(verify_chip(bus, named, sources)),
@@ -66,6 +62,10 @@ pub fn perform<'a, R: Store, B: Progress>(
         Task::Restore { .. } => {
             restore_chip(bus, terminal, operation, &sources.bytes, rt.alloc())
         }
+        Task::Probe => Ok(find_chip(bus, named)),
+        Task::FlashSize => Ok(report_size(bus, named)),
+        Task::WpStatus => Ok(report_protection(bus, named)),
+        Task::WpList => Ok(list_ranges(bus, named)),
     }
 }
 

@@ -3,18 +3,6 @@ use Rattle.nor_console.proofs.Lent.{stays_same}
 use Rattle.flashnor_serprog.proofs.Found.{change_done, change_failed, restore_failed}
 use Rattle.flashnor_serprog.proofs.jobs.perform.Goals as goal
 
-pub returns-in-Probe : goal.returns-in-Probe
-returns-in-Probe g c = rw c.in-Probe.is (search (rules, stays_same, c.find_chip.ensures))
-
-pub returns-in-FlashSize : goal.returns-in-FlashSize
-returns-in-FlashSize g c = rw c.in-FlashSize.is (search (rules, stays_same, c.report_size.ensures))
-
-pub returns-in-WpStatus : goal.returns-in-WpStatus
-returns-in-WpStatus g c = rw c.in-WpStatus.is (search (rules, stays_same, c.report_protection.ensures))
-
-pub returns-in-WpList : goal.returns-in-WpList
-returns-in-WpList g c = rw c.in-WpList.is (search (rules, stays_same, c.list_ranges.ensures))
-
 pub returns-in-Read : goal.returns-in-Read
 returns-in-Read g c = rw (c.in-Read.is, c.if-operation.true) (record {
   ok = c.in_ok-backup_chip-in-Read.ensures.ok;
@@ -29,10 +17,6 @@ returns-in-Read-2 g c = rw (c.in-Read-2.is, c.if-operation.false) (record {
   others = c.read_chip.ensures.others;
 })
 
-pub returns-clause-err : goal.returns-clause-err
-returns-clause-err g c = restore_failed c.args.operation.now _ _ _ _ _ _ c.args.operation.now.task _
-    c.in-Restore.is c.restore_chip.result (rw c.deref.ensures.value at c.restore_chip.ensures.err)
-
 pub returns-in-Change-clause-ok : goal.returns-in-Change-clause-ok
 returns-in-Change-clause-ok g c = change_done c.args.operation.now c.in-Change.change _ _ _ _ _ _
     c.args.operation.now.task c.in-Change.is c.change_chip.result c.change_chip.ensures.ok
@@ -43,3 +27,19 @@ returns-in-Change-clause-err g c = change_failed c.args.operation.now c.in-Chang
 
 pub returns-in-Change-clause-others : goal.returns-in-Change-clause-others
 returns-in-Change-clause-others g c = rw c.in-Change.is c.change_chip.ensures.others
+
+pub returns-in-Restore-clause-err : goal.returns-in-Restore-clause-err
+returns-in-Restore-clause-err g c = restore_failed c.args.operation.now _ _ _ _ _ _ c.args.operation.now.task _
+    c.in-Restore.is c.restore_chip.result (rw c.deref.ensures.value at c.restore_chip.ensures.err)
+
+pub returns-in-Probe : goal.returns-in-Probe
+returns-in-Probe g c = rw c.in-Probe.is (search (rules, stays_same, c.find_chip.ensures))
+
+pub returns-in-FlashSize : goal.returns-in-FlashSize
+returns-in-FlashSize g c = rw c.in-FlashSize.is (search (rules, stays_same, c.report_size.ensures))
+
+pub returns-in-WpStatus : goal.returns-in-WpStatus
+returns-in-WpStatus g c = rw c.in-WpStatus.is (search (rules, stays_same, c.report_protection.ensures))
+
+pub returns : goal.returns
+returns g c = rw c.in-WpList.is (search (rules, stays_same, c.list_ranges.ensures))
