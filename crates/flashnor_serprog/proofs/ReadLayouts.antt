@@ -1,13 +1,15 @@
 -- Lemmas on the bytes that are read from the chip for a layout.
-use Rattle.std.proofs.Common.{◌≡◌, ◌∙◌, ◌∷◌, [], ℕ, List, MatchOption, None, Option, Some, arith, false, inl, inr, refl, true}
+use Rattle.std.proofs.Common.{◌≡◌, ◌∙◌, ◌∷◌, [], ℕ, List, MatchOption, None, Ok, Option, Some, arith, false, inl, inr, refl, true}
 use Rattle.std.proofs.lemmas.Bool.{false≢true}
 use Rattle.nor_model.specs.Bus.{BusState}
 use Rattle.nor_layout.specs.Ranges.{IsSetOf, MakeNoSet, has_backwards}
 use Rattle.nor_layout.specs.declared.ranges.Span.{Span}
+use Rattle.nor_probe.specs.declared.probes.Found.{Found}
 use Rattle.nor_probe.specs.declared.table.ChipName.{ChipName}
 use Rattle.nor_args.specs.declared.job.LayoutForm.{LayoutForm}
 use Rattle.nor_args.specs.declared.job.LayoutForm.TheVariants as form
-use Rattle.flashnor_serprog.specs.ChipLayouts.{AreReadFor, HasReadLayout, descriptor_span}
+use Rattle.nor_jobs.specs.Finding.{HasIdentified}
+use Rattle.flashnor_serprog.specs.ChipLayouts.{AreReadFor, HasFoundFirst, HasReadLayout, descriptor_span}
 use Rattle.flashnor_serprog.specs.Sends.{KeepsSent}
 
 -- The first 4 KiB are a set of their own.
@@ -26,8 +28,20 @@ descriptor_read None (inl backwards) = absurd (false≢true backwards)
 descriptor_read None (inr none) = absurd (none _ is_set)
 descriptor_read (Some set) is = is.1
 
+-- If the chip was identified, `ranges` are read for a layout of this form.
+abbrev pub found_first : (named : Option ChipName) (layout : LayoutForm) (old found : BusState) (chip : Found)
+    (ranges : Option (List Span)) → HasIdentified named old found (Ok chip) → AreReadFor layout ranges
+    → HasFoundFirst named layout old
+found_first named layout old found chip ranges identified for_layout = record {
+  found = found;
+  chip = chip;
+  identified = identified;
+  ranges = ranges;
+  for_layout = for_layout;
+}
+
 -- The read for a layout sends no modifying command.
 pub layout_reads : (named : Option ChipName) (layout : LayoutForm) (old new : BusState) (bytes : List ℕ)
     → HasReadLayout named layout old new bytes → KeepsSent old new
 layout_reads named layout old new bytes read =
-    read.read.always.only_reads.sent ∙ read.identified.always.only_reads.sent
+    read.read.always.only_reads.sent ∙ read.first.identified.always.only_reads.sent

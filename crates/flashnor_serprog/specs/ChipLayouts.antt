@@ -43,28 +43,29 @@ AreReadFor form.Descriptor None = ⊥
 AreReadFor form.Descriptor (Some spans) = IsSetOf (descriptor_span ∷ []) spans
 AreReadFor _ ranges = ranges ≡ None
 
+-- Holds if the chip was identified. `found` is the state of the bus after that, and `ranges` are the addresses that are
+-- then read for a layout of this form.
+pub record HasFoundFirst (named : Option ChipName) (layout : LayoutForm) (old : BusState) : Type 0 where
+  pub found : BusState
+  pub chip : Found
+  pub identified : HasIdentified named old found (Ok chip)
+  pub ranges : Option (List Span)
+  pub for_layout : AreReadFor layout ranges
+
 -- Holds if the chip was identified, and `bytes` are the copy of it that `read_out` then made in memory: the chip's
 -- bytes at the addresses that are read for a layout of this form, and FFh at all others.
 pub record HasReadLayout (named : Option ChipName) (layout : LayoutForm) (old new : BusState) (bytes : List ℕ)
     : Type 0 where
-  pub found : BusState
-  pub chip : Found
-  pub identified : HasIdentified named old found (Ok chip)
-  pub ranges : Option (List Span)
-  pub for_layout : AreReadFor layout ranges
+  pub first : HasFoundFirst named layout old
   pub report : Report
-  pub read : HasReadToMemory named ranges found new bytes (Ok report)
+  pub read : HasReadToMemory named first.ranges first.found new bytes (Ok report)
 
 -- Holds if the chip was identified, and reading it into memory for a layout of this form failed with this fault.
 pub record HasNoLayout (named : Option ChipName) (layout : LayoutForm) (old new : BusState) (fault : Fault)
     : Type 0 where
-  pub found : BusState
-  pub chip : Found
-  pub identified : HasIdentified named old found (Ok chip)
-  pub ranges : Option (List Span)
-  pub for_layout : AreReadFor layout ranges
+  pub first : HasFoundFirst named layout old
   pub refusal : Refusal
-  pub fails : FailsInMemory named ranges found new refusal
+  pub fails : FailsInMemory named first.ranges first.found new refusal
   pub is : fault ≡ end.Refused refusal
 
 -- Holds if reading the bytes of a layout from the chip may fail with this fault: in the identification, or in the read
