@@ -1,6 +1,7 @@
 -- Lemmas on the faults of a job: before its call to the engine and, for a change or restore, after the call.
 use Rattle.std.proofs.Common.{◌≡◌, ℕ, Bool, List, Option, Result, Ok, Err, IfErr, IfOk, false, inl, inr, refl, true}
 use Rattle.std.specs.Borrow.{Bor}
+use Rattle.std.specs.Prelude.{⊤}
 use Rattle.nor_model.specs.Bus.{BusState}
 use Rattle.nor_probe.specs.declared.table.ChipName.{ChipName}
 use Rattle.nor_request.specs.declared.refusal.Refusal.{Refusal}
@@ -43,6 +44,12 @@ module _ {T : Type 0} (P : T → Type 0) (Q : Refusal → Type 0) where
   passes_err (Ok found) result returned is = rw returned tt
   passes_err (Err refusal) result returned is = rw returned (refusal, is, refl)
 
+-- Holds if the fault is one of `Fault` or `Protected`. Making the target of a change fails only with such a fault.
+abbrev IsBefore : JobFault → Type 0
+IsBefore (ended.Fault fault) = ⊤
+IsBefore (ended.Protected byte) = ⊤
+IsBefore _ = ⊥
+
 module _ (named : Option ChipName) (old new : BusState) where
   -- If making the target fails with chip fault 1, the identification found a chip that may be protected, with this
   -- status 1.
@@ -63,25 +70,17 @@ module _ (named : Option ChipName) (old new : BusState) where
     unmade = same;
   }
 
-  targets_none : (target : Wanted) (ranges : Option (List Span)) (bytes : List ℕ) (refusal : Refusal)
-      → FailsToTarget named target ranges bytes old new (ended.NotCompared refusal) → ⊥
-  targets_none target ranges bytes refusal (inl fails) = fails
-  targets_none target ranges bytes refusal (inr made) = absurd (cc made.2)
+  targets_before : (target : Wanted) (ranges : Option (List Span)) (bytes : List ℕ) (fault : JobFault)
+      → FailsToTarget named target ranges bytes old new fault → IsBefore fault
+  targets_before target ranges bytes (ended.Fault fault) fails = tt
+  targets_before target ranges bytes (ended.Protected byte) fails = tt
+  targets_before target ranges bytes _ (inl fails) = fails
+  targets_before target ranges bytes _ (inr made) = absurd (cc made.2)
 
-  compares_none : (target : Wanted) (ranges : Option (List Span)) (bytes : List ℕ) (refusal : Refusal)
-      → FailsToFill named target ranges bytes old new (ended.NotCompared refusal) → ⊥
-  compares_none (wanted.Range start len) ranges bytes refusal fails = fails
-  compares_none target ranges bytes refusal fails = targets_none target ranges bytes refusal fails
-
-  targets_no_rest : (target : Wanted) (ranges : Option (List Span)) (bytes : List ℕ) (outcome : Result Answer Refusal)
-      (refusal : Refusal) → FailsToTarget named target ranges bytes old new (ended.RestNotCompared outcome refusal) → ⊥
-  targets_no_rest target ranges bytes outcome refusal (inl fails) = fails
-  targets_no_rest target ranges bytes outcome refusal (inr made) = absurd (cc made.2)
-
-  fills_no_rest : (target : Wanted) (ranges : Option (List Span)) (bytes : List ℕ) (outcome : Result Answer Refusal)
-      (refusal : Refusal) → FailsToFill named target ranges bytes old new (ended.RestNotCompared outcome refusal) → ⊥
-  fills_no_rest (wanted.Range start len) ranges bytes outcome refusal fails = fails
-  fills_no_rest target ranges bytes outcome refusal fails = targets_no_rest target ranges bytes outcome refusal fails
+  fills_before : (target : Wanted) (ranges : Option (List Span)) (bytes : List ℕ) (fault : JobFault)
+      → FailsToFill named target ranges bytes old new fault → IsBefore fault
+  fills_before (wanted.Range start len) ranges bytes fault fails = absurd fails
+  fills_before target ranges bytes fault fails = targets_before target ranges bytes fault fails
 
 -- The buffer of a write or an erase is its target. For a change of protection, `bytes` are the buffer.
 module _ (named : Option ChipName) (ranges : Option (List Span)) (bytes : List ℕ) (old new : BusState) where
@@ -110,10 +109,7 @@ module _ (operation : Operation) (old new : BusState) (change : Change) (ranges 
   fill_fails kept (ended.Fault fault) is same fails = rw is (inl fails)
   fill_fails kept (ended.Protected byte) is same fails =
       rw is (refuses operation.named old new change.wanted _ bytes file view after byte same fails)
-  fill_fails kept (ended.NotCompared refusal) is same fails =
-      absurd (compares_none operation.named old new change.wanted _ bytes refusal fails)
-  fill_fails kept (ended.RestNotCompared outcome refusal) is same fails =
-      absurd (fills_no_rest operation.named old new change.wanted _ bytes outcome refusal fails)
+  fill_fails kept _ is same fails = absurd (fills_before operation.named old new change.wanted _ bytes _ fails)
 
 module _ (operation : Operation) (old new : BusState) (change : Change) (ranges : Option (List Span))
     (bytes : List ℕ) (file : Bor Text) (view : View) where
@@ -127,21 +123,17 @@ module _ (operation : Operation) (old new : BusState) (change : Change) (ranges 
 
 -- ---- the comparison after a session
 
-module _ (named : Option ChipName) (target : List ℕ) (old new : BusState) where
-  follows_none : (found : Answer) (compared : Bool) (fault : Fault)
-      → FailsToFollow (Ok found) compared named target old new (ended.Fault fault) → ⊥
-  follows_none found true fault fails = fails
-  follows_none found false fault fails = fails
+-- Holds if the fault is `NotCompared`.
+abbrev IsAfter : JobFault → Type 0
+IsAfter (ended.NotCompared refusal) = ⊤
+IsAfter _ = ⊥
 
-  follows_unprotected : (found : Answer) (compared : Bool) (byte : ℕ)
-      → FailsToFollow (Ok found) compared named target old new (ended.Protected byte) → ⊥
-  follows_unprotected found true byte fails = fails
-  follows_unprotected found false byte fails = fails
-
-  follows_no_rest : (found : Answer) (compared : Bool) (outcome : Result Answer Refusal) (refusal : Refusal)
-      → FailsToFollow (Ok found) compared named target old new (ended.RestNotCompared outcome refusal) → ⊥
-  follows_no_rest found true outcome refusal fails = fails
-  follows_no_rest found false outcome refusal fails = fails
+-- The comparison after a session fails only with `NotCompared`.
+follows_after : (named : Option ChipName) (target : List ℕ) (old new : BusState) (found : Answer) (compared : Bool)
+    (fault : JobFault) → FailsToFollow (Ok found) compared named target old new fault → IsAfter fault
+follows_after named target old new found true (ended.NotCompared refusal) fails = tt
+follows_after named target old new found true _ fails = fails
+follows_after named target old new found false fault fails = absurd fails
 
 -- Let the journal of a change be in `file`. If the session was run, and the comparison after it was made and succeeded
 -- where one is needed (`HasChangedAndCompared`), then `HasChangedBy` holds. If that comparison failed with a fault, the
@@ -162,14 +154,10 @@ module _ (operation : Operation) (change : Change) (ranges : Option (List Span))
       → (ran : HasRunChange operation change ranges bytes file.now view after old changed session)
       → FailsToFollow session (is_compared operation change) operation.named ran.image changed new fault
       → FailsChange operation change ranges bytes kept view after old new fault
-  follow_fails (Ok found) (ended.Fault fault) ran fails =
-      absurd (follows_none operation.named ran.image changed new found (is_compared operation change) fault fails)
-  follow_fails (Ok found) (ended.Protected byte) ran fails =
-      absurd (follows_unprotected operation.named ran.image changed new found (is_compared operation change) byte fails)
   follow_fails (Ok found) (ended.NotCompared refusal) ran fails =
       not_compared refusal (record { changed = changed; reported = found; session = ran; fails = fails })
-  follow_fails (Ok found) (ended.RestNotCompared outcome refusal) ran fails = absurd
-      (follows_no_rest operation.named ran.image changed new found (is_compared operation change) outcome refusal fails)
+  follow_fails (Ok found) _ ran fails = absurd
+      (follows_after operation.named ran.image changed new found (is_compared operation change) _ fails)
   follow_fails (Err refusal) fault ran fails = absurd fails
 
 -- Let `job` be the change `change`. The result of the change is then the result of the job.

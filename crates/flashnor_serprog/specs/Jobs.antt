@@ -233,8 +233,7 @@ FailsComparison operation change ranges bytes (uses.Journal file) before after o
     HasNotCompared operation change ranges bytes file.now before after old new refusal
 FailsComparison operation change ranges bytes (uses.Rehearse stops) before after old new refusal = ⊥
 
--- Holds if a change failed with this fault: before its session, or in the comparison after it. A fault of the
--- comparison after a restore is never one of a change.
+-- Holds if a change failed with this fault: before its session, or in the comparison after it.
 abbrev pub FailsChange : Operation → Change → Option (List Span) → (bytes : List ℕ) → JournalUse
     → (before : View) → (after : FilesState) → (old new : BusState) → JobFault → Type 0
 FailsChange operation change ranges bytes kept before after old new (ended.Fault fault) =
@@ -243,7 +242,7 @@ FailsChange operation change ranges bytes kept before after old new (ended.Prote
     IsRefusedAsProtected operation.named change.wanted kept before after old new status1
 FailsChange operation change ranges bytes kept before after old new (ended.NotCompared refusal) =
     FailsComparison operation change ranges bytes kept before after old new refusal
-FailsChange operation change ranges bytes kept before after old new (ended.RestNotCompared outcome refusal) = ⊥
+FailsChange operation change ranges bytes kept before after old new _ = ⊥
 
 -- ---- tasks
 

@@ -21,9 +21,9 @@ use Rattle.nor_console.specs.declared.messages.Fault.{Fault}
 use Rattle.nor_console.specs.declared.messages.Fault.TheVariants as end
 use Rattle.nor_jobs.specs.Finding.{FailsToFind, HasIdentified}
 use Rattle.flashnor_serprog.specs.Sends.{KeepsSent}
+use Rattle.flashnor_serprog.specs.declared.chip_faults.JobFault.{JobFault}
+use Rattle.flashnor_serprog.specs.declared.chip_faults.JobFault.TheVariants as ended
 use Rattle.flashnor_serprog.specs.declared.status_lock.LockChange.{LockChange}
-use Rattle.flashnor_serprog.specs.declared.status_lock.LockFault.{LockFault}
-use Rattle.flashnor_serprog.specs.declared.status_lock.LockFault.TheVariants as ended
 
 -- ---- the bytes
 
@@ -141,10 +141,11 @@ pub record HasNotSet (named : Option ChipName) (srp0 : Bool) (old new : BusState
 
 -- Holds if a change of SRP0 failed with this fault: in the identification, with an error after it, or because the chip
 -- did not store the status write (chip fault 3).
-abbrev pub FailsLock : Option ChipName → (srp0 : Bool) → (old new : BusState) → LockFault → Type 0
+abbrev pub FailsLock : Option ChipName → (srp0 : Bool) → (old new : BusState) → JobFault → Type 0
 FailsLock named srp0 old new (ended.Fault fault) = FailsToFind named old new fault
     ⊎ ((refusal : Refusal) × FailsToSet named old new refusal × (fault ≡ end.Refused refusal))
 FailsLock named srp0 old new (ended.NotStored sent after) = HasNotSet named srp0 old new sent after
+FailsLock named srp0 old new _ = ⊥
 
 -- ---- lines
 
@@ -176,12 +177,12 @@ lock_lines srp0 change =
 -- ---- the job
 
 -- Holds if the job ended with this result: SRP0 has this value, or the fault occurred.
-abbrev pub EndsLock : Option ChipName → (srp0 : Bool) → (old new : BusState) → Result LockChange LockFault → Type 0
+abbrev pub EndsLock : Option ChipName → (srp0 : Bool) → (old new : BusState) → Result LockChange JobFault → Type 0
 EndsLock named srp0 old new (Ok change) = HasSetSrp0 named srp0 old new change
 EndsLock named srp0 old new (Err fault) = FailsLock named srp0 old new fault
 
 -- Holds if SRP0 has this value, and the lines of the change were printed.
-abbrev pub HasPrintedLock : (srp0 : Bool) → Result LockChange LockFault → (out out' : Option (List ℕ)) → Type 0
+abbrev pub HasPrintedLock : (srp0 : Bool) → Result LockChange JobFault → (out out' : Option (List ℕ)) → Type 0
 HasPrintedLock srp0 (Ok change) out out' = Prints (λ text. text ≡ lock_lines srp0 change) out out'
 HasPrintedLock srp0 (Err fault) out out' = ⊥
 
@@ -190,7 +191,7 @@ HasPrintedLock srp0 (Err fault) out out' = ⊥
 -- the lines of the change were printed.
 pub record HasRunLock (named : Option ChipName) (srp0 : Bool) (old new : BusState) (out out' : Option (List ℕ))
     (status : ℕ) : Type 0 where
-  pub outcome : Result LockChange LockFault
+  pub outcome : Result LockChange JobFault
   pub ends : EndsLock named srp0 old new outcome
   pub sends : SendsLock srp0 old new
   pub few : status ≤ 1

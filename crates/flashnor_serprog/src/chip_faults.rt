@@ -1,7 +1,10 @@
 //! The faults with which a job ends, and the lines of those that only this program has.
 ghost use Rattle.std.specs.Prelude.{◌≡◌};
 
+use crate::status_line::StatusLine;
+use nor_buses::CheckFault;
 use nor_console::{Fault, Outcome};
+use nor_driver::OperationError;
 use nor_session::Refusal;
 use std::alloc::AllocError;
 use std::fmt;
@@ -14,6 +17,8 @@ pub enum JobFault<'a> {
     /// Chip fault 1, before a write or an erase: no row applies to the chip's ID, and at least one of the bits 2 to 6
     /// of its status 1 is set. Nothing was changed, and the journal was not created.
     Protected { status1: u8 },
+    /// Chip fault 3, of a change of SRP0: `sent` was written, and the status registers were read back as `found`.
+    NotStored { sent: [u8; 2], found: [u8; 2] },
     /// The change was made, and each sector that it touched was read back. Then the comparison of the whole chip with
     /// its target returned this error: 14 is printed as chip fault 4.
     NotCompared { refusal: Refusal },
@@ -30,6 +35,29 @@ impl<'a> From<Fault<'a>> for JobFault<'a> {
 
     fn from(fault: Fault<'a>) -> JobFault<'a> {
         JobFault::Fault(fault)
+    }
+}
+
+impl From<Refusal> for JobFault<'_> {
+    ghost use Rattle.flashnor_serprog.specs.declared.chip_faults.JobFault.TheVariants as ended;
+    ghost use Rattle.nor_console.specs.declared.messages.Fault.TheVariants.{Refused};
+
+    ghost from_gives = { λ refusal of_job. of_job ≡ ended.Fault (Refused refusal) };
+
+    fn from(refusal: Refusal) -> Self {
+        JobFault::Fault(Fault::Refused(refusal))
+    }
+}
+
+impl From<OperationError> for JobFault<'_> {
+    ghost use Rattle.flashnor_serprog.specs.declared.chip_faults.JobFault.TheVariants as ended;
+    ghost use Rattle.nor_console.specs.declared.messages.Fault.TheVariants.{Refused};
+    ghost use Rattle.nor_request.specs.Refusal.{of_operation};
+
+    ghost from_gives = { λ error of_job. of_job ≡ ended.Fault (Refused (of_operation error)) };
+
+    fn from(error: OperationError) -> Self {
+        JobFault::from(Refusal::from(error))
     }
 }
 
@@ -104,6 +132,10 @@ impl fmt::Display for JobFault<'_> {
                     f,
                     "Chip fault 1: status 1 of this chip is {status1:02X}h. {PROTECTED}"
                 )
+            }
+            JobFault::NotStored { sent, found } => {
+                let (sent, found) = (*sent, *found);
+                write!(f, "{}", StatusLine(CheckFault::NotStored { sent, found }))
             }
             JobFault::NotCompared {
                 refusal: Refusal::Mismatch { address },

@@ -6,16 +6,13 @@ ghost use Rattle.nor_console.specs.Printing.{Prints};
 ghost use Rattle.flashnor_serprog.specs.StatusLocks.{HasRunLock, lock_lines, meaning_lines, registers_line};
 ghost use Rattle.flashnor_serprog.specs.StatusLocks.{registers_lines};
 
-use crate::chip_faults::JobFault;
 use crate::connect::ChipBus;
 use crate::ending::status_of;
-use crate::reports::{print_job_fault, report_changed_byte};
+use crate::reports::print_job_fault;
 use crate::run::end_run;
 use crate::run_log::end_log;
-use crate::status_line::StatusLine;
-use crate::status_lock::{LockChange, LockFault, set_srp0};
+use crate::status_lock::{LockChange, set_srp0};
 use nor_args::Operation;
-use nor_buses::CheckFault;
 use nor_chip::Bus;
 use nor_console::{Answer, print_answer};
 use std::io;
@@ -40,7 +37,7 @@ pub fn run_lock<'b, O: Write, E: Write>(
         }
         Err(fault) => {
             bus.end_progress(false);
-            print_lock_fault(errors, fault, bus, operation);
+            print_job_fault(errors, &fault, bus, operation, None);
             end_log(errors, bus.terminal().log(), operation.log, 1)
         }
     }
@@ -58,28 +55,6 @@ fn end_changed<O: Write, E: Write>(
         (O.contents output.new) }
 {
     status_of(print_change(output, srp0, change), errors)
-}
-
-// Prints the line of the fault with which a change of SRP0 ended, and the lines that may follow it.
-fn print_lock_fault<E: Write>(
-    errors: &mut E,
-    fault: LockFault<'_>,
-    bus: &ChipBus<'_>,
-    operation: &Operation<'_>,
-) {
-    match fault {
-        LockFault::Fault(fault) => {
-            print_job_fault(errors, &JobFault::Fault(fault), bus, operation, None);
-        }
-        LockFault::NotStored { sent, found } => {
-            let _ = writeln!(
-                errors,
-                "{}",
-                StatusLine(CheckFault::NotStored { sent, found })
-            );
-            report_changed_byte(errors, bus, 1);
-        }
-    }
 }
 
 // Prints the lines of a change of SRP0 to the value `srp0`: the chip, its status registers, what the value means, and

@@ -6,8 +6,8 @@ ghost use Rattle.flashnor_serprog.specs.Sends.{KeepsSent};
 ghost use Rattle.flashnor_serprog.specs.StatusLocks.{FailsFound, FailsLock, HasOnlySrp0, HasSetSrp0, ReadsStatus};
 ghost use Rattle.flashnor_serprog.specs.StatusLocks.{SendsLock, WritesSrp0, bytes_with, shows_srp0, sets_srp0};
 
+use crate::chip_faults::JobFault;
 use nor_chip::{Bus, Status};
-use nor_console::Fault;
 use nor_driver::{OperationError, read_status2, wait, write_status};
 use nor_jobs::find_first;
 use nor_probe::{ChipName, Found};
@@ -24,48 +24,6 @@ pub struct LockChange {
     pub after: Option<[u8; 2]>,
 }
 
-/// The fault with which a change of SRP0 ends.
-#[derive(Drop)]
-pub enum LockFault<'a> {
-    /// A fault before the status write, error 12 (the bus stopped) or error 13 (the chip stayed busy).
-    Fault(Fault<'a>),
-    /// Chip fault 3: `sent` was written, and the status registers were read back as `found`.
-    NotStored { sent: [u8; 2], found: [u8; 2] },
-}
-
-impl<'a> From<Fault<'a>> for LockFault<'a> {
-    ghost use Rattle.flashnor_serprog.specs.declared.status_lock.LockFault.TheVariants as ended;
-
-    ghost from_gives = { λ fault of_lock. of_lock ≡ ended.Fault fault };
-
-    fn from(fault: Fault<'a>) -> LockFault<'a> {
-        LockFault::Fault(fault)
-    }
-}
-
-impl From<Refusal> for LockFault<'_> {
-    ghost use Rattle.flashnor_serprog.specs.declared.status_lock.LockFault.TheVariants as ended;
-    ghost use Rattle.nor_console.specs.declared.messages.Fault.TheVariants.{Refused};
-
-    ghost from_gives = { λ refusal of_lock. of_lock ≡ ended.Fault (Refused refusal) };
-
-    fn from(refusal: Refusal) -> Self {
-        LockFault::Fault(Fault::Refused(refusal))
-    }
-}
-
-impl From<OperationError> for LockFault<'_> {
-    ghost use Rattle.flashnor_serprog.specs.declared.status_lock.LockFault.TheVariants as ended;
-    ghost use Rattle.nor_console.specs.declared.messages.Fault.TheVariants.{Refused};
-    ghost use Rattle.nor_request.specs.Refusal.{of_operation};
-
-    ghost from_gives = { λ error of_lock. of_lock ≡ ended.Fault (Refused (of_operation error)) };
-
-    fn from(error: OperationError) -> Self {
-        LockFault::from(Refusal::from(error))
-    }
-}
-
 /// Sets SRP0 (bit 7 of status 1) if `srp0` is true, and clears it otherwise. While SRP0 is set and the WP# pin is low,
 /// a chip ignores status writes, so that its block protection can't be changed. (W25Q64FV datasheet, Status Register
 /// Protect.)
@@ -80,7 +38,7 @@ pub fn set_srp0<'a, B: Bus>(
     bus: &mut B,
     named: Option<ChipName>,
     srp0: bool,
-) -> Result<LockChange, LockFault<'a>>
+) -> Result<LockChange, JobFault<'a>>
     ensures sends { SendsLock srp0 (B.state bus.old) (B.state bus.new) }
     ensures ok { IfOk result (HasSetSrp0 named srp0 (B.state bus.old) (B.state bus.new)) }
     ensures err { IfErr result (FailsLock named srp0 (B.state bus.old) (B.state bus.new)) }
@@ -96,7 +54,7 @@ pub fn set_srp0<'a, B: Bus>(
     }
     let after = write_srp0(bus, before, srp0)?;
     if !has_only_srp0(srp0, before, after) {
-        return Err(LockFault::NotStored {
+        return Err(JobFault::NotStored {
             sent: bytes_with(srp0, before),
             found: after,
         });
