@@ -1,5 +1,5 @@
 -- Lemmas on a change of SRP0: the last replies after a read of the status registers, and the limits of a status write.
-use Rattle.std.proofs.Common.{◌≡◌, ◌∙◌, ◌<◌, ◌+◌, ◌*◌, ◌/◌, ◌%◌, ℕ, Bool, true, false, List, [], ◌∷◌, ap, arith, inl, inr, refl, sym}
+use Rattle.std.proofs.Common.{◌≡◌, ◌∙◌, ◌<◌, ◌+◌, ◌*◌, ◌/◌, ◌%◌, ℕ, Bool, true, false, List, [], ◌∷◌, Ok, Option, ap, arith, inl, inr, refl, sym}
 use Rattle.std.specs.Prelude.{◌==◌, slice_index}
 use mathlib.Core.Bool.{beq}
 use Rattle.std.proofs.lemmas.Bool.{eqb-true, false≢true}
@@ -18,9 +18,15 @@ use Rattle.nor_driver.specs.declared.waits.OperationError.{OperationError}
 use Rattle.nor_driver.specs.declared.waits.OperationError.TheVariants as failed
 use Rattle.nor_driver.specs.declared.waits.Waited.{Waited}
 use Rattle.nor_probe.specs.declared.probes.Found.{Found}
+use Rattle.nor_probe.specs.declared.table.ChipName.{ChipName}
 use Rattle.nor_request.specs.Refusal.{of_operation}
+use Rattle.nor_request.specs.declared.refusal.Refusal.{Refusal}
+use Rattle.nor_console.specs.declared.messages.Fault.TheVariants as end
+use Rattle.nor_jobs.specs.Finding.{HasIdentified}
 use Rattle.flashnor_serprog.specs.Sends.{KeepsSent}
-use Rattle.flashnor_serprog.specs.StatusLocks.{FailsFound, ReadsStatus, bytes_with, sets_srp0}
+use Rattle.flashnor_serprog.specs.StatusLocks.{FailsFound, FailsLock, HasSetSrp0, IsSet, ReadsStatus, SendsLock}
+use Rattle.flashnor_serprog.specs.StatusLocks.{bytes_with, sets_srp0, shows_srp0}
+use Rattle.flashnor_serprog.specs.declared.chip_faults.JobFault.TheVariants as ended
 
 -- ---- reading
 
@@ -113,12 +119,6 @@ within_reads limits old mid new sends same = record {
 pub kept_on : (old mid new : BusState) → KeepsSent old mid → KeepsSent mid new → KeepsSent old new
 kept_on old mid new one other = other ∙ one
 
--- An error of a wait or of a status write is one after the identification.
-pub operation_fails : (chip : Found) (old new : BusState) (error : OperationError) → EndsAt error new.history
-    → FailsFound chip old new (of_operation error)
-operation_fails chip old new failed.Stopped ends = ends
-operation_fails chip old new (failed.Timeout address) ends = ends
-
 -- The test whether two truth values are equal, as code makes it.
 pub equal_bits : (a b : Bool) → beq a b ≡ true → a ≡ b
 equal_bits true true same = refl
@@ -131,3 +131,48 @@ other_bits true true other same = false≢true (sym other)
 other_bits false false other same = false≢true (sym other)
 other_bits true false other same = false≢true (sym same)
 other_bits false true other same = false≢true same
+
+-- Let the chip be identified up to `found`, and its status registers then be read as `before` up to `read`, with SRP1
+-- clear.
+module _ (named : Option ChipName) (srp0 : Bool) (chip : Found) (before : List ℕ) (old found read new : BusState)
+    (identified : HasIdentified named old found (Ok chip)) (status : ReadsStatus found read before)
+    (clear : slice_index before 1 % 2 ≡ 0) where
+  -- If SRP0 then has the value that it must have, the change was made.
+  pub lock_set : (after : Option (List ℕ)) → chip.scheme ≡ true → IsSet srp0 before after read new
+      → HasSetSrp0 named srp0 old new (record { found = chip; before = before; after = after })
+  lock_set after known set = record {
+    found = found;
+    read = read;
+    identified = identified;
+    known = known;
+    before = status;
+    open_to = clear;
+    set = set;
+  }
+
+  -- If SRP0 had another value, a status write that changes only SRP0 may follow.
+  pub lock_sends : (shown : Bool) → shown ≡ shows_srp0 (slice_index before 0) → beq shown srp0 ≡ false
+      → SendsWithin (writing (sets_srp0 srp0 before) 1) read new → SendsLock srp0 old new
+  lock_sends shown is other within = inr (record {
+    read = read;
+    before = before;
+    kept = kept_on old found read identified.always.only_reads.sent status.kept;
+    one = status.one_replied;
+    two = status.two_replied;
+    open_to = clear;
+    differs = λ same. other_bits _ _ other (is ∙ same);
+    within = within;
+  })
+
+-- If the chip was identified, an error that follows is one of the change.
+pub lock_fails : (named : Option ChipName) (chip : Found) (srp0 : Bool) (old found new : BusState) (error : Refusal)
+    → HasIdentified named old found (Ok chip) → FailsFound chip found new error
+    → FailsLock named srp0 old new (ended.Fault (end.Refused error))
+lock_fails named chip srp0 old found new error identified fails =
+    inr (error, record { chip = chip; found = found; identified = identified; fails = fails }, refl)
+
+-- An error of a wait or of a status write is one after the identification.
+pub operation_fails : (chip : Found) (old new : BusState) (error : OperationError) → EndsAt error new.history
+    → FailsFound chip old new (of_operation error)
+operation_fails chip old new failed.Stopped ends = ends
+operation_fails chip old new (failed.Timeout address) ends = ends

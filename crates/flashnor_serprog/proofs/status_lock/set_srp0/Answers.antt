@@ -1,73 +1,35 @@
-use Rattle.std.proofs.Common.{◌∙◌, inr, refl, sym}
+use Rattle.std.proofs.Common.{◌∙◌, Some, None, refl, sym}
 use Rattle.std.proofs.lemmas.Bool.{false≢true}
 use Rattle.std.proofs.lemmas.Result.{err_from_is_err_and}
-use Rattle.flashnor_serprog.proofs.Locks.{equal_bits, kept_on, operation_fails, other_bits}
+use Rattle.flashnor_serprog.proofs.Locks.{equal_bits, lock_fails, lock_sends, lock_set, operation_fails, other_bits}
 use Rattle.flashnor_serprog.proofs.status_lock.set_srp0.Goals as goal
 
 pub returns-in_err-before-clause-err : goal.returns-in_err-before-clause-err
 returns-in_err-before-clause-err g c =
     let p = err_from_is_err_and c.from_residual-in_err-before.result c.from_residual-in_err-before.ensures.1 in
-    rw (p.1, p.2) (inr (
-      _,
-      record {
-        chip = c.in_ok-found.found;
-        found = g.B.Bus.state c.find_first.new.bus;
-        identified = c.in_ok-found.ensures.ok;
-        fails = c.in_err-before.ensures.err;
-      },
-      refl,
-    ))
+    rw (p.1, p.2) (lock_fails _ c.in_ok-found.found c.args.srp0 _ _ _ _ c.in_ok-found.ensures.ok
+    c.in_err-before.ensures.err)
 
 pub returns-then-shows_srp0-srp0-clause-ok : goal.returns-then-shows_srp0-srp0-clause-ok
-returns-then-shows_srp0-srp0-clause-ok g c = record {
-  found = g.B.Bus.state c.find_first.new.bus;
-  read = g.B.Bus.state c.read_open.new.bus;
-  identified = c.in_ok-found.ensures.ok;
-  known = c.in_ok-before.ensures.known;
-  before = c.in_ok-before.ensures.read;
-  open_to = c.in_ok-before.ensures.open;
-  set = (sym c.shows_srp0.ensures ∙ equal_bits _ _ c.if-shows_srp0-srp0.true, refl);
-}
+returns-then-shows_srp0-srp0-clause-ok g c = lock_set c.args.named _ _ _ _ _ _ _ c.in_ok-found.ensures.ok
+    c.in_ok-before.ensures.read c.in_ok-before.ensures.open None c.in_ok-before.ensures.known
+    (sym c.shows_srp0.ensures ∙ equal_bits _ _ c.if-shows_srp0-srp0.true, refl)
 
 pub returns-in_err-after-clause-sends : goal.returns-in_err-after-clause-sends
-returns-in_err-after-clause-sends g c = inr (record {
-  read = g.B.Bus.state c.read_open.new.bus;
-  before = c.in_ok-before.before;
-  kept = kept_on (g.B.Bus.state c.args.bus.now) (g.B.Bus.state c.find_first.new.bus)
-      (g.B.Bus.state c.read_open.new.bus) c.in_ok-found.ensures.ok.always.only_reads.sent c.read_open.ensures.kept;
-  one = c.in_ok-before.ensures.read.one_replied;
-  two = c.in_ok-before.ensures.read.two_replied;
-  open_to = c.in_ok-before.ensures.open;
-  differs = λ same. other_bits _ _ c.if-shows_srp0-srp0.false (c.shows_srp0.ensures ∙ same);
-  within = c.write_srp0.ensures.within;
-})
+returns-in_err-after-clause-sends g c = lock_sends c.args.named _ _ _ _ _ _ _ c.in_ok-found.ensures.ok
+    c.in_ok-before.ensures.read c.in_ok-before.ensures.open _ c.shows_srp0.ensures c.if-shows_srp0-srp0.false
+    c.write_srp0.ensures.within
 
 pub returns-in_err-after-clause-err : goal.returns-in_err-after-clause-err
 returns-in_err-after-clause-err g c =
     let p = err_from_is_err_and c.from_residual-in_err-after.result c.from_residual-in_err-after.ensures.1 in
-    rw (p.1, p.2) (inr (
-      _,
-      record {
-        chip = c.in_ok-found.found;
-        found = g.B.Bus.state c.find_first.new.bus;
-        identified = c.in_ok-found.ensures.ok;
-        fails = operation_fails c.in_ok-found.found _ _ _ c.in_err-after.ensures.err;
-      },
-      refl,
-    ))
+    rw (p.1, p.2) (lock_fails _ c.in_ok-found.found c.args.srp0 _ _ _ _ c.in_ok-found.ensures.ok
+    (operation_fails c.in_ok-found.found _ _ _ c.in_err-after.ensures.err))
 
 pub returns-then-not-has_only_srp0-clause-sends : goal.returns-then-not-has_only_srp0-clause-sends
-returns-then-not-has_only_srp0-clause-sends g c = inr (record {
-  read = g.B.Bus.state c.read_open.new.bus;
-  before = c.in_ok-before.before;
-  kept = kept_on (g.B.Bus.state c.args.bus.now) (g.B.Bus.state c.find_first.new.bus)
-      (g.B.Bus.state c.read_open.new.bus) c.in_ok-found.ensures.ok.always.only_reads.sent c.read_open.ensures.kept;
-  one = c.in_ok-before.ensures.read.one_replied;
-  two = c.in_ok-before.ensures.read.two_replied;
-  open_to = c.in_ok-before.ensures.open;
-  differs = λ same. other_bits _ _ c.if-shows_srp0-srp0.false (c.shows_srp0.ensures ∙ same);
-  within = c.write_srp0.ensures.within;
-})
+returns-then-not-has_only_srp0-clause-sends g c = lock_sends c.args.named _ _ _ _ _ _ _ c.in_ok-found.ensures.ok
+    c.in_ok-before.ensures.read c.in_ok-before.ensures.open _ c.shows_srp0.ensures c.if-shows_srp0-srp0.false
+    c.write_srp0.ensures.within
 
 pub returns-then-not-has_only_srp0-clause-err : goal.returns-then-not-has_only_srp0-clause-err
 returns-then-not-has_only_srp0-clause-err g c = record {
@@ -83,29 +45,14 @@ returns-then-not-has_only_srp0-clause-err g c = record {
 }
 
 pub returns-clause-sends : goal.returns-clause-sends
-returns-clause-sends g c = inr (record {
-  read = g.B.Bus.state c.read_open.new.bus;
-  before = c.in_ok-before.before;
-  kept = kept_on (g.B.Bus.state c.args.bus.now) (g.B.Bus.state c.find_first.new.bus)
-      (g.B.Bus.state c.read_open.new.bus) c.in_ok-found.ensures.ok.always.only_reads.sent c.read_open.ensures.kept;
-  one = c.in_ok-before.ensures.read.one_replied;
-  two = c.in_ok-before.ensures.read.two_replied;
-  open_to = c.in_ok-before.ensures.open;
-  differs = λ same. other_bits _ _ c.if-shows_srp0-srp0.false (c.shows_srp0.ensures ∙ same);
-  within = c.write_srp0.ensures.within;
-})
+returns-clause-sends g c = lock_sends c.args.named _ _ _ _ _ _ _ c.in_ok-found.ensures.ok
+    c.in_ok-before.ensures.read c.in_ok-before.ensures.open _ c.shows_srp0.ensures c.if-shows_srp0-srp0.false
+    c.write_srp0.ensures.within
 
 pub returns-clause-ok : goal.returns-clause-ok
-returns-clause-ok g c = record {
-  found = g.B.Bus.state c.find_first.new.bus;
-  read = g.B.Bus.state c.read_open.new.bus;
-  identified = c.in_ok-found.ensures.ok;
-  known = c.in_ok-before.ensures.known;
-  before = c.in_ok-before.ensures.read;
-  open_to = c.in_ok-before.ensures.open;
-  set = (
-    λ same. other_bits _ _ c.if-shows_srp0-srp0.false (c.shows_srp0.ensures ∙ same),
-    c.in_ok-after.ensures.ok,
-    c.has_only_srp0.ensures.yes c.if-not-has_only_srp0.false,
-  );
-}
+returns-clause-ok g c = lock_set c.args.named _ _ _ _ _ _ _ c.in_ok-found.ensures.ok c.in_ok-before.ensures.read
+    c.in_ok-before.ensures.open (Some _) c.in_ok-before.ensures.known (
+      λ same. other_bits _ _ c.if-shows_srp0-srp0.false (c.shows_srp0.ensures ∙ same),
+      c.in_ok-after.ensures.ok,
+      c.has_only_srp0.ensures.yes c.if-not-has_only_srp0.false,
+    )
