@@ -9,6 +9,7 @@ use Rattle.nor_journal.specs.Vault.{VaultState}
 use Rattle.nor_request.specs.declared.refusal.Refusal.{Refusal}
 use Rattle.nor_args.specs.Text.{Text}
 use Rattle.nor_layout.specs.declared.ranges.Span.{Span}
+use Rattle.nor_args.specs.declared.job.Change.{Change}
 use Rattle.nor_args.specs.declared.job.Regions.{Regions}
 use Rattle.nor_args.specs.declared.job.Wanted.{Wanted}
 use Rattle.nor_args.specs.declared.job.Wanted.TheVariants as wanted
@@ -21,7 +22,7 @@ use Rattle.nor_console.specs.Stored.{IsKeptFile, AreTwo}
 use Rattle.nor_console.specs.Requests.{AreRangesOf, IsLayoutText}
 use Rattle.nor_console.specs.Tasks.{image_of, layout_of, named_by, journal_of}
 use Rattle.nor_jobs.specs.Sources.{IsAskedOf}
-use Rattle.flashnor.specs.Run.{DoesJob, IsViewBut}
+use Rattle.flashnor.specs.Run.{ChangesChip, DoesJob, IsViewBut}
 use Rattle.flashnor.specs.Tasks.{writes_back}
 use Rattle.nor_console.specs.declared.answers.Answer.{Answer}
 use Rattle.flashnor.proofs.Stays.{StayApart, not_that}
@@ -48,26 +49,23 @@ module _ (programmer : Programmer) (s2 s3 : FilesState) (nature : s3.view.nature
       → IsKeptIn kept vault vault' s3
   kept_in_after kept vault vault' one other before = grind arith
 
+  change_after : (change : Change) (amid : View) (named : Option ChipName) (old new : BusState)
+      (outcome : Result Answer Refusal) → AreTwo s2.view.nature programmer.image (journal_of change.journal_use)
+      → AreTwo s2.view.nature programmer.status (journal_of change.journal_use)
+      → ChangesChip amid s2 programmer.chip named change old new outcome
+      → ChangesChip amid s3 programmer.chip named change old new outcome
+  change_after change amid named old new outcome one other does =
+      let kept = kept_in_after change.journal_use does.changed.vault does.changed.vault' one other does.changed.kept_in in
+      grind arith
+
   pub does_after : (done : Task) (amid : View) (named : Option ChipName) (old new : BusState)
       (outcome : Result Answer Refusal) → writes_back done ≡ true
       → AreTwo s2.view.nature programmer.image (named_by done).journal
       → AreTwo s2.view.nature programmer.status (named_by done).journal
       → DoesJob amid s2 programmer named done old new outcome
       → DoesJob amid s3 programmer named done old new outcome
-  does_after (task.Change change) amid named old new outcome puts one other does = record {
-    ranges = does.ranges;
-    included = does.included;
-    image = does.image;
-    buffer = does.buffer;
-    changed = record {
-      missing = does.changed.missing;
-      vault = does.changed.vault;
-      vault' = does.changed.vault';
-      fresh = does.changed.fresh;
-      kept_in = kept_in_after change.journal_use _ _ one other does.changed.kept_in;
-      done = does.changed.done;
-    };
-  }
+  does_after (task.Change change) amid named old new outcome puts one other does =
+      change_after change amid named old new outcome one other does
   does_after (task.Restore journal) amid named old new outcome puts one other does = does
   does_after _ amid named old new outcome puts one other does = absurd cc
 
