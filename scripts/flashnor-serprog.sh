@@ -30,7 +30,23 @@ for word in "$@"; do
     esac
     case $word in
         --programmer=*) device=$(device_of "${word#*=}") ;;
-        -p?*) device=$(device_of "${word#-p}") ;;
+        --*) ;;
+        -*)
+            flags=${word#-}
+            while :; do
+                case $flags in
+                    [VnNERh]?*) flags=${flags#?} ;;
+                    *) break ;;
+                esac
+            done
+            case $flags in
+                p) word=-p ;;
+                p?*)
+                    flags=${flags#p}
+                    device=$(device_of "${flags#=}")
+                    ;;
+            esac
+            ;;
     esac
     previous=$word
 done

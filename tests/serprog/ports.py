@@ -125,17 +125,26 @@ def raw_settings(bench):
 
 
 def sets_up_the_port(start):
-    """The command flashnor-serprog makes the port raw, whatever its settings were, and then runs the program."""
+    """The command flashnor-serprog makes the port raw, whatever its settings were, and then runs the program. It finds
+    the port in each form of -p that the program accepts, also after flags in the same word."""
     old, _ = images("sets_up_the_port")
     dev = "serprog:dev={},spispeed=1000000"
-    for words in ("-p", dev), (f"--programmer={dev}",), (f"-p{dev}",):
+    for words in (("-p", dev), ("--programmer", dev), (f"--programmer={dev}",), (f"-p{dev}",), (f"-p={dev}",),
+                  ("-Vp", dev), (f"-Vp{dev}",), (f"-Vp={dev}",)):
         bench = start(data=old)
         set_flags(bench, *COOKED, control=termios.HUPCL)
         script = installed(bench)
         done = run_script(bench, script, [*(it.format(bench.path("dev")) for it in words), "-r", "out"])
-        check("the run", (done.stderr, done.returncode), ("", 0))
+        check(f"the run with {words}", (done.stderr if "V" not in words[0] else "", done.returncode), ("", 0))
         bench.check_file("out", old)
         check("raw, and the least bytes and tenths of a second of a read", raw_settings(bench), (True, 0, 50))
+    # These runs end with usage fault 8, since -r takes no -n and no -N.
+    for words in ("-nNVp", dev), (f"-Np{dev}",):
+        bench = start(data=old)
+        set_flags(bench, *COOKED)
+        done = run_script(bench, installed(bench), [*(it.format(bench.path("dev")) for it in words), "-r", "out"])
+        check(f"the run with {words}", (done.stderr.splitlines()[-1:], done.returncode), (["Usage fault 8."], 1))
+        check("raw, after a usage fault", raw_settings(bench), (True, 0, 50))
 
 
 def leaves_the_port(start):
