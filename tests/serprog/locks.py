@@ -149,7 +149,8 @@ def changes_a_locked_chip(start):
     # The journal has SRP0 clear.
     bench.expect("--restore", "j", "-N", err=[
         "Error 17: status differs from the journal's.",
-        "Status in the journal: 1c 02 BP0 BP1 BP2 QE. Status of the chip: 9c 02 BP0 BP1 BP2 SRP0 QE."])
+        "Status in the journal: 1c 02 BP0 BP1 BP2 QE. Status of the chip: 9c 02 BP0 BP1 BP2 SRP0 QE."
+        + reference.CLEAR_SRP0])
     bench.expect("--wp-disable", out=changed(status, b"\x1c\x02", CLEAR))
     check("the restore", bench.run("--restore", "j", "-N").status, 0)
     bench.check_chip(old, b"\x1c\x02")
@@ -157,5 +158,22 @@ def changes_a_locked_chip(start):
     bench.check_chip(old, status)
 
 
+def says_which_lock_differs(start):
+    """The line after error 17 says what to do if only SRP0 differs, or only SRP1, which a power cycle clears."""
+    data = b"\xff" * LARGE
+    for saved, found, its, advice in (
+            (b"\x80\0", b"\0\0", "80 00 SRP0. Status of the chip: 00 00.", reference.SET_SRP0),
+            (b"\0\0", b"\x84\0", "00 00. Status of the chip: 84 00 BP0 SRP0.", reference.CLEAR_SRP0),
+            (b"\0\0", b"\0\x01", "00 00. Status of the chip: 00 01 SRP1.", reference.CLEAR_SRP1),
+            (b"\0\x01", b"\0\0", "00 01 SRP1. Status of the chip: 00 00.", ""),
+            (b"\0\0", b"\x80\x01", "00 00. Status of the chip: 80 01 SRP0 SRP1.", ""),
+            (b"\0\0", b"\x80\x02", "00 00. Status of the chip: 80 02 SRP0 QE.", "")):
+        bench = bench_with(start, found, data=data)
+        bench.write("j", reference.journal(PART, data, [0], saved))
+        bench.expect("--restore", "j", "-N", err=[
+            "Error 17: status differs from the journal's.", f"Status in the journal: {its}{advice}"])
+        bench.check_chip(data, found)
+
+
 CASES = [changes_srp0, locks_the_protection, reports_a_missed_write, refuses_to_lock, takes_one_lock,
-         logs_the_status_write, changes_a_locked_chip]
+         logs_the_status_write, changes_a_locked_chip, says_which_lock_differs]

@@ -44,10 +44,16 @@ UNSEALED = [
 NO_CHIP = ["Error 1: no chip.", "Check contacts, supply and wiring, and that cs= selects this chip."]
 LOCKED = ["Error 9: status locked.",
           "SRP0 or SRP1 is set. Clear SRP0 while WP# is high (--wp-disable), or SRP1 by a power cycle."]
+# The line after error 4 if regions are given.
+WHOLE_IMAGE = "Give an image of the whole chip. -i NAME:FILE gives the bytes of a region."
+# What follows the line after error 17 if only SRP0 is to be set or cleared, or only SRP1.
+SET_SRP0, CLEAR_SRP0 = (f" {do} SRP0 (--wp-{option}), and restore again."
+                        for do, option in (("Set", "enable"), ("Clear", "disable")))
+CLEAR_SRP1 = " A power cycle clears SRP1: disconnect the chip from power, and restore again."
 NOT_OFFERED = ["Error 8: range not offered.", "--wp-list lists the ranges that this chip can protect."]
 POWER_LOCKED = ["Error 9: status locked.",
-                "SRP1 is set, so nothing was sent. A power cycle clears SRP1 if SRP0 is clear; otherwise the status "
-                "may be locked for good."]
+                "SRP1 is set, so no status write was sent. A power cycle clears SRP1 if SRP0 is clear; otherwise the "
+                "status may be locked for good."]
 # The lines that say what SRP0 means, by whether it is set.
 LOCK_MEANING = {
     True: ["SRP0 is set: while WP# is low, the status and the protected range can't be changed.",

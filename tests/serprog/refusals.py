@@ -176,13 +176,14 @@ def refuses_regions(start):
     bench.write("layout", b"0:fff a\n10000:10fff b\n")
     bench.write("wrong", b"0:fff a\n2000:1000 b\n")
     bench.write("short", bytes(SIZE - 1))
-    for words, error in ((("-E",), "Error 5: region outside the chip."),
-                         (("-w", "short"), f"Error 4: image of {SIZE - 1} bytes, chip of {SIZE} bytes.")):
+    for words, *errors in ((("-E",), "Error 5: region outside the chip."),
+                           (("-w", "short"), f"Error 4: image of {SIZE - 1} bytes, chip of {SIZE} bytes.",
+                            reference.WHOLE_IMAGE)):
         words = (*words, "-l", "layout", "-i", "b", "--journal", "j")
-        bench.expect(*words, err=[error])
+        bench.expect(*words, err=errors)
         bench.check_frames(reference.probe("TINY64"))
         bench.check_absent("j")
-        bench.expect(*words, "-N", err=[error, reference.used_name()])
+        bench.expect(*words, "-N", err=[*errors, reference.used_name()])
         bench.path("j").unlink()
     bench.expect("-E", "-l", "wrong", "-i", "a", "--journal", "k",
                  err=["error: the end is below the start", "Layout fault 3 at line 2.",

@@ -77,6 +77,14 @@ def status_text(status):
     return " ".join([f"{status[0]:02x} {status[1]:02x}", *names])
 
 
+def lock_advice(saved, found):
+    """Returns what to do if outside the protection bits only SRP0 differs, or only SRP1, which a power cycle clears."""
+    differs = [(one ^ other) & bits for one, other, bits in zip(saved, found, (SRP0, 0x3F))]
+    if differs == [SRP0, 0]:
+        return reference.SET_SRP0 if saved[0] & SRP0 else reference.CLEAR_SRP0
+    return reference.CLEAR_SRP1 if differs == [0, SRP1] and found[1] & SRP1 and not found[0] & SRP0 else ""
+
+
 class Job:
     """A run on a chip."""
 
@@ -137,7 +145,8 @@ class Job:
 
     def check_length(self, image):
         if len(image) != self.size:
-            raise Fault(f"Error 4: image of {len(image)} bytes, chip of {self.size} bytes.")
+            raise Fault(f"Error 4: image of {len(image)} bytes, chip of {self.size} bytes.",
+                        *([] if self.ranges is None else [reference.WHOLE_IMAGE]))
 
     def open_status(self):
         """Reads status 2 and the unique ID, and returns the non-volatile status bits."""
@@ -300,7 +309,8 @@ class Job:
         if any((one ^ other) & ~bits for one, other, bits in zip(whole[19:21], status, fixed.to_bytes(2, "big"))):
             saved, found = status_text(whole[19:21]), status_text(status)
             raise Fault("Error 17: status differs from the journal's.",
-                        f"Status in the journal: {saved}. Status of the chip: {found}.")
+                        f"Status in the journal: {saved}. Status of the chip: {found}."
+                        + (lock_advice(whole[19:21], status) if fixed else ""))
         saved, records = [], whole[25:-36]
         target = bytearray(b"\xff" * self.size)
         for at in range(0, len(records), SECTOR + 4):

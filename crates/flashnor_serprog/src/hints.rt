@@ -7,6 +7,7 @@ use crate::trouble::Left;
 use nor_args::{Change, Operation, Regions, Task};
 use nor_console::{Escaped, Fault, FileFault};
 use nor_journal::Journal;
+use nor_model::Status;
 use nor_probe::{ChipName, part_for};
 use nor_session::Refusal;
 use std::fmt;
@@ -172,6 +173,7 @@ fn found_and_expected<'a>(
     match refusal {
         Refusal::NoChip => Some(Line::NoChip),
         Refusal::UnknownChip(_) => Some(Line::Unknown { id: replies.id? }),
+        Refusal::ImageSize { .. } if regions_of(&operation.task).is_some() => Some(Line::Image),
         Refusal::RangeNotOffered => Some(Line::Ranges),
         Refusal::StatusLocked if operation.srp0.is_some() => Some(Line::PowerLocked),
         Refusal::StatusLocked => Some(Line::Locked),
@@ -189,15 +191,44 @@ fn found_and_expected<'a>(
             saved: saved?,
             id: replies.id?,
         }),
-        Refusal::StatusDiffers => Some(Line::Status {
-            saved: saved?.status,
-            found: replies.status,
-        }),
+        Refusal::StatusDiffers => {
+            let saved = saved?;
+            Some(Line::Status {
+                saved: saved.status,
+                found: replies.status,
+                advice: lock_advice(&saved, replies.status),
+            })
+        }
         Refusal::OtherUnit => Some(Line::Unique {
             saved: saved?.unique?,
             found: replies.unique?,
         }),
         _ => None,
+    }
+}
+
+// SRP0 in status 1, and SRP1 in status 2 (W25Q64FV datasheet, Status Register Protect).
+const SRP0: u8 = 0x80;
+
+const SRP1: u8 = 0x01;
+
+// Returns what to do before another restore, if outside the protection bits the journal and the chip, whose status is
+// `found`, differ only in SRP0, or only in SRP1, which a power cycle clears if SRP0 is clear. A restore writes the
+// protection bits itself. Returns an empty text in all other cases, and for a chip without a row, which may be
+// protected by other bits.
+fn lock_advice(saved: &Saved, found: [u8; 2]) -> &'static str {
+    if part_for(true, saved.id).is_none() {
+        return "";
+    }
+    let [one, two] = Status::of(saved.status).fixed().bytes();
+    let [found_one, found_two] = Status::of(found).fixed().bytes();
+    match (one ^ found_one, two ^ found_two) {
+        (SRP0, 0) if one == SRP0 => " Set SRP0 (--wp-enable), and restore again.",
+        (SRP0, 0) => " Clear SRP0 (--wp-disable), and restore again.",
+        (0, SRP1) if one == 0 && two & SRP1 == 0 => {
+            " A power cycle clears SRP1: disconnect the chip from power, and restore again."
+        }
+        _ => "",
     }
 }
 
@@ -210,17 +241,37 @@ pub fn unlocks(task: &Task<'_>) -> bool {
 #[derive(Clone, Copy, Drop)]
 enum Line<'a> {
     NoChip,
-    Unknown { id: [u8; 3] },
+    Unknown {
+        id: [u8; 3],
+    },
+    Image,
     Ranges,
     Locked,
     PowerLocked,
-    Busy { left: Left<'a> },
-    NotStored { left: Left<'a> },
-    Name { named: ChipName, id: [u8; 3] },
+    Busy {
+        left: Left<'a>,
+    },
+    NotStored {
+        left: Left<'a>,
+    },
+    Name {
+        named: ChipName,
+        id: [u8; 3],
+    },
     Unlock,
-    Chip { saved: Saved, id: [u8; 3] },
-    Status { saved: [u8; 2], found: [u8; 2] },
-    Unique { saved: [u8; 8], found: [u8; 8] },
+    Chip {
+        saved: Saved,
+        id: [u8; 3],
+    },
+    Status {
+        saved: [u8; 2],
+        found: [u8; 2],
+        advice: &'static str,
+    },
+    Unique {
+        saved: [u8; 8],
+        found: [u8; 8],
+    },
 }
 
 impl fmt::Display for Line<'_> {
@@ -235,17 +286,20 @@ impl fmt::Display for Line<'_> {
                 (spispeed=).",
                 Hex(id)
             ),
+            Line::Image => f.write_str(
+                "Give an image of the whole chip. -i NAME:FILE gives the bytes of a region.",
+            ),
             Line::Ranges => f.write_str("--wp-list lists the ranges that this chip can protect."),
             Line::Locked => f.write_str(
                 "SRP0 or SRP1 is set. Clear SRP0 while WP# is high (--wp-disable), or SRP1 by a power cycle.",
             ),
             Line::PowerLocked => f.write_str(
-                "SRP1 is set, so nothing was sent. A power cycle clears SRP1 if SRP0 is clear; otherwise the status \
-                may be locked for good.",
+                "SRP1 is set, so no status write was sent. A power cycle clears SRP1 if SRP0 is clear; otherwise the \
+                status may be locked for good.",
             ),
             Line::Busy { left } => write!(
                 f,
-                "The chip stayed busy. Check contacts and supply.{left}"
+                "The chip stayed busy. Check contacts and supply: a chip without contact looks busy.{left}"
             ),
             Line::NotStored { left } => write!(
                 f,
@@ -273,9 +327,13 @@ impl fmt::Display for Line<'_> {
                 saved.size,
                 ChipText(id)
             ),
-            Line::Status { saved, found } => write!(
+            Line::Status {
+                saved,
+                found,
+                advice,
+            } => write!(
                 f,
-                "Status in the journal: {}. Status of the chip: {}.",
+                "Status in the journal: {}. Status of the chip: {}.{advice}",
                 StatusBits(saved),
                 StatusBits(found)
             ),
