@@ -26,5 +26,10 @@ pub fn agree_bytes(came: &mut String, bytes: &[u8], wanted: &[u8]) -> Result<(),
 
 /// Appends the number in decimal digits to `came`.
 pub fn put_number(came: &mut String, number: u64) -> Result<(), Fault> {
-    Ok(write!(came, "{number}")?)
+    write!(came, "{number}").map_err(Fault::from)
+}
+
+/// Appends the text to `came`.
+pub fn put_text(came: &mut String, text: &str) -> Result<(), Fault> {
+    came.push_str(text).map_err(Fault::from)
 }

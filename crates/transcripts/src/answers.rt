@@ -1,6 +1,6 @@
 //! The checks of a case after all its actions.
 
-use crate::agree::{agree, put_number};
+use crate::agree::{agree, put_number, put_text};
 use crate::digits::{address_of, addresses_of, byte_of, pair_of, status_of};
 use crate::fault::Fault;
 use crate::guards;
@@ -183,7 +183,7 @@ fn unlike(bytes: &[u8], places: (u32, u32), (inside, outside): (u8, u8)) -> Opti
 }
 
 fn put_status(came: &mut String, [one, two]: [u8; 2]) -> Result<(), Fault> {
-    Ok(write!(came, "{one:02x}{two:02x}")?)
+    write!(came, "{one:02x}{two:02x}").map_err(Fault::from)
 }
 
 // The SFDP bytes for `put_made`, which gives its chip the first bytes of this array.
@@ -195,7 +195,7 @@ fn put_made(came: &mut String, words: &str) -> Result<(), Fault> {
     let (size, count) = words.split_once(' ').ok_or(Fault::Unread)?;
     let sfdp = SFDP.get(..count.parse()?).ok_or(Fault::Unread)?;
     let config = Config::new([1, 2, 3], address_of(size)?, true, false, false, sfdp);
-    Ok(came.push_str(if config.is_some() { "made" } else { "none" })?)
+    put_text(came, if config.is_some() { "made" } else { "none" })
 }
 
 // Creates a simulated chip with the number of bytes in `words`. Appends `taken` to `came` if `SimBus::new` accepts this
@@ -204,7 +204,7 @@ fn put_length(alloc: Global, came: &mut String, config: Config, words: &str) -> 
     let bytes = vec![in alloc; 0xFF; words.parse()?]?;
     let delays = Delays { now: 0, each: 0 };
     match SimBus::new(config, bytes, [0x00, 0x00], delays) {
-        Ok(_) => Ok(came.push_str("taken")?),
-        Err(wrong) => Ok(write!(came, "{wrong}")?),
+        Ok(_) => put_text(came, "taken"),
+        Err(wrong) => write!(came, "{wrong}").map_err(Fault::from),
     }
 }

@@ -3,6 +3,7 @@
 ghost use Rattle.std.specs.Prelude.{◌≡◌, ◌<◌, true, IfOk};
 ghost use Rattle.nor_driver.specs.Units.{is_aligned};
 
+use crate::agree::{put_number, put_text};
 use crate::digits::{address_of, byte_of, bytes_of};
 use crate::fault::Fault;
 use crate::setup::Way;
@@ -36,7 +37,9 @@ pub fn call(
 
 fn wait_at(bus: &mut Way<'_>, came: &mut String, address: u32) -> Result<(), Fault> {
     match wait(bus, address) {
-        Ok(waited) => Ok(write!(came, "{:02x} {}", waited.status1, waited.polls)?),
+        Ok(waited) => {
+            write!(came, "{:02x} {}", waited.status1, waited.polls).map_err(Fault::from)
+        }
         Err(error) => put(came, Err(error)),
     }
 }
@@ -109,9 +112,11 @@ fn erase_of(opcode: u32, sector: u32) -> Result<Erase, Fault>
 
 // Appends the result of a call to `came`: the number of transactions, `stop`, or `timeout ADDRESS`.
 fn put(came: &mut String, outcome: Result<u32, OperationError>) -> Result<(), Fault> {
-    Ok(match outcome {
-        Ok(count) => write!(came, "{count}")?,
-        Err(OperationError::Stopped) => came.push_str("stop")?,
-        Err(OperationError::Timeout { address }) => write!(came, "timeout {address:06x}")?,
-    })
+    match outcome {
+        Ok(count) => put_number(came, u64::from(count)),
+        Err(OperationError::Stopped) => put_text(came, "stop"),
+        Err(OperationError::Timeout { address }) => {
+            write!(came, "timeout {address:06x}").map_err(Fault::from)
+        }
+    }
 }

@@ -26,17 +26,17 @@ fn repeat(bytes: &mut Vec<u8>, piece: &[u8], count: u32) -> Result<(), AllocErro
 
 /// Parses one byte in hexadecimal digits.
 pub fn byte_of(digits: &str) -> Result<u8, Fault> {
-    Ok(u8::from_str_radix(digits, 16)?)
+    u8::from_str_radix(digits, 16).map_err(Fault::from)
 }
 
 /// Parses status 1 and status 2, in this order, from four hexadecimal digits.
 pub fn status_of(digits: &str) -> Result<[u8; 2], Fault> {
-    Ok(<[u8; 2] as FromHex>::from_hex(digits)?)
+    <[u8; 2] as FromHex>::from_hex(digits).map_err(Fault::from)
 }
 
 /// Parses an address or another number in hexadecimal digits.
 pub fn address_of(digits: &str) -> Result<u32, Fault> {
-    Ok(u32::from_str_radix(digits, 16)?)
+    u32::from_str_radix(digits, 16).map_err(Fault::from)
 }
 
 /// Parses a range such as `7fe000..7ff000`. Returns its first address, and the address after its last one.

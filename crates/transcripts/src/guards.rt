@@ -2,7 +2,7 @@
 
 ghost use Rattle.std.specs.Prelude.{IsTrue};
 
-use crate::agree::put_number;
+use crate::agree::{put_number, put_text};
 use crate::digits::{addresses_of, pair_of, status_of};
 use crate::fault::Fault;
 use nor_chip::{Config, SECTOR_LEN, code_for, protected, unit_protected};
@@ -49,7 +49,7 @@ pub fn put_unit(came: &mut String, config: &Config, words: &str) -> Result<(), F
         return Err(Fault::Unread);
     }
     let is_protected = unit_protected(status, config.size, start, end - start);
-    Ok(came.push_str(word(is_protected))?)
+    put_text(came, word(is_protected))
 }
 
 /// Appends to `came` the least value of the protection bits that protect exactly the range in `words`, in decimal, or
@@ -58,6 +58,6 @@ pub fn put_least(came: &mut String, config: &Config, words: &str) -> Result<(), 
     let (start, len) = pair_of(words)?;
     match code_for(start, len, config.size) {
         Some(code) => put_number(came, u64::from(code)),
-        None => Ok(came.push_str("none")?),
+        None => put_text(came, "none"),
     }
 }
