@@ -3,7 +3,7 @@
 use crate::cases::Case;
 use crate::chips::Chip;
 use crate::contents::sector_at;
-use crate::fault::{Fault, agree, agree_all};
+use crate::fault::{Fault, agree_all};
 use crate::model::Stop;
 use crate::pace::Pace;
 use crate::wanted::{Wanted, Work};
@@ -89,10 +89,15 @@ pub fn check_ended(case: &Case, wanted: &Wanted, lines: &str, ran: &Ran) -> Resu
     };
     let work = wanted.work(&case.chip);
     check_report(&case.chip, work, &report)?;
-    let sent = lengths::session(case, work);
-    agree(report.transactions == sent, "the transactions of a session")?;
+    let count = lengths::session(case, work);
+    agree_all(&[
+        (
+            report.transactions == count,
+            "the transactions of a session",
+        ),
+        (ran.vault.is_sealed(), "the vault after a session"),
+    ])?;
     check_wanted(wanted, &ran.bus)?;
-    agree(ran.vault.is_sealed(), "the vault after a session")?;
     let sent = ran.lines()?;
     traces::check_ended(case, wanted, sent)?;
     check_vault(&case.chip, wanted, &ran.vault)?;

@@ -88,7 +88,12 @@ pub fn guards(code: u8, size: u32, address: u32) -> bool {
 /// True if `code` protects an address of the sector on a chip of this size. The chip must have block protection.
 pub fn guards_some(code: u8, size: u32, sector: u32) -> bool {
     let start = sector.saturating_mul(4096);
-    (0..4096).any(|place| guards(code, size, start.saturating_add(place)))
+    for address in start..start.saturating_add(4096) {
+        if guards(code, size, address) {
+            return true;
+        }
+    }
+    false
 }
 
 /// Returns the least defined value of the protection bits that protects exactly `len` bytes from `start` on, if there

@@ -49,15 +49,18 @@ impl Lines {
     pub fn wait(&mut self) {
         for _ in 0..=self.pace.busy {
             let status1 = self.status[0] | self.pace.bits();
-            self.lost |= writeln!(self.text, "05 > {status1:02x}").is_err();
-            self.pace = self.pace.after("05");
+            self.put("05 > ");
+            self.put_bytes(&[status1]);
+            self.put("\n");
+            self.pace = self.pace.after(0x05);
         }
     }
 
     /// Appends a read of the ID (9Fh).
     pub fn read_id(&mut self, id: [u8; 3]) {
-        let [maker, kind, size] = id;
-        self.lost |= writeln!(self.text, "9f > {maker:02x}{kind:02x}{size:02x}").is_err();
+        self.put("9f > ");
+        self.put_bytes(&id);
+        self.put("\n");
     }
 
     /// Appends a read of `count` SFDP bytes from `address` on (5Ah): three address bytes and a dummy byte, which is
@@ -68,8 +71,9 @@ impl Lines {
 
     /// Appends a read of status 2 (35h).
     pub fn read_status2(&mut self) {
-        let status2 = self.status[1];
-        self.lost |= writeln!(self.text, "35 > {status2:02x}").is_err();
+        self.put("35 > ");
+        self.put_bytes(&[self.status[1]]);
+        self.put("\n");
     }
 
     /// Appends a read of the unique ID (4Bh): four dummy bytes, which are 00h, and eight bytes that are read.
@@ -79,14 +83,15 @@ impl Lines {
 
     /// Appends a read of a sector (03h).
     pub fn read_sector(&mut self, number: u32) {
-        let address = number.saturating_mul(SECTOR_LEN);
-        self.lost |= writeln!(self.text, "03{address:06x} > {SECTOR_LEN} bytes").is_err();
+        self.put_address(0x03, number.saturating_mul(SECTOR_LEN));
+        self.put(" > 4096 bytes\n");
     }
 
     /// Appends an operation that erases the block at `address`: a write enable, a command with `opcode`, and a wait.
-    pub fn erase(&mut self, opcode: &str, address: u32) {
+    pub fn erase(&mut self, opcode: u8, address: u32) {
         self.enable();
-        self.lost |= writeln!(self.text, "{opcode}{address:06x}").is_err();
+        self.put_address(opcode, address);
+        self.put("\n");
         self.finish(opcode);
     }
 
@@ -94,41 +99,53 @@ impl Lines {
     pub fn erase_chip(&mut self) {
         self.enable();
         self.put("c7\n");
-        self.finish("c7");
+        self.finish(0xC7);
     }
 
     /// Appends an operation that programs `bytes` from `address` on (02h).
     pub fn program(&mut self, address: u32, bytes: &[u8]) {
         self.enable();
-        self.lost |= write!(self.text, "02{address:06x}").is_err();
-        for byte in bytes {
-            self.lost |= write!(self.text, "{byte:02x}").is_err();
-        }
+        self.put_address(0x02, address);
+        self.put_bytes(bytes);
         self.put("\n");
-        self.finish("02");
+        self.finish(0x02);
     }
 
     /// Appends an operation that writes both status bytes (01h).
     pub fn write_status(&mut self, status: Status) {
-        let [status1, status2] = status;
         self.enable();
-        self.lost |= writeln!(self.text, "01{status1:02x}{status2:02x}").is_err();
+        self.put("01");
+        self.put_bytes(&status);
+        self.put("\n");
         self.status = status;
-        self.finish("01");
+        self.finish(0x01);
     }
 
     fn put(&mut self, text: &str) {
         self.lost |= self.text.push_str(text).is_err();
     }
 
+    // Appends the bytes, with two hexadecimal digits for each.
+    fn put_bytes(&mut self, bytes: &[u8]) {
+        for byte in bytes {
+            self.lost |= write!(self.text, "{byte:02x}").is_err();
+        }
+    }
+
+    // Appends an opcode and the address after it, which has 24 bits.
+    fn put_address(&mut self, opcode: u8, address: u32) {
+        let [_, high, middle, low] = address.to_be_bytes();
+        self.put_bytes(&[opcode, high, middle, low]);
+    }
+
     // Appends the write enable (06h) with which every operation begins.
     fn enable(&mut self) {
         self.put("06\n");
-        self.pace = self.pace.after("06");
+        self.pace = self.pace.after(0x06);
     }
 
     // Appends the wait with which every operation ends, after the command with this opcode.
-    fn finish(&mut self, opcode: &str) {
+    fn finish(&mut self, opcode: u8) {
         self.pace = self.pace.after(opcode);
         self.wait();
     }
@@ -142,6 +159,14 @@ pub fn first(lines: &str, count: u64) -> &str {
         end = end.saturating_add(line.len()).saturating_add(1);
     }
     lines.get(..end).unwrap_or(lines)
+}
+
+/// Returns the byte at the position `place`, counted from 0, in `sent`, which has two hexadecimal digits for each byte.
+/// Returns 0 if `sent` has no such byte.
+pub fn byte_at(sent: &str, place: usize) -> u8 {
+    let from = place.saturating_mul(2);
+    let digits = sent.get(from..from.saturating_add(2)).unwrap_or("");
+    u8::from_str_radix(digits, 16).unwrap_or(0)
 }
 
 /// Returns the number of lines.

@@ -3,7 +3,7 @@
 use crate::chips::Chip;
 use crate::fault::{Fault, agree_all};
 use crate::guards::{self, Status};
-use crate::lines;
+use crate::lines::{self, byte_at};
 use crate::pace::Pace;
 use nor_chip::SimBus;
 use std::alloc::Global;
@@ -117,16 +117,16 @@ impl Model {
     // Carries out a transaction that sends these bytes, as hexadecimal digits. Only polls and modifying commands change
     // the model. A 04h is ignored, since no call sends it.
     fn carry_out(&mut self, sent: &str) {
-        let opcode = sent.get(..2).unwrap_or("");
+        let opcode = byte_at(sent, 0);
         match (opcode, sent.len() / 2) {
-            ("05", 1) => self.pass(opcode),
-            ("06", 1) if self.pace().busy == 0 => self.pass(opcode),
-            ("01", 3) => self.write_status(byte_at(sent, 1), byte_at(sent, 2)),
-            ("20", 4) => self.erase_unit(opcode, 4096, sent),
-            ("52", 4) if self.chip.config.kinds.k32 => self.erase_unit(opcode, 32_768, sent),
-            ("d8", 4) if self.chip.config.kinds.k64 => self.erase_unit(opcode, 65_536, sent),
-            ("c7", 1) => self.erase(opcode, 0, self.chip.config.size),
-            ("02", count) if count > 4 => self.program(sent),
+            (0x05, 1) => self.pass(opcode),
+            (0x06, 1) if self.pace().busy == 0 => self.pass(opcode),
+            (0x01, 3) => self.write_status(byte_at(sent, 1), byte_at(sent, 2)),
+            (0x20, 4) => self.erase_unit(opcode, 4096, sent),
+            (0x52, 4) if self.chip.config.kinds.k32 => self.erase_unit(opcode, 32_768, sent),
+            (0xD8, 4) if self.chip.config.kinds.k64 => self.erase_unit(opcode, 65_536, sent),
+            (0xC7, 1) => self.erase(opcode, 0, self.chip.config.size),
+            (0x02, count) if count > 4 => self.program(sent),
             _ => {}
         }
     }
@@ -137,7 +137,7 @@ impl Model {
 
     // Sets BUSY and the write enable latch to their values after the chip has carried out a transaction with this
     // opcode.
-    fn pass(&mut self, opcode: &str) {
+    fn pass(&mut self, opcode: u8) {
         self.set_pace(self.pace().after(opcode));
     }
 
@@ -172,15 +172,15 @@ impl Model {
         let stays = before[1] & 0b0011_1100;
         self.chip.status = [one & 0b1111_1100, two & 0b0111_1011 | stays];
         self.work = Work::Status(before);
-        self.pass("01");
+        self.pass(0x01);
     }
 
-    fn erase_unit(&mut self, opcode: &str, len: u32, sent: &str) {
+    fn erase_unit(&mut self, opcode: u8, len: u32, sent: &str) {
         let address = self.address_of(sent);
         self.erase(opcode, aligned(address, len), len);
     }
 
-    fn erase(&mut self, opcode: &str, start: u32, len: u32) {
+    fn erase(&mut self, opcode: u8, start: u32, len: u32) {
         if self.takes(start, len) {
             self.fill(start, len, 0xFF);
             self.work = Work::Bytes(start, len);
@@ -213,7 +213,7 @@ impl Model {
             self.lower((page as usize).saturating_add(at), byte_at(sent, place));
         }
         self.work = Work::Bytes(page, 256);
-        self.pass("02");
+        self.pass(0x02);
     }
 
     fn lower(&mut self, at: usize, byte: u8) {
@@ -254,13 +254,6 @@ fn sent_by(line: &str) -> &str {
         Some((sent, _)) => sent,
         None => line,
     }
-}
-
-// Returns the byte at the position `place`, counted from 0, in `sent`, which has two hexadecimal digits for each byte.
-fn byte_at(sent: &str, place: usize) -> u8 {
-    let from = place.saturating_mul(2);
-    let digits = sent.get(from..from.saturating_add(2)).unwrap_or("");
-    u8::from_str_radix(digits, 16).unwrap_or(0)
 }
 
 // Returns the first address of the aligned block of this length that holds the address.

@@ -1,6 +1,7 @@
 //! BUSY and the write enable latch of a chip.
 
 use crate::chips::Chip;
+use crate::lines::byte_at;
 
 /// How long a chip stays busy, and whether its write enable latch is set.
 #[derive(Clone, Copy)]
@@ -29,14 +30,14 @@ impl Pace {
 
     /// Returns the pace after the chip carried out a transaction with this opcode. For a write enable or an operation
     /// the chip must be idle, and for an operation its write enable latch must be set, too.
-    pub fn after(self, opcode: &str) -> Pace {
+    pub fn after(self, opcode: u8) -> Pace {
         match opcode {
-            "05" => self.after_poll(),
-            "06" => Pace {
+            0x05 => self.after_poll(),
+            0x06 => Pace {
                 latch: true,
                 ..self
             },
-            "01" | "02" | "20" | "52" | "d8" | "c7" => Pace {
+            0x01 | 0x02 | 0x20 | 0x52 | 0xD8 | 0xC7 => Pace {
                 busy: self.each,
                 latch: self.each > 0,
                 each: self.each,
@@ -69,7 +70,7 @@ impl Pace {
     pub fn after_lines(self, lines: &str) -> Pace {
         let mut pace = self;
         for line in lines.lines() {
-            pace = pace.after(line.get(..2).unwrap_or(""));
+            pace = pace.after(byte_at(line, 0));
         }
         pace
     }

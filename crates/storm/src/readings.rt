@@ -183,14 +183,22 @@ fn check_ran(
         (same, "the chip after it was read"),
         (shown == pace.bits(), "BUSY and the latch after a reading"),
     ])?;
-    match &ran.answer {
-        Ok(told) => {
-            agree(refusal.is_none(), "a reading that is to be refused")?;
-            check_told(alloc, case, told)?;
-        }
-        Err(other) => agree(refusal == Some(*other), "the refusal of a reading")?,
-    }
+    check_answer(alloc, case, refusal, &ran.answer)?;
     traces::check_trace(ran.sent.as_slice(), first, "a reading")
+}
+
+// Checks the result of a call. `refusal` is the expected error.
+fn check_answer(
+    alloc: Global,
+    case: &Case,
+    refusal: Option<Refusal>,
+    answer: &Result<Told, Refusal>,
+) -> Result<(), Fault> {
+    match answer {
+        Ok(told) if refusal.is_none() => check_told(alloc, case, told),
+        Ok(_) => Err(Fault::Differs("a reading that is to be refused")),
+        Err(other) => agree(refusal == Some(*other), "the refusal of a reading"),
+    }
 }
 
 // Returns `Mismatch` with the first included address at which chip and image differ, if there is one.

@@ -177,18 +177,33 @@ impl fmt::Display for Tally {
     }
 }
 
-impl Tally {
-    fn write_others<W: fmt::Write>(&self, f: &mut fmt::Formatter<W>) -> fmt::Result {
-        write!(f, "\nrehearsals: {}", self.rehearsed)?;
-        write!(f, "\nchips read: {}", self.read)?;
-        write!(f, "\nsessions on a faulty bus: {}", self.lied)?;
+impl fmt::Display for Cuts {
+    fn fmt<W: fmt::Write>(&self, f: &mut fmt::Formatter<W>) -> fmt::Result {
         let Cuts {
             sessions,
             restores,
             losses,
-        } = self.cuts;
-        write!(f, "\nstops inside a transaction: {sessions} of sessions, ")?;
-        write!(f, "{restores} of restores, {losses} that lost the power")
+        } = self;
+        write!(
+            f,
+            "stops inside a transaction: {sessions} of sessions, {restores} of restores, {losses} that lost the power"
+        )
+    }
+}
+
+impl Tally {
+    fn write_others<W: fmt::Write>(&self, f: &mut fmt::Formatter<W>) -> fmt::Result {
+        let Tally {
+            rehearsed,
+            read,
+            lied,
+            cuts,
+            ..
+        } = self;
+        write!(
+            f,
+            "\nrehearsals: {rehearsed}\nchips read: {read}\nsessions on a faulty bus: {lied}\n{cuts}"
+        )
     }
 }
 

@@ -1,14 +1,12 @@
 //! Checks of traces, which have one line for each transaction.
 
 use crate::cases::Case;
-use crate::fault::{Fault, agree};
+use crate::fault::{Fault, agree_all};
 use crate::lengths;
+use crate::lines::byte_at;
 use crate::wanted::Wanted;
 use nor_chip::SECTOR_LEN;
 use nor_session::Refusal;
-
-/// The opcodes of the modifying commands, as a trace shows them.
-const CHANGING: [&str; 7] = ["06", "01", "02", "20", "52", "d8", "c7"];
 
 /// Checks that the trace `sent` has exactly the lines `wanted`. Otherwise returns `Sends` with the number of the first
 /// line that differs, is missing or is additional, counted from 1.
@@ -43,54 +41,55 @@ pub fn text(sent: &[u8]) -> Result<&str, Fault> {
 /// Checks that a refused session sent the expected number of transactions, and no modifying command.
 pub fn check_refused(case: &Case, refusal: Refusal, sent: &str) -> Result<(), Fault> {
     let count = u64::try_from(sent.lines().count());
-    agree(
-        count == Ok(lengths::refused(case, refusal)),
-        "the transactions before a refusal",
-    )?;
-    agree(
-        !sent.lines().any(changes),
-        "a changing command before a refusal",
-    )
+    let counted = count == Ok(lengths::refused(case, refusal));
+    let changing = sent.lines().any(changes);
+    agree_all(&[
+        (counted, "the transactions before a refusal"),
+        (!changing, "a changing command before a refusal"),
+    ])
 }
 
 /// Checks that a session sent no modifying command before the seal, and erased only raised sectors.
 pub fn check_ended(case: &Case, wanted: &Wanted, sent: &str) -> Result<(), Fault> {
     let saving = usize::try_from(lengths::saving(case)).unwrap_or(usize::MAX);
-    agree(
-        !sent.lines().take(saving).any(changes),
-        "a changing command before the seal",
-    )?;
-    let sectors = case.chip.sectors();
-    agree(
-        sent.lines()
-            .all(|line| erases_raised(line, sectors, wanted)),
-        "the sectors that are erased",
-    )
+    let changing = sent.lines().take(saving).any(changes);
+    agree_all(&[
+        (!changing, "a changing command before the seal"),
+        (
+            erases_only_raised(sent, case.chip.sectors(), wanted),
+            "the sectors that are erased",
+        ),
+    ])
 }
 
 // True if the line begins with the opcode of a modifying command.
 fn changes(line: &str) -> bool {
-    CHANGING.iter().any(|opcode| line.starts_with(*opcode))
+    matches!(
+        byte_at(line, 0),
+        0x06 | 0x01 | 0x02 | 0x20 | 0x52 | 0xD8 | 0xC7
+    )
 }
 
-// True if the line doesn't erase, or erases only raised sectors.
-fn erases_raised(line: &str, sectors: u32, wanted: &Wanted) -> bool {
-    match erased_by(line, sectors) {
-        Some((first, count)) => wanted.raises_all(first, count),
-        None => true,
+// True if each line erases nothing or only raised sectors.
+fn erases_only_raised(sent: &str, sectors: u32, wanted: &Wanted) -> bool {
+    for line in sent.lines() {
+        if let Some((first, count)) = erased_by(line, sectors)
+            && !wanted.raises_all(first, count)
+        {
+            return false;
+        }
     }
+    true
 }
 
 // Returns the first sector that the command of this line erases, and the number of erased sectors, or `None` if it
 // erases nothing. `sectors` is the number of sectors on the chip.
 fn erased_by(line: &str, sectors: u32) -> Option<(u32, u32)> {
-    if line == "c7" {
-        return Some((0, sectors));
-    }
-    let count = match line.get(..2)? {
-        "20" => 1,
-        "52" => 8,
-        "d8" => 16,
+    let count = match byte_at(line, 0) {
+        0xC7 => return Some((0, sectors)),
+        0x20 => 1,
+        0x52 => 8,
+        0xD8 => 16,
         _ => return None,
     };
     let address = u32::from_str_radix(line.get(2..)?, 16).ok()?;

@@ -216,7 +216,7 @@ fn erase_blocks(lines: &mut Lines, chip: &Chip, wanted: &Wanted) {
     for block in 0..chip.sectors() / 16 {
         let first = block.saturating_mul(16);
         if chip.config.kinds.k64 && wanted.raises_all(first, 16) {
-            lines.erase("d8", first.saturating_mul(SECTOR_LEN));
+            lines.erase(0xD8, first.saturating_mul(SECTOR_LEN));
         } else {
             erase_half(lines, chip, wanted, first);
             erase_half(lines, chip, wanted, first.saturating_add(8));
@@ -226,12 +226,12 @@ fn erase_blocks(lines: &mut Lines, chip: &Chip, wanted: &Wanted) {
 
 fn erase_half(lines: &mut Lines, chip: &Chip, wanted: &Wanted, first: u32) {
     if chip.config.kinds.k32 && wanted.raises_all(first, 8) {
-        lines.erase("52", first.saturating_mul(SECTOR_LEN));
+        lines.erase(0x52, first.saturating_mul(SECTOR_LEN));
         return;
     }
     for sector in first..first.saturating_add(8) {
         if wanted.raises_all(sector, 1) {
-            lines.erase("20", sector.saturating_mul(SECTOR_LEN));
+            lines.erase(0x20, sector.saturating_mul(SECTOR_LEN));
         }
     }
 }

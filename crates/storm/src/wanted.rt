@@ -87,8 +87,8 @@ impl Wanted {
 
     /// True if each of the `count` sectors from `first` on is raised. Sectors past the end count as raised.
     pub fn raises_all(&self, first: u32, count: u32) -> bool {
-        let from = self.sectors.iter().skip(first as usize);
-        from.take(count as usize).all(|sector| sector.raised)
+        let from = self.sectors.get(first as usize..).unwrap_or(&[]);
+        are_raised(from.get(..count as usize).unwrap_or(from))
     }
 
     /// Returns the work that turns `chip` into the target.

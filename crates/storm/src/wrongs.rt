@@ -7,6 +7,7 @@ use crate::fault::Fault;
 use crate::model::{Model, Stop};
 use crate::wanted::Wanted;
 use crate::{lines, traces, transactions, verdicts};
+use nor_chip::SimBus;
 use nor_session::Refusal;
 use std::alloc::Global;
 
@@ -72,12 +73,23 @@ fn check_more(
 ) -> Result<(), Fault> {
     checks::check_ended(case, wanted, lines, ran)?;
     let sent = ran.lines()?;
-    let early = join(alloc, "06\n", sent)?;
-    let told = traces::check_ended(case, wanted, early.as_str());
-    must_tell(told, "a changing command before the seal")?;
-    let wide = join(alloc, sent, "c7\n")?;
-    let told = traces::check_ended(case, wanted, wide.as_str());
-    must_tell(told, "the sectors that are erased")
+    let what = "a changing command before the seal";
+    check_joined(alloc, case, wanted, ("06\n", sent), what)?;
+    let what = "the sectors that are erased";
+    check_joined(alloc, case, wanted, (sent, "c7\n"), what)
+}
+
+// Checks that the comparison for an accepted session reports the difference `what` in the trace that consists of
+// `first` and `second`.
+fn check_joined(
+    alloc: Global,
+    case: &Case,
+    wanted: &Wanted,
+    (first, second): (&str, &str),
+    what: &'static str,
+) -> Result<(), Fault> {
+    let sent = join(alloc, first, second)?;
+    must_tell(traces::check_ended(case, wanted, sent.as_str()), what)
 }
 
 fn check_byte(case: &Case, wanted: &mut Wanted, lines: &str, ran: &Ran) -> Result<(), Fault> {
@@ -92,11 +104,18 @@ fn check_byte(case: &Case, wanted: &mut Wanted, lines: &str, ran: &Ran) -> Resul
 fn check_cut(alloc: Global) -> Result<(), Fault> {
     let case = Case::next(alloc, &mut Dice::new(1, 0))?;
     let wanted = Wanted::of_case(alloc, &case)?;
-    let whole = transactions::session(alloc, &case, &wanted)?;
-    let Some((before, _)) = whole.text().split_once("\n02") else {
-        return Err(Fault::Case);
-    };
-    check_cut_after(alloc, &case, whole.text(), lines::count(before))
+    check_cut_in(
+        alloc,
+        &case,
+        transactions::session(alloc, &case, &wanted)?.text(),
+    )
+}
+
+fn check_cut_in(alloc: Global, case: &Case, lines: &str) -> Result<(), Fault> {
+    match lines.split_once("\n02") {
+        Some((before, _)) => check_cut_after(alloc, case, lines, lines::count(before)),
+        None => Err(Fault::Case),
+    }
 }
 
 // Stops after five bytes of the program: the opcode, the address, and the first data byte, which differs from the
@@ -106,20 +125,27 @@ fn check_cut_after(alloc: Global, case: &Case, lines: &str, after: u64) -> Resul
         cut: Some(5),
         ..Stop::after(after)
     };
-    let ran = checks::run(alloc, case, stop)?;
-    model_after(alloc, case, lines, stop)?.check(&ran.bus)?;
     let less = Stop {
         cut: Some(4),
         ..stop
     };
-    let told = model_after(alloc, case, lines, less)?.check(&ran.bus);
+    let ran = checks::run(alloc, case, stop)?;
+    check_model(alloc, case, lines, stop, &ran.bus)?;
+    let told = check_model(alloc, case, lines, less, &ran.bus);
     must_tell(told, "the bytes after a call")
 }
 
-fn model_after(alloc: Global, case: &Case, lines: &str, stop: Stop) -> Result<Model, Fault> {
+// Compares the chip on the bus with the model after this stop.
+fn check_model(
+    alloc: Global,
+    case: &Case,
+    lines: &str,
+    stop: Stop,
+    bus: &SimBus,
+) -> Result<(), Fault> {
     let mut model = Model::of(alloc, &case.chip)?;
     model.call(lines, stop);
-    Ok(model)
+    model.check(bus)
 }
 
 // Checks that the comparisons for a refused session detect an additional line and a modifying command.
@@ -134,15 +160,26 @@ fn check_refusal(alloc: Global) -> Result<(), Fault> {
 
 fn check_refused(alloc: Global, case: &Case, refusal: Refusal, lines: &str) -> Result<(), Fault> {
     traces::check_refused(case, refusal, lines)?;
-    let longer = join(alloc, lines, "05 > 00\n")?;
-    let told = traces::check_refused(case, refusal, longer.as_str());
-    must_tell(told, "the transactions before a refusal")?;
+    let what = "the transactions before a refusal";
+    check_refused_joined(alloc, case, refusal, (lines, "05 > 00\n"), what)?;
     let Some((_, rest)) = lines.split_once('\n') else {
         return Err(Fault::Case);
     };
-    let changing = join(alloc, "06\n", rest)?;
-    let told = traces::check_refused(case, refusal, changing.as_str());
-    must_tell(told, "a changing command before a refusal")
+    let what = "a changing command before a refusal";
+    check_refused_joined(alloc, case, refusal, ("06\n", rest), what)
+}
+
+// Checks that the comparison for a refused session reports the difference `what` in the trace that consists of `first`
+// and `second`.
+fn check_refused_joined(
+    alloc: Global,
+    case: &Case,
+    refusal: Refusal,
+    (first, second): (&str, &str),
+    what: &'static str,
+) -> Result<(), Fault> {
+    let sent = join(alloc, first, second)?;
+    must_tell(traces::check_refused(case, refusal, sent.as_str()), what)
 }
 
 fn join(alloc: Global, first: &str, second: &str) -> Result<String, Fault> {
