@@ -1,6 +1,6 @@
 //! Tests of announcements. A session or restore must announce the right numbers, after the last read of its scan and
 //! before its first modifying command.
-use crate::held::assert_held;
+use crate::held::{assert_held, assert_that};
 use crate::row::{Row, Start};
 use crate::runs::AMPLE;
 use nor_chip::{Meter, SimBus};
@@ -100,6 +100,6 @@ fn a_restore_announces_before_it_changes(rt: HostRuntime) {
             let seen = run.restore(&rt, allowed);
             assert_held(&rt, seen == announced, allowed);
         }
-        assert!(rt; run.bus.bytes() == row.before(&rt, rt.alloc()).as_slice());
+        assert_that!(&rt; run.bus.bytes() == row.before(&rt, rt.alloc()).as_slice());
     }
 }

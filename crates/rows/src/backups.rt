@@ -1,6 +1,6 @@
 //! Backups of whole chips: stopped after each number of their transactions, with a vault that refuses a call, or of a
 //! chip that isn't the named one. Restores from a backup after sectors changed that no session touched.
-use crate::held::assert_held;
+use crate::held::{assert_held, assert_that};
 use crate::row::{Row, Start};
 use crate::runs::{AMPLE, assert_untouched, keep};
 use nor_chip::{Meter, SimBus};
@@ -27,10 +27,10 @@ fn saved(rt: &impl Abort, alloc: Global, bus: &mut SimBus) -> MemVault {
     let mut vault = MemVault::new(alloc);
     let report = backup(bus, &mut vault, Some(ChipName::Sfdp)).expect(rt, "a backup");
     let told = (report.touched, report.erases, report.programs);
-    assert!(rt; told == (0, 0, 0) && report.transactions == LENGTH);
-    assert!(rt; vault.is_sealed());
+    assert_that!(rt; told == (0, 0, 0) && report.transactions == LENGTH);
+    assert_that!(rt; vault.is_sealed());
     let journal = Journal::read(vault.bytes()).expect(rt, "a journal");
-    assert!(rt; journal.count() == SECTORS as usize && journal.unique().is_some());
+    assert_that!(rt; journal.count() == SECTORS as usize && journal.unique().is_some());
     vault
 }
 
@@ -46,33 +46,35 @@ fn disturb(rt: &impl Abort, bus: &mut SimBus) {
 
 #[test]
 fn a_backup_restores_other_sectors(rt: HostRuntime) {
+    let alloc = rt.alloc();
     for by_rewrite in [false, true] {
-        let mut bus = ROW.bus(&rt, rt.alloc(), Start::IDLE);
-        let backup = saved(&rt, rt.alloc(), &mut bus);
-        let mut vault = MemVault::new(rt.alloc());
+        let mut bus = ROW.bus(&rt, alloc, Start::IDLE);
+        let backup = saved(&rt, alloc, &mut bus);
+        let mut vault = MemVault::new(alloc);
         let row = Row::TheRestOfASectorStays;
-        let _ = keep(&rt, rt.alloc(), row, &mut bus, &mut vault);
+        let _ = keep(&rt, alloc, row, &mut bus, &mut vault);
         disturb(&rt, &mut bus);
         let session = Journal::read(vault.bytes()).expect(&rt, "a journal");
-        assert!(rt; restore(&mut bus, &session).is_ok());
-        assert!(rt; bus.bytes() != ROW.before(&rt, rt.alloc()).as_slice());
+        assert_that!(&rt; restore(&mut bus, &session).is_ok());
+        assert_that!(&rt; bus.bytes() != ROW.before(&rt, alloc).as_slice());
         let whole = Journal::read(backup.bytes()).expect(&rt, "a journal");
         let answer = if by_rewrite {
             rewrite(&mut bus, &whole)
         } else {
             restore(&mut bus, &whole)
         };
-        assert!(rt; answer.is_ok());
-        assert_untouched(&rt, rt.alloc(), ROW, &bus);
+        assert_that!(&rt; answer.is_ok());
+        assert_untouched(&rt, alloc, ROW, &bus);
     }
 }
 
 #[test]
 fn each_stop_of_a_backup(rt: HostRuntime) {
+    let alloc = rt.alloc();
     for allowed in 0..=LENGTH {
-        let mut bus = ROW.bus(&rt, rt.alloc(), Start::IDLE);
+        let mut bus = ROW.bus(&rt, alloc, Start::IDLE);
         bus.allow(allowed);
-        let mut vault = MemVault::new(rt.alloc());
+        let mut vault = MemVault::new(alloc);
         let answer = backup(&mut bus, &mut vault, None);
         let stopped = matches!(answer, Err(Refusal::Stopped));
         assert_held(
@@ -81,7 +83,7 @@ fn each_stop_of_a_backup(rt: HostRuntime) {
             allowed,
         );
         assert_held(&rt, vault.is_sealed() != stopped, allowed);
-        assert_untouched(&rt, rt.alloc(), ROW, &bus);
+        assert_untouched(&rt, alloc, ROW, &bus);
     }
 }
 
@@ -89,14 +91,15 @@ fn each_stop_of_a_backup(rt: HostRuntime) {
 // digest, and the seal.
 #[test]
 fn each_call_of_a_backup_is_refused(rt: HostRuntime) {
+    let alloc = rt.alloc();
     for nth in 1..=20 {
-        let mut bus = ROW.bus(&rt, rt.alloc(), Start::IDLE);
+        let mut bus = ROW.bus(&rt, alloc, Start::IDLE);
         bus.allow(AMPLE);
-        let mut vault = BrokenVault::new(MemVault::new(rt.alloc()), nth, 0);
+        let mut vault = BrokenVault::new(MemVault::new(alloc), nth, 0);
         let answer = backup(&mut bus, &mut vault, None);
         assert_held(&rt, matches!(answer, Err(Refusal::Vault)), nth);
         assert_held(&rt, !vault.inner().is_sealed(), nth);
-        assert_untouched(&rt, rt.alloc(), ROW, &bus);
+        assert_untouched(&rt, alloc, ROW, &bus);
     }
 }
 
@@ -106,6 +109,6 @@ fn a_backup_of_another_chip_is_refused(rt: HostRuntime) {
     bus.allow(AMPLE);
     let mut vault = MemVault::new(rt.alloc());
     let answer = backup(&mut bus, &mut vault, Some(ChipName::W25Q64FV));
-    assert!(rt; matches!(answer, Err(Refusal::OtherName)));
-    assert!(rt; vault.bytes().is_empty() && !vault.is_sealed());
+    assert_that!(&rt; matches!(answer, Err(Refusal::OtherName)));
+    assert_that!(&rt; vault.bytes().is_empty() && !vault.is_sealed());
 }

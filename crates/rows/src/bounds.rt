@@ -2,7 +2,7 @@
 //! session and its restore on the slowest chip.
 ghost use Rattle.std.specs.Prelude.{◌≡◌, false};
 
-use crate::held::assert_held;
+use crate::held::{assert_held, assert_that};
 use crate::row::{Row, Start};
 use crate::runs::Runs;
 use crate::spoilt::{Lied, lies, most, spoilt};
@@ -62,8 +62,8 @@ impl Reading {
         let sent = bus.sent();
         let bus = bus.into_inner();
         let before = row.before(rt, alloc);
-        assert!(rt; bus.bytes() == before.as_slice());
-        assert!(rt; bus.status() == row.status());
+        assert_that!(rt; bus.bytes() == before.as_slice());
+        assert_that!(rt; bus.status() == row.status());
         sent
     }
 }
@@ -90,7 +90,7 @@ fn readings_on_faulty_buses(rt: HostRuntime) {
             runs = runs.saturating_add(read_each(&rt, rt.alloc(), row, spoil));
         }
     }
-    assert!(rt; runs == 23 * 4 * 4);
+    assert_that!(&rt; runs == 23 * 4 * 4);
 }
 
 // Runs the row's session on a bus with each of the faults `lies(n)` in turn. `Lied::session` asserts the bound. Returns
@@ -113,7 +113,7 @@ fn sessions_on_faulty_buses(rt: HostRuntime) {
             runs = runs.saturating_add(session_each(&rt, rt.alloc(), row, n));
         }
     }
-    assert!(rt; runs == 2 * 59 * 4);
+    assert_that!(&rt; runs == 2 * 59 * 4);
 }
 
 // Runs the restore on a bus with each of the faults `lies(n)` in turn, after a session that was stopped after ten
@@ -136,13 +136,13 @@ fn restores_on_faulty_buses(rt: HostRuntime) {
     for n in 0..=59 {
         runs = runs.saturating_add(restore_each(&rt, &stopped, n));
     }
-    assert!(rt; runs == 60 * 4);
+    assert_that!(&rt; runs == 60 * 4);
 }
 
 // Asserts that the chip has the row's image.
 fn assert_written(rt: &impl Abort, alloc: Global, row: Row, bus: &SimBus) {
     let wanted = row.wanted(rt, alloc);
-    assert!(rt; bus.bytes() == wanted.as_slice());
+    assert_that!(rt; bus.bytes() == wanted.as_slice());
 }
 
 // The bound of the session and of its restore is `most(16)`, which allows 274 operations. The session sends 271
@@ -157,11 +157,11 @@ fn the_slowest_session_and_its_restore(rt: HostRuntime) {
     let runs = Runs::new(&rt, rt.alloc(), row, Start::SLOWEST);
     let length = row.ends_at(Start::SLOWEST);
     let restored = 7 + 16 + 241 * 65_538 + 15 + 16;
-    assert!(rt; length == 65_542 + 16 + 271 * 65_538 + 1 + 16);
-    assert!(rt; restored < length && length < most(16));
+    assert_that!(&rt; length == 65_542 + 16 + 271 * 65_538 + 1 + 16);
+    assert_that!(&rt; restored < length && length < most(16));
     let mut cut = runs.cut(&rt, length);
     assert_written(&rt, rt.alloc(), row, &cut.bus);
     let sent = cut.restore(&rt, u64::MAX);
-    assert!(rt; sent == Some(restored));
+    assert_that!(&rt; sent == Some(restored));
     runs.assert_as_before(&rt, &cut.bus);
 }

@@ -1,6 +1,7 @@
 //! Sessions that are stopped after each number of transactions from a given number on. If the stop follows the seal, or
 //! the session ends, one restore follows, which isn't stopped. The rows of `undone.rt` are left out, because that file
 //! stops their restores, too.
+use crate::held::assert_that;
 use crate::row::{Row, Start};
 use crate::runs::Runs;
 
@@ -18,6 +19,6 @@ const ROWS: [(Row, u64, u64); 4] = [
 fn each_stop_with_one_restore(rt: HostRuntime) {
     for (row, first, runs) in ROWS {
         let stopped = Runs::new(&rt, rt.alloc(), row, Start::IDLE);
-        assert!(rt; stopped.stop_at_each(&rt, first) == runs);
+        assert_that!(&rt; stopped.stop_at_each(&rt, first) == runs);
     }
 }

@@ -2,7 +2,7 @@
 //! not repeat the call.
 ghost use Rattle.std.specs.Prelude.{None};
 
-use crate::held::assert_held;
+use crate::held::{assert_held, assert_that};
 use crate::row::{Row, Start};
 use crate::runs::{self, assert_untouched};
 use nor_chip::Meter;
@@ -146,7 +146,7 @@ fn keep(
 // Returns the file.
 fn fail(rt: &impl Abort, alloc: Global, row: Row, most: usize, failure: Failure) -> OnceFile {
     let (refusal, file) = keep(rt, alloc, row, most, Some(failure));
-    assert!(rt; refusal == Some(Refusal::Vault));
+    assert_that!(rt; refusal == Some(Refusal::Vault));
     file
 }
 
@@ -166,12 +166,12 @@ fn fail_write(rt: &impl Abort, alloc: Global, row: Row, right: &OnceFile, n: usi
 fn fail_at_each(rt: &impl Abort, alloc: Global, row: Row, most: usize, counted: (usize, usize)) {
     let (writes, length) = counted;
     let (refusal, right) = keep(rt, alloc, row, most, None);
-    assert!(rt; refusal.is_none() && right.is_whole(writes, length));
+    assert_that!(rt; refusal.is_none() && right.is_whole(writes, length));
     for n in 0..writes {
         fail_write(rt, alloc, row, &right, n);
     }
     let file = fail(rt, alloc, row, most, Failure::Sync);
-    assert!(rt; file.has(&right.writes, right.syncs, &right.bytes));
+    assert_that!(rt; file.has(&right.writes, right.syncs, &right.bytes));
 }
 
 // Each row has the most bytes that a write accepts, and the expected numbers of writes and of bytes. The header is one
@@ -199,8 +199,8 @@ fn put_half(rt: &impl Abort, alloc: Global, failure: Failure) {
     let mut vault = FileVault::new(OnceFile::new(alloc, 2, Some(failure)));
     let told = vault.put(b"piece");
     let file = vault.into_inner();
-    assert!(rt; told == Err(VaultFault { kept: 2 }));
-    assert!(rt; file.has(&[0, 2], Syncs::NONE, b"pi"));
+    assert_that!(rt; told == Err(VaultFault { kept: 2 }));
+    assert_that!(rt; file.has(&[0, 2], Syncs::NONE, b"pi"));
 }
 
 // Puts five bytes into a vault over a file whose sync fails, and seals the vault. Asserts that the seal fails with 0
@@ -209,13 +209,14 @@ fn put_all(rt: &impl Abort, alloc: Global) {
     let mut vault = FileVault::new(OnceFile::new(alloc, 5, Some(Failure::Sync)));
     let told = [vault.put(b"piece"), vault.seal()];
     let file = vault.into_inner();
-    assert!(rt; told == [Ok(()), Err(VaultFault { kept: 0 })]);
-    assert!(rt; file.has(&[0], Syncs::once(5), b"piece"));
+    assert_that!(rt; told == [Ok(()), Err(VaultFault { kept: 0 })]);
+    assert_that!(rt; file.has(&[0], Syncs::once(5), b"piece"));
 }
 
 #[test]
 fn a_failure_is_returned_at_once(rt: HostRuntime) {
-    put_half(&rt, rt.alloc(), Failure::Write(1));
-    put_half(&rt, rt.alloc(), Failure::Nothing(1));
-    put_all(&rt, rt.alloc());
+    let alloc = rt.alloc();
+    put_half(&rt, alloc, Failure::Write(1));
+    put_half(&rt, alloc, Failure::Nothing(1));
+    put_all(&rt, alloc);
 }

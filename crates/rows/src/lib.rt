@@ -9,7 +9,8 @@
 //! - `spoilt.rt`: runs a row's session, or a restore, on a faulty bus
 //! - `failing.rt`: a bus on which one transaction fails, or the polls of one wait, while all others succeed
 //! - `stages.rt`: calls on the bus of `failing.rt`; each of their transactions or waits fails in turn
-//! - `held.rt`: an assertion whose message has a number
+//! - `held.rt`: assertions that are proved faster than `assert!`
+//! - `transact.rt`: transactions that must succeed
 //!
 //! Stops and power failures:
 //!
@@ -134,6 +135,8 @@ mod texts;
 mod torn;
 #[cfg(test)]
 mod traced;
+#[cfg(test)]
+mod transact;
 #[cfg(test)]
 mod undone;
 #[cfg(test)]

@@ -1,5 +1,5 @@
 //! Sessions and restores on faulty buses, and restores after them on a well-behaved bus.
-use crate::held::assert_held;
+use crate::held::{assert_held, assert_that};
 use crate::row::{Row, Start};
 use crate::runs::Runs;
 use crate::spoilt::Lied;
@@ -18,7 +18,7 @@ const MISMATCH: Refusal = Refusal::Mismatch { address: 0 };
 // restores on a well-behaved bus, and asserts that afterwards the chip is as before the session.
 fn assert_lied(rt: &impl Abort, alloc: Global, row: Row, lied: Lied, told: (Refusal, u64)) {
     let (refusal, sent) = told;
-    assert!(rt; lied.refusal == Some(refusal) && lied.sent == sent);
+    assert_that!(rt; lied.refusal == Some(refusal) && lied.sent == sent);
     lied.assert_undone(rt, alloc, row);
 }
 
@@ -181,7 +181,7 @@ const PAST_THE_SEAL: [(Row, u64); 6] = [
 #[test]
 fn any_lie_past_the_seal_is_undone(rt: HostRuntime) {
     for (row, runs) in PAST_THE_SEAL {
-        assert!(rt; lie_past_the_seal(&rt, rt.alloc(), row) == runs);
+        assert_that!(&rt; lie_past_the_seal(&rt, rt.alloc(), row) == runs);
     }
 }
 

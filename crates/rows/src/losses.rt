@@ -1,5 +1,5 @@
 //! Changes of files in memory (`Memory`) that are interrupted after each call, as by a killed process or a host crash.
-use crate::held::assert_held;
+use crate::held::{assert_held, assert_that};
 use nor_files::{Loss, Memory, Store};
 use nor_journal::Vault;
 use std::alloc::Global;
@@ -38,10 +38,11 @@ fn has(files: &Memory, name: &str, bytes: &[u8]) -> bool {
 
 #[test]
 fn changes_are_lost_until_they_are_synced(rt: HostRuntime) {
+    let alloc = rt.alloc();
     for left in 0..5 {
-        let killed = left_of(&rt, rt.alloc(), left, false, Loss::Nothing);
-        let lost = left_of(&rt, rt.alloc(), left, false, Loss::Unsynced);
-        let torn = left_of(&rt, rt.alloc(), left, true, Loss::Nothing);
+        let killed = left_of(&rt, alloc, left, false, Loss::Nothing);
+        let lost = left_of(&rt, alloc, left, false, Loss::Unsynced);
+        let torn = left_of(&rt, alloc, left, true, Loss::Nothing);
         let image: &[u8] = if left < 2 { b"abcd" } else { b"wxyz" };
         assert_held(&rt, has(&killed, "image", image), left);
         let image: &[u8] = if left < 3 { b"abcd" } else { b"wxyz" };
@@ -68,7 +69,7 @@ fn a_torn_write_fails(rt: HostRuntime) {
             files.tear();
         }
         let written = files.write_over("image", b"wxyz");
-        assert!(rt; written.is_err() == is_torn);
+        assert_that!(&rt; written.is_err() == is_torn);
     }
 }
 
@@ -84,10 +85,10 @@ fn a_sealed_vault_is_durable(rt: HostRuntime) {
         if is_sealed {
             let _ = vault.seal();
         }
-        assert!(rt; files.return_vault(vault) == is_sealed);
+        assert_that!(&rt; files.return_vault(vault) == is_sealed);
         let files = files.lose(Loss::Unsynced, 0);
         let kept: &[u8] = if is_sealed { b"new" } else { b"old" };
-        assert!(rt; has(&files, "copy", kept));
+        assert_that!(&rt; has(&files, "copy", kept));
     }
 }
 
@@ -117,11 +118,11 @@ fn a_name_is_lost_until_its_folder_is_synced(rt: HostRuntime) {
     for (left, (seen, kept)) in steps.into_iter().enumerate() {
         for (loss, found) in [(Loss::Nothing, seen), (Loss::Unsynced, kept)] {
             let mut files = Memory::new(rt.alloc(), left as u64);
-            assert!(rt; fill(&mut files).is_ok() == (left == 6));
+            assert_that!(&rt; fill(&mut files).is_ok() == (left == 6));
             let mut files = files.lose(loss, 1);
-            assert!(rt; files.bytes_of("status") == found);
-            assert!(rt; files.hold("status").ok() == Some(found.is_some()));
-            assert!(rt; files.hold("status").is_err());
+            assert_that!(&rt; files.bytes_of("status") == found);
+            assert_that!(&rt; files.hold("status").ok() == Some(found.is_some()));
+            assert_that!(&rt; files.hold("status").is_err());
         }
     }
 }

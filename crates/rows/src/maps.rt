@@ -1,5 +1,5 @@
 //! Flash descriptors and FMAPs. The tests' bytes were written by hand, from the descriptions of the formats.
-use crate::held::assert_held;
+use crate::held::{assert_held, assert_that};
 use nor_layout::{Layout, RegionFault};
 use nor_maps::{MapFault, read_descriptor, read_fmap};
 
@@ -165,7 +165,7 @@ fn flash_descriptors(rt: HostRuntime) {
     let image = image_of(&[(0x10, NR_2)], &[(0x40, FIVE)]);
     let short = image.get(..LEN - 1).unwrap_or(&image[..]);
     let read = read_descriptor(rt.alloc(), short, 0x80_0000);
-    assert!(rt; read.err() == Some(MapFault::Short));
+    assert_that!(&rt; read.err() == Some(MapFault::Short));
 }
 
 // The header of an FMAP: the signature, version 1.1, the base FFFFF000h in eight bytes, and the size 1000h.
@@ -279,15 +279,16 @@ fn fmaps(rt: HostRuntime) {
 // `Short`. If the first one is missing, the result is `Missing`.
 #[test]
 fn an_fmap_without_an_image(rt: HostRuntime) {
+    let alloc = rt.alloc();
     let image = image_of(AT_200, &[]);
     let whole: Case = (&[], 0x1000, ALL, None);
     let part = image.get(0x200..0x2B6).unwrap_or(&[]);
-    let read = read_fmap(rt.alloc(), part, 0x1000);
-    assert!(rt; is_of_case(read, &whole));
+    let read = read_fmap(alloc, part, 0x1000);
+    assert_that!(&rt; is_of_case(read, &whole));
     let part = image.get(..0x2B5).unwrap_or(&[]);
-    let cut = read_fmap(rt.alloc(), part, 0x1000);
-    assert!(rt; cut.err() == Some(MapFault::Short));
+    let cut = read_fmap(alloc, part, 0x1000);
+    assert_that!(&rt; cut.err() == Some(MapFault::Short));
     let part = image.get(0x201..).unwrap_or(&image[..]);
-    let none = read_fmap(rt.alloc(), part, 0x1000);
-    assert!(rt; none.err() == Some(MapFault::Missing));
+    let none = read_fmap(alloc, part, 0x1000);
+    assert_that!(&rt; none.err() == Some(MapFault::Missing));
 }

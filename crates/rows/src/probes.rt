@@ -1,5 +1,5 @@
 //! Tests of `probe_counted`: which chips it finds, which transactions it sends, and how long it waits.
-use crate::held::assert_held;
+use crate::held::{assert_held, assert_that};
 use crate::row::{Start, erased};
 use nor_chip::{ALL_KINDS, Config, Delays, Meter, SimBus, Spoil, SpoiltBus, TINY64_SFDP, TraceBus};
 use nor_probe::{ChipName, Found, ProbeFault, Probed, SfdpFault, probe_counted};
@@ -160,7 +160,7 @@ fn probes_find_the_chips_that_are_known(rt: HostRuntime) {
     for (chip, name, answer, sent) in PROBES {
         let config = chip.config(&rt);
         let told = probed(&rt, rt.alloc(), config, *name, sent);
-        assert!(rt; told == (*answer, true));
+        assert_that!(&rt; told == (*answer, true));
     }
 }
 

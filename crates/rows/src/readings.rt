@@ -1,5 +1,5 @@
 //! Reading calls whose vault refuses a piece, or for which a reply is lost, and the status that reading calls report.
-use crate::held::assert_held;
+use crate::held::{assert_held, assert_that};
 use crate::row::{Row, Start};
 use crate::runs::AMPLE;
 use crate::spoilt::spoilt;
@@ -71,13 +71,14 @@ fn a_reply_that_differs_is_a_mismatch(rt: HostRuntime) {
 // reports must show that the latch is set.
 #[test]
 fn a_reading_reports_the_status_that_it_found(rt: HostRuntime) {
+    let alloc = rt.alloc();
     let row = Row::ABitRises;
-    let before = row.before(&rt, rt.alloc());
-    let mut bus = row.bus(&rt, rt.alloc(), Start::IDLE.latched());
+    let before = row.before(&rt, alloc);
+    let mut bus = row.bus(&rt, alloc, Start::IDLE.latched());
     bus.allow(AMPLE);
-    let mut out = MemVault::new(rt.alloc());
+    let mut out = MemVault::new(alloc);
     let read = read_out(&mut bus, None, None, &mut out).expect(&rt, "the reading ends");
     let compared = verify(&mut bus, &before, None, None).expect(&rt, "the comparison ends");
-    assert!(rt; read.found.status1 == 0x02);
-    assert!(rt; compared.found.status1 == 0x02);
+    assert_that!(&rt; read.found.status1 == 0x02);
+    assert_that!(&rt; compared.found.status1 == 0x02);
 }

@@ -2,7 +2,7 @@
 //! the bus is faulty.
 ghost use Rattle.std.specs.Prelude.{◌≤◌, length};
 
-use crate::held::assert_held;
+use crate::held::{assert_held, assert_that};
 use crate::row::{Row, Start};
 use crate::runs::Runs;
 use crate::spoilt::most;
@@ -216,7 +216,7 @@ fn an_error_in_a_rehearsal_is_returned(rt: HostRuntime) {
     for (row, spoil, told) in lies() {
         for stops in 0..3 {
             let came = rehearsed_lied(&rt, rt.alloc(), row, spoil, stops);
-            assert!(rt; came == told);
+            assert_that!(&rt; came == told);
         }
     }
 }

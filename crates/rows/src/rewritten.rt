@@ -1,7 +1,7 @@
 //! Rewrites. A rewrite erases every saved sector, and programs each of its pages whose saved bytes aren't all FFh, even
 //! if the chip already has the saved bytes. Each rewrite is stopped after each number of its transactions, and then the
 //! chip is rewritten again, or restored.
-use crate::held::assert_held;
+use crate::held::{assert_held, assert_that};
 use crate::row::{Row, Start};
 use crate::runs::{AMPLE, Cut, Runs};
 use nor_chip::Meter;
@@ -81,7 +81,7 @@ fn undone(rt: &impl Abort, cut: &mut Cut, by_rewrite: bool) {
     } else {
         restore(&mut cut.bus, &journal)
     };
-    assert!(rt; answer.is_ok());
+    assert_that!(rt; answer.is_ok());
 }
 
 // Rewrites the chip after the row's session, with the allowance `allowed`. If the rewrite was stopped, rewrites or
@@ -132,7 +132,7 @@ fn a_rewrite_writes_what_reads_right(rt: HostRuntime) {
         let mut cut = runs.cut(&rt, each.row.ends_at(Start::IDLE));
         for _ in 0..2 {
             let answer = run_rewrite(&rt, &mut cut, AMPLE);
-            assert!(rt; is_reported(each, answer));
+            assert_that!(&rt; is_reported(each, answer));
             runs.assert_as_before(&rt, &cut.bus);
         }
     }

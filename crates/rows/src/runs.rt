@@ -1,7 +1,7 @@
 //! Runs of a row: its session, which may be stopped after a given number of transactions, and the restores after it.
 ghost use Rattle.nor_journal.specs.Vault.{IsFresh};
 
-use crate::held::assert_held;
+use crate::held::{assert_held, assert_that};
 use crate::row::{Row, Start};
 use nor_chip::{Bus, Meter, SimBus};
 use nor_journal::{Journal, MemVault, Vault};
@@ -59,7 +59,7 @@ fn ended(rt: &impl Abort, answer: Result<Report, Refusal>) -> Option<u64> {
     match answer {
         Ok(report) => Some(report.transactions),
         Err(refusal) => {
-            assert!(rt; matches!(refusal, Refusal::Stopped));
+            assert_that!(rt; matches!(refusal, Refusal::Stopped));
             None
         }
     }
@@ -132,8 +132,8 @@ impl Runs {
     /// Asserts that the chip has the same contents and non-volatile status bits as before the session.
     pub fn assert_as_before(&self, rt: &impl Abort, bus: &SimBus) {
         let [one, two] = bus.status();
-        assert!(rt; bus.bytes() == self.before.as_slice());
-        assert!(rt; [one & 0xFC, two & 0x7F] == self.row.status());
+        assert_that!(rt; bus.bytes() == self.before.as_slice());
+        assert_that!(rt; [one & 0xFC, two & 0x7F] == self.row.status());
     }
 
     /// Runs the session with each allowance from `first` up to its length, and then restores if its vault is sealed.
@@ -216,7 +216,7 @@ fn ends_within(rt: &impl Abort, cut: &mut Cut, allowed: u64) -> bool {
         cut.restore(rt, AMPLE).expect(rt, "the second restore ends");
         return false;
     }
-    assert!(rt; sent == Some(allowed));
+    assert_that!(rt; sent == Some(allowed));
     true
 }
 
@@ -224,5 +224,5 @@ fn ends_within(rt: &impl Abort, cut: &mut Cut, allowed: u64) -> bool {
 /// as after a session that sent no write enable.
 pub fn assert_untouched(rt: &impl Abort, alloc: Global, row: Row, bus: &SimBus) {
     Runs::new(rt, alloc, row, Start::IDLE).assert_as_before(rt, bus);
-    assert!(rt; bus.status() == row.status());
+    assert_that!(rt; bus.status() == row.status());
 }

@@ -1,5 +1,6 @@
 //! Which sectors `ReadTwice` reads again, if it expects an image.
 
+use crate::held::assert_that;
 use nor_buses::ReadTwice;
 use nor_chip::{Bus, Config, Delays, Meter, SimBus, Spoil, SpoiltBus, TraceBus};
 use std::alloc::Global;
@@ -77,12 +78,12 @@ fn check(rt: &impl Abort, alloc: Global, reading: Reading) {
     let inside = SpoiltBus::new(chip(rt, alloc), Spoil::Drop(reading.spoilt));
     let result = transact(inside, &mut lines, image, &reading.out, &mut reply);
     let expected = (reading.succeeds, !reading.succeeds);
-    assert!(rt; result == expected);
+    assert_that!(rt; result == expected);
     let at = usize::from(reading.out[2]) * 256 + usize::from(reading.out[3]);
     let bytes = contents(rt, alloc);
     let read_bytes = bytes.get(at..).and_then(|rest| rest.get(..reading.len));
-    assert!(rt; read_bytes == Some(&reply[..]));
-    assert!(rt; lines.as_slice() == reading.lines);
+    assert_that!(rt; read_bytes == Some(&reply[..]));
+    assert_that!(rt; lines.as_slice() == reading.lines);
 }
 
 // Only sectors in which a byte differs from the image are read again. Neighbouring sectors are read together.
@@ -174,15 +175,16 @@ fn a_sector_that_differs_stops_the_bus(rt: HostRuntime) {
 // A read of the ID is repeated as a whole. A read of a sector is, too, if the image ends inside this sector.
 #[test]
 fn other_reads_are_repeated(rt: HostRuntime) {
-    let mut lines = Vec::new(rt.alloc());
-    let mut reply = vec![in rt.alloc(); 0; 4096].expect(&rt, "memory");
+    let alloc = rt.alloc();
+    let mut lines = Vec::new(alloc);
+    let mut reply = vec![in alloc; 0; 4096].expect(&rt, "memory");
     for out in [&[0x9F_u8][..], &[0x03, 0x00, 0x10, 0x00]] {
-        let image = vec![in rt.alloc(); 0xFE; 5000].expect(&rt, "memory");
-        let inside = SpoiltBus::new(chip(&rt, rt.alloc()), Spoil::Drop(0));
+        let image = vec![in alloc; 0xFE; 5000].expect(&rt, "memory");
+        let inside = SpoiltBus::new(chip(&rt, alloc), Spoil::Drop(0));
         let result = transact(inside, &mut lines, image, out, &mut reply);
-        assert!(rt; result == (true, false));
+        assert_that!(&rt; result == (true, false));
     }
-    assert!(rt; contents(&rt, rt.alloc()).get(0x1000..0x2000) == Some(&reply[..]));
+    assert_that!(&rt; contents(&rt, alloc).get(0x1000..0x2000) == Some(&reply[..]));
     let sent = b"9f > 4096 bytes\n9f > 4096 bytes\n03001000 > 4096 bytes\n03001000 > 4096 bytes\n";
-    assert!(rt; lines.as_slice() == sent.as_slice());
+    assert_that!(&rt; lines.as_slice() == sent.as_slice());
 }

@@ -1,6 +1,8 @@
 //! Transactions over a serprog port in memory, batches of commands, and the state of the buses after faults.
 
+use crate::held::assert_that;
 use crate::serprog_model::{Fault, Model};
+use crate::transact::{read, send};
 use nor_chip::Bus;
 use nor_serprog::{BatchingBus, Link, Programmer, SerprogBus};
 use std::alloc::Global;
@@ -27,21 +29,18 @@ fn open_batching(rt: &impl Abort, alloc: Global, fault: Option<Fault>) -> Batchi
 #[test]
 fn a_chip_is_read_and_programmed(rt: HostRuntime) {
     let mut bus = open(&rt, Model::new(&rt, rt.alloc()));
-    let mut id = [0; 3];
-    assert!(rt; bus.transfer(&[0x9F], &mut id).is_ok());
-    assert!(rt; id == [0xFE, 0x10, 0x10]);
+    assert_that!(&rt; read(&rt, &mut bus, &[0x9F]) == [0xFE, 0x10, 0x10]);
     let mut program = [0x5A; 260];
     program[0] = 0x02;
     program[1] = 0x00;
     program[2] = 0x11;
     program[3] = 0x00;
-    assert!(rt; bus.transfer(&[0x06], &mut []).is_ok());
-    assert!(rt; bus.transfer(&program, &mut []).is_ok());
-    let mut sector = [0; 4096];
-    assert!(rt; bus.transfer(&[0x03, 0x00, 0x10, 0x00], &mut sector).is_ok());
+    send(&rt, &mut bus, &[0x06]);
+    send(&rt, &mut bus, &program);
+    let sector: [u8; 4096] = read(&rt, &mut bus, &[0x03, 0x00, 0x10, 0x00]);
     let edges = [sector[0x0FF], sector[0x100], sector[0x1FF], sector[0x200]];
-    assert!(rt; edges == [0xFF, 0x5A, 0x5A, 0xFF]);
-    assert!(rt; bus.cause().is_none());
+    assert_that!(&rt; edges == [0xFF, 0x5A, 0x5A, 0xFF]);
+    assert_that!(&rt; bus.cause().is_none());
 }
 
 // Returns the text of the failure that the bus recorded, or an empty text if there is none.
@@ -56,6 +55,7 @@ fn cause(rt: &impl Abort, alloc: Global, bus: &SerprogBus<Model>) -> String {
 // `synchronize` succeeds. After that the bus works again.
 #[test]
 fn each_fault_stops_the_bus(rt: HostRuntime) {
+    let alloc = rt.alloc();
     let faults = [
         (Fault::Nak, "the programmer refused command 13h"),
         (Fault::Silent, "the port failed: silent"),
@@ -66,19 +66,18 @@ fn each_fault_stops_the_bus(rt: HostRuntime) {
         ),
     ];
     for (fault, text) in faults {
-        let mut model = Model::new(&rt, rt.alloc());
+        let mut model = Model::new(&rt, alloc);
         model.fault = Some(fault);
         let mut bus = open(&rt, model);
         let mut id = [0; 3];
-        assert!(rt; bus.transfer(&[0x9F], &mut id).is_err());
-        assert!(rt; cause(&rt, rt.alloc(), &bus).as_str() == text);
+        assert_that!(&rt; bus.transfer(&[0x9F], &mut id).is_err());
+        assert_that!(&rt; cause(&rt, alloc, &bus).as_str() == text);
         let received = bus.port().received;
-        assert!(rt; bus.transfer(&[0x06], &mut []).is_err());
-        assert!(rt; bus.port().received == received);
-        assert!(rt; cause(&rt, rt.alloc(), &bus).as_str() == text);
-        assert!(rt; bus.synchronize().is_ok());
-        assert!(rt; bus.transfer(&[0x9F], &mut id).is_ok());
-        assert!(rt; id == [0xFE, 0x10, 0x10]);
+        assert_that!(&rt; bus.transfer(&[0x06], &mut []).is_err());
+        assert_that!(&rt; bus.port().received == received);
+        assert_that!(&rt; cause(&rt, alloc, &bus).as_str() == text);
+        assert_that!(&rt; bus.synchronize().is_ok());
+        assert_that!(&rt; read(&rt, &mut bus, &[0x9F]) == [0xFE, 0x10, 0x10]);
     }
 }
 
@@ -90,20 +89,20 @@ fn a_cut_frame_is_never_completed(rt: HostRuntime) {
     model.fault = Some(Fault::Cut);
     let mut bus = open(&rt, model);
     let mut id = [0; 3];
-    assert!(rt; bus.transfer(&[0x9F], &mut id).is_err());
-    assert!(rt; cause(&rt, rt.alloc(), &bus).as_str() == "the port failed: cut");
+    assert_that!(&rt; bus.transfer(&[0x9F], &mut id).is_err());
+    assert_that!(&rt; cause(&rt, rt.alloc(), &bus).as_str() == "the port failed: cut");
     let received = bus.port().received;
-    assert!(rt; bus.synchronize().is_err());
-    assert!(rt; bus.transfer(&[0x9F], &mut id).is_err());
-    assert!(rt; bus.port().received == received);
+    assert_that!(&rt; bus.synchronize().is_err());
+    assert_that!(&rt; bus.transfer(&[0x9F], &mut id).is_err());
+    assert_that!(&rt; bus.port().received == received);
 }
 
 #[test]
 fn a_transaction_that_is_too_long_is_not_sent(rt: HostRuntime) {
     let mut bus = open(&rt, Model::new(&rt, rt.alloc()));
     let received = bus.port().received;
-    assert!(rt; bus.transfer(&[0x02; 261], &mut []).is_err());
-    assert!(rt; bus.port().received == received);
+    assert_that!(&rt; bus.transfer(&[0x02; 261], &mut []).is_err());
+    assert_that!(&rt; bus.port().received == received);
 }
 
 // Returns the number of O_SPIOP commands that were sent after a transaction over a `BatchingBus`, and the number after
@@ -112,9 +111,9 @@ fn operations(rt: &impl Abort, alloc: Global, out: &[u8], has_reply: bool) -> (u
     let mut bus = open_batching(rt, alloc, None);
     let mut byte = [0];
     let replies = if has_reply { 1 } else { 0 };
-    assert!(rt; bus.transfer(out, &mut byte[..replies]).is_ok());
+    assert_that!(rt; bus.transfer(out, &mut byte[..replies]).is_ok());
     let at_once = bus.port().operations;
-    assert!(rt; bus.flush().is_ok());
+    assert_that!(rt; bus.flush().is_ok());
     (at_once, bus.port().operations)
 }
 
@@ -131,7 +130,7 @@ fn only_a_modifying_command_without_a_reply_waits(rt: HostRuntime) {
         (&[0x05], true, 1),
     ];
     for (out, has_reply, at_once) in cases {
-        assert!(rt; operations(&rt, rt.alloc(), out, has_reply) == (at_once, 1));
+        assert_that!(&rt; operations(&rt, rt.alloc(), out, has_reply) == (at_once, 1));
     }
 }
 
@@ -141,8 +140,8 @@ fn assert_silent(rt: &impl Abort, bus: &mut BatchingBus<Model>) {
     let command = bus.transfer(&[0x06], &mut []);
     let flushed = bus.flush();
     let poll = bus.transfer(&[0x05], &mut [0]);
-    assert!(rt; bus.port().received == received);
-    assert!(rt; command.is_err() && flushed.is_ok() && poll.is_err());
+    assert_that!(rt; bus.port().received == received);
+    assert_that!(rt; command.is_err() && flushed.is_ok() && poll.is_err());
 }
 
 // The write enable and the poll are one batch, and the fault occurs at the first frame of this batch. After the fault
@@ -151,12 +150,12 @@ fn assert_silent(rt: &impl Abort, bus: &mut BatchingBus<Model>) {
 fn a_batch_is_sent_only_in_step(rt: HostRuntime) {
     for fault in [Fault::Nak, Fault::Silent, Fault::Strange, Fault::Cut] {
         let mut bus = open_batching(&rt, rt.alloc(), Some(fault));
-        assert!(rt; bus.transfer(&[0x06], &mut []).is_ok());
-        assert!(rt; bus.transfer(&[0x05], &mut [0]).is_err());
+        send(&rt, &mut bus, &[0x06]);
+        assert_that!(&rt; bus.transfer(&[0x05], &mut [0]).is_err());
         assert_silent(&rt, &mut bus);
         let is_cut = fault == Fault::Cut;
-        assert!(rt; bus.synchronize().is_err() == is_cut);
-        assert!(rt; bus.transfer(&[0x05], &mut [0]).is_err() == is_cut);
+        assert_that!(&rt; bus.synchronize().is_err() == is_cut);
+        assert_that!(&rt; bus.transfer(&[0x05], &mut [0]).is_err() == is_cut);
     }
 }
 
@@ -168,5 +167,5 @@ fn a_link_that_was_never_synchronized_carries_no_batch(rt: HostRuntime) {
         .expect(&rt, "a programmer");
     let mut bus = BatchingBus::new(Link::new(Model::new(&rt, rt.alloc())), programmer);
     assert_silent(&rt, &mut bus);
-    assert!(rt; bus.port().received == 0);
+    assert_that!(&rt; bus.port().received == 0);
 }

@@ -1,5 +1,6 @@
 //! The frames of five serprog commands, byte by byte, and a transaction that is too long for a frame.
 
+use crate::held::assert_that;
 use nor_serprog::{Command, frame_len};
 
 // The expected frames follow the table of commands in flashrom's Documentation/serprog-protocol.txt.
@@ -29,13 +30,13 @@ fn frames_are_those_of_the_protocol(rt: HostRuntime) {
     ];
     for (command, want) in cases {
         let frame = command.encode().unwrap();
-        assert!(rt; frame.as_slice() == want);
-        assert!(rt; frame_len(&frame) == Some(want.len()));
+        assert_that!(&rt; frame.as_slice() == want);
+        assert_that!(&rt; frame_len(&frame) == Some(want.len()));
     }
     let page = [0; 261];
     let too_long = Command::Operate {
         out: &page,
         replies: 0,
     };
-    assert!(rt; too_long.encode().is_err());
+    assert_that!(&rt; too_long.encode().is_err());
 }

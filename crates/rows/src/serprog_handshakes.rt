@@ -1,6 +1,7 @@
 //! The handshake before the first transaction: the synchronization of the link, and the identification of a serprog
 //! programmer.
 
+use crate::held::assert_that;
 use crate::serprog_model::Model;
 use nor_serprog::{Link, Programmer};
 use std::alloc::Global;
@@ -11,10 +12,10 @@ fn a_programmer_is_identified(rt: HostRuntime) {
     let mut link = Link::new(Model::new(&rt, rt.alloc()));
     let identified = Programmer::identify(&mut link, Some(12_000_000)).ok();
     let programmer = identified.expect(&rt, "a programmer");
-    assert!(rt; &programmer.name() == b"in memory\0\0\0\0\0\0\0");
-    assert!(rt; programmer.longest_write() == 1 << 24);
-    assert!(rt; programmer.longest_read() == 1 << 24);
-    assert!(rt; programmer.frequency() == Some(12_000_000));
+    assert_that!(&rt; &programmer.name() == b"in memory\0\0\0\0\0\0\0");
+    assert_that!(&rt; programmer.longest_write() == 1 << 24);
+    assert_that!(&rt; programmer.longest_read() == 1 << 24);
+    assert_that!(&rt; programmer.frequency() == Some(12_000_000));
 }
 
 // Identifies a programmer. Returns the text of the error, or `identified` if there is none.
@@ -29,7 +30,7 @@ fn refusal(rt: &impl Abort, alloc: Global, model: Model) -> String {
 
 fn assert_refused(rt: &impl Abort, alloc: Global, model: Model, text: &str) {
     let refusal = refusal(rt, alloc, model);
-    assert!(rt; refusal.as_str() == text);
+    assert_that!(rt; refusal.as_str() == text);
 }
 
 #[test]

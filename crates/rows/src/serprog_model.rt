@@ -18,7 +18,7 @@ const MOST_BEGUN: usize = 300;
 const MOST_PENDING: usize = 5000;
 
 /// A fault of the model at one O_SPIOP command: what the model does instead of sending the correct reply.
-#[derive(Clone, Copy, Debug, PartialEq, Eq)]
+#[derive(Clone, Copy, PartialEq, Eq)]
 pub enum Fault {
     /// Replies NAK, and doesn't carry out the command.
     Nak,
@@ -36,7 +36,7 @@ pub enum Fault {
 
 /// The reason why the port failed. `Silent`: fewer reply bytes had arrived than were asked for. `Cut`: the model has
 /// the fault `Fault::Cut`.
-#[derive(Clone, Copy, Debug, PartialEq, Eq)]
+#[derive(Clone, Copy, PartialEq, Eq)]
 pub enum Cause {
     Silent,
     Cut,

@@ -1,6 +1,8 @@
 //! `SplittingBus` over a serprog programmer whose limits are too small for a page program or for the read of a sector.
 
+use crate::held::assert_that;
 use crate::serprog_model::{Fault, Model};
+use crate::transact::{poll, read, send};
 use nor_buses::SplittingBus;
 use nor_chip::{Bus, Config, Delays, Meter, SimBus};
 use nor_serprog::{AnyProgrammer, BatchingBus, Link};
@@ -65,19 +67,18 @@ fn a_page_is_programmed_in_parts(rt: HostRuntime) {
         model.longest_read = [reads, 0, 0];
         let mut bus = open(&rt, model);
         let program = page_program();
-        assert!(rt; bus.transfer(&[0x06], &mut []).is_ok());
-        assert!(rt; bus.transfer(&program, &mut []).is_ok());
+        send(&rt, &mut bus, &[0x06]);
+        send(&rt, &mut bus, &program);
         for busy in [true, true, false] {
-            let mut status = [0];
-            assert!(rt; bus.transfer(&[0x05], &mut status).is_ok());
-            assert!(rt; (status[0] % 2 != 0) == busy);
+            let status = poll(&rt, &mut bus);
+            assert_that!(&rt; (status % 2 != 0) == busy);
         }
         let model = bus.inner().port();
-        assert!(rt; model.operations == operations);
+        assert_that!(&rt; model.operations == operations);
         let bytes = model.chip.bytes();
-        assert!(rt; bytes.get(0x1100..0x1200) == Some(&program[4..]));
-        assert!(rt; are_erased(bytes.get(..0x1100)));
-        assert!(rt; are_erased(bytes.get(0x1200..)));
+        assert_that!(&rt; bytes.get(0x1100..0x1200) == Some(&program[4..]));
+        assert_that!(&rt; are_erased(bytes.get(..0x1100)));
+        assert_that!(&rt; are_erased(bytes.get(0x1200..)));
     }
 }
 
@@ -98,29 +99,21 @@ fn over_pattern(rt: &impl Abort, alloc: Global, limit: u16) -> SplittingBus<Batc
 // Reads of data and of SFDP bytes are split into reads of at most `limit` bytes.
 #[test]
 fn reads_are_split(rt: HostRuntime) {
+    let alloc = rt.alloc();
     for (limit, parts) in [(5, 820_u32), (64, 64), (256, 16), (259, 16), (4096, 1)] {
-        let mut bus = over_pattern(&rt, rt.alloc(), limit);
-        let mut sector = [0; 4096];
-        assert!(rt; bus.transfer(&[0x03, 0x00, 0x20, 0x00], &mut sector).is_ok());
+        let mut bus = over_pattern(&rt, alloc, limit);
+        let sector: [u8; 4096] = read(&rt, &mut bus, &[0x03, 0x00, 0x20, 0x00]);
         let model = bus.inner().port();
-        assert!(rt; model.operations == parts);
-        assert!(rt; model.chip.bytes().get(0x2000..0x3000) == Some(&sector[..]));
+        assert_that!(&rt; model.operations == parts);
+        assert_that!(&rt; model.chip.bytes().get(0x2000..0x3000) == Some(&sector[..]));
     }
-    let mut bus = over_pattern(&rt, rt.alloc(), 7);
-    let mut whole = [0; 16];
-    let mut wide = over_pattern(&rt, rt.alloc(), 64);
-    assert!(rt;
-        wide.transfer(&[0x5A, 0x00, 0x00, 0x00, 0x00], &mut whole)
-            .is_ok()
-    );
-    let mut split = [0; 16];
-    assert!(rt;
-        bus.transfer(&[0x5A, 0x00, 0x00, 0x00, 0x00], &mut split)
-            .is_ok()
-    );
-    assert!(rt; split == whole);
-    assert!(rt; &split[..4] == b"SFDP".as_slice());
-    assert!(rt; bus.inner().port().operations == 3);
+    let mut bus = over_pattern(&rt, alloc, 7);
+    let mut wide = over_pattern(&rt, alloc, 64);
+    let whole: [u8; 16] = read(&rt, &mut wide, &[0x5A, 0x00, 0x00, 0x00, 0x00]);
+    let split: [u8; 16] = read(&rt, &mut bus, &[0x5A, 0x00, 0x00, 0x00, 0x00]);
+    assert_that!(&rt; split == whole);
+    assert_that!(&rt; &split[..4] == b"SFDP".as_slice());
+    assert_that!(&rt; bus.inner().port().operations == 3);
 }
 
 // A transaction that can't be split fails and sends nothing, and the bus works afterwards.
@@ -130,17 +123,15 @@ fn what_cannot_be_split_is_rejected(rt: HostRuntime) {
     let mut past = [0; 260];
     past[0] = 0x02;
     past[3] = 0x01;
-    assert!(rt; bus.transfer(&past, &mut []).is_err());
-    assert!(rt; bus.transfer(&[0x4B, 0, 0, 0, 0], &mut [0; 8]).is_err());
-    assert!(rt; bus.transfer(&[0x9F], &mut [0; 6]).is_err());
-    assert!(rt;
+    assert_that!(&rt; bus.transfer(&past, &mut []).is_err());
+    assert_that!(&rt; bus.transfer(&[0x4B, 0, 0, 0, 0], &mut [0; 8]).is_err());
+    assert_that!(&rt; bus.transfer(&[0x9F], &mut [0; 6]).is_err());
+    assert_that!(&rt;
         bus.transfer(&[0x03, 0xFF, 0xFF, 0xFB], &mut [0; 6])
             .is_err()
     );
-    assert!(rt; bus.inner().port().operations == 0);
-    let mut id = [0; 3];
-    assert!(rt; bus.transfer(&[0x9F], &mut id).is_ok());
-    assert!(rt; id == [0xFE, 0x10, 0x10]);
+    assert_that!(&rt; bus.inner().port().operations == 0);
+    assert_that!(&rt; read(&rt, &mut bus, &[0x9F]) == [0xFE, 0x10, 0x10]);
 }
 
 // If a programmer reads one byte at a time, a poll of two bytes becomes two polls.
@@ -149,11 +140,9 @@ fn polls_are_split(rt: HostRuntime) {
     let mut model = Model::new(&rt, rt.alloc());
     model.longest_read = [1, 0, 0];
     let mut bus = open(&rt, model);
-    assert!(rt; bus.transfer(&[0x06], &mut []).is_ok());
-    let mut status = [0xFF; 2];
-    assert!(rt; bus.transfer(&[0x05], &mut status).is_ok());
-    assert!(rt; status == [0x02, 0x02]);
-    assert!(rt; bus.inner().port().operations == 3);
+    send(&rt, &mut bus, &[0x06]);
+    assert_that!(&rt; read(&rt, &mut bus, &[0x05]) == [0x02, 0x02]);
+    assert_that!(&rt; bus.inner().port().operations == 3);
 }
 
 // If the programmer refuses a poll between two parts, the bus stops, and later parts are not programmed. The first part
@@ -166,11 +155,11 @@ fn a_program_stops_between_its_parts(rt: HostRuntime) {
     model.fault_at = 2;
     let mut bus = open(&rt, model);
     let program = page_program();
-    assert!(rt; bus.transfer(&[0x06], &mut []).is_ok());
-    assert!(rt; bus.transfer(&program, &mut []).is_err());
+    send(&rt, &mut bus, &[0x06]);
+    assert_that!(&rt; bus.transfer(&program, &mut []).is_err());
     let bytes = bus.inner().port().chip.bytes();
-    assert!(rt; bytes.get(0x1100..0x113C) == Some(&program[4..64]));
-    assert!(rt; are_erased(bytes.get(0x113C..)));
+    assert_that!(&rt; bytes.get(0x1100..0x113C) == Some(&program[4..64]));
+    assert_that!(&rt; are_erased(bytes.get(0x113C..)));
 }
 
 // Identifies a programmer. Returns its limit for parts of a program as a text, or the text of the error.
@@ -185,7 +174,7 @@ fn limit_or_fault(rt: &impl Abort, alloc: Global, model: Model) -> String {
 
 fn assert_limit(rt: &impl Abort, alloc: Global, model: Model, wanted: &str) {
     let limit = limit_or_fault(rt, alloc, model);
-    assert!(rt; limit.as_str() == wanted);
+    assert_that!(rt; limit.as_str() == wanted);
 }
 
 // A programmer must be able to send five bytes in a transaction: an opcode, an address and one data byte. A programmer

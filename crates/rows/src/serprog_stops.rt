@@ -3,7 +3,7 @@
 //! the second or third call fails, the chip has carried out the transaction, but the reply is lost.
 ghost use Rattle.nor_journal.specs.Vault.{IsFresh};
 
-use crate::held::assert_held;
+use crate::held::{assert_held, assert_that};
 use crate::row::{Row, Start};
 use crate::runs::{Cut, Runs};
 use nor_chip::SimBus;
@@ -29,6 +29,7 @@ fn open(rt: &impl Abort, port: SimPort) -> SerprogBus<SimPort> {
     let programmer = Programmer::identify(&mut link, None)
         .ok()
         .expect(rt, "a programmer");
+    // `SerprogBus::new` requires this.
     assert!(rt; link.port().is_idle());
     SerprogBus::new(link, programmer)
 }
@@ -139,7 +140,7 @@ fn assert_restored(rt: &impl Abort, alloc: Global, row: Row, left: Cut) {
     let mut bus = bus_to(rt, alloc, bus, AMPLE, 0);
     if vault.is_sealed() {
         let journal = Journal::read(vault.bytes()).expect(rt, "a journal");
-        assert!(rt; restore_over(&mut bus, &journal).is_ok());
+        assert_that!(rt; restore_over(&mut bus, &journal).is_ok());
     }
     Runs::new(rt, alloc, row, Start::IDLE).assert_as_before(rt, bus.port().chip());
 }
@@ -170,14 +171,15 @@ const RESTORES: [(Start, u64, u64); 2] = [(Start::IDLE, 25, 13), (Start::SLOW, 2
 
 #[test]
 fn each_call_of_the_port_fails_in_a_restore(rt: HostRuntime) {
+    let alloc = rt.alloc();
     let row = Row::ABitRises;
     for (start, stop, length) in RESTORES {
-        let runs = Runs::new(&rt, rt.alloc(), row, start);
+        let runs = Runs::new(&rt, alloc, row, start);
         for calls in 0..CALLS * length {
             for cut in cuts(calls) {
                 let left = (runs.cut(&rt, stop), runs.cut(&rt, stop));
-                let left = stop_restore(&rt, rt.alloc(), left, calls, *cut);
-                assert_restored(&rt, rt.alloc(), row, left);
+                let left = stop_restore(&rt, alloc, left, calls, *cut);
+                assert_restored(&rt, alloc, row, left);
             }
         }
     }
@@ -186,14 +188,15 @@ fn each_call_of_the_port_fails_in_a_restore(rt: HostRuntime) {
 // If the port allows exactly the calls that the session's transactions take, the session ends.
 #[test]
 fn a_session_ends_with_its_last_call(rt: HostRuntime) {
+    let alloc = rt.alloc();
     for (row, start, length) in SESSIONS {
-        let chip = row.bus(&rt, rt.alloc(), start);
-        let mut bus = bus_to(&rt, rt.alloc(), chip, CALLS * length, 0);
-        let mut vault = MemVault::new(rt.alloc());
-        let report = change(&rt, rt.alloc(), row, &mut bus, &mut vault).expect(&rt, "an end");
-        assert!(rt; report.transactions == length && vault.is_sealed());
-        assert!(rt; bus.port().left() == 0);
-        assert!(rt; bus.port().chip().bytes() == row.wanted(&rt, rt.alloc()).as_slice());
+        let chip = row.bus(&rt, alloc, start);
+        let mut bus = bus_to(&rt, alloc, chip, CALLS * length, 0);
+        let mut vault = MemVault::new(alloc);
+        let report = change(&rt, alloc, row, &mut bus, &mut vault).expect(&rt, "an end");
+        assert_that!(&rt; report.transactions == length && vault.is_sealed());
+        assert_that!(&rt; bus.port().left() == 0);
+        assert_that!(&rt; bus.port().chip().bytes() == row.wanted(&rt, alloc).as_slice());
     }
 }
 
@@ -201,20 +204,21 @@ fn a_session_ends_with_its_last_call(rt: HostRuntime) {
 // chip.
 #[test]
 fn refusals_change_nothing(rt: HostRuntime) {
+    let alloc = rt.alloc();
     let (row, other) = (Row::AGuardedByteIsProgrammed, Row::ABitRises);
-    let before = row.bus(&rt, rt.alloc(), Start::IDLE);
-    let chip = row.bus(&rt, rt.alloc(), Start::IDLE);
-    let mut bus = bus_to(&rt, rt.alloc(), chip, AMPLE, 0);
-    let mut vault = MemVault::new(rt.alloc());
-    let request = row.request(&rt, rt.alloc());
+    let before = row.bus(&rt, alloc, Start::IDLE);
+    let chip = row.bus(&rt, alloc, Start::IDLE);
+    let mut bus = bus_to(&rt, alloc, chip, AMPLE, 0);
+    let mut vault = MemVault::new(alloc);
+    let request = row.request(&rt, alloc);
     let refusal = session_over(&mut bus, &mut vault, &mut [0xFF; 16], &request).err();
-    assert!(rt; matches!(refusal, Some(Refusal::ImageSize { image: 16, .. })));
-    assert!(rt; !vault.is_sealed() && vault.bytes().is_empty());
+    assert_that!(&rt; matches!(refusal, Some(Refusal::ImageSize { image: 16, .. })));
+    assert_that!(&rt; !vault.is_sealed() && vault.bytes().is_empty());
     assert_same(&rt, bus.port().chip(), &before, 0);
-    let sealed = Runs::new(&rt, rt.alloc(), other, Start::IDLE).cut(&rt, 25);
+    let sealed = Runs::new(&rt, alloc, other, Start::IDLE).cut(&rt, 25);
     let journal = Journal::read(sealed.vault.bytes()).expect(&rt, "a journal");
     let refusal = restore_over(&mut bus, &journal).err();
-    assert!(rt; matches!(refusal, Some(Refusal::OtherChip)));
+    assert_that!(&rt; matches!(refusal, Some(Refusal::OtherChip)));
     assert_same(&rt, bus.port().chip(), &before, 1);
 }
 
@@ -243,7 +247,7 @@ fn more_is_requested_than_is_pending(rt: HostRuntime) {
     let chip = Row::AByteIsProgrammed.bus(&rt, rt.alloc(), Start::IDLE);
     let mut port = SimPort::new(chip, AMPLE);
     let mut byte = [0x5A];
-    assert!(rt; port.receive(&mut byte) == Err(SimFailure::Silent));
-    assert!(rt; port.send(&[0x10]) == Err(SimFailure::Cut));
-    assert!(rt; (byte, port.left()) == ([0x5A], 0));
+    assert_that!(&rt; port.receive(&mut byte) == Err(SimFailure::Silent));
+    assert_that!(&rt; port.send(&[0x10]) == Err(SimFailure::Cut));
+    assert_that!(&rt; (byte, port.left()) == ([0x5A], 0));
 }

@@ -1,7 +1,9 @@
 //! `Paced`, which waits between polls that show BUSY, `ReadTwice`, which stops if two reads of the same bytes differ,
 //! and `CheckedStatus`, which stops if two polls differ or the chip is lost.
 
+use crate::held::assert_that;
 use crate::serprog_model::{Fault, Model};
+use crate::transact::{poll, read, send};
 use nor_buses::{CheckFault, CheckedStatus, Paced, ReadTwice};
 use nor_chip::{Bus, Config, Delays, Meter, SimBus, Spoil, SpoiltBus};
 use nor_serprog::{Link, Programmer, SerprogBus};
@@ -85,17 +87,16 @@ fn polls_of_a_busy_chip_are_paced(rt: HostRuntime) {
     let mut bus = Paced::new(tiny64(&rt, rt.alloc(), Delays { now: 600, each: 0 }), clock);
     let mut polls = 0_u32;
     for _ in 0..1000 {
-        let mut status = [0];
-        assert!(rt; bus.transfer(&[0x05], &mut status).is_ok());
+        let status = poll(&rt, &mut bus);
         polls = polls.saturating_add(1);
-        if status[0] % 2 == 0 {
+        if status % 2 == 0 {
             break;
         }
     }
-    assert!(rt; polls == 601);
-    assert!(rt; now.get() == 14 * 100 + 16 * 6200 + 505 * 6250);
-    assert!(rt; bus.transfer(&[0x05], &mut [0]).is_ok());
-    assert!(rt; now.get() == 14 * 100 + 16 * 6200 + 505 * 6250);
+    assert_that!(&rt; polls == 601);
+    assert_that!(&rt; now.get() == 14 * 100 + 16 * 6200 + 505 * 6250);
+    let _ = poll(&rt, &mut bus);
+    assert_that!(&rt; now.get() == 14 * 100 + 16 * 6200 + 505 * 6250);
 }
 
 // The chip shows BUSY in each poll. The first poll after a command is sent without a pause. The pause before the second
@@ -107,15 +108,15 @@ fn the_second_poll_comes_after_the_typical_time(rt: HostRuntime) {
         for (passed, fails) in [(0, false), (300, false), (1 << 40, false), (0, true)] {
             let now = Cell::new(1000);
             let mut bus = always_busy(&rt, rt.alloc(), &now, fails);
-            assert!(rt; bus.transfer(command, &mut []).is_ok());
-            assert!(rt; bus.transfer(&[0x05], &mut [0, 0]).is_ok());
-            assert!(rt; now.get() == 1000);
+            send(&rt, &mut bus, command);
+            let _: [u8; 2] = read(&rt, &mut bus, &[0x05]);
+            assert_that!(&rt; now.get() == 1000);
             now.set(1000_u64.saturating_add(passed));
-            assert!(rt; bus.transfer(&[0x05], &mut [0]).is_ok());
+            let _ = poll(&rt, &mut bus);
             let second = 1000_u64.saturating_add(typical.max(passed));
-            assert!(rt; now.get() == second);
-            assert!(rt; bus.transfer(&[0x05], &mut [0, 0]).is_ok());
-            assert!(rt; now.get() == second.saturating_add(third));
+            assert_that!(&rt; now.get() == second);
+            let _: [u8; 2] = read(&rt, &mut bus, &[0x05]);
+            assert_that!(&rt; now.get() == second.saturating_add(third));
         }
     }
 }
@@ -127,13 +128,13 @@ fn a_wait_without_end_takes_400_seconds(rt: HostRuntime) {
     for (command, _, _) in COMMANDS {
         let now = Cell::new(0);
         let mut bus = always_busy(&rt, rt.alloc(), &now, false);
-        assert!(rt; bus.transfer(command, &mut []).is_ok());
+        send(&rt, &mut bus, command);
         for _ in 0..65_536 {
-            assert!(rt; bus.transfer(&[0x05], &mut [0]).is_ok());
+            let _ = poll(&rt, &mut bus);
         }
         let waited = now.get();
-        assert!(rt; waited >= 400_000_000);
-        assert!(rt; waited <= 410_000_000);
+        assert_that!(&rt; waited >= 400_000_000);
+        assert_that!(&rt; waited <= 410_000_000);
     }
 }
 
@@ -148,14 +149,13 @@ fn readings_that_differ_stop_the_bus(rt: HostRuntime) {
             .ok()
             .expect(&rt, "a programmer");
         let mut bus = ReadTwice::new(SerprogBus::new(link, programmer));
-        let mut status = [0];
-        assert!(rt; bus.transfer(&[0x05], &mut status).is_ok());
+        let _ = poll(&rt, &mut bus);
         let mut sector = [0; 4096];
         let read = bus.transfer(&[0x03, 0x00, 0x00, 0x00], &mut sector);
         let flipped = fault_at == 1 || fault_at == 2;
-        assert!(rt; read.is_err() == flipped);
-        assert!(rt; bus.differed() == flipped);
-        assert!(rt; bus.inner().port().operations == 3);
+        assert_that!(&rt; read.is_err() == flipped);
+        assert_that!(&rt; bus.differed() == flipped);
+        assert_that!(&rt; bus.inner().port().operations == 3);
     }
 }
 
@@ -179,11 +179,9 @@ fn a_busy_chip_is_not_lost(rt: HostRuntime) {
         let chip = tiny64(&rt, rt.alloc(), Delays { now: 0, each: 0 });
         let chip = SpoiltBus::new(chip, Spoil::Drop(second));
         let mut bus = CheckedStatus::new(SpoiltBus::new(chip, Spoil::Drop(first)));
-        let mut found = [0; 3];
-        assert!(rt; bus.transfer(&[0x9F], &mut found).is_ok());
-        assert!(rt; found == id);
+        assert_that!(&rt; read(&rt, &mut bus, &[0x9F]) == id);
         let polled = bus.transfer(&[0x05], &mut [0]);
-        assert!(rt; polled.is_ok() == fault.is_none());
-        assert!(rt; bus.fault() == fault);
+        assert_that!(&rt; polled.is_ok() == fault.is_none());
+        assert_that!(&rt; bus.fault() == fault);
     }
 }

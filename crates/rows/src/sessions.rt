@@ -1,5 +1,5 @@
 //! Sessions on chips of 256 KiB with different erase types, and on a chip that is busy at the start.
-use crate::held::assert_held;
+use crate::held::{assert_held, assert_that};
 use crate::row::{Row, Start, large};
 use nor_chip::{Config, Delays, Meter, SimBus};
 use nor_journal::MemVault;
@@ -63,5 +63,5 @@ fn a_busy_chip_is_waited_for(rt: HostRuntime) {
         each: 0,
     };
     let report = blank(&rt, rt.alloc(), Config::tiny64(), 0, [0x02, 0x00], busy);
-    assert!(rt; report.transactions == 65_558 && report.found.status1 == 0x00);
+    assert_that!(&rt; report.transactions == 65_558 && report.found.status1 == 0x00);
 }

@@ -1,6 +1,6 @@
 //! Sets of addresses that are made from spans. The spans are in any order, adjacent or overlapping, are too many, or
 //! end before they start.
-use crate::held::assert_held;
+use crate::held::{assert_held, assert_that};
 use nor_layout::{Ranges, Span};
 
 // Each row has a list of spans (first and last address of each), and the spans of the resulting set, or `None` if
@@ -76,9 +76,9 @@ fn a_set_has_at_most_64_spans_once_they_are_joined(rt: HostRuntime) {
         first: 3,
         last: 129,
     };
-    assert!(rt; count_of(64, two) == Some(64));
-    assert!(rt; count_of(65, two).is_none());
-    assert!(rt; count_of(63, zero) == Some(64));
-    assert!(rt; count_of(64, zero).is_none());
-    assert!(rt; count_of(65, all_but_two) == Some(1));
+    assert_that!(&rt; count_of(64, two) == Some(64));
+    assert_that!(&rt; count_of(65, two).is_none());
+    assert_that!(&rt; count_of(63, zero) == Some(64));
+    assert_that!(&rt; count_of(64, zero).is_none());
+    assert_that!(&rt; count_of(65, all_but_two) == Some(1));
 }

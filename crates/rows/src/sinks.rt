@@ -2,7 +2,7 @@
 ghost use Rattle.std.specs.Prelude.{take, Some};
 ghost use Rattle.nor_journal.specs.Vault.{IsFresh};
 
-use crate::held::assert_held;
+use crate::held::{assert_held, assert_that};
 use nor_chip::SECTOR_LEN;
 use nor_journal::{
     BrokenVault, FileVault, Journal, MemVault, Vault, VaultFault, VaultFile, Writer,
@@ -56,9 +56,9 @@ fn mem_vault_refuses(rt: HostRuntime) {
         vault.put(b"nal"),
         vault.seal(),
     ];
-    assert!(rt; !at_first && vault.is_sealed());
-    assert!(rt; puts == [Ok(()); 4]);
-    assert!(rt; vault.bytes() == b"journal".as_slice());
+    assert_that!(&rt; !at_first && vault.is_sealed());
+    assert_that!(&rt; puts == [Ok(()); 4]);
+    assert_that!(&rt; vault.bytes() == b"journal".as_slice());
 }
 
 // The five calls of the vault that write the journal: the header, the record, the end mark, the digest, and the seal.
@@ -108,17 +108,18 @@ fn refuse_each(rt: &impl Abort, alloc: Global, right: &[u8], kept: usize) {
 // whole journal.
 #[test]
 fn each_call_of_a_writer_is_refused(rt: HostRuntime) {
+    let alloc = rt.alloc();
     let chip = Journal::read(&EMPTY).expect(&rt, "a journal");
-    let mut vault = MemVault::new(rt.alloc());
-    assert!(rt; save(&mut vault, &chip).is_ok());
+    let mut vault = MemVault::new(alloc);
+    assert_that!(&rt; save(&mut vault, &chip).is_ok());
     let right = vault.bytes();
-    assert!(rt; vault.is_sealed() && is_whole(right));
+    assert_that!(&rt; vault.is_sealed() && is_whole(right));
     for kept in [0, 1, 4095, 5000] {
-        refuse_each(&rt, rt.alloc(), right, kept);
+        refuse_each(&rt, alloc, right, kept);
     }
     let told = (Ok(()), 0, true);
-    assert_broken(&rt, rt.alloc(), (0, 0), told, Some(right));
-    assert_broken(&rt, rt.alloc(), (6, 0), told, Some(right));
+    assert_broken(&rt, alloc, (0, 0), told, Some(right));
+    assert_broken(&rt, alloc, (6, 0), told, Some(right));
 }
 
 /// A file in memory that accepts at most `most` bytes per write. The next `writes` writes succeed, and each later write

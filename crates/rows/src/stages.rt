@@ -4,7 +4,7 @@ ghost use Rattle.nor_journal.specs.Vault.{IsFresh};
 
 use crate::contents::{put, put_run};
 use crate::failing::{Fault, OnceBus};
-use crate::held::assert_held;
+use crate::held::{assert_held, assert_that};
 use crate::row::included;
 use crate::spoilt::most;
 use nor_chip::{Config, Delays, SECTOR_LEN, SimBus, TINY64_SFDP};
@@ -158,7 +158,7 @@ impl Stage {
         let mut bus = self.bus(rt, Call::Session, Fault::Stop, None);
         let mut vault = MemVault::new(self.alloc);
         let answer = self.session(rt, &mut bus, &mut vault);
-        assert!(rt; answer.is_ok() && bus.bus.bytes() == self.image.as_slice());
+        assert_that!(rt; answer.is_ok() && bus.bus.bytes() == self.image.as_slice());
         vault.bytes().to_vec(self.alloc).expect(rt, "memory")
     }
 

@@ -1,5 +1,5 @@
 //! Malformed and very long layouts and journals.
-use crate::held::assert_held;
+use crate::held::{assert_held, assert_that};
 use crate::row::{Row, Start};
 use crate::runs::Runs;
 use nor_journal::{Journal, JournalFault};
@@ -140,7 +140,7 @@ fn journals_of_a_million_bytes(rt: HostRuntime) {
 fn journal_of_a_sector(rt: &impl Abort, alloc: Global) -> Vec<u8> {
     let row = Row::ABitRises;
     let cut = Runs::new(rt, alloc, row, Start::IDLE).cut(rt, 23);
-    assert!(rt; cut.vault.bytes().len() == 4161);
+    assert_that!(rt; cut.vault.bytes().len() == 4161);
     cut.vault.bytes().to_vec(alloc).expect(rt, "memory")
 }
 

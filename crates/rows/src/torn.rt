@@ -2,6 +2,7 @@
 //! some or all of the bytes of the next transaction, and then the chip keeps its power or loses it.
 //!
 //! Each test asserts how many sessions or restores it stopped.
+use crate::held::assert_that;
 use crate::row::{Row, Start};
 use crate::runs::Runs;
 use std::alloc::Global;
@@ -126,7 +127,7 @@ const SESSIONS: [(Row, u64, u64); 6] = [
 fn each_cut_of_a_session(rt: HostRuntime) {
     for (row, kept, lost) in SESSIONS {
         let stops = stop_sessions(&rt, rt.alloc(), (row, 0), &starts(), &SHORT);
-        assert!(rt; stops == Stops { kept, lost });
+        assert_that!(&rt; stops == Stops { kept, lost });
     }
 }
 
@@ -142,7 +143,7 @@ const SESSIONS_OF_PAGES: Stops = Stops {
 fn each_cut_of_a_session_that_programs_pages(rt: HostRuntime) {
     let row = Row::TheRestOfASectorStays;
     let stops = stop_sessions(&rt, rt.alloc(), (row, 0), &starts(), &LONG);
-    assert!(rt; stops == SESSIONS_OF_PAGES);
+    assert_that!(&rt; stops == SESSIONS_OF_PAGES);
 }
 
 // The numbers of stops for `ThirtyTwoSectorsAreErased`. On an idle chip its session sends 112 transactions, with three
@@ -158,7 +159,7 @@ fn each_cut_of_a_session_with_large_erases(rt: HostRuntime) {
     let row = Row::ThirtyTwoSectorsAreErased;
     let starts = [Start::IDLE, Start::losing(0x5A)];
     let stops = stop_sessions(&rt, rt.alloc(), (row, 68), &starts, &SHORT);
-    assert!(rt; stops == SESSIONS_OF_LARGE_ERASES);
+    assert_that!(&rt; stops == SESSIONS_OF_LARGE_ERASES);
 }
 
 // The numbers of stops for `AByteBelowTheGuardIsProgrammed`, from three transactions before the seal on. On an idle
@@ -181,10 +182,10 @@ const SESSIONS_IN_THE_RANGE: Stops = Stops {
 fn each_cut_of_a_session_on_a_protected_chip(rt: HostRuntime) {
     let below = (Row::AByteBelowTheGuardIsProgrammed, 2049);
     let stops = stop_sessions(&rt, rt.alloc(), below, &few_starts(), &SHORT);
-    assert!(rt; stops == SESSIONS_BELOW_THE_RANGE);
+    assert_that!(&rt; stops == SESSIONS_BELOW_THE_RANGE);
     let inside = (Row::AGuardedByteIsProgrammed, 2049);
     let stops = stop_sessions(&rt, rt.alloc(), inside, &few_starts(), &SHORT);
-    assert!(rt; stops == SESSIONS_IN_THE_RANGE);
+    assert_that!(&rt; stops == SESSIONS_IN_THE_RANGE);
 }
 
 // Each row has two numbers of stopped restores: those at which the chip keeps its power, and those at which it loses
@@ -213,7 +214,7 @@ const RESTORES: [(Row, u64, u64); 4] = [
 fn each_cut_of_a_restore(rt: HostRuntime) {
     for (row, kept, lost) in RESTORES {
         let stops = stop_all(&rt, rt.alloc(), row, &SHORT);
-        assert!(rt; stops == Stops { kept, lost });
+        assert_that!(&rt; stops == Stops { kept, lost });
     }
 }
 
@@ -237,7 +238,7 @@ fn each_cut_of_a_restore_after_a_part_of_a_page(rt: HostRuntime) {
             }
         }
     }
-    assert!(rt; stops == RESTORES_OF_TWO_PAGES);
+    assert_that!(&rt; stops == RESTORES_OF_TWO_PAGES);
 }
 
 // The numbers of stopped restores. A restore sends 8 transactions if the sector is as it was. Otherwise it sends 10
@@ -252,7 +253,7 @@ const RESTORES_OF_PAGES: Stops = Stops {
 fn each_cut_of_a_restore_that_programs_pages(rt: HostRuntime) {
     let row = Row::TheRestOfASectorStays;
     let stops = stop_all(&rt, rt.alloc(), row, &LONG);
-    assert!(rt; stops == RESTORES_OF_PAGES);
+    assert_that!(&rt; stops == RESTORES_OF_PAGES);
 }
 
 // The numbers of stopped restores. Each run on this chip takes long, so the session is stopped at only three
@@ -279,5 +280,5 @@ fn each_cut_of_a_restore_on_a_protected_chip(rt: HostRuntime) {
             }
         }
     }
-    assert!(rt; stops == RESTORES_IN_THE_RANGE);
+    assert_that!(&rt; stops == RESTORES_IN_THE_RANGE);
 }

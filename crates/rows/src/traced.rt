@@ -1,6 +1,6 @@
 //! When does `TraceBus` report a line of its trace as lost? In these tests the log refuses writes or flushes. A
 //! transaction succeeds even if its line is lost.
-use crate::held::assert_held;
+use crate::held::{assert_held, assert_that};
 use crate::row::{Start, erased};
 use nor_chip::{Bus, Config, Meter, SimBus, TraceBus};
 use std::alloc::Global;
@@ -86,7 +86,7 @@ fn loses(
         flushes,
     };
     let mut bus = TraceBus::new(bus(rt, alloc), log);
-    assert!(rt; bus.transfer(out, reply).is_ok());
+    assert_that!(rt; bus.transfer(out, reply).is_ok());
     bus.lost()
 }
 
@@ -96,7 +96,7 @@ fn sent(rt: &impl Abort, alloc: Global, form: Form, good: u8) -> (bool, bool) {
     let mut lines = Vec::new(alloc);
     let mut reply = vec![in alloc; 0xAA; form.reply.len()].expect(rt, "memory");
     let is_lost = loses(rt, alloc, &mut lines, form.out, &mut reply, good);
-    assert!(rt; reply.as_slice() == form.reply);
+    assert_that!(rt; reply.as_slice() == form.reply);
     (is_lost, lines.as_slice() == form.line)
 }
 
@@ -130,7 +130,7 @@ fn flushed(
     };
     let log = BufWriter::new(alloc, sink).expect(rt, "memory");
     let mut bus = TraceBus::new(bus(rt, alloc), log);
-    assert!(rt; bus.transfer(&[0x06], &mut []).is_ok());
+    assert_that!(rt; bus.transfer(&[0x06], &mut []).is_ok());
     let before = bus.lost();
     bus.flush();
     (before, bus.lost())
@@ -141,12 +141,13 @@ fn flushed(
 // line isn't lost.
 #[test]
 fn what_the_sink_refuses_is_lost_at_the_latest_by_a_flush(rt: HostRuntime) {
+    let alloc = rt.alloc();
     for (good, flushes) in [(0, true), (0, false), (1, false)] {
-        let mut lines = Vec::new(rt.alloc());
-        let lost = flushed(&rt, rt.alloc(), &mut lines, good, flushes);
+        let mut lines = Vec::new(alloc);
+        let lost = flushed(&rt, alloc, &mut lines, good, flushes);
         assert_held(&rt, lost == (false, true), u64::from(good));
     }
-    let mut lines = Vec::new(rt.alloc());
-    assert!(rt; flushed(&rt, rt.alloc(), &mut lines, 1, true) == (false, false));
-    assert!(rt; lines.as_slice() == b"06\n".as_slice());
+    let mut lines = Vec::new(alloc);
+    assert_that!(&rt; flushed(&rt, alloc, &mut lines, 1, true) == (false, false));
+    assert_that!(&rt; lines.as_slice() == b"06\n".as_slice());
 }

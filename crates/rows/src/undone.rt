@@ -10,6 +10,7 @@
 //! sector. If the sector and the protection are as saved, the restore ends. Otherwise it sends its operations: each is
 //! a write enable, a command and a poll, and on a slow chip two more polls. If the restore programs the sector without
 //! an erase, it reads the sector again first. If it changes the sector, it reads the sector at the end to verify it.
+use crate::held::assert_that;
 use crate::row::{Row, Start};
 use crate::runs::Runs;
 
@@ -67,7 +68,7 @@ const SMALL: [(Row, Start, u64); 6] = [
 fn each_stop_on_a_small_chip(rt: HostRuntime) {
     for (row, start, runs) in SMALL {
         let after = Runs::new(&rt, rt.alloc(), row, start);
-        assert!(rt; after.stop_restores_at_each(&rt, 0) == runs);
+        assert_that!(&rt; after.stop_restores_at_each(&rt, 0) == runs);
     }
 }
 
@@ -82,7 +83,7 @@ const LATCHED: [(Row, Start, u64); 4] = [
 fn each_stop_on_a_chip_with_its_latch_set(rt: HostRuntime) {
     for (row, start, runs) in LATCHED {
         let after = Runs::new(&rt, rt.alloc(), row, start.latched());
-        assert!(rt; after.stop_restores_at_each(&rt, 0) == runs);
+        assert_that!(&rt; after.stop_restores_at_each(&rt, 0) == runs);
     }
 }
 
@@ -96,5 +97,5 @@ fn each_stop_after_a_protected_byte(rt: HostRuntime) {
     let row = Row::AGuardedByteIsProgrammed;
     let after = Runs::new(&rt, rt.alloc(), row, Start::IDLE);
     let runs = 3 + 2 * 6 + 4 * 9 + 3 * 13 + 3 * 16;
-    assert!(rt; after.stop_restores_at_each(&rt, 2049) == runs);
+    assert_that!(&rt; after.stop_restores_at_each(&rt, 2049) == runs);
 }

@@ -1,5 +1,5 @@
 //! Sessions whose vault refuses one of its calls.
-use crate::held::assert_held;
+use crate::held::{assert_held, assert_that};
 use crate::row::{Row, Start};
 use crate::runs::{assert_untouched, keep};
 use nor_chip::Meter;
@@ -25,7 +25,7 @@ fn refuse(
     if refusal.is_some() {
         assert_untouched(rt, alloc, row, &bus);
     } else {
-        assert!(rt; bus.bytes() == row.wanted(rt, alloc).as_slice());
+        assert_that!(rt; bus.bytes() == row.wanted(rt, alloc).as_slice());
     }
     let held = vault.inner();
     let holds_journal = Journal::read(held.bytes()).is_ok();
@@ -43,7 +43,7 @@ fn refuse_each(rt: &impl Abort, alloc: Global, row: Row, calls: u64, kept: usize
         assert_held(rt, left == told, nth);
     }
     let left = refuse(rt, alloc, row, calls.saturating_add(1), kept);
-    assert!(rt; left == (None, 0, true, true));
+    assert_that!(rt; left == (None, 0, true, true));
 }
 
 // Each row has the number of calls: one for the header, one for each record, two for the end mark and the digest, and
@@ -56,9 +56,10 @@ const ROWS: [(Row, u64); 2] = [
 
 #[test]
 fn each_call_of_a_vault_is_refused(rt: HostRuntime) {
+    let alloc = rt.alloc();
     for (row, calls) in ROWS {
-        refuse_each(&rt, rt.alloc(), row, calls, 0, calls);
-        refuse_each(&rt, rt.alloc(), row, calls, 1, calls);
-        refuse_each(&rt, rt.alloc(), row, calls, 4095, calls - 1);
+        refuse_each(&rt, alloc, row, calls, 0, calls);
+        refuse_each(&rt, alloc, row, calls, 1, calls);
+        refuse_each(&rt, alloc, row, calls, 4095, calls - 1);
     }
 }

@@ -1,4 +1,5 @@
 //! Command lines of 1 to 14 arguments, with enough memory.
+use crate::held::assert_that;
 use nor_args::request_of;
 use std::alloc::Global;
 use std::process::Abort;
@@ -66,7 +67,7 @@ fn write_with(rt: &impl Abort, alloc: Global, choice: u32) -> Vec<String> {
 #[test]
 fn words_memory(rt: HostRuntime) {
     for words in OTHERS {
-        assert!(rt; is_job(&rt, rt.alloc(), words));
+        assert_that!(&rt; is_job(&rt, rt.alloc(), words));
     }
 }
 
@@ -75,10 +76,10 @@ fn writes_of_each_number_of_arguments(rt: HostRuntime) {
     let mut seen = [false; 15];
     for choice in 0..16 {
         let words = write_with(&rt, rt.alloc(), choice);
-        assert!(rt; request_of(rt.alloc(), words.as_slice()).is_ok());
+        assert_that!(&rt; request_of(rt.alloc(), words.as_slice()).is_ok());
         if let Some(one) = seen.get_mut(words.len()) {
             *one = true;
         }
     }
-    assert!(rt; seen[6..] == [true; 9]);
+    assert_that!(&rt; seen[6..] == [true; 9]);
 }
