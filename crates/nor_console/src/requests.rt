@@ -45,8 +45,8 @@ pub fn read_included<'a, R: Store>(
 }
 
 /// Reads the layout of these regions from its file. If it has no file, reads it from `shown`, the bytes that the chip
-/// returned. If the layout is an FMAP or a flash descriptor, the length of the file or of `shown` is taken as the size of
-/// the chip.
+/// returned. If the layout is an FMAP or a flash descriptor, the length of the file or of `shown` is taken as the size
+/// of the chip.
 ///
 /// Returns one of these faults:
 ///
