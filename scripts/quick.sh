@@ -96,7 +96,7 @@ try_crate() {
             storm) words=(-- 1 1) ;;
             transcripts)
                 input=$2/first_case
-                awk '/^case / { n++ } n == 1' stdin > "$input"
+                awk '/^case / { n++ } n <= 1' stdin > "$input"
                 ;;
         esac
     else
