@@ -12,54 +12,37 @@ use Rattle.nor_serprog.specs.Frame.{frame_of, frame_len, long_len, argument_coun
 use Rattle.nor_serprog.specs.Firmware.{ProgrammerSettings, HasReply, HaveReplies, reply_of, replies_of, settings_after, settings_after_all, frames_of}
 use Rattle.serprog_session.specs.SimPort.{simulated_firmware, simulated_reply, simulated_settings, bus_type_after}
 
--- If the firmware specifies the reply to a command, the simulated programmer gives this reply to the frame of the
--- command.
-reply_is : (command : Command) → HasReply simulated_firmware command
-    → simulated_reply (slice_index (frame_of command) 0) ≡ reply_of simulated_firmware command
-reply_is (Operate out replies) has = absurd has
-reply_is (SetFrequency hertz) has = absurd (false≢true has)
-reply_is (SetPins enabled) has = absurd (false≢true has)
-reply_is (SelectChip number) has = absurd (false≢true has)
-reply_is (SetBuses flags) has = refl
-reply_is _ has = refl
+-- Holds if the simulated programmer replies to the frame of a command as its firmware says, and the frame can be told
+-- from O_SPIOP.
+record IsAnswerable (command : Command) : Type 0 where
+  reply : simulated_reply (slice_index (frame_of command) 0) ≡ reply_of simulated_firmware command
+  -- the type of bus after the frame is the one in the settings after the command
+  selects : (bus_type : Option ℕ) → simulated_settings (bus_type_after (frame_of command) bus_type)
+      ≡ settings_after simulated_firmware command (simulated_settings bus_type)
+  len : (more : List ℕ) → frame_len (frame_of command ++ more) ≡ Some (length (frame_of command))
+  some : 0 < length (frame_of command)
+  first : (more : List ℕ) → slice_index (frame_of command ++ more) 0 ≡ 0x13 → ⊥
 
--- If the firmware specifies the reply to a command, the type of bus after its frame is the one in the settings after
--- the command.
-selects_as : (command : Command) → HasReply simulated_firmware command → (bus_type : Option ℕ)
-    → simulated_settings (bus_type_after (frame_of command) bus_type)
-    ≡ settings_after simulated_firmware command (simulated_settings bus_type)
-selects_as (Operate out replies) has bus_type = absurd has
-selects_as (SetFrequency hertz) has bus_type = absurd (false≢true has)
-selects_as (SetPins enabled) has bus_type = absurd (false≢true has)
-selects_as (SelectChip number) has bus_type = absurd (false≢true has)
-selects_as (SetBuses flags) has bus_type = refl
-selects_as _ has bus_type = refl
-
-len_is : (command : Command) → HasReply simulated_firmware command → (more : List ℕ)
-    → frame_len (frame_of command ++ more) ≡ Some (length (frame_of command))
-len_is (Operate out replies) has more = absurd has
-len_is (SetFrequency hertz) has more = absurd (false≢true has)
-len_is (SetPins enabled) has more = absurd (false≢true has)
-len_is (SelectChip number) has more = absurd (false≢true has)
-len_is (SetBuses flags) has more = refl
-len_is _ has more = refl
-
-frame_some : (command : Command) → HasReply simulated_firmware command → 0 < length (frame_of command)
-frame_some (Operate out replies) has = absurd has
-frame_some (SetFrequency hertz) has = absurd (false≢true has)
-frame_some (SetPins enabled) has = absurd (false≢true has)
-frame_some (SelectChip number) has = absurd (false≢true has)
-frame_some (SetBuses flags) has = omega arith
-frame_some _ has = omega arith
-
-first_is : (command : Command) → HasReply simulated_firmware command → (more : List ℕ)
-    → slice_index (frame_of command ++ more) 0 ≡ 0x13 → ⊥
-first_is (Operate out replies) has more first = absurd has
-first_is (SetFrequency hertz) has more first = absurd (false≢true has)
-first_is (SetPins enabled) has more first = absurd (false≢true has)
-first_is (SelectChip number) has more first = absurd (false≢true has)
-first_is (SetBuses flags) has more first = omega (arith, first)
-first_is _ has more first = omega (arith, first)
+-- If the firmware specifies the reply to a command, the simulated programmer gives this reply.
+answerable : (command : Command) → HasReply simulated_firmware command → IsAnswerable command
+answerable (Operate out replies) has = absurd has
+answerable (SetFrequency hertz) has = absurd (false≢true has)
+answerable (SetPins enabled) has = absurd (false≢true has)
+answerable (SelectChip number) has = absurd (false≢true has)
+answerable (SetBuses flags) has = record {
+  reply = refl;
+  selects = λ bus_type. refl;
+  len = λ more. refl;
+  some = omega arith;
+  first = λ more first. omega (arith, first);
+}
+answerable _ has = record {
+  reply = refl;
+  selects = λ bus_type. refl;
+  len = λ more. refl;
+  some = omega arith;
+  first = λ more first. omega (arith, first);
+}
 
 -- If the firmware specifies the replies to some commands, their frames do not begin with the opcode of O_SPIOP.
 pub no_operation : (commands : List Command) (frames : List ℕ) → frames ≡ frames_of commands
@@ -67,7 +50,7 @@ pub no_operation : (commands : List Command) (frames : List ℕ) → frames ≡ 
 no_operation [] frames same have first =
     let zero : slice_index frames 0 ≡ 0 = ap (λ (f : List ℕ). slice_index f 0) same in omega (arith, zero, first)
 no_operation (command ∷ rest) frames same have first =
-    first_is command have.0 (frames_of rest) (sym (ap (λ (f : List ℕ). slice_index f 0) same) ∙ first)
+    (answerable command have.0).first (frames_of rest) (sym (ap (λ (f : List ℕ). slice_index f 0) same) ∙ first)
 
 -- A frame has at least one byte, even if its length isn't known yet and counts as 2^64 - 1. `long_some` proves this for
 -- O_SPIOP and "write n", and `len_some` for all commands.
@@ -121,7 +104,7 @@ next : (rest frame rest' : List ℕ) (len : ℕ) (command : Command) (later : Li
     → IsNext rest frame rest' command later
 next rest frame rest' len command later same has is split =
     let f = frame_of command in
-    let known : frame_len rest ≡ Some (length f) = ap frame_len same ∙ len_is command has (frames_of later) in
+    let known : frame_len rest ≡ Some (length f) = ap frame_len same ∙ (answerable command has).len (frames_of later) in
     let len_of : len ≡ length f = is ∙ ap (λ (o : Option ℕ). unwrap_or o 18446744073709551615) known in
     record {
       frame_is = split.1 ∙ ap (λ (n : ℕ). take n rest) len_of ∙ ap (λ (r : List ℕ). take (length f) r) same
@@ -152,7 +135,7 @@ remains_then rest frame rest' before now now' bus mid bus' len commands (command
     let n = next rest frame rest' len command later frames have.0 is split in
     let reply = reply_of simulated_firmware command in
     let same : simulated_reply (slice_index frame 0) ≡ reply =
-    ap (λ (f : List ℕ). simulated_reply (slice_index f 0)) n.frame_is ∙ reply_is command have.0 in
+    ap (λ (f : List ℕ). simulated_reply (slice_index f 0)) n.frame_is ∙ (answerable command have.0).reply in
     record {
       later = later;
       frames = n.rest_is;
@@ -161,7 +144,7 @@ remains_then rest frame rest' before now now' bus mid bus' len commands (command
           ∙ append_assoc now reply (replies_of simulated_firmware later) ∙ replies;
       settings = ap (λ (s : ProgrammerSettings). settings_after_all simulated_firmware later s)
           (ap simulated_settings (selects ∙ ap (λ (f : List ℕ). bus_type_after f mid) n.frame_is)
-          ∙ selects_as command have.0 mid) ∙ settings;
+          ∙ (answerable command have.0).selects mid) ∙ settings;
     }
 
 pub answers_then : (frames rest frame rest' before now now' : List ℕ) (bus mid bus' : Option ℕ) (len done : ℕ)
@@ -186,7 +169,7 @@ ended rest (command ∷ later) none frames have =
       none,
       ap length frames,
       length-append (frame_of command) (frames_of later),
-      frame_some command have.0,
+      (answerable command have.0).some,
     ))
 
 -- If the frames of the commands `later` (`rest`) are shorter than their first frame, `later` is empty.
@@ -196,7 +179,7 @@ no_frame : (rest : List ℕ) (len : ℕ) (later : List Command)
 no_frame rest len [] is short frames have = refl
 no_frame rest len (command ∷ later) is short frames have =
     let known : frame_len rest ≡ Some (length (frame_of command)) =
-    ap frame_len frames ∙ len_is command have.0 (frames_of later) in
+    ap frame_len frames ∙ (answerable command have.0).len (frames_of later) in
     let len_of : len ≡ length (frame_of command) =
     is ∙ ap (λ (o : Option ℕ). unwrap_or o 18446744073709551615) known in
     absurd (omega (arith, short, len_of, ap length frames, length-append (frame_of command) (frames_of later)))
@@ -243,7 +226,7 @@ next_fits rest frame rest' before now len commands (command ∷ later) is split 
     let n = next rest frame rest' len command later frames have.0 is split in
     let reply = reply_of simulated_firmware command in
     let same : simulated_reply (slice_index frame 0) ≡ reply =
-    ap (λ (f : List ℕ). simulated_reply (slice_index f 0)) n.frame_is ∙ reply_is command have.0 in
+    ap (λ (f : List ℕ). simulated_reply (slice_index f 0)) n.frame_is ∙ (answerable command have.0).reply in
     let all = ap length replies in
     let left = length-append now (reply ++ replies_of simulated_firmware later) in
     let both = length-append reply (replies_of simulated_firmware later) in
