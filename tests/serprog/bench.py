@@ -19,9 +19,8 @@ STRIDE = int(os.environ.get("STRIDE", "1"))
 LONGEST = 300
 
 # The line that a terminal shows before the first exchange, with DEV in the place of the device.
-WAITING = ("Waiting for the programmer. If no line follows in 10 seconds, press Ctrl-C, check the chip's contacts and "
-           "supply, disconnect the programmer from power for a second, connect it again, and run: stty -F DEV raw -echo "
-           "clocal -hupcl min 0 time 50")
+WAITING = ("Waiting for the programmer. If no line follows in 10 seconds, press Ctrl-C, disconnect the programmer from "
+           "power for a second, connect it again, and run: stty -F DEV raw -echo clocal -hupcl min 0 time 50")
 
 
 class Differs(Exception):

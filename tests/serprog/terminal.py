@@ -21,6 +21,9 @@ STEP = re.compile(
 
 COLUMNS = 60
 
+# The line after 256 polls that show BUSY.
+BUSY_CHIP = "The chip shows BUSY: its contacts or its supply fail, or an earlier operation still runs."
+
 
 def untimed(lines):
     """Returns the lines with `M:SS` and `R` for times and rates."""
@@ -144,6 +147,21 @@ def rewrites_a_line(start):
     screen.check_steps("scan", "compare")
 
 
+def says_that_the_chip_is_busy(start):
+    """If 256 polls show BUSY before the ID is read, a line says what may be wrong: without contact all replies are FFh.
+
+    The first transaction wakes the chip, so the last reply of FFh is that of poll 255 or 256.
+    """
+    for last, lines in (256, []), (257, [BUSY_CHIP]), (400, [BUSY_CHIP]):
+        bench = start()
+        bench.server.traits.lost = (1, last, 0xFF)
+        bench.expect_at_terminal(lines=[*lines, "identify 1"])
+    bench = start()
+    bench.server.traits.lost = (1, 300, 0xFF)
+    check("the exit status", bench.run("-o", "log").status, 0)
+    check("a line of the log", BUSY_CHIP in bench.path("log").read_text(), True)
+
+
 def rewrites_it_ten_times_a_second(start):
     """A long job draws the line in each step, but at most about ten times a second, also while the chip is busy."""
     old = bytearray(b"\x5a" * (1 << 23))
@@ -255,4 +273,5 @@ def shows_nothing_if_asked(start):
     check("plain lines", screen.lines[1:], ["identify 1", "scan: sector 1 of 16"])
 
 
-CASES = [rewrites_a_line, rewrites_it_ten_times_a_second, keeps_messages_apart, logs_commands, shows_nothing_if_asked]
+CASES = [rewrites_a_line, says_that_the_chip_is_busy, rewrites_it_ten_times_a_second, keeps_messages_apart,
+         logs_commands, shows_nothing_if_asked]

@@ -13,7 +13,9 @@ use nor_buses::ReadAhead;
 use nor_chip::{Bus, Stopped, is_changing};
 use std::time::Instant;
 
-// A bit of status 1, and two of status 2 (W25Q64FV datasheet, Status Registers).
+// Two bits of status 1, and two of status 2 (W25Q64FV datasheet, Status Registers).
+const BUSY: u8 = 0x01;
+
 const SRP0: u8 = 0x80;
 
 const SRP1: u8 = 0x01;
@@ -32,6 +34,14 @@ const POWER_LOCKED: &str =
 // The line before `SEALED` or `CHANGED` if QE is set and the job may write the status.
 const QUAD: &str =
     "Keep its power on: a status write that is cut off may clear QE, and a restore then ends with error 17.";
+
+// The line at poll number `POLLS_UNTIL_LINE` that shows BUSY before the ID is read.
+const BUSY_CHIP: &str =
+    "The chip shows BUSY: its contacts or its supply fail, or an earlier operation still runs.";
+
+// 256 polls take about a second (`Paced`), or longer over a slow wire. If the chip has no contact, all replies are FFh,
+// which shows BUSY, and the wait ends only after 400 seconds.
+const POLLS_UNTIL_LINE: u32 = 256;
 
 /// A bus that shows the progress of a job.
 pub trait Progress: Bus {
@@ -65,11 +75,11 @@ pub trait Progress: Bus {
 /// receives the lines of `Look::Plain`, the lines of `-V`, and those that say how long the change takes and took, with
 /// any look.
 ///
-/// A step is recognized by the opcode of a transaction and, for a read of data, by the phase of the job. Before the
-/// first modifying command a line says that the chip is changed from here on. In a session this line begins with
-/// `SEALED`, since a session sends no modifying command before its journal is sealed. If SRP1 is set without SRP0, or
-/// if QE is set and the job may write the status, an earlier line says what a loss of power would mean. In contracts,
-/// the state of this bus is that of the bus inside.
+/// A step is recognized by the opcode of a transaction and, for a read of data, by the phase of the job. If 256 polls
+/// show BUSY before the ID is read, a line says what may be wrong. Before the first modifying command a line says that
+/// the chip is changed from here on. In a session this line begins with `SEALED`, since a session sends no modifying
+/// command before its journal is sealed. If SRP1 is set without SRP0, or if QE is set and the job may write the status,
+/// an earlier line says what a loss of power would mean. In contracts, the state of this bus is that of the bus inside.
 #[derive(Drop)]
 pub struct Shown<'a, B> {
     bus: B,
@@ -87,6 +97,8 @@ pub struct Shown<'a, B> {
     status_write: StatusWrite,
     // what the chip replied before the first modifying command
     replies: Replies,
+    // how many polls showed BUSY before the ID was read
+    busy_polls: u32,
 }
 
 /// Whether a job may write the chip's status.
@@ -118,6 +130,7 @@ impl<'a, B: Bus + Drop> Shown<'a, B> {
             changed: None,
             status_write,
             replies: Replies::default(),
+            busy_polls: 0,
         }
     }
 
@@ -219,7 +232,10 @@ impl<B> Shown<'_, B> {
         ensures { self.new.bus ≡ self.old.bus }
     {
         match (self.phase, out, reply) {
-            (Phase::Before, [0x05, ..], [status1, ..]) => self.replies.status[0] = *status1,
+            (Phase::Before, [0x05, ..], [status1, ..]) => {
+                self.replies.status[0] = *status1;
+                self.count_busy(*status1);
+            }
             (Phase::Before, [0x35, ..], [status2, ..]) => self.replies.status[1] = *status2,
             (Phase::Before, [0x9F, ..], [maker, kind, capacity]) => {
                 self.replies.id = Some([*maker, *kind, *capacity]);
@@ -228,6 +244,19 @@ impl<B> Shown<'_, B> {
                 self.replies.unique = Some([*a, *b, *c, *d, *e, *f, *g, *h]);
             }
             _ => {}
+        }
+    }
+
+    // Counts the polls that show BUSY before the ID is read, and prints a line at number `POLLS_UNTIL_LINE`.
+    fn count_busy(&mut self, status1: u8)
+        ensures { self.new.bus ≡ self.old.bus }
+    {
+        if self.replies.id.is_some() || status1 & BUSY == 0 {
+            return;
+        }
+        self.busy_polls = self.busy_polls.saturating_add(1);
+        if self.busy_polls == POLLS_UNTIL_LINE {
+            self.terminal.print(&BUSY_CHIP);
         }
     }
 

@@ -24,8 +24,8 @@ const ERASE_TO_END: &str = "\x1b[K";
 
 // The line before the first exchange, without the command that sets up the port.
 const WAITING: &str =
-    "Waiting for the programmer. If no line follows in 10 seconds, press Ctrl-C, check the chip's contacts \
-    and supply, disconnect the programmer from power for a second, connect it again, and run:";
+    "Waiting for the programmer. If no line follows in 10 seconds, press Ctrl-C, disconnect the programmer \
+    from power for a second, connect it again, and run:";
 
 /// What all copies of a `Terminal` know: whether the run waited for its programmer before, whether a line that may be
 /// rewritten is on the screen, what was announced, and how fast data was read. Also the log of the run, which they
