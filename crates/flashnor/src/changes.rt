@@ -43,7 +43,7 @@ pub fn change_or_rehearse<'a, R: Store, B: Meter>(
         → KeepsFile name (R.state rt.old) (R.state rt.new) }
     ensures unmade { is_lawful (R.state rt.old).view ≡ true
         → OnErr result (MakesNothing (journal_of change.now.journal_use) (R.state rt.old) (R.state rt.new)) }
-    ensures ok { IsModelled (B.state bus.old) → IsSteadyOrIdle (B.state bus.old)
+    ensures ok { IsModelled (B.state bus.old) → (B.state bus.old).punctual ≡ true → IsSteadyOrIdle (B.state bus.old)
         → IfOk result (ChangesChip (R.state rt.old).view (R.state rt.new) chip named change.now
         (B.state bus.old) (B.state bus.new)) }
     ensures err { IfErr result (λ fault. FailsToReadImage (R.state rt.old).view change.now.wanted fault
@@ -69,7 +69,7 @@ fn change_with<'a, R: Store, B: Meter>(
         → KeepsFile name (R.state rt.old) (R.state rt.new) }
     ensures unmade { is_lawful (R.state rt.old).view ≡ true
         → OnErr result (MakesNothing (journal_of journal_use.now) (R.state rt.old) (R.state rt.new)) }
-    ensures ok { IsModelled (B.state bus.old) → IsSteadyOrIdle (B.state bus.old)
+    ensures ok { IsModelled (B.state bus.old) → (B.state bus.old).punctual ≡ true → IsSteadyOrIdle (B.state bus.old)
         → IfOk result (HasMadeChange request.now image.old journal_use.now (B.state bus.old) (B.state bus.new)
         (R.state rt.old).view (R.state rt.new)) }
     ensures err { IfErr result (FailsToKeep (R.state rt.old).view journal_use.now) }
@@ -94,7 +94,7 @@ fn rehearse_change<B: Meter>(
 ) -> Outcome
     requires few { length stops.now ≤ 64 }
     requires fresh { IsFresh (⟦<MemVault as Vault>⟧.state vault.old) }
-    ensures { IsModelled (B.state bus.old) → IsSteadyOrIdle (B.state bus.old)
+    ensures { IsModelled (B.state bus.old) → (B.state bus.old).punctual ≡ true → IsSteadyOrIdle (B.state bus.old)
         → HasRehearsed request.now image.old stops.now (B.state bus.old) (B.state bus.new)
         (⟦<MemVault as Vault>⟧.state vault.old) (⟦<MemVault as Vault>⟧.state vault.new) result }
 {

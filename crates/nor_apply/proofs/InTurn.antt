@@ -44,7 +44,7 @@ ran_none {limits} state none = record {
     polled_ready = λ ready. ready;
     unsent = λ none. refl;
     idle = λ honest idle. idle;
-    sent = λ honest. omega arith;
+    sent = λ honest punctual. omega arith;
   };
 }
 
@@ -89,8 +89,12 @@ module _ {first : Limits} {r : ℕ} {old mid new : BusState} {done : Tally} (ran
         polled_ready = λ ready. after.polled_ready (before.polled_ready ready);
         unsent = λ none. after.unsent (omega (arith, none, count)) ∙ before.unsent (omega (arith, none, count));
         idle = λ honest idle. after.idle (ran.nature.honest ∙ honest) (before.idle honest idle);
-        sent = λ honest.
-            omega (arith, before.sent honest, after.sent (ran.nature.honest ∙ honest), transactions);
+        sent = λ honest punctual. omega (
+          arith,
+          before.sent honest punctual,
+          after.sent (ran.nature.honest ∙ honest) (ran.nature.punctual ∙ punctual),
+          transactions,
+        );
       }
 
   pub ran_after : {second both : Limits} {k readings : ℕ} {more all : Tally} → IsSum first second both
@@ -115,7 +119,8 @@ module _ {limits : Limits} {r : ℕ} {old mid : BusState} {done : Tally} (ran : 
   -- If the next part returned an error, `OperationFails` holds for the parts so far and the next one together.
   pub fails_after : {part most : ℕ} {new : BusState} {error : OperationError} → OperationFails part mid new error
       → done.transactions + part ≤ most → OperationFails most old new error
-  fails_after fails fits = grind (arith, ran.nature.honest, ran.tallies.sent, fails.stopped, fails.ran_out)
+  fails_after fails fits =
+      grind (arith, ran.nature.honest, ran.nature.punctual, ran.tallies.sent, fails.stopped, fails.ran_out)
 
   module _ {Can : Chip → Type 0} {May : BusState → BusState → Type 0} where
     -- `Leaves` holds for the parts so far.
@@ -136,7 +141,8 @@ module _ {limits : Limits} {r : ℕ} {old mid : BusState} {done : Tally} (ran : 
     leaves_after {second = second} {all = all} {new = new} leaves parts fits follows =
         let nature = nature_then old mid new leaves.spends.nature ran.nature in
         record {
-          spends = grind (arith, nature, ran.nature.honest, ran.tallies.sent, leaves.spends.falls);
+          spends =
+              grind (arith, nature, ran.nature.honest, ran.nature.punctual, ran.tallies.sent, leaves.spends.falls);
           sends = sends_then limits second all old mid new parts ran.sends leaves.sends;
           reached = λ honest can.
               let next = follows honest can in next.1 (leaves.reached (honest_now honest) next.0);

@@ -4,6 +4,7 @@ use Rattle.std.specs.Prelude.{◌≡◌, ◌≤◌, ◌+◌, ◌*◌, ◌/◌, �
 use Rattle.nor_model.specs.Bus.{BusState}
 use Rattle.nor_driver.specs.declared.waits.OperationError.{OperationError}
 use Rattle.nor_driver.specs.declared.waits.OperationError.TheVariants.{Stopped, Timeout}
+use Rattle.nor_driver.specs.OnlyReads.{Spent}
 use Rattle.nor_driver.specs.Ready.{StaysReady}
 use Rattle.nor_driver.specs.Operations.{most_operation}
 use Rattle.nor_driver.specs.Polls.{AddsTransactions}
@@ -35,4 +36,4 @@ pub record Tallies (readings : ℕ) (old new : BusState) (tally : Tally) : Type 
   pub polled_ready : StaysReady old new
   pub unsent : tally.count ≡ 0 → new.sent ≡ old.sent
   pub idle : old.honest ≡ true → old.chip.busy ≡ 0 → new.chip.busy ≡ 0
-  pub sent : old.honest ≡ true → old.left ≡ new.left + tally.transactions
+  pub sent : old.honest ≡ true → Spent tally.transactions old new

@@ -1,5 +1,5 @@
 -- The faulty bus, as contracts see it.
-use Rattle.std.specs.Prelude.{◌≡◌, ◌<◌, ◌+◌, ◌-◌, ◌^◌, ◌==◌, ◌&&◌, ℕ, false, List, length, Option, None, Some, Result, Ok, Err, OnOk, OnErr, IsOk, IfSome, IfNone, replicate, min, nat_lt, nat_le, bit_and, bit_or, slice_index, if◌then◌else◌}
+use Rattle.std.specs.Prelude.{◌≡◌, ◌<◌, ◌+◌, ◌-◌, ◌^◌, ◌==◌, ◌&&◌, ℕ, false, List, length, Option, None, Some, Result, Ok, Err, OnOk, OnErr, IsOk, IfSome, IfNone, replicate, min, nat_lt, nat_le, bit_and, bit_or, slice_index, if◌then◌else◌, true}
 use Rattle.nor_chip.specs.declared.spoilt.SpoiltBus.{SpoiltBus}
 use Rattle.nor_chip.specs.declared.spoilt.Spoil.{Spoil}
 use Rattle.nor_chip.specs.declared.spoilt.Spoil.TheVariants.{Fill, BusyFrom, Drop, Low}
@@ -75,12 +75,12 @@ pub record IsPassedOn (byte_for : ℕ → ℕ) (out asked answer : List ℕ) (ol
   pub inner : IsHonestFor out (length asked) old → Carries out replied old new
 
 -- The effect of a transaction that was not dropped: it succeeded (`IsPassedOn`), or the inner bus stopped. If the inner
--- bus is well-behaved and takes a transaction of this length, a stop leaves the reply buffer as it was, and the chip as
--- `Stops` says.
+-- bus is well-behaved and takes a transaction of this length, a stop leaves the chip as `Stops` says, and the reply
+-- buffer as it was if the inner bus is also punctual.
 abbrev pub GoesThrough : (ℕ → ℕ) → (out asked answer : List ℕ) → Result Unit Stopped → (old new : BusState) → Type 0
 GoesThrough byte_for out asked answer (Ok done) old new = IsPassedOn byte_for out asked answer old new
 GoesThrough byte_for out asked answer (Err stopped) old new =
-    IsHonestFor out (length asked) old → (answer ≡ asked) × Stops out old new
+    IsHonestFor out (length asked) old → (old.punctual ≡ true → answer ≡ asked) × Stops out old new
 
 -- The effect of a transaction over a faulty bus. The way in which the bus fails is as it was, and the transaction was
 -- dropped (`IsWithheld`) or passed on (`GoesThrough`). A transaction that succeeds is counted, up to the greatest u64.

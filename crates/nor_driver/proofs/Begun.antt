@@ -1,5 +1,5 @@
 -- The combined effect of a write enable, a command and a wait, which make up an operation.
-use Rattle.std.proofs.Common.{◌≡◌, ◌+◌, ◌⊎◌, ℕ, true, false, not, List, [], ◌∷◌, length, take, cond, ap, ◌∙◌, arith, inl, inr}
+use Rattle.std.proofs.Common.{◌≡◌, ◌⊎◌, ℕ, true, false, not, List, [], ◌∷◌, length, take, cond, ap, ◌∙◌, arith, inl, inr}
 use Rattle.std.specs.Prelude.{◌==◌, if◌then◌else◌}
 use Rattle.std.proofs.lemmas.Bool.Decides.{eqb_tells, nat_tests}
 use Rattle.std.proofs.Math.Bool.{or-false}
@@ -10,7 +10,7 @@ use Rattle.nor_model.specs.Power.{is_in_work, KeptCut}
 use Rattle.nor_model.specs.Step.{Does, is_carried_out, is_idle, is_operation, done_of, byte_after, kept_after, running_after}
 use Rattle.nor_model.specs.Bus.{BusState, Carries}
 use Rattle.nor_model.proofs.Steps.{done-agrees}
-use Rattle.nor_driver.specs.OnlyReads.{Unchanged, KeepsChip}
+use Rattle.nor_driver.specs.OnlyReads.{Unchanged, KeepsChip, Spent}
 use Rattle.nor_driver.specs.Waits.{HasWaited, latch_when_idle}
 use Rattle.nor_driver.specs.Operations.{operation_of, AsksForOperation, MayOperate, HasOperated}
 use Rattle.nor_driver.proofs.Readings.{Wore, no_operation}
@@ -21,7 +21,7 @@ pub record IsEnabled (old new : BusState) : Type 0 where
   pub unchanged : Unchanged old new
   pub busy : new.chip.busy ≡ old.chip.busy
   pub latch : new.chip.latch ≡ (if is_idle old.chip then true else old.chip.latch)
-  pub count : old.left ≡ new.left + 1
+  pub count : Spent 1 old new
 
 pub enabled : (old new : BusState) (answer : List ℕ) → length answer ≡ 0 → Carries (6 ∷ []) answer old new
     → IsEnabled old new

@@ -67,7 +67,7 @@ module _ (out : List ℕ) (asks : AsksForOperation out) (old : BusState) where
   leaves-at_enable new sends stops =
       let within = enable_sends (limits_of out) old new sends in
       not_begun new record { nature = sends.nature; stirred = enabled_stirs new sends; sends = within }
-      (λ honest. omega (arith, (stops (enable_fits old honest)).left))
+      (λ honest punctual. omega (arith, (stops (enable_fits old honest)).left punctual))
       (λ honest. enable_stays old new (stops (enable_fits old honest)))
 
   module _ (ready : BusState) (first : List ℕ) (none : length first ≡ 0) (sends : Sends (6 ∷ []) old ready)
@@ -77,6 +77,9 @@ module _ (out : List ℕ) (asks : AsksForOperation out) (old : BusState) where
 
     honest-ready : old.honest ≡ true → ready.honest ≡ true
     honest-ready honest = sends.nature.honest ∙ honest
+
+    punctual-ready : old.punctual ≡ true → ready.punctual ≡ true
+    punctual-ready punctual = sends.nature.punctual ∙ punctual
 
     -- If the write enable succeeded and the bus was then asked to send the command, `Stirs` holds with the limits of
     -- the command.
@@ -140,7 +143,8 @@ module _ (out : List ℕ) (asks : AsksForOperation out) (old : BusState) where
         → LeavesOperation (command_operation out) old new
     leaves-at_command new sends' stops =
         let stopped = λ (honest : old.honest ≡ true). stops (command_fits ready (honest-ready honest)) in
-        leaves_by (stirs-by new sends') (λ honest. omega (arith, (enabling honest).count, (stopped honest).left))
+        leaves_by (stirs-by new sends') (λ honest punctual.
+        omega (arith, (enabling honest).count punctual, (stopped honest).left (punctual-ready punctual)))
         (λ honest is. may-at_stop honest new is (still_or_torn out ready new (stopped honest).at_stop))
         (λ honest none. stays-at_stop honest new none (still_or_torn out ready new (stopped honest).at_stop))
 
@@ -155,6 +159,9 @@ module _ (out : List ℕ) (asks : AsksForOperation out) (old : BusState) where
 
       stirs : Stirs (limits_of out) old begun
       stirs = stirs-by begun sends'
+
+      punctual-begun : old.punctual ≡ true → begun.punctual ≡ true
+      punctual-begun punctual = stirs.nature.punctual ∙ punctual
 
       has-begun : old.honest ≡ true → is_operation (operation_of old.chip out) ≡ true
           → HasBegun (operation_of old.chip out) (drop 4 out) old begun
@@ -180,7 +187,12 @@ module _ (out : List ℕ) (asks : AsksForOperation out) (old : BusState) where
             nature = nature;
             stirred = ap is_stirred only_reads.sent ∙ stirs.stirred;
             sends = sends_same (limits_of out) old begun new only_reads.sent stirs.sends;
-          } (λ honest. omega (arith, (honest_reads honest).falls, (enabling honest).count, (carried honest).left))
+          } (λ honest punctual. omega (
+            arith,
+            (honest_reads honest).falls (punctual-begun punctual),
+            (enabling honest).count punctual,
+            (carried honest).left (punctual-ready punctual),
+          ))
           (λ honest is.
           may-after _ _ old begun new is stirs.nature.steady (has-begun honest is) (honest_reads honest).stays)
           (λ honest is. stays_after old begun new stirs.nature.steady (unchanged honest is) (honest_reads honest).stays)
@@ -209,7 +221,12 @@ module _ (out : List ℕ) (asks : AsksForOperation out) (old : BusState) where
               least = omega (arith, waits.some);
               few = omega (arith, waits.few);
               polled_ready = waits.polled_ready;
-              count = λ honest. omega (arith, (enabling honest).count, (carried honest).left, (wait honest).count);
+              count = λ honest punctual. omega (
+                arith,
+                (enabling honest).count punctual,
+                (carried honest).left (punctual-ready punctual),
+                (wait honest).count (punctual-begun punctual),
+              );
               idle = λ honest. (wait honest).idle;
             };
             sends = exactly_same same (command_exactly out old ready begun sends sends');

@@ -11,7 +11,7 @@ use Rattle.nor_model.specs.Bus.{BusState, IsHonestFor, Stops, Carries, Records}
 use Rattle.nor_model.specs.PolledReady.{is_poll}
 use Rattle.nor_model.specs.History.{replied}
 use Rattle.nor_model.specs.declared.bus.Stopped.{Stopped}
-use Rattle.nor_driver.specs.OnlyReads.{Rested, OnlyReadsHonest, OnlyReads, HasStopped}
+use Rattle.nor_driver.specs.OnlyReads.{Rested, Spent, OnlyReadsHonest, OnlyReads, HasStopped}
 use Rattle.nor_driver.specs.Reads.{changes_nothing, IsReading, HasRead, Replies}
 use Rattle.nor_driver.proofs.Sends.{Sends, stopped_by}
 use Rattle.nor_driver.proofs.Cuts.{stays_then, unchanged_none, unchanged_then, unchanged_stays}
@@ -43,15 +43,16 @@ carried_ignored out answer old new ignored carries = carried_by out answer old n
 
 -- if `Rested` holds after reads that succeeded, and `most` transactions were carried out, `OnlyReadsHonest` holds with
 -- the bound `most`
-pub honest_reads_by : (old new : BusState) (most : ℕ) → Rested old new → old.left ≡ new.left + most → OnlyReadsHonest most old new
+pub honest_reads_by : (old new : BusState) (most : ℕ) → Rested old new → Spent most old new
+    → OnlyReadsHonest most old new
 honest_reads_by old new most rested count = search (arith, unchanged_stays old new rested.unchanged)
 
 -- Suppose that two successive calls satisfy `OnlyReadsHonest` with the bounds `m` and `n`, and that the first one
--- didn't change whether the bus is steady. Then the two calls together satisfy `OnlyReadsHonest` with the bound `m +
--- n`.
-pub honest_reads_then : (m n : ℕ) (old mid new : BusState) → mid.steady ≡ old.steady → OnlyReadsHonest m old mid
-    → OnlyReadsHonest n mid new → OnlyReadsHonest (m + n) old new
-honest_reads_then m n old mid new steady first second =
+-- didn't change whether the bus is steady or punctual. Then the two calls together satisfy `OnlyReadsHonest` with the
+-- bound `m + n`.
+pub honest_reads_then : (m n : ℕ) (old mid new : BusState) → mid.steady ≡ old.steady → mid.punctual ≡ old.punctual
+    → OnlyReadsHonest m old mid → OnlyReadsHonest n mid new → OnlyReadsHonest (m + n) old new
+honest_reads_then m n old mid new steady punctual first second =
     grind (arith, stays_then old mid new steady first.stays second.stays)
 
 pub honest_reads_more : (old new : BusState) (m n : ℕ) → m ≤ n → OnlyReadsHonest m old new → OnlyReadsHonest n old new
@@ -103,9 +104,9 @@ pub read_fails : (outcome : Result Unit Stopped) (out answer : List ℕ) (old ne
 read_fails (Ok done) out answer old new records stops = tt
 read_fails (Err stop) out answer old new records stops = record {
   last = stopped_by (Err stop) out answer old new records;
-  ran_out = λ honest. let stop = stops honest in record {
-    none_left = omega (arith, stop.none_left, stop.left);
-    below = omega (arith, stop.none_left);
+  ran_out = λ honest punctual. let stop = stops honest in record {
+    none_left = omega (arith, stop.none_left punctual, stop.left punctual);
+    below = omega (arith, stop.none_left punctual);
   };
 }
 

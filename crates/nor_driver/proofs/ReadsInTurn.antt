@@ -12,7 +12,7 @@ use Rattle.nor_driver.proofs.Cuts.{unchanged_none, unchanged_stays}
 pub only_reads_then : (m n : ℕ) (old mid new : BusState) → OnlyReads m old mid → OnlyReads n mid new → OnlyReads (m + n) old new
 only_reads_then m n old mid new first second =
     let nature = nature_then old mid new second.nature first.nature in
-    let honest_reads = honest_reads_then m n old mid new first.nature.steady in
+    let honest_reads = honest_reads_then m n old mid new first.nature.steady first.nature.punctual in
     grind (arith, nature, honest_reads, first.honest_reads, second.honest_reads)
 
 -- a state that did not change satisfies `OnlyReads` with a bound of 0 transactions

@@ -27,7 +27,7 @@ only_reads_after reads more most old mid new few has only_reads =
 -- If the bus stops at the next read after `reads` reads that succeeded, `HasStopped` holds for all these reads
 -- together, for each `most` above `reads`.
 pub runs_out : (reads most : ℕ) (old mid new : BusState) → reads < most → HasOnlyRead reads old mid → HasStopped 1 mid new → HasStopped most old new
-runs_out reads most old mid new few has out = grind (arith, has.sent, has.nature.honest, out)
+runs_out reads most old mid new few has out = grind (arith, has.sent, has.nature.honest, has.nature.punctual, out)
 
 -- One read that succeeded satisfies `HasOnlyRead` with a count of 1, if it did not change `polled_ready` from true to
 -- false.

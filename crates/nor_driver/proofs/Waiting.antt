@@ -5,7 +5,7 @@ use Rattle.nor_model.specs.History.{Answered, EndsBusy, replied}
 use Rattle.nor_model.specs.PolledReady.{is_poll}
 use Rattle.nor_model.specs.Bus.{BusState, KeepsNature}
 use Rattle.nor_model.specs.Exchange.{Exchange}
-use Rattle.nor_driver.specs.OnlyReads.{Rested, OnlyReads}
+use Rattle.nor_driver.specs.OnlyReads.{Rested, Spent, OnlyReads}
 use Rattle.nor_driver.specs.Waits.{Polls}
 use Rattle.nor_driver.proofs.Readings.{honest_reads_by}
 use Rattle.nor_driver.proofs.ReadsInTurn.{only_reads_then, only_reads_more}
@@ -34,7 +34,7 @@ ends_busy {old} {new} {status} polls busy =
 
 -- If `polls` polls succeeded, and one more poll follows and may fail, `OnlyReads` holds with each bound above `polls`.
 pub polled_leaves : (polls most : ℕ) (old mid new : BusState) → polls < most → KeepsNature old mid
-    → mid.sent ≡ old.sent → (old.honest ≡ true → Rested old mid) → (old.honest ≡ true → old.left ≡ mid.left + polls)
+    → mid.sent ≡ old.sent → (old.honest ≡ true → Rested old mid) → (old.honest ≡ true → Spent polls old mid)
     → OnlyReads 1 mid new → OnlyReads most old new
 polled_leaves polls most old mid new few nature sent rested count one =
     only_reads_more (polls + 1) most old new (omega (arith, few))

@@ -40,10 +40,20 @@ pub record Rested (old new : BusState) : Type 0 where
   pub latch : new.chip.latch ≡ true → old.chip.latch ≡ true
   pub idle_latch : old.chip.busy ≡ 0 → new.chip.latch ≡ old.chip.latch
 
--- Holds if, between `old` and `new`, at most `most` transactions were carried out on a well-behaved bus.
-pub record Falls (most : ℕ) (old new : BusState) : Type 0 where
+-- Holds if, on a well-behaved bus that is punctual, exactly `transactions` transactions were carried out between `old`
+-- and `new`.
+abbrev pub Spent : (transactions : ℕ) → (old new : BusState) → Type 0
+Spent transactions old new = old.punctual ≡ true → old.left ≡ new.left + transactions
+
+-- Holds if the number of transactions that are left did not grow, and fell by at most `most`.
+pub record HasFallen (most : ℕ) (old new : BusState) : Type 0 where
   pub fell : new.left ≤ old.left
   pub bound : old.left ≤ new.left + most
+
+-- Holds if, between `old` and `new`, at most `most` transactions were carried out on a well-behaved bus that is
+-- punctual.
+abbrev pub Falls : (most : ℕ) → (old new : BusState) → Type 0
+Falls most old new = old.punctual ≡ true → HasFallen most old new
 
 -- The effect, on a well-behaved bus and at every exit, of a call that only reads: `KeepsChip` holds, and at most `most`
 -- transactions were carried out. The write enable latch is set only if it was set before. If the chip was idle and the
@@ -62,11 +72,15 @@ pub record OnlyReads (most : ℕ) (old new : BusState) : Type 0 where
   pub sent : new.sent ≡ old.sent
   pub honest_reads : old.honest ≡ true → OnlyReadsHonest most old new
 
--- Holds if, on a well-behaved bus, a call that needs at most `needed` transactions stopped because too few were left.
--- Fewer than `needed` transactions were left before the call, and all of these were carried out.
-pub record RanOut (needed : ℕ) (old new : BusState) : Type 0 where
+-- Holds if fewer than `needed` transactions were left before a call, and all of these were carried out.
+pub record HasRunOut (needed : ℕ) (old new : BusState) : Type 0 where
   pub none_left : new.left ≡ 0
   pub below : old.left < needed
+
+-- Holds if, on a well-behaved bus that is punctual, a call that needs at most `needed` transactions stopped because too
+-- few were left (`HasRunOut`).
+abbrev pub RanOut : (needed : ℕ) → (old new : BusState) → Type 0
+RanOut needed old new = old.punctual ≡ true → HasRunOut needed old new
 
 -- Holds if the bus stopped at the last transaction of a call, so that nothing was sent after the stop. On a
 -- well-behaved bus the call, which needs at most `needed` transactions, ran out of them (`RanOut`).

@@ -11,7 +11,7 @@ use Rattle.nor_model.specs.Sent.{with_sent, is_stirred, is_unknown_to_model}
 use Rattle.nor_model.specs.Step.{is_idle, is_operation, done_of, byte_after, kept_after, running_after, wears}
 use Rattle.nor_model.specs.Bus.{BusState}
 use Rattle.nor_driver.specs.declared.waits.Waited.{Waited}
-use Rattle.nor_driver.specs.OnlyReads.{KeepsChip}
+use Rattle.nor_driver.specs.OnlyReads.{KeepsChip, Spent}
 use Rattle.nor_driver.specs.Polls.{PollsUntilReady}
 use Rattle.nor_driver.specs.Limits.{Limits, limits_of, SendsExactly, Leaves}
 
@@ -78,7 +78,7 @@ pub record EndsWaiting (old new : BusState) (sent : ℕ) : Type 0 where
   pub least : 3 ≤ sent
   pub few : sent ≤ most_operation
   pub polled_ready : new.polled_ready ≡ true
-  pub count : old.honest ≡ true → old.left ≡ new.left + sent
+  pub count : old.honest ≡ true → Spent sent old new
   pub idle : old.honest ≡ true → new.chip.busy ≡ 0
 
 -- The command that `chip` carries out if it receives `out` after a write enable, or `Ignored` if it carries out none.

@@ -9,7 +9,7 @@ use Rattle.nor_model.specs.Command.{command_of, begins_quiet}
 use Rattle.nor_model.specs.Step.{done_of, reply_byte}
 use Rattle.nor_model.specs.History.{Answered, replied, begins_with, names}
 use Rattle.nor_model.specs.Bus.{BusState}
-use Rattle.nor_driver.specs.OnlyReads.{Rested}
+use Rattle.nor_driver.specs.OnlyReads.{Rested, Spent}
 
 -- true if the command changes nothing, not even the write enable latch or `busy`
 abbrev pub changes_nothing : Command → Bool
@@ -34,7 +34,7 @@ pub record HasRead (old new : BusState) : Type 0 where
   pub rested : Rested old new
   pub busy : new.chip.busy ≡ old.chip.busy
   pub latch : new.chip.latch ≡ old.chip.latch
-  pub count : old.left ≡ new.left + 1
+  pub count : Spent 1 old new
 
 -- Holds if the bus sent `out`, which only reads, and received `reply`. On every bus this transaction was added to the
 -- history. On a well-behaved bus the transaction left the chip as it was, and `reply` is the chip's reply.

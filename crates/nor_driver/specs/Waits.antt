@@ -8,7 +8,7 @@ use Rattle.nor_model.specs.Bus.{BusState}
 use Rattle.nor_driver.specs.declared.waits.OperationError.{OperationError}
 use Rattle.nor_driver.specs.declared.waits.OperationError.TheVariants.{Stopped, Timeout}
 use Rattle.nor_driver.specs.declared.waits.Waited.{Waited}
-use Rattle.nor_driver.specs.OnlyReads.{Rested, RanOut}
+use Rattle.nor_driver.specs.OnlyReads.{Rested, Spent, RanOut}
 use Rattle.nor_driver.specs.Polls.{PollsUntilReady}
 
 -- The effect, on a well-behaved bus, of one poll: `status` is status 1 as it was before the poll. A chip that was busy
@@ -18,7 +18,7 @@ pub record HasPolled (old new : BusState) (status : ℕ) : Type 0 where
   pub status1 : status ≡ status1_of old.chip
   pub busy : new.chip.busy ≡ old.chip.busy - 1
   pub latch : new.chip.latch ≡ (if old.chip.busy == 1 then false else old.chip.latch)
-  pub count : old.left ≡ new.left + 1
+  pub count : Spent 1 old new
 
 -- Holds if a poll succeeded and received `status`. On a well-behaved bus, `HasPolled` states the effect of the poll.
 pub record Polls (old new : BusState) (status : ℕ) : Type 0 where
@@ -38,7 +38,7 @@ pub record HasWaited (old new : BusState) (waited : Waited) : Type 0 where
   pub latch : new.chip.latch ≡ latch_when_idle old.chip
   pub status1 : waited.status1 ≡ status1_of new.chip
   pub polls : waited.polls ≡ old.chip.busy + 1
-  pub count : old.left ≡ new.left + waited.polls
+  pub count : Spent waited.polls old new
 
 -- Holds if a wait succeeded. On every bus the wait made from 1 to 65,536 polls, and sent nothing else. It ended with
 -- the first poll that showed that the chip is ready (`PollsUntilReady`), and this poll received `status1`. For each
@@ -78,4 +78,4 @@ pub record OperationFails (needed : ℕ) (old new : BusState) (error : Operation
 pub record WaitFails (at : ℕ) (old new : BusState) (error : OperationError) : Type 0 where
   pub names : NamesTimeout at error
   pub fails : OperationFails 65536 old new error
-  pub needed : old.honest ≡ true → old.left < old.chip.busy + 1
+  pub needed : old.honest ≡ true → old.punctual ≡ true → old.left < old.chip.busy + 1

@@ -62,7 +62,7 @@ pub fn read_unique<B: Bus>(bus: &mut B) -> Result<[u8; 8], Stopped>
 /// `address` must fit in three bytes. On a well-behaved bus `bytes` receives the chip's SFDP bytes if the chip is idle.
 /// The chip takes `address` modulo its size.
 ///
-/// Returns `Stopped` if the bus stopped. A well-behaved bus then leaves `bytes` as they were.
+/// Returns `Stopped` if the bus stopped. A well-behaved and punctual bus then leaves `bytes` as they were.
 pub fn read_parameters<B: Bus>(bus: &mut B, address: u32, bytes: &mut [u8]) -> Result<(), Stopped>
     requires reachable { address < 2 ^ 24 }
     requires short { length bytes.old ≤ 4096 }
@@ -70,7 +70,8 @@ pub fn read_parameters<B: Bus>(bus: &mut B, address: u32, bytes: &mut [u8]) -> R
     ensures does { OnOk result (ReadsSfdp address (length bytes.old) (B.state bus.old) (B.state bus.new) bytes.new) }
     ensures fails { OnErr result (HasStopped 1 (B.state bus.old) (B.state bus.new)) }
     ensures polled_ready { (B.state bus.new).polled_ready ≡ (B.state bus.old).polled_ready }
-    ensures unread { (B.state bus.old).honest ≡ true → OnErr result (bytes.new ≡ bytes.old) }
+    ensures unread { (B.state bus.old).honest ≡ true → (B.state bus.old).punctual ≡ true
+        → OnErr result (bytes.new ≡ bytes.old) }
 {
     let [high, middle, low] = address_bytes(address);
     read(bus, &[READ_SFDP, high, middle, low, 0], bytes)
@@ -80,7 +81,7 @@ pub fn read_parameters<B: Bus>(bus: &mut B, address: u32, bytes: &mut [u8]) -> R
 /// `sector` must be below 4,096, and `bytes` must have a length of 4,096. On a well-behaved bus `bytes` receives the
 /// chip's bytes if the chip is idle and the sector lies on it.
 ///
-/// Returns `Stopped` if the bus stopped. A well-behaved bus then leaves `bytes` as they were.
+/// Returns `Stopped` if the bus stopped. A well-behaved and punctual bus then leaves `bytes` as they were.
 pub fn read_sector<B: Bus>(bus: &mut B, sector: u32, bytes: &mut [u8]) -> Result<(), Stopped>
     requires reachable { sector < 4096 }
     requires whole { length bytes.old ≡ 4096 }
@@ -88,7 +89,8 @@ pub fn read_sector<B: Bus>(bus: &mut B, sector: u32, bytes: &mut [u8]) -> Result
     ensures does { OnOk result (ReadsSector sector (B.state bus.old) (B.state bus.new) bytes.new) }
     ensures fails { OnErr result (HasStopped 1 (B.state bus.old) (B.state bus.new)) }
     ensures polled_ready { (B.state bus.new).polled_ready ≡ (B.state bus.old).polled_ready }
-    ensures unread { (B.state bus.old).honest ≡ true → OnErr result (bytes.new ≡ bytes.old) }
+    ensures unread { (B.state bus.old).honest ≡ true → (B.state bus.old).punctual ≡ true
+        → OnErr result (bytes.new ≡ bytes.old) }
 {
     let [high, middle, low] = address_bytes(SECTOR_LEN * sector);
     read(bus, &[READ_DATA, high, middle, low], bytes)
@@ -103,7 +105,8 @@ fn read<B: Bus>(bus: &mut B, out: &[u8], reply: &mut [u8]) -> Result<(), Stopped
     ensures does { OnOk result (Replies out.now (B.state bus.old) (B.state bus.new) reply.new) }
     ensures fails { OnErr result (HasStopped 1 (B.state bus.old) (B.state bus.new)) }
     ensures polled_ready { (B.state bus.new).polled_ready ≡ (B.state bus.old).polled_ready }
-    ensures unread { (B.state bus.old).honest ≡ true → OnErr result (reply.new ≡ reply.old) }
+    ensures unread { (B.state bus.old).honest ≡ true → (B.state bus.old).punctual ≡ true
+        → OnErr result (reply.new ≡ reply.old) }
 {
     bus.transfer(out, reply)
 }

@@ -1,6 +1,6 @@
--- `KeepsNature` says that transactions don't change whether a bus is well-behaved, steady or unlimited, and that its
--- history continues. If `KeepsNature` holds for each of several successive transactions, it holds for all of them
--- together.
+-- `KeepsNature` says that transactions don't change whether a bus is well-behaved, steady, unlimited or punctual, and
+-- that its history continues. If `KeepsNature` holds for each of several successive transactions, it holds for all of
+-- them together.
 use Rattle.std.proofs.Common.{◌≡◌, ◌∙◌, ◌∷◌, refl}
 use Rattle.nor_model.specs.Exchange.{Exchange}
 use Rattle.nor_model.specs.Bus.{BusState, SameNature, KeepsNature}
@@ -11,6 +11,7 @@ nature_refl state = record {
   honest = refl;
   steady = refl;
   unlimited = refl;
+  punctual = refl;
   config = λ honest. refl;
   history = continues_refl state.history;
   allowances = refl;
@@ -24,6 +25,7 @@ nature_by same history allowances = record {
   honest = same.honest;
   steady = same.steady;
   unlimited = same.unlimited;
+  punctual = same.punctual;
   config = same.config;
   history = continues_by history;
   allowances = allowances;
@@ -34,6 +36,7 @@ nature_then old mid new later earlier = record {
   honest = later.honest ∙ earlier.honest;
   steady = later.steady ∙ earlier.steady;
   unlimited = later.unlimited ∙ earlier.unlimited;
+  punctual = later.punctual ∙ earlier.punctual;
   config = λ honest. later.config (earlier.honest ∙ honest) ∙ earlier.config honest;
   history = continues_then earlier.history later.history;
   allowances = later.allowances ∙ earlier.allowances;

@@ -14,8 +14,8 @@ use Rattle.nor_model.specs.Step.{Step, done_of, wears}
 -- The state of a bus, as contracts see it.
 pub record BusState : Type 0 where
   pub chip : Chip
-  -- On a well-behaved bus: the number of transactions that the bus will still carry out unless `allow` is called. Code
-  -- can't read this number.
+  -- On a well-behaved bus that is punctual: the number of transactions that the bus will still carry out unless `allow`
+  -- is called. Code can't read this number.
   pub left : ℕ
   -- Whether the bus is well-behaved. If it is, it carries out each transaction of a length that it takes
   -- (`IsHonestFor`) as the modelled chip would, or stops.
@@ -33,26 +33,32 @@ pub record BusState : Type 0 where
   pub steady : Bool
   -- On a well-behaved bus: whether the bus takes transactions of any length.
   pub unlimited : Bool
+  -- On a well-behaved bus: whether it stops only if no transaction is left. Any other well-behaved bus may stop at any
+  -- transaction, and `left` means nothing. Clauses and comments that count transactions (as in "no transaction is
+  -- left", or "too few were left") are about punctual buses, even if a comment doesn't say so.
+  pub punctual : Bool
   -- Whether the last poll that received at least one reply byte showed that the chip is ready.
   pub polled_ready : Bool
   -- Whether the chip may be of a further type, which only programs for real chips know. Never on a well-behaved bus.
   pub further : Bool
 
--- Holds if a call did not change whether the bus is well-behaved, steady or unlimited. On a well-behaved bus, the
--- chip's configuration (its ID, size, SFDP and all else that no command changes) must also be as before the call.
+-- Holds if a call did not change whether the bus is well-behaved, steady, unlimited or punctual. On a well-behaved bus,
+-- the chip's configuration (its ID, size, SFDP and all else that no command changes) must also be as before the call.
 pub record SameNature (old new : BusState) : Type 0 where
   pub honest : new.honest ≡ old.honest
   pub steady : new.steady ≡ old.steady
   pub unlimited : new.unlimited ≡ old.unlimited
+  pub punctual : new.punctual ≡ old.punctual
   pub config : old.honest ≡ true → new.chip.config ≡ old.chip.config
 
 -- Holds for every sequence of transactions, on every bus. The transactions don't change whether the bus is
--- well-behaved, steady or unlimited, and on a well-behaved bus they don't change the chip's configuration. The history
--- continues the earlier one, and no allowance was set.
+-- well-behaved, steady, unlimited or punctual. On a well-behaved bus they don't change the chip's configuration. The
+-- history continues the earlier one, and no allowance was set.
 pub record KeepsNature (old new : BusState) : Type 0 where
   pub honest : new.honest ≡ old.honest
   pub steady : new.steady ≡ old.steady
   pub unlimited : new.unlimited ≡ old.unlimited
+  pub punctual : new.punctual ≡ old.punctual
   pub config : old.honest ≡ true → new.chip.config ≡ old.chip.config
   pub history : Continues old.history new.history
   pub allowances : new.allowances ≡ old.allowances
@@ -90,35 +96,35 @@ pub record AtStop (out : List ℕ) (old new : BusState) : Type 0 where
   pub none : old.steady ≡ true → count ≡ 0
   pub unsent : old.steady ≡ true → new.chip ≡ old.chip
 
--- Holds if the bus stopped because it had no transaction left to carry out, and the chip is as a stop may leave it
--- (`AtStop`).
+-- Holds if the bus stopped, and the chip is as a stop may leave it (`AtStop`). A punctual bus stopped because it had no
+-- transaction left to carry out.
 pub record Stops (out : List ℕ) (old new : BusState) : Type 0 where
-  pub none_left : old.left ≡ 0
-  pub left : new.left ≡ old.left
+  pub none_left : old.punctual ≡ true → old.left ≡ 0
+  pub left : old.punctual ≡ true → new.left ≡ old.left
   pub at_stop : AtStop out old new
 
--- The effect of a transaction that was carried out. The chip made one step, and one transaction fewer is left. The
--- sectors that the chip erased in this step are recorded as erased.
+-- The effect of a transaction that was carried out. The chip made one step, and on a punctual bus one transaction fewer
+-- is left. The sectors that the chip erased in this step are recorded as erased.
 pub record Carries (out answer : List ℕ) (old new : BusState) : Type 0 where
-  pub left : old.left ≡ new.left + 1
+  pub left : old.punctual ≡ true → old.left ≡ new.left + 1
   pub step : Step old.chip out answer new.chip
   pub worn : (s : ℕ) → new.worn s ≡ (old.worn s || wears (done_of old.chip out (length answer)) s)
 
 -- The effect of a transaction, which sends `out` and makes `answer` of the bytes `before` of the reply. `nature` and
--- `records` hold on every bus. If the bus is well-behaved and takes a transaction of this length, it stopped (`stops`)
--- and left the reply as it was (`unread`), or the chip made one step (`carries`).
+-- `records` hold on every bus. If the bus is well-behaved and takes a transaction of this length, it stopped
+-- (`stops`), or the chip made one step (`carries`). A punctual bus that stopped left the reply as it was (`unread`).
 pub record Transfers (out before answer : List ℕ) (outcome : Result Unit Stopped) (old new : BusState) : Type 0 where
   pub nature : SameNature old new
   pub stops : IsHonestFor out (length before) old → OnErr outcome (Stops out old new)
-  pub unread : IsHonestFor out (length before) old → OnErr outcome (answer ≡ before)
+  pub unread : IsHonestFor out (length before) old → old.punctual ≡ true → OnErr outcome (answer ≡ before)
   pub carries : IsHonestFor out (length before) old → OnOk outcome (Carries out answer old new)
   pub records : Records out answer outcome old new
 
--- The effect of `allow`. The allowance `n` is recorded. On a well-behaved bus, `n` transactions are left; for any other
--- bus the definition doesn't say how many are left. Nothing else changed.
+-- The effect of `allow`. The allowance `n` is recorded. On a well-behaved bus that is punctual, `n` transactions are
+-- left; for any other bus the definition doesn't say how many are left. Nothing else changed.
 pub record Allows (n : ℕ) (old new : BusState) : Type 0 where
   pub chip : new.chip ≡ old.chip
-  pub left : old.honest ≡ true → new.left ≡ n
+  pub left : old.honest ≡ true → old.punctual ≡ true → new.left ≡ n
   pub nature : SameNature old new
   pub history : new.history ≡ old.history
   pub sent : new.sent ≡ old.sent
@@ -159,6 +165,7 @@ unknown_bus history = record {
   worn = λ s. false;
   steady = false;
   unlimited = false;
+  punctual = false;
   polled_ready = polled_ready_in history;
   further = false;
 }

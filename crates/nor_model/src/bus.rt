@@ -21,24 +21,28 @@ impl std::error::Error for Stopped {}
 
 /// A bus to a chip. A transaction sends the bytes `out`, and then fills `reply` with the bytes that it reads.
 ///
-/// Contracts see a bus as a `BusState`. A *well-behaved* bus (`honest`) stops if and only if it has no transaction
-/// left; otherwise the chip makes one step. On an *unlimited* well-behaved bus this holds for every transaction. On any
-/// other well-behaved bus it holds for transactions that send at most 260 bytes (a page program) and read at most 4,096
-/// (a sector). For a longer transaction on such a bus, `transfer` promises only `nature` and `records` of `Transfers`.
+/// Contracts see a bus as a `BusState`. A *well-behaved* bus (`honest`) carries out a transaction, which is one step of
+/// the chip, or stops. If the bus is *punctual*, it stops if and only if it has no transaction left. Any other
+/// well-behaved bus may stop at any transaction, for example because it sends several transactions of another bus for
+/// one of its own. Clauses that count transactions are about punctual buses.
+///
+/// On an *unlimited* well-behaved bus this holds for every transaction. On any other well-behaved bus it holds for
+/// transactions that send at most 260 bytes (a page program) and read at most 4,096 (a sector). For a longer
+/// transaction on such a bus, `transfer` promises only `nature` and `records` of `Transfers`.
 ///
 /// If a *steady* well-behaved bus stops, it sends no byte of the transaction and keeps the chip's power. Any other
 /// well-behaved bus that stops may have sent the first bytes of the transaction: none, some or all. Such a bus may also
 /// have read and lost bytes of the reply, and the chip may have lost its power.
 ///
 /// A faulty bus, which isn't well-behaved, may do anything that `nature` and `records` allow, because these two hold
-/// for every bus. `nature` says that a transaction doesn't change whether a bus is well-behaved, steady or unlimited;
-/// `allow` doesn't change this either. `records` says that the bus records each transaction with its reply, and in
-/// `polled_ready` whether the last poll that received a reply byte showed that the chip is ready.
+/// for every bus. `nature` says that a transaction doesn't change whether a bus is well-behaved, steady, unlimited or
+/// punctual; `allow` doesn't change this either. `records` says that the bus records each transaction with its reply,
+/// and in `polled_ready` whether the last poll that received a reply byte showed that the chip is ready.
 pub trait Bus {
     ghost state: { Self → BusState };
 
     /// Sends `out`, then reads `reply`. Returns `Stopped` if the transaction failed. If the bus is well-behaved and
-    /// takes a transaction of this length, `reply` is then as it was before the call.
+    /// punctual and takes a transaction of this length, `reply` is then as it was before the call.
     fn transfer(&mut self, out: &[u8], reply: &mut [u8]) -> Result<(), Stopped>
         ensures { Transfers out.now reply.old reply.new result (state self.old) (state self.new) };
 
@@ -57,8 +61,8 @@ pub trait Bus {
 /// A bus whose allowance can be set. The allowance is the number of transactions that the bus carries out before it
 /// stops.
 pub trait Meter: Bus {
-    /// Sets the allowance to `n` and records it. A well-behaved bus then has `n` transactions left; for any other bus
-    /// the contract doesn't say how many are left. Nothing else changes.
+    /// Sets the allowance to `n` and records it. A bus that is well-behaved and punctual then has `n` transactions
+    /// left; for any other bus the contract doesn't say how many are left. Nothing else changes.
     fn allow(&mut self, n: u64)
         ensures { Allows n (Self.state self.old) (Self.state self.new) };
 }

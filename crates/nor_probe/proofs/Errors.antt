@@ -3,7 +3,7 @@ use Rattle.std.proofs.Common.{◌≡◌, ◌+◌, ◌<◌, ◌≤◌, ◌∙◌,
 use Rattle.std.specs.Prelude.{IsTrue, List, if◌then◌else◌}
 use Rattle.nor_model.specs.declared.config.Config.{Config}
 use Rattle.nor_model.specs.Bus.{BusState}
-use Rattle.nor_driver.specs.OnlyReads.{Rested}
+use Rattle.nor_driver.specs.OnlyReads.{Rested, Spent}
 use Rattle.nor_driver.proofs.Readings.{rested_then}
 use Rattle.nor_probe.specs.declared.table.ChipName.{ChipName}
 use Rattle.nor_probe.specs.declared.probes.ProbeFault.{ProbeFault}
@@ -12,7 +12,7 @@ use Rattle.nor_probe.specs.Known.{id_of, is_no_chip, shown_as}
 use Rattle.nor_probe.specs.Table.{part_with_id}
 use Rattle.nor_probe.specs.declared.table.Part.{Part}
 use Rattle.nor_probe.specs.Found.{IsWanted, BlamesName, ProbeErrors, HasProbed, reads_by, reads_of, needed}
-use Rattle.nor_probe.specs.Steps.{IdentityErrors, IsIdentityFault}
+use Rattle.nor_probe.specs.Steps.{SpentAfterId, IdentityErrors, IsIdentityFault}
 
 -- If the chip doesn't have the requested name (`IsWanted` doesn't hold), a name was requested, so the fault `OtherName`
 -- is possible.
@@ -35,18 +35,19 @@ reads_few of_id = reads_few_if (is_no_chip of_id) _ (reads_by_few (part_with_id 
 -- A fault occurred after the ID was read. `old` is the state before the probe, and `mid` the state after its polls and
 -- the read of the ID.
 module _ (named : Option ChipName) (old mid : BusState) (rested : Rested old mid)
-    (count : old.left ≡ mid.left + (old.chip.busy + 2)) (busy : old.chip.busy < 65536) where
+    (punctual : mid.punctual ≡ old.punctual) (count : Spent (old.chip.busy + 2) old mid)
+    (busy : old.chip.busy < 65536) where
   same : mid.chip.config ≡ old.chip.config
   same = rested.unchanged.same.config
 
   reads : reads_of (id_of mid.chip.config) ≡ reads_of (id_of old.chip.config)
   reads = ap (λ (c : Config). reads_of (id_of c)) same
 
-  probed : (new : BusState) → mid.left + 1 ≡ new.left + reads_of (id_of mid.chip.config) → Rested mid new
+  probed : (new : BusState) → SpentAfterId mid new → Rested mid new
       → HasProbed old new
   probed new sent rested' = record {
     rested = rested_then old mid new rested rested';
-    count = omega (arith, count, sent, reads);
+    count = λ is. omega (arith, count is, sent (punctual ∙ is), reads);
   }
 
   pub probe_errors : (new : BusState) (fault : ProbeFault) → IsIdentityFault fault → IdentityErrors mid new fault
@@ -56,6 +57,12 @@ module _ (named : Option ChipName) (old mid : BusState) (rested : Rested old mid
       (ap shown_as (sym same) ∙ errors.0, probed new errors.1 errors.2)
   probe_errors new OtherName possible errors = absurd possible
   probe_errors new Stopped possible errors =
-      let few : old.left < needed old.chip = omega (arith, count, errors.1, reads) in
-      (record { none_left = errors.0; below = few }, omega (arith, few, reads_few (id_of old.chip.config), busy))
+      let few : old.punctual ≡ true → old.left < needed old.chip =
+      λ is. omega (arith, count is, (errors (punctual ∙ is)).1, reads) in (
+        λ is. record { none_left = (errors (punctual ∙ is)).0; below = few is },
+        λ is. record {
+          none_left = (errors (punctual ∙ is)).0;
+          below = omega (arith, few is, reads_few (id_of old.chip.config), busy);
+        },
+      )
   probe_errors new Timeout possible errors = absurd possible

@@ -1,5 +1,5 @@
 -- The result of a probe: the chip that it found, or the reason why it returned none.
-use Rattle.std.specs.Prelude.{◌≡◌, ◌+◌, ◌%◌, ◌≤◌, ◌<◌, ◌⊎◌, ℕ, Bool, true, false, List, if◌then◌else◌, ⊤}
+use Rattle.std.specs.Prelude.{◌≡◌, ◌+◌, ◌%◌, ◌≤◌, ◌⊎◌, ℕ, Bool, true, false, List, if◌then◌else◌, ⊤}
 use Rattle.std.specs.Prelude.{Option, None, Some, Result, Ok, Err, IfOk, IfErr, OnOk}
 use Rattle.nor_model.specs.declared.config.Config.{Config}
 use Rattle.nor_model.specs.Chip.{Chip, status1_of}
@@ -13,7 +13,7 @@ use Rattle.nor_probe.specs.declared.probes.Probed.{Probed}
 use Rattle.nor_probe.specs.declared.probes.ProbeFault.{ProbeFault}
 use Rattle.nor_probe.specs.declared.probes.ProbeFault.TheVariants.{NoChip, UnknownChip, OtherName, Stopped, Timeout}
 use Rattle.nor_probe.specs.Table.{part_with_id, part_for}
-use Rattle.nor_driver.specs.OnlyReads.{OnlyReads, Rested, RanOut}
+use Rattle.nor_driver.specs.OnlyReads.{OnlyReads, Rested, Spent, RanOut}
 use Rattle.nor_driver.specs.Waits.{latch_when_idle}
 use Rattle.nor_probe.specs.Known.{id_of, is_no_chip, shown_as, IsKnown}
 pub use Rattle.nor_probe.specs.Known.{part_in}
@@ -87,7 +87,7 @@ pub record Finds (old new : BusState) (found : Found) : Type 0 where
   pub idle : new.chip.busy ≡ 0
   pub latch : new.chip.latch ≡ latch_when_idle old.chip
   pub status1 : found.status1 ≡ status1_of new.chip
-  pub count : old.left ≡ new.left + needed old.chip
+  pub count : Spent (needed old.chip) old new
 
 -- Holds if the configuration is that of a known chip, and the chip found has its ID, size, erase types and block
 -- protection. For a genuine chip this follows from `shown_as config ≡ Ok (part_in found)`, which also gives the name.
@@ -114,7 +114,7 @@ pub record HasOtherName (named : Option ChipName) (config : Config) : Type 0 whe
 -- status bits and erased sectors are unchanged.
 pub record HasProbed (old new : BusState) : Type 0 where
   pub rested : Rested old new
-  pub count : old.left ≡ new.left + needed old.chip
+  pub count : Spent (needed old.chip) old new
 
 -- The meaning of each fault on a well-behaved bus. The bus stops only if fewer transactions were left than the chip
 -- needs, and fewer than 65,540. A timeout doesn't occur.
@@ -122,7 +122,7 @@ abbrev pub ProbeErrors : Option ChipName → (old new : BusState) → ProbeFault
 ProbeErrors named old new NoChip = (shown_as old.chip.config ≡ Err NoChip) × HasProbed old new
 ProbeErrors named old new (UnknownChip fault) = (shown_as old.chip.config ≡ Err (UnknownChip fault)) × HasProbed old new
 ProbeErrors named old new OtherName = HasOtherName named old.chip.config × HasProbed old new
-ProbeErrors named old new Stopped = RanOut (needed old.chip) old new × (old.left < most_probe)
+ProbeErrors named old new Stopped = RanOut (needed old.chip) old new × RanOut most_probe old new
 ProbeErrors named old new Timeout = ⊥
 
 -- ---- the promises of a probe

@@ -13,7 +13,7 @@ use Rattle.nor_probe.specs.declared.probes.ProbeFault.TheVariants.{NoChip, Unkno
 use Rattle.nor_driver.specs.declared.waits.OperationError.{OperationError}
 use Rattle.nor_driver.specs.declared.waits.OperationError.TheVariants as OperationFails
 use Rattle.nor_probe.specs.Table.{part_for}
-use Rattle.nor_driver.specs.OnlyReads.{Rested, RanOut}
+use Rattle.nor_driver.specs.OnlyReads.{Rested, Spent, RanOut}
 use Rattle.nor_probe.specs.Known.{id_of, is_no_chip, shown, pointer_in, chip_says, shown_as}
 use Rattle.nor_probe.specs.Found.{reads_of, reads_for}
 
@@ -49,7 +49,7 @@ pub record IsIdentified (further : Bool) (of_id : List ℕ) (part : Part) : Type
 -- chip's bytes and non-volatile status bits are unchanged.
 pub record ReadsParameters (old new : BusState) (parameters : Parameters) : Type 0 where
   pub rested : Rested old new
-  pub count : old.left ≡ new.left + 3
+  pub count : Spent 3 old new
   -- if the chip was idle, these are the parts of its SFDP
   pub shown : old.chip.busy ≡ 0 → AreParameters old.chip.config parameters
 
@@ -57,7 +57,7 @@ pub record ReadsParameters (old new : BusState) (parameters : Parameters) : Type
 -- non-volatile status bits are unchanged.
 pub record ReadsGeometry (old new : BusState) (geometry : Geometry) : Type 0 where
   pub rested : Rested old new
-  pub count : old.left ≡ new.left + 3
+  pub count : Spent 3 old new
   -- if the chip was idle, this is the geometry that its SFDP describes
   pub says : old.chip.busy ≡ 0 → chip_says old.chip.config ≡ Ok geometry
 
@@ -65,9 +65,14 @@ pub record ReadsGeometry (old new : BusState) (geometry : Geometry) : Type 0 whe
 -- faults `UnknownChip` and `Stopped` are possible.
 abbrev pub GeometryErrors : (old new : BusState) → ProbeFault → Type 0
 GeometryErrors old new (UnknownChip fault) =
-    (chip_says old.chip.config ≡ Err fault) × (old.left ≡ new.left + 3) × Rested old new
+    (chip_says old.chip.config ≡ Err fault) × Spent 3 old new × Rested old new
 GeometryErrors old new Stopped = RanOut 3 old new
 GeometryErrors old new _ = ⊥
+
+-- Holds if, on a well-behaved bus that is punctual, exactly the reads of a probe after the read of the ID were carried
+-- out.
+abbrev pub SpentAfterId : (old new : BusState) → Type 0
+SpentAfterId old new = old.punctual ≡ true → old.left + 1 ≡ new.left + reads_of (id_of old.chip.config)
 
 -- Holds for the faults that are possible after the ID was read, and before names are compared.
 abbrev pub IsIdentityFault : ProbeFault → Type 0
@@ -82,11 +87,11 @@ IsIdentityFault Timeout = ⊥
 pub record Identifies (old new : BusState) (part : Part) : Type 0 where
   pub rested : Rested old new
   pub shows : shown_as old.chip.config ≡ Ok part
-  pub count : old.left + 1 ≡ new.left + reads_of (id_of old.chip.config)
+  pub count : SpentAfterId old new
 
 -- The meaning of each fault that occurs after the ID was read, for an idle chip on a well-behaved bus.
 abbrev pub IdentityErrors : (old new : BusState) → ProbeFault → Type 0
-IdentityErrors old new Stopped = (new.left ≡ 0) × (old.left + 1 < reads_of (id_of old.chip.config))
+IdentityErrors old new Stopped =
+    old.punctual ≡ true → (new.left ≡ 0) × (old.left + 1 < reads_of (id_of old.chip.config))
 IdentityErrors old new fault =
-    (shown_as old.chip.config ≡ Err fault) × (old.left + 1 ≡ new.left + reads_of (id_of old.chip.config))
-    × Rested old new
+    (shown_as old.chip.config ≡ Err fault) × SpentAfterId old new × Rested old new

@@ -49,7 +49,7 @@ module _ (named : Option ChipName) (included : Option (List Span)) (image : List
       → IsVerifyRefusal refusal × VerifyEnds old.history new.history refusal
       × HasReadBack included image old.history new.history (Err refusal) × (IsModelled old → VerifyErrors named included image old new refusal)
   unfound_errors old new Stopped errors =
-      (tt, errors.last, tt, λ known. let ran = errors.ran_out known.honest in omega arith)
+      (tt, errors.last, tt, λ known punctual. let ran = errors.ran_out known.honest punctual in omega arith)
   unfound_errors old new (Timeout address) errors = (errors.0, errors.1, tt, λ known. tt)
   unfound_errors old new _ errors = search
 

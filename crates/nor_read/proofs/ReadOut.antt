@@ -41,7 +41,7 @@ module _ (named : Option ChipName) (included : Option (List Span)) (vault : Vaul
   unfound_errors : (old new : BusState) (refusal : Refusal) → IdentificationErrors most_probe named old new refusal
       → IsReadRefusal vault vault refusal × (IsModelled old → ReadOutErrors named included old new vault vault refusal)
   unfound_errors old new Stopped errors =
-      ((tt, assumption), λ known. let ran = errors.ran_out known.honest in omega arith)
+      ((tt, assumption), λ known punctual. let ran = errors.ran_out known.honest punctual in omega arith)
   unfound_errors old new _ errors = search
 
   pub unfound : {old new : BusState} (refusal : Refusal) → OnlyReads most_probe old new

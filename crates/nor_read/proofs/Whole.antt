@@ -4,7 +4,7 @@ use Rattle.std.specs.Prelude.{◌/◌}
 use Rattle.nor_model.specs.Chip.{status1_of}
 use Rattle.nor_model.specs.History.{EndsStopped}
 use Rattle.nor_model.specs.Bus.{BusState}
-use Rattle.nor_driver.specs.OnlyReads.{Rested, OnlyReads, RanOut, HasStopped, IsOpen}
+use Rattle.nor_driver.specs.OnlyReads.{Rested, Spent, OnlyReads, RanOut, HasStopped, IsOpen}
 use Rattle.nor_layout.specs.declared.ranges.Span.{Span}
 use Rattle.nor_layout.specs.Sectors.{sectors_included, FitsInto, ReachesPast}
 use Rattle.nor_layout.proofs.Sectors.{sectors_included-most}
@@ -37,7 +37,8 @@ pub record OperationFails (old new : BusState) : Type 0 where
 
 pub find_errors : (most : ℕ) (named : Option ChipName) (old new : BusState) (refusal : Refusal) → most_probe ≤ most
     → IdentificationErrors most_probe named old new refusal → old.honest ≡ true → ReadingErrors most named old new refusal
-find_errors most named old new Stopped fits errors honest = let ran = errors.ran_out honest in omega arith
+find_errors most named old new Stopped fits errors honest = λ punctual.
+    let ran = errors.ran_out honest punctual in omega arith
 find_errors most named old new (Timeout address) fits errors honest = absurd (errors.2 honest)
 find_errors most named old new _ fits errors honest = search
 
@@ -99,8 +100,9 @@ module _ {named : Option ChipName} {old mid : BusState} {probed : Probed}
   -- than `most` transactions were left at the start.
   pub ran_on : {new : BusState} (n most : ℕ) → most_probe + n ≤ most → HasStopped n mid new → old.honest ≡ true
       → RanOut most old new
-  ran_on n most fits out honest =
-      let ran = out.ran_out (only_reads.nature.honest ∙ honest) in let fell = found.fell honest in omega arith
+  ran_on n most fits out honest punctual =
+      let ran = out.ran_out (only_reads.nature.honest ∙ honest) (only_reads.nature.punctual ∙ punctual) in
+      let fell = found.fell honest punctual in omega arith
 
   pub fails : {new : BusState} → HasStopped (probed.found.size / 4096) mid new → OperationFails old new
   fails out = let most = found.is.part.at_most in search (arith, ran_on, size_of, out.last)
@@ -140,9 +142,13 @@ module _ {named : Option ChipName} {old mid : BusState} {probed : Probed}
             let now = only_reads.nature.honest ∙ honest in
             let idle = found.idle honest in
             let last = honest_reads.rested now in
-            let sent = honest_reads.sent now in
+            let sent : Spent (probed.transactions + reads) old new = λ punctual. omega (
+              arith,
+              found.fell honest punctual,
+              honest_reads.sent now (only_reads.nature.punctual ∙ punctual),
+            ) in
             let rested = rested_on honest_reads.rested honest in
             let status1 = found.status1 honest ∙ sym (status1_stays mid new idle last) in
-            search (arith, found.is.shown honest, found.count honest, found.fell honest);
+            search (arith, found.is.shown honest, found.count honest, sent);
         config = found.is.config;
       }

@@ -4,7 +4,7 @@ use Rattle.std.specs.Prelude.{◌≡◌, ◌≤◌, ◌+◌, ◌/◌, ℕ, Bool,
 use Rattle.nor_model.specs.declared.config.Config.{Config}
 use Rattle.nor_model.specs.Chip.{status1_of}
 use Rattle.nor_model.specs.Bus.{BusState}
-use Rattle.nor_driver.specs.OnlyReads.{Rested, RanOut}
+use Rattle.nor_driver.specs.OnlyReads.{Rested, Spent, RanOut}
 use Rattle.nor_layout.specs.declared.ranges.Span.{Span}
 use Rattle.nor_layout.specs.Sectors.{ReachesPast, FitsInto}
 use Rattle.nor_probe.specs.declared.table.ChipName.{ChipName}
@@ -43,7 +43,7 @@ pub record HasFound (named : Option ChipName) (old new : BusState) (probed : Pro
   pub idle : old.honest ≡ true → new.chip.busy ≡ 0
   pub status1 : old.honest ≡ true → probed.found.status1 ≡ status1_of new.chip
   pub count : old.honest ≡ true → probed.transactions ≡ needed old.chip
-  pub fell : old.honest ≡ true → old.left ≡ new.left + probed.transactions
+  pub fell : old.honest ≡ true → Spent probed.transactions old new
 
 -- ---- the checks of the chip that was found
 
@@ -94,7 +94,7 @@ pub record ReportsReads (reads : ℕ) (old new : BusState) (report : Report) : T
   -- The report counts the transactions of the probe and of the reads.
   pub count : report.transactions ≡ needed old.chip + reads
   -- Exactly the reported number of transactions was sent.
-  pub fell : old.left ≡ new.left + report.transactions
+  pub fell : Spent report.transactions old new
 
 -- ---- errors
 

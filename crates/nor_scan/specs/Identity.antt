@@ -4,7 +4,7 @@ use Rattle.nor_model.specs.Chip.{Chip, status1_of}
 use Rattle.nor_model.specs.Exchange.{Exchange}
 use Rattle.nor_model.specs.History.{Answered, begins_with}
 use Rattle.nor_model.specs.Bus.{BusState}
-use Rattle.nor_driver.specs.OnlyReads.{Rested}
+use Rattle.nor_driver.specs.OnlyReads.{Rested, Spent}
 use Rattle.nor_driver.specs.Ready.{StaysReady}
 use Rattle.nor_driver.specs.Reads.{unique_of}
 use Rattle.nor_probe.specs.declared.table.ChipName.{ChipName}
@@ -40,7 +40,7 @@ pub record ReadsRest (probed : Probed) (old new : BusState) (identity : Identity
   pub transactions : identity.transactions ≡ probed.transactions + 2
   pub polled_ready : StaysReady old new
   pub rested : old.honest ≡ true → Rested old new
-  pub count : old.honest ≡ true → old.left ≡ new.left + 2
+  pub count : old.honest ≡ true → Spent 2 old new
   pub status2 : old.honest ≡ true → identity.status2 ≡ old.chip.kept.two
   pub unique : old.honest ≡ true → old.chip.busy ≡ 0 → identity.unique ≡ unique_of old.chip.config
 
@@ -64,5 +64,5 @@ pub record ReadsIdentity (named : Option ChipName) (old new : BusState) (identit
   pub status1 : old.honest ≡ true → identity.found.status1 ≡ status1_of new.chip
   pub status2 : old.honest ≡ true → identity.status2 ≡ new.chip.kept.two
   pub unique : old.honest ≡ true → identity.unique ≡ unique_of new.chip.config
-  pub count : old.honest ≡ true → old.left ≡ new.left + identity.transactions
+  pub count : old.honest ≡ true → Spent identity.transactions old new
   pub exact : old.honest ≡ true → identity.transactions ≡ needed_to_identify old.chip

@@ -3,7 +3,7 @@
 use Rattle.std.specs.Prelude.{◌≡◌, ◌<◌, ◌≤◌, ◌+◌, ◌*◌, ◌/◌, ◌==◌, ◌&&◌, ◌||◌, ℕ, Bool, true, false, nat_lt, Result, Err, List, slice_index, if◌then◌else◌, ⊤}
 use Rattle.nor_model.specs.History.{Answered, names}
 use Rattle.nor_model.specs.Bus.{BusState}
-use Rattle.nor_driver.specs.OnlyReads.{Rested, HasStopped, IsOpen}
+use Rattle.nor_driver.specs.OnlyReads.{Rested, Spent, HasStopped, IsOpen}
 use Rattle.nor_journal.specs.declared.writer.Writer.{Writer}
 use Rattle.nor_journal.specs.Text.{Content}
 use Rattle.nor_journal.specs.Saved.{IsJournalPrefix}
@@ -98,7 +98,7 @@ pub record Scans (request : Request) (size : ℕ) (image image' : List ℕ) (old
   pub few : scanned.count ≤ scanned.reads
   pub polled_ready : StaysReady old new
   pub rested : old.honest ≡ true → Rested old new
-  pub sent : old.honest ≡ true → old.left ≡ new.left + scanned.reads
+  pub sent : old.honest ≡ true → Spent scanned.reads old new
   pub read : HaveBeenRead (IsScanned request size) old.history new.history
   pub replied : AreRight (wanted_at request image size (bytes_read new.history)) (bytes_read new.history)
       (sectors_below (size / 4096)) scanned

@@ -23,7 +23,8 @@ pub fn identify<B: Bus>(bus: &mut B, named: Option<ChipName>) -> Result<Identity
     ensures leaves { OnlyReads most_identity (B.state bus.old) (B.state bus.new) }
     ensures identifies { IfOk result (ReadsIdentity named (B.state bus.old) (B.state bus.new)) }
     ensures errors { IfErr result (IdentificationErrors most_identity named (B.state bus.old) (B.state bus.new)) }
-    ensures exact { (B.state bus.old).honest ≡ true → IfErr result (λ refusal. refusal ≡ Refusals.Stopped
+    ensures exact { (B.state bus.old).honest ≡ true → (B.state bus.old).punctual ≡ true
+        → IfErr result (λ refusal. refusal ≡ Refusals.Stopped
         → (B.state bus.old).left < needed_to_identify (B.state bus.old).chip) }
 {
     let probed = probe_counted(bus, named)?;

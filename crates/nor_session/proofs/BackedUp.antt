@@ -44,8 +44,9 @@ module _ {named : Option ChipName} {identity : Identity} {old mid : BusState}
   pub whole_errors : (new : BusState) (vault vault' : VaultState) (refusal : Refusal) → IsModelled old
       → SaveWholeErrors (identity.found.size / 4096) mid new vault vault' refusal
       → BackupErrors (most_reads (old.chip.config.size / 4096)) named old new refusal
-  whole_errors new vault vault' Stopped is errors =
-      let ran = errors.0.ran_out (only_reads.nature.honest ∙ is.honest) in let count = opens.count is.honest in
+  whole_errors new vault vault' Stopped is errors = λ punctual.
+      let ran = errors.0.ran_out (only_reads.nature.honest ∙ is.honest) (only_reads.nature.punctual ∙ punctual) in
+      let count = opens.count is.honest punctual in
       let most = opens.most in let size = (opens.genuine is).size in omega arith
   whole_errors new vault vault' Vault is errors = tt
   whole_errors new vault vault' _ is errors = absurd errors

@@ -10,7 +10,7 @@ use Rattle.nor_model.specs.Guard.{code_of}
 use Rattle.nor_model.proofs.Kept.{kept_same}
 use Rattle.nor_model.specs.Bus.{BusState}
 use Rattle.nor_model.proofs.Sizes.{sized_bounds}
-use Rattle.nor_driver.specs.OnlyReads.{OnlyReads, Rested, IsOpen}
+use Rattle.nor_driver.specs.OnlyReads.{OnlyReads, Rested, Spent, IsOpen}
 use Rattle.nor_driver.specs.StatusWrites.{fixed_of}
 use Rattle.nor_driver.specs.ReadBack.{bytes_read, HaveBeenRead}
 use Rattle.nor_driver.proofs.ReadBack.{read_since}
@@ -193,9 +193,10 @@ module _ {choice : Choice} (sound : IsSoundChoice choice) {journal : Content} {i
       let count : scanned.count ≡ touched_count changes
       = read.scans.marks.count ∙ ap (λ (t : SectorSet). sector_count (has t)) (sym are.touched) in
       let polled_ready = read.scans.honest_reads.polled_ready read.opens.polled_ready in
-      let left : old.honest ≡ true → old.left ≡ new.left + sent = λ honest.
-      let opened = read.opens.count honest in
-      let left = read.scans.honest_reads.sent (read.only_reads.nature.honest ∙ honest) in
+      let left : old.honest ≡ true → Spent sent old new = λ honest punctual.
+      let before = read.only_reads.nature in
+      let opened = read.opens.count honest punctual in
+      let left = read.scans.honest_reads.sent (before.honest ∙ honest) (before.punctual ∙ punctual) in
       omega arith in
       let fixed : fixed_of (kept_in (bytes_of changes.status)) ≡ fixed_of (kept_in journal.status)
       = rw (are.one, are.two) read.fixed in

@@ -102,7 +102,7 @@ checked changes wanted verify old mid new written work inside leaves does checki
         unerased = first.unerased;
       };
       polled_ready = grind (arith, tallies.polled_ready);
-      sent = grind (arith, same_honest, tallies.sent);
+      sent = grind (arith, same_honest, leaves.spends.nature.punctual, tallies.sent);
       unsent = grind (arith, tallies.unsent);
       done = grind (arith, same_honest, applied);
       programs = grind arith;

@@ -94,7 +94,10 @@ scanned_few request size small = let most = scanned_most request size in omega a
 
 pub spends_more : {m n : ℕ} {old new : BusState} → m ≤ n → Spends m old new → Spends n old new
 spends_more fits spends =
-    record { nature = spends.nature; falls = λ honest. let falls = spends.falls honest in omega arith }
+    record {
+      nature = spends.nature;
+      falls = λ honest punctual. let falls = spends.falls honest punctual in omega arith;
+    }
 
 pub spends_only_reads : {m n : ℕ} {old new : BusState} → m ≤ n → OnlyReads m old new → Spends n old new
 spends_only_reads fits only_reads =
@@ -124,14 +127,18 @@ module _ {request : Request} {identity : Identity} {status : Status} {code : ℕ
       → Spends (most_of (scanned_sectors request identity.found.size)) old new
   spends_ready {new} spends = record {
     nature = nature_then old mid new spends.nature is.honest_reads.nature;
-    falls = λ honest.
-        let sent = is.honest_reads.sent honest in let falls = spends.falls (is.honest_reads.nature.honest ∙ honest) in omega arith;
+    falls = λ honest punctual.
+        let before = is.honest_reads.nature in
+        let sent = is.honest_reads.sent honest punctual in
+        let falls = spends.falls (before.honest ∙ honest) (before.punctual ∙ punctual) in omega arith;
   }
 
   pub ran_out_ready : {new : BusState} → old.honest ≡ true
       → RanOut (most_changed (changes_of identity kept status code)) mid new
       → RanOut (most_of (scanned_sectors request identity.found.size)) old new
-  ran_out_ready honest ran = let sent = is.honest_reads.sent honest in omega arith
+  ran_out_ready honest ran punctual =
+      let sent = is.honest_reads.sent honest punctual in
+      let out = ran (is.honest_reads.nature.punctual ∙ punctual) in omega arith
 
   -- if the request is for a protection range, no protection is lifted
   pub lifts_none : is_data request.what ≡ false → kept.unlock ≡ false

@@ -84,8 +84,9 @@ pub save_fails : (request : Request) (image : List ℕ) (identity : Identity) (c
     (refusal : Refusal) → old.honest ≡ true → OnlyReads most_identity old mid → ReadsIdentity request.named old mid identity
     → OnlyReads few mid new → SaveErrors request identity code image mid new refusal
     → HonestErrors (most_of 4096) (λ refusal. refusal_number refusal ≤ 11) old new refusal
-save_fails request image identity code few old mid new Stopped honest only_reads opens more errors =
-    let ran = errors.ran_out (only_reads.nature.honest ∙ honest) in let count = opens.count honest in
+save_fails request image identity code few old mid new Stopped honest only_reads opens more errors = λ punctual.
+    let ran = errors.ran_out (only_reads.nature.honest ∙ honest) (only_reads.nature.punctual ∙ punctual) in
+    let count = opens.count honest punctual in
     let sectors = scanned_few request identity.found.size opens.part.at_most in
     omega arith
 save_fails request image identity code few old mid new (Timeout address) honest only_reads opens more errors = errors
@@ -103,7 +104,9 @@ pub save_errors : (request : Request) (image : List ℕ) (identity : Identity) (
     → (refusal ≡ Vault → CountsRefusal vault vault') → SaveErrors request identity code image mid new refusal → SessionErrors request image old new vault vault' refusal
 save_errors request image identity code old mid new vault vault' Vault is only_reads opens accepts rose errors = rose refl
 save_errors request image identity code old mid new vault vault' Stopped is only_reads opens accepts rose errors =
-    let ran = errors.ran_out (only_reads.nature.honest ∙ is.honest) in let count = opens.count is.honest in
+    λ punctual.
+    let ran = errors.ran_out (only_reads.nature.honest ∙ is.honest) (only_reads.nature.punctual ∙ punctual) in
+    let count = opens.count is.honest punctual in
     let most = scanned_most request identity.found.size in let size = (opens.genuine is).size in
     omega arith
 save_errors request image identity code old mid new vault vault' StatusLocked is only_reads opens accepts rose errors =
@@ -117,9 +120,10 @@ save_errors request image identity code old mid new vault vault' _ is only_reads
 pub save_early : (request : Request) (image : List ℕ) (identity : Identity) (code : ℕ) (old mid new : BusState)
     → IsModelled old → OnlyReads most_identity old mid → ReadsIdentity request.named old mid identity
     → SaveErrors request identity code image mid new Stopped
-    → old.left < needed_to_identify old.chip + scanned_sectors request old.chip.config.size
-save_early request image identity code old mid new is only_reads opens errors =
-    let ran = errors.ran_out (only_reads.nature.honest ∙ is.honest) in let count = opens.count is.honest in
+    → old.punctual ≡ true → old.left < needed_to_identify old.chip + scanned_sectors request old.chip.config.size
+save_early request image identity code old mid new is only_reads opens errors punctual =
+    let ran = errors.ran_out (only_reads.nature.honest ∙ is.honest) (only_reads.nature.punctual ∙ punctual) in
+    let count = opens.count is.honest punctual in
     let exact = opens.exact is.honest in rw (← (opens.genuine is).size) (omega arith)
 
 -- If `save` returned error 12, the last transaction is the one at which the bus stopped.
@@ -148,7 +152,8 @@ open_errors request image old new vault vault' (UnknownChip fault) is errors =
     let shown = (errors is.honest).0 in first_of (UnknownChip fault) (search (rules, arith)) shown
 open_errors request image old new vault vault' OtherName is errors =
     let other = (errors is.honest).0 in first_of OtherName (search (rules, arith)) other
-open_errors request image old new vault vault' Stopped is errors = let ran = errors.ran_out is.honest in omega arith
+open_errors request image old new vault vault' Stopped is errors = λ punctual.
+    let ran = errors.ran_out is.honest punctual in omega arith
 open_errors request image old new vault vault' (Timeout address) is errors = absurd (errors.2 is.honest)
 open_errors request image old new vault vault' _ is errors = absurd errors
 

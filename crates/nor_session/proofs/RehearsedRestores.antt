@@ -81,7 +81,13 @@ allowed_after stops n {old = old} first later =
 
 pub same_nature : {old new : BusState} → KeepsNature old new → SameNature old new
 same_nature keeps =
-    record { honest = keeps.honest; steady = keeps.steady; unlimited = keeps.unlimited; config = keeps.config }
+    record {
+      honest = keeps.honest;
+      steady = keeps.steady;
+      unlimited = keeps.unlimited;
+      punctual = keeps.punctual;
+      config = keeps.config;
+    }
 
 pub same_nature_then : {old mid new : BusState} → SameNature mid new → SameNature old mid → SameNature old new
 same_nature_then later earlier = grind (arith, later.config, earlier.config)
@@ -145,7 +151,8 @@ module _ {n : ℕ} {journal : Content} {old mid new : BusState} (allows : Allows
 pub record AreStopped (journal : Content) (stops : List ℕ) (old now : BusState) (n : ℕ) : Type 0 where
   pub leaves : LeavesRestores journal n old now
   pub allowed : now.allowances ≡ allowances_of stops n ++ old.allowances
-  pub stopped : IsModelled old → (i : ℕ) → i < n → slice_index stops i < most_of (length journal.saved)
+  pub stopped : IsModelled old → old.punctual ≡ true → (i : ℕ) → i < n
+      → slice_index stops i < most_of (length journal.saved)
   pub latch : n ≡ 0 → now.chip.latch ≡ true → old.chip.latch ≡ true
 
 module _ {journal : Content} {stops : List ℕ} {old now : BusState} {n : ℕ} (before : AreStopped journal stops old now n)
@@ -171,9 +178,10 @@ module _ {journal : Content} {stops : List ℕ} {old now : BusState} {n : ℕ} (
   stopped_more inside by leaves shows = record {
     leaves = leaves_more (omega arith) leaves;
     allowed = allowed_more (next_stop stops n inside) by;
-    stopped = λ modelled i below. elim (cases_eq i n) [
-      | inl here ↦ rw here (shows.below (before.leaves.modelled modelled).honest refl)
-      | inr other ↦ before.stopped modelled i (omega arith)
+    stopped = λ modelled punctual i below. elim (cases_eq i n) [
+      | inl here ↦
+          rw here (shows.below (before.leaves.modelled modelled).honest (before.leaves.nature.punctual ∙ punctual) refl)
+      | inr other ↦ before.stopped modelled punctual i (omega arith)
     ];
     latch = λ none. absurd (omega arith);
   }
@@ -239,10 +247,10 @@ module _ {bytes : List ℕ} {journal : Content} (is : IsContent journal) (same :
     allowed = shows.allowed;
     latch = shows.latch;
     same = λ modelled saved first can_undo. shows.back modelled first (can_restore_then saved first can_undo);
-    are = λ modelled saved first can_undo.
-        rw (saved_count first.bytes saved journal (saves_all saved first can_undo)) at (shows.are modelled);
-    last = λ modelled saved first can_undo.
-        rw (saved_count first.bytes saved journal (saves_all saved first can_undo)) at (shows.last modelled);
+    are = λ modelled punctual saved first can_undo.
+        rw (saved_count first.bytes saved journal (saves_all saved first can_undo)) at (shows.are modelled punctual);
+    last = λ modelled punctual saved first can_undo.
+        rw (saved_count first.bytes saved journal (saves_all saved first can_undo)) at (shows.last modelled punctual);
   }
 
   module _ {n : ℕ} (new : BusState) (leaves : LeavesRestores journal n old new) where
@@ -263,7 +271,8 @@ module _ {bytes : List ℕ} {journal : Content} (is : IsContent journal) (same :
     last_transaction = refuses.last_transaction;
     names = saved_names journal bytes refusal is same refuses.names;
     fails = refuses.fails (saved_room journal is);
-    never = λ modelled saved first can_undo. refuses.never modelled first (can_restore_then saved first can_undo);
+    never = λ modelled punctual saved first can_undo.
+        refuses.never modelled punctual first (can_restore_then saved first can_undo);
   }
 
 -- On a modelled bus, if the session ended and only one restore was run, the write enable latch is set only if it was

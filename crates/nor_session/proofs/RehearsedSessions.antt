@@ -99,10 +99,11 @@ module _ {n : ℕ} {old mid : BusState} (allows : Allows n old mid) where
         let done = λ (modelled : IsModelled old). (promise (modelled_mid modelled)).done in
         record {
           seals = λ ended. ends.sealed;
-          can = λ modelled ended.
+          can = λ modelled punctual ended.
               let is = modelled_mid modelled in let done = done modelled in
               let undone = (promise is).undo ends.sealed in
-              let left = allows.left modelled.honest in let sent = (returned is.honest).counted in
+              let left = allows.left modelled.honest punctual in
+              let sent = (returned is.honest).counted (allows.nature.punctual ∙ punctual) in
               let least = ends.bounded.least in let programs = done.reported.programs in
               let size = (shown_config mid.chip.config report.found is.genuine done.reported.shown).size in
               let scanned = ap (scanned_sectors request) size in
@@ -111,12 +112,13 @@ module _ {n : ℕ} {old mid : BusState} (allows : Allows n old mid) where
           bytes = λ modelled ended. rw allows.chip at (done modelled).made.bytes;
           bits = λ modelled ended. rw allows.chip at (wanted_bits request image mid new report (done modelled));
           latch = λ modelled ended. rw allows.chip at (done modelled).made.latch;
-          none_left = λ honest never. absurd cc;
-          below = λ modelled never. absurd cc;
-          seal = λ modelled. record {
+          none_left = λ honest punctual never. absurd cc;
+          below = λ modelled punctual never. absurd cc;
+          seal = λ modelled punctual. record {
             enough = λ sealed.
                 let is = modelled_mid modelled in
-                let left = allows.left modelled.honest in let spent = ((promise is).undo sealed).spent in
+                let left = allows.left modelled.honest punctual in
+                let spent = ((promise is).undo sealed).spent (allows.nature.punctual ∙ punctual) in
                 rw (← allows.chip) (omega arith);
             below = λ unsealed. absurd (true≢false (sym ends.sealed ∙ unsealed));
           };

@@ -53,7 +53,8 @@ pub probe_prepare_errors : (choice : Choice) (journal : Content) (old new : BusS
 probe_prepare_errors choice journal old new Probes.OtherName blames last errors = absurd blames
 probe_prepare_errors choice journal old new Probes.Stopped blames last errors = record {
   last = last;
-  ran_out = λ honest. let out = errors honest in record { none_left = out.0.none_left; below = omega (arith, out.1) };
+  ran_out = λ honest punctual. let out = (errors honest).1 punctual in
+      record { none_left = out.none_left; below = omega (arith, out.below) };
 }
 probe_prepare_errors choice journal old new Probes.Timeout blames last errors = (refl, last, errors)
 probe_prepare_errors choice journal old new _ blames last errors = search arith
@@ -63,7 +64,8 @@ pub errors_more : (choice : Choice) (journal : Content) (few most : ℕ) (old ne
     → PrepareErrors choice journal few old new refusal → PrepareErrors choice journal most old new refusal
 errors_more choice journal few most old new Stopped fits errors = record {
   last = errors.last;
-  ran_out = λ honest. let out = errors.ran_out honest in record { none_left = out.none_left; below = omega arith };
+  ran_out = λ honest punctual. let out = errors.ran_out honest punctual in
+      record { none_left = out.none_left; below = omega arith };
 }
 errors_more choice journal few most old new (Timeout address) fits errors = errors
 errors_more choice journal few most old new _ fits errors = errors

@@ -8,7 +8,7 @@ use Rattle.nor_model.specs.Chip.{Chip, IsSame, is_locked}
 use Rattle.nor_model.specs.Bus.{BusState, KeepsNature}
 use Rattle.nor_model.proofs.Nature.{nature_then}
 use Rattle.nor_model.proofs.Histories.{continues_then}
-use Rattle.nor_driver.specs.OnlyReads.{OnlyReadsHonest, OnlyReads, IsSteadyOrIdle}
+use Rattle.nor_driver.specs.OnlyReads.{OnlyReadsHonest, OnlyReads, Spent, IsSteadyOrIdle}
 pub use Rattle.nor_driver.proofs.ReadsInTurn.{only_reads_more as only_reads_most}
 use Rattle.nor_journal.specs.Text.{Content}
 use Rattle.nor_journal.specs.Saved.{saved_byte}
@@ -59,13 +59,14 @@ module _ (choice : Choice) (journal : Content) (most : ℕ) (old new : BusState)
   pub prepare_fails : (refusal : Refusal) → most ≤ most_of (length journal.saved) → old.honest ≡ true
       → PrepareErrors choice journal most old new refusal
       → HonestErrors (most_of (length journal.saved)) IsCheckedFirst old new refusal
-  prepare_fails Stopped fits honest errors = let out = errors.ran_out honest in omega arith
+  prepare_fails Stopped fits honest errors = λ punctual. let out = errors.ran_out honest punctual in omega arith
   prepare_fails (Timeout address) fits honest errors = errors.2 honest
   prepare_fails _ fits honest errors = λ first. errors.same honest
 
   pub prepare_errors : (refusal : Refusal) → most ≤ most_of (length journal.saved) → IsModelled old
       → PrepareErrors choice journal most old new refusal → ErrorsBy choice journal old new refusal
-  prepare_errors Stopped fits modelled errors = let out = errors.ran_out modelled.honest in omega arith
+  prepare_errors Stopped fits modelled errors = λ punctual.
+      let out = errors.ran_out modelled.honest punctual in omega arith
   prepare_errors (Timeout address) fits modelled errors = absurd (errors.2 modelled.honest)
   prepare_errors refusal fits modelled errors = judged_verdict choice journal old.chip refusal (errors.verdict modelled)
 
@@ -114,7 +115,14 @@ changed_can_restore choice journal first prepared old mid new are modelled can =
 
 module _ (choice : Choice) (journal : Content) (prepared : PreparedRestore) (old mid new : BusState) where
   pub changed_spends : AreChanged choice journal prepared old mid new → Spends (most_of (length journal.saved)) old new
-  changed_spends are = let few = are.sound.few (length journal.saved) in search (arith, nature_then)
+  changed_spends are =
+      let few = are.sound.few (length journal.saved) in let before = are.only_reads.nature in record {
+        nature = nature_then old mid new are.leaves.spends.nature before;
+        falls = λ honest punctual.
+            let sent = are.is.sent honest punctual in
+            let falls = are.leaves.spends.falls (before.honest ∙ honest) (before.punctual ∙ punctual) in
+            search arith;
+      }
 
   pub changed_leaves : AreChanged choice journal prepared old mid new → IsModelled old → LeavesBy choice journal old new
   changed_leaves are modelled =
@@ -128,8 +136,10 @@ module _ (choice : Choice) (journal : Content) (prepared : PreparedRestore) (old
   pub change_fails : (refusal : Refusal) → AreChanged choice journal prepared old mid new → old.honest ≡ true
       → ChangeErrors prepared.changes (saved_byte journal) mid new refusal
       → HonestErrors (most_of (length journal.saved)) IsCheckedFirst old new refusal
-  change_fails Stopped are honest errors =
-      let ran = errors.ran_out (are.only_reads.nature.honest ∙ honest) in
+  change_fails Stopped are honest errors = λ punctual.
+      let before = are.only_reads.nature in
+      let ran = errors.ran_out (before.honest ∙ honest) (before.punctual ∙ punctual) in
+      let sent = are.is.sent honest punctual in
       let few = are.sound.few (length journal.saved) in search arith
   change_fails (Timeout address) are honest errors = errors.1 (are.only_reads.nature.honest ∙ honest)
   change_fails (Mismatch address) are honest errors = λ first. absurd (true≢false (sym first))
@@ -227,8 +237,11 @@ module _ (choice : Choice) (journal : Content) (prepared : PreparedRestore) (old
         restored_within 0 sum (no_write prepared.changes (λ writes. none ((are.is.modelled modelled).needed writes)))
 
     pub restored_counted : sent ≡ prepared.transactions + work.transactions → old.honest ≡ true
-        → old.left ≡ new.left + sent
-    restored_counted sum honest = search arith
+        → Spent sent old new
+    restored_counted sum honest punctual =
+        let before = are.only_reads.nature in
+        let prepared = are.is.sent honest punctual in
+        let done = does.sent (before.honest ∙ honest) (before.punctual ∙ punctual) in search arith
 
     pub restored_checked : old.honest ≡ true → old.chip.config.size ≡ journal.size
         → HasBytes (choice.touched journal old.chip.bytes) (restored journal old.chip.bytes) new.chip

@@ -132,8 +132,8 @@ module _ (request : Request) (image image' : List ℕ) (identity : Identity) (st
 
 pub change_fails : (request : Request) (identity : Identity) (status : Status) (code : ℕ) (kept : SavedScan) (target_bytes : ℕ → ℕ) (old mid new : BusState) (refusal : Refusal) → old.honest ≡ true
     → Ready request identity status code kept old mid → ChangeErrors (changes_of identity kept status code) target_bytes mid new refusal → HonestErrors (most_of 4096) (λ refusal. refusal_number refusal ≤ 11) old new refusal
-change_fails request identity status code kept target_bytes old mid new Stopped honest is errors =
-    let ran = ran_out_ready is honest (errors.ran_out (is.honest_reads.nature.honest ∙ honest)) in
+change_fails request identity status code kept target_bytes old mid new Stopped honest is errors = λ punctual.
+    let ran = ran_out_ready is honest (errors.ran_out (is.honest_reads.nature.honest ∙ honest)) punctual in
     let few = scanned_few request identity.found.size is.part.at_most in
     omega arith
 change_fails request identity status code kept target_bytes old mid new (Timeout address) honest is errors = errors.1 (is.honest_reads.nature.honest ∙ honest)
@@ -144,8 +144,8 @@ change_fails request identity status code kept target_bytes old mid new _ honest
 pub change_errors : (request : Request) (image image' : List ℕ) (identity : Identity) (status : Status) (code : ℕ) (kept : SavedScan) (old mid new : BusState) (vault vault' : VaultState) (refusal : Refusal)
     → Ready request identity status code kept old mid → ReadyChip request image image' identity code kept old mid
     → ChangeErrors (changes_of identity kept status code) (λ a. slice_index image' a) mid new refusal → SessionErrors request image old new vault vault' refusal
-change_errors request image image' identity status code kept old mid new vault vault' Stopped is of errors =
-    let ran = ran_out_ready is of.honest (errors.ran_out (is.honest_reads.nature.honest ∙ of.honest)) in
+change_errors request image image' identity status code kept old mid new vault vault' Stopped is of errors = λ punctual.
+    let ran = ran_out_ready is of.honest (errors.ran_out (is.honest_reads.nature.honest ∙ of.honest)) punctual in
     let sized = most_sized request of.is.config in
     omega arith
 change_errors request image image' identity status code kept old mid new vault vault' (Timeout address) is of errors = absurd (errors.1 (is.honest_reads.nature.honest ∙ of.honest))

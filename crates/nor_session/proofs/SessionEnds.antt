@@ -67,8 +67,9 @@ module _ (request : Request) (image image' : List ℕ) (identity : Identity) (st
         changes = change_then is.honest_reads.nature.steady (same_change unchanged.same of.idle unchanged.worn)
             (change_as (λ s hit. sym (of.touched s) ∙ hit) (λ s hit. sym (of.raised s) ∙ hit)
             (λ a plain hit. of.merged a hit) (leaves.reached honest can));
-        spent =
-            let sent = is.honest_reads.sent modelled.honest in let fell = (leaves.spends.falls honest).fell in
+        spent = λ punctual.
+            let sent = is.honest_reads.sent modelled.honest punctual in
+            let fell = (leaves.spends.falls honest (is.honest_reads.nature.punctual ∙ punctual)).fell in
             let least = is.least in let reads = is.reads ∙ ap (scanned_sectors request) opened.config.size in
             omega arith;
       }

@@ -4,7 +4,7 @@ use Rattle.std.specs.Prelude.{◌≡◌, ◌≤◌, ◌<◌, ◌+◌, ◌/◌, �
 use Rattle.nor_model.specs.Chip.{Chip, IsSame, is_locked}
 use Rattle.nor_model.specs.Guard.{is_protected}
 use Rattle.nor_model.specs.Bus.{BusState}
-use Rattle.nor_driver.specs.OnlyReads.{OnlyReads, RanOut}
+use Rattle.nor_driver.specs.OnlyReads.{OnlyReads, Spent, RanOut}
 use Rattle.nor_driver.specs.Reads.{unique_of}
 use Rattle.nor_journal.specs.Text.{Content}
 use Rattle.nor_journal.specs.Saved.{JournalSaves, IsJournalPrefix, is_saved}
@@ -137,7 +137,7 @@ pub record BackupHonest (named : Option ChipName) (old new : BusState) (result :
   -- after success bytes and non-volatile status bits are as they were before the backup
   pub same : OnOk result (IsSame old.chip new.chip)
   -- the report counts exactly the transactions that were sent
-  pub counted : IfOk result (λ report. old.left ≡ new.left + report.transactions)
+  pub counted : IfOk result (λ report. Spent report.transactions old new)
 
 -- The promises of a backup on a modelled bus: a well-behaved one whose chip is what its ID or SFDP says.
 pub record BackupModelled (named : Option ChipName) (old new : BusState) (vault' : VaultState)

@@ -6,7 +6,7 @@ use Rattle.nor_model.specs.History.{EndsBusy, EndsReading}
 use Rattle.nor_model.specs.Bus.{BusState}
 use Rattle.nor_driver.specs.Ready.{StaysReady}
 use Rattle.nor_driver.specs.ReadBack.{EndsReadBack, EndsReadOther}
-use Rattle.nor_driver.specs.OnlyReads.{Rested, HasStopped}
+use Rattle.nor_driver.specs.OnlyReads.{Rested, Spent, HasStopped}
 use Rattle.nor_driver.specs.Limits.{SendsExactly, Leaves}
 use Rattle.nor_driver.specs.Operations.{most_operation}
 use Rattle.nor_driver.specs.Polls.{AddsTransactions}
@@ -51,7 +51,7 @@ pub record DoesCheck (changes : Changes) (wanted : ℕ → ℕ) (verify : Bool) 
   pub unsent : new.sent ≡ old.sent
   pub added : AddsTransactions (read_back changes verify) (read_back changes verify) old.history new.history
   pub polled_ready : StaysReady old new
-  pub sent : old.honest ≡ true → old.left ≡ new.left + read_back changes verify
+  pub sent : old.honest ≡ true → Spent (read_back changes verify) old new
   pub rested : old.honest ≡ true → Rested old new
   pub same : verify ≡ true → old.honest ≡ true → CanCheck (touched_in changes) old.chip
       → (a : ℕ) → touched_in changes (a / 4096) ≡ true → old.chip.bytes a ≡ wanted a
@@ -107,7 +107,7 @@ pub record DoesChange (changes : Changes) (wanted : ℕ → ℕ) (verify : Bool)
   pub exactly : SendsExactly work.erases work.programs (status_writes changes) old new
   pub in_order : ErasesFirst (raised_in changes) old new
   pub polled_ready : StaysReady old new
-  pub sent : old.honest ≡ true → old.left ≡ new.left + work.transactions
+  pub sent : old.honest ≡ true → Spent work.transactions old new
   pub unsent : touched_count changes + status_writes changes ≡ 0 → new.sent ≡ old.sent
   pub done : old.honest ≡ true → CanApply changes wanted old.chip → HasApplied changes wanted old new
   pub programs : old.honest ≡ true → CanApply changes wanted old.chip

@@ -5,7 +5,7 @@ use Rattle.nor_model.specs.Chip.{Chip, IsSame, is_locked, status1_of, kept_in}
 use Rattle.nor_model.specs.Status.{bytes_of}
 use Rattle.nor_model.specs.History.{EndsBusy}
 use Rattle.nor_model.specs.Bus.{BusState}
-use Rattle.nor_driver.specs.OnlyReads.{OnlyReads, Rested, HasStopped, IsOpen}
+use Rattle.nor_driver.specs.OnlyReads.{OnlyReads, Rested, Spent, HasStopped, IsOpen}
 use Rattle.nor_driver.specs.ReadsInTurn.{HasOnlyRead}
 use Rattle.nor_driver.specs.ReadBack.{bytes_read, HaveBeenRead}
 use Rattle.nor_driver.specs.StatusWrites.{fixed_of}
@@ -240,7 +240,7 @@ pub record IsPreparedRestore (choice : Choice) (journal : Content) (old new : Bu
   pub polled_ready : new.polled_ready ≡ true
   pub rested : old.honest ≡ true → Rested old new
   pub idle : old.honest ≡ true → new.chip.busy ≡ 0
-  pub sent : old.honest ≡ true → old.left ≡ new.left + prepared.transactions
+  pub sent : old.honest ≡ true → Spent prepared.transactions old new
   pub replied : (s : ℕ) → has prepared.changes.touched s ≡ choice.touched journal (bytes_read new.history) s
   pub read : HaveBeenRead (IsLeft choice journal (bytes_read new.history)) old.history new.history
   pub touched : old.honest ≡ true → old.chip.config.size ≡ journal.size → (s : ℕ)

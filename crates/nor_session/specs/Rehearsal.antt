@@ -124,8 +124,8 @@ IsRehearsedCode what journal code = IsWrittenCode what journal code ⊎ IsSavedC
 -- The promises of a rehearsal on every bus.
 pub record RehearsalAlways (request : Request) (stops : List ℕ) (old new : BusState) (vault vault' : VaultState)
     (result : Result Rehearsal Refusal) : Type 0 where
-  -- the rehearsal doesn't change whether the bus is well-behaved, steady or unlimited; on a well-behaved bus it doesn't
-  -- change the configuration of the chip
+  -- the rehearsal doesn't change whether the bus is well-behaved, steady, unlimited or punctual; on a well-behaved bus
+  -- it doesn't change the configuration of the chip
   pub nature : SameNature old new
   -- After success, one allowance was set for the session, and one for each restore. Each allowance is the next stop or,
   -- if the stops are used up, the bound for a session on a chip of 16 MiB (`allowances_of`).
@@ -153,7 +153,8 @@ pub record RehearsalAlways (request : Request) (stops : List ℕ) (old new : Bus
   -- possible restore. The number of possible restores is the number of stops or, without stops, one.
   pub writes : WritesStatusAtMost (most_status_writes request.what request.unlock + 2 * max 1 (length stops)) old new
 
--- The promises of a rehearsal on a modelled bus: a well-behaved one whose chip is what its ID or SFDP says.
+-- The promises of a rehearsal on a modelled bus that is punctual. A modelled bus is a well-behaved one whose chip is
+-- what its ID or SFDP says.
 pub record RehearsalModelled (request : Request) (image stops : List ℕ) (old new : BusState) (vault vault' : VaultState)
     (result : Result Rehearsal Refusal) : Type 0 where
   -- only sectors that the session touches were erased

@@ -1,4 +1,6 @@
--- The states that the session of a rehearsal and the restores after it leave.
+-- The states that the session of a rehearsal and the restores after it leave. What the comments here say about errors
+-- and allowances on a well-behaved or modelled bus is about a punctual one: on any other bus an allowance means
+-- nothing.
 use Rattle.std.specs.Prelude.{◌≡◌, ◌≤◌, ◌<◌, ◌+◌, ◌*◌, ◌/◌, ◌++◌, ℕ, Bool, true, false, List, Result, IfOk, IfErr, OnOk, OnErr, length}
 use Rattle.nor_model.specs.Chip.{Chip, IsChip, IsSame, is_locked}
 use Rattle.nor_model.specs.History.{EndsStopped}
@@ -82,13 +84,14 @@ pub record HasWantedBits (what : What) (old new : Chip) : Type 0 where
 pub record RunsSession (request : Request) (image : List ℕ) (allowance : ℕ) (old new : BusState) (vault : VaultState)
     (ended : Bool) : Type 0 where
   pub seals : ended ≡ true → vault.sealed ≡ true
-  pub can : IsModelled old → ended ≡ true → CanEnd request image allowance old.chip
+  pub can : IsModelled old → old.punctual ≡ true → ended ≡ true → CanEnd request image allowance old.chip
   pub bytes : IsModelled old → ended ≡ true → (a : ℕ) → new.chip.bytes a ≡ wanted request image old.chip a
   pub bits : IsModelled old → ended ≡ true → HasWantedBits request.what old.chip new.chip
   pub latch : IsModelled old → ended ≡ true → new.chip.latch ≡ true → old.chip.latch ≡ true
-  pub none_left : old.honest ≡ true → ended ≡ false → new.left ≡ 0
-  pub below : IsModelled old → ended ≡ false → allowance < most_of (old.chip.config.size / 4096)
-  pub seal : IsModelled old → SealFits request allowance old.chip vault.sealed
+  pub none_left : old.honest ≡ true → old.punctual ≡ true → ended ≡ false → new.left ≡ 0
+  pub below : IsModelled old → old.punctual ≡ true → ended ≡ false
+      → allowance < most_of (old.chip.config.size / 4096)
+  pub seal : IsModelled old → old.punctual ≡ true → SealFits request allowance old.chip vault.sealed
 
 -- Holds if the session returned this error. On a modelled bus the error is the verdict on the request, or the vault
 -- failed. On a well-behaved bus the error is neither a stop nor a timeout. On every bus the last transaction is as
@@ -97,10 +100,10 @@ pub record RefusesSession (request : Request) (image : List ℕ) (old new : BusS
     (refusal : Refusal) : Type 0 where
   pub answers : SessionReturns before after refusal
   pub names : NamesAddress after refusal
-  pub fails : old.honest ≡ true → IsNoBusError refusal
+  pub fails : old.honest ≡ true → old.punctual ≡ true → IsNoBusError refusal
   pub last_transaction : EndsAtError refusal new.history
-  pub errors : IsModelled old → RehearsalErrors request image old.chip before after refusal
-  pub leaves : IsModelled old → LeavesRefused old new after
+  pub errors : IsModelled old → old.punctual ≡ true → RehearsalErrors request image old.chip before after refusal
+  pub leaves : IsModelled old → old.punctual ≡ true → LeavesRefused old new after
 
 -- ---- the restores
 
@@ -126,9 +129,11 @@ pub record LeavesRestores (journal : Content) (restores : ℕ) (old new : BusSta
 pub record RunsRestore (journal : Content) (allowance : ℕ) (old new : BusState) (ended : Bool) : Type 0 where
   pub back : IsModelled old → ended ≡ true → (first : Chip) → CanRestore journal first old → IsSame first new.chip
   pub latch : IsModelled old → ended ≡ true → new.chip.latch ≡ true → old.chip.latch ≡ true
-  pub enough : IsModelled old → ended ≡ true → new.left + (4 + length journal.saved) ≤ allowance
-  pub none_left : old.honest ≡ true → ended ≡ false → new.left ≡ 0
-  pub below : old.honest ≡ true → ended ≡ false → allowance < most_of (length journal.saved)
+  pub enough : IsModelled old → old.punctual ≡ true → ended ≡ true
+      → new.left + (4 + length journal.saved) ≤ allowance
+  pub none_left : old.honest ≡ true → old.punctual ≡ true → ended ≡ false → new.left ≡ 0
+  pub below : old.honest ≡ true → old.punctual ≡ true → ended ≡ false
+      → allowance < most_of (length journal.saved)
   pub last_transaction : ended ≡ false → EndsStopped new.history
 
 -- Holds if `restores` restores were run in turn, each with its own allowance (`allowances_of`), and the last one ended.
@@ -139,8 +144,8 @@ pub record RunsRestores (journal : Content) (stops : List ℕ) (old new : BusSta
   pub most : restores ≤ length stops + 1
   pub allowed : new.allowances ≡ allowances_of stops restores ++ old.allowances
   pub latch : IsModelled old → restores ≡ 1 → new.chip.latch ≡ true → old.chip.latch ≡ true
-  pub are : IsModelled old → AreRestores (length journal.saved) stops restores
-  pub last : IsModelled old → FitsLastStop (length journal.saved) stops new.left restores
+  pub are : IsModelled old → old.punctual ≡ true → AreRestores (length journal.saved) stops restores
+  pub last : IsModelled old → old.punctual ≡ true → FitsLastStop (length journal.saved) stops new.left restores
   pub back : IsModelled old → (first : Chip) → CanRestore journal first old → IsSame first new.chip
 
 -- Holds if one of the restores returned this error. On a modelled bus no error is returned if the journal can restore
@@ -150,8 +155,8 @@ pub record StopsRestores (journal : Content) (old new : BusState) (refusal : Ref
   pub answers : IsRestoreRefusal refusal
   pub last_transaction : EndsAtError refusal new.history
   pub names : NamesSector (λ sector. is_saved journal sector ≡ true) refusal
-  pub fails : length journal.saved ≤ 4096 → old.honest ≡ true → IsNoBusError refusal
-  pub never : IsModelled old → (first : Chip) → CanRestore journal first old → ⊥
+  pub fails : length journal.saved ≤ 4096 → old.honest ≡ true → old.punctual ≡ true → IsNoBusError refusal
+  pub never : IsModelled old → old.punctual ≡ true → (first : Chip) → CanRestore journal first old → ⊥
 
 -- ---- restores from bytes
 
@@ -164,9 +169,9 @@ pub record Undoes (text : List ℕ) (stops : List ℕ) (old new : BusState) (res
   pub allowed : new.allowances ≡ allowances_of stops restores ++ old.allowances
   pub latch : IsModelled old → restores ≡ 1 → new.chip.latch ≡ true → old.chip.latch ≡ true
   pub same : IsModelled old → (saved : ℕ → Bool) (first : Chip) → CanUndo saved first text old → IsSame first new.chip
-  pub are : IsModelled old → (saved : ℕ → Bool) (first : Chip) → CanUndo saved first text old
+  pub are : IsModelled old → old.punctual ≡ true → (saved : ℕ → Bool) (first : Chip) → CanUndo saved first text old
       → AreRestores (sector_count saved) stops restores
-  pub last : IsModelled old → (saved : ℕ → Bool) (first : Chip) → CanUndo saved first text old
+  pub last : IsModelled old → old.punctual ≡ true → (saved : ℕ → Bool) (first : Chip) → CanUndo saved first text old
       → FitsLastStop (sector_count saved) stops new.left restores
 
 -- Holds if only sectors that the bytes save were erased, provided that the bus is modelled and the bytes can restore
@@ -188,13 +193,14 @@ pub record RefusesUndo (text : List ℕ) (old new : BusState) (refusal : Refusal
   pub answers : IsJournal text → IsRestoreRefusal refusal
   pub last_transaction : EndsAtError refusal new.history
   pub names : NamesSector (λ sector. SavesSector sector text) refusal
-  pub fails : old.honest ≡ true → IsNoBusError refusal
-  pub never : IsModelled old → (saved : ℕ → Bool) (first : Chip) → CanUndo saved first text old → ⊥
+  pub fails : old.honest ≡ true → old.punctual ≡ true → IsNoBusError refusal
+  pub never : IsModelled old → old.punctual ≡ true → (saved : ℕ → Bool) (first : Chip)
+      → CanUndo saved first text old → ⊥
 
 -- What restores from the bytes `text` with these stops leave, at every exit.
 pub record LeavesUndo (text stops : List ℕ) (old new : BusState) (result : Result ℕ Refusal) : Type 0 where
-  -- the restores don't change whether the bus is well-behaved, steady or unlimited; on a well-behaved bus they don't
-  -- change the configuration of the chip
+  -- the restores don't change whether the bus is well-behaved, steady, unlimited or punctual; on a well-behaved bus
+  -- they don't change the configuration of the chip
   pub nature : SameNature old new
   -- on a modelled bus, if the bytes can restore the original chip, only sectors that the bytes save were erased
   pub wears : WearsSaved text old new

@@ -7,7 +7,7 @@ use Rattle.nor_model.specs.Guard.{code_of}
 use Rattle.nor_model.specs.Exchange.{Exchange}
 use Rattle.nor_model.specs.History.{Continues}
 use Rattle.nor_model.specs.Bus.{BusState}
-use Rattle.nor_driver.specs.OnlyReads.{IsSteadyOrIdle, OnlyReads, RanOut}
+use Rattle.nor_driver.specs.OnlyReads.{IsSteadyOrIdle, OnlyReads, Spent, RanOut}
 use Rattle.nor_driver.specs.Reads.{unique_of}
 use Rattle.nor_driver.specs.StatusWrites.{fixed_of}
 use Rattle.nor_driver.specs.ReadBack.{bytes_read, HaveBeenRead, EndsReadBack, EndsReadOther}
@@ -253,7 +253,7 @@ pub record HonestBy (choice : Choice) (journal : Content) (old new : BusState)
   -- first change (`IsCheckedFirst`), bytes and non-volatile status bits are as they were before the restore.
   pub honest_errors : IfErr result (HonestErrors (most_of (length journal.saved)) IsCheckedFirst old new)
   -- the report counts exactly the transactions that were sent
-  pub counted : IfOk result (λ report. old.left ≡ new.left + report.transactions)
+  pub counted : IfOk result (λ report. Spent report.transactions old new)
   -- After success, if the chip has the journal's size, each touched sector has the saved bytes. The restore read the
   -- touched sectors back and compared them, so this holds even for a chip that isn't genuine.
   pub checked : IfOk result (λ report. old.chip.config.size ≡ journal.size

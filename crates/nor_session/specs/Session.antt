@@ -7,7 +7,7 @@ use Rattle.nor_model.specs.Sent.{is_targeted, has_written, has_unknown, erases_o
 use Rattle.nor_model.specs.Exchange.{Exchange}
 use Rattle.nor_model.specs.History.{Continues}
 use Rattle.nor_model.specs.Bus.{BusState}
-use Rattle.nor_driver.specs.OnlyReads.{OnlyReads, Falls, RanOut}
+use Rattle.nor_driver.specs.OnlyReads.{OnlyReads, Spent, Falls, RanOut}
 use Rattle.nor_driver.specs.StatusWrites.{fixed_of, with_code}
 use Rattle.nor_geometry.specs.Counts.{sector_count}
 use Rattle.nor_driver.specs.Operations.{most_operation}
@@ -225,7 +225,7 @@ pub record CanBeUndone (request : Request) (image : List ℕ) (old new : BusStat
   pub changes : MayChange (is_touched old.chip.bytes (wanted request image old.chip))
       (is_raised old.chip.bytes (wanted request image old.chip))
       (wanted request image old.chip) old new
-  pub spent : new.left + (4 + scanned_sectors request old.chip.config.size) ≤ old.left
+  pub spent : old.punctual ≡ true → new.left + (4 + scanned_sectors request old.chip.config.size) ≤ old.left
 
 -- Holds if there are no bytes. Holds also if the chip is identified and has the requested name, if any, and the bytes
 -- are a prefix of the only journal that the session can write.
@@ -322,7 +322,7 @@ pub record SessionHonest (request : Request) (image : List ℕ) (old new : BusSt
   -- non-volatile status bits are as they were before the session.
   pub honest_errors : IfErr result (HonestErrors (most_of 4096) (λ refusal. refusal_number refusal ≤ 11) old new)
   -- the report counts exactly the transactions that were sent
-  pub counted : IfOk result (λ report. old.left ≡ new.left + report.transactions)
+  pub counted : IfOk result (λ report. Spent report.transactions old new)
   -- After success, if the request asks for verification and the chip has the size that was found, each touched sector
   -- has the target bytes. The session read the touched sectors back and compared them, so this holds even for a chip
   -- that isn't genuine.
@@ -345,7 +345,7 @@ pub record SessionModelled (request : Request) (image : List ℕ) (old new : Bus
       → IfOk result (IsWithinBound (scanned_sectors request old.chip.config.size) 0 request.verify)
   -- a stop before the seal occurs only if fewer transactions were left at the start than the identification of this
   -- chip and the scan need together
-  pub early : vault'.sealed ≡ false → IfErr result (λ refusal. refusal ≡ Stopped
+  pub early : vault'.sealed ≡ false → old.punctual ≡ true → IfErr result (λ refusal. refusal ≡ Stopped
       → old.left < needed_to_identify old.chip + scanned_sectors request old.chip.config.size)
   -- after an error other than 11, an unsealed faithful vault is empty, or holds the header and complete records of the
   -- only journal that the session can write

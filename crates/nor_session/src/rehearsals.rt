@@ -38,11 +38,12 @@ pub struct Rehearsal {
 /// `stops` must have at most 64 entries, and `vault` must be empty and unsealed. `image` and `request` are as for
 /// `session`.
 ///
-/// On a modelled bus that is steady, or whose chip was idle at the start, the chip's contents and non-volatile status
-/// bits are at every exit as they were before the call.
+/// Promises about modelled and well-behaved buses hold only if the bus is also punctual, because on any other bus an
+/// allowance means nothing. On such a modelled bus that is steady, or whose chip was idle at the start, the chip's
+/// contents and non-volatile status bits are at every exit as they were before the call.
 ///
-/// Returns an error of the session or, if the vault was sealed, of a restore. On a well-behaved bus errors 12 and 13 do
-/// not occur: a stop from `stops` that interrupts the session or a restore is part of the result.
+/// Returns an error of the session or, if the vault was sealed, of a restore. On a well-behaved, punctual bus errors 12
+/// and 13 do not occur: a stop from `stops` that interrupts the session or a restore is part of the result.
 pub fn rehearse<B: Meter>(
     bus: &mut B,
     vault: &mut MemVault,
@@ -52,12 +53,14 @@ pub fn rehearse<B: Meter>(
 ) -> Result<Rehearsal, Refusal>
     requires few { length stops.now ≤ 64 }
     requires fresh { IsFresh (held_by vault.old) }
-    ensures restores_original { IsModelled (B.state bus.old) → IsSteadyOrIdle (B.state bus.old)
+    ensures restores_original { IsModelled (B.state bus.old) → (B.state bus.old).punctual ≡ true
+        → IsSteadyOrIdle (B.state bus.old)
         → IsSame (B.state bus.old).chip (B.state bus.new).chip }
     ensures always { RehearsalAlways request.now stops.now (B.state bus.old) (B.state bus.new) (held_by vault.old)
         (held_by vault.new) result }
-    ensures honest { (B.state bus.old).honest ≡ true → IfErr result IsNoBusError }
-    ensures modelled { IsModelled (B.state bus.old) → RehearsalModelled request.now image.old stops.now
+    ensures honest { (B.state bus.old).honest ≡ true → (B.state bus.old).punctual ≡ true → IfErr result IsNoBusError }
+    ensures modelled { IsModelled (B.state bus.old) → (B.state bus.old).punctual ≡ true
+        → RehearsalModelled request.now image.old stops.now
         (B.state bus.old) (B.state bus.new) (held_by vault.old) (held_by vault.new) result }
 {
     let ended = stopped_session(bus, vault, image, request, stops)?;

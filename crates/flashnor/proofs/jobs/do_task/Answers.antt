@@ -60,7 +60,7 @@ returns-in-Change g c =
       nature = change.nature;
       others = change.others;
       unmade = change.unmade;
-      ok = λ ready. change.ok (modelled_ready _ _ ready) (steady_or_idle-ready _ _ ready);
+      ok = λ ready. change.ok (modelled_ready _ _ ready) ready.punctual (steady_or_idle-ready _ _ ready);
       err = IfErr-weaker c.change_or_rehearse.result _ _ (λ fault fails. inr fails) change.err;
     })
 

@@ -2,7 +2,7 @@ use Rattle.std.proofs.Common.{◌≡◌, ◌<◌, ◌+◌, true}
 use Rattle.nor_model.specs.History.{KeepsReplies, EndsBusy}
 use Rattle.nor_model.specs.PolledReady.{is_poll}
 use Rattle.nor_model.specs.Bus.{KeepsNature}
-use Rattle.nor_driver.specs.OnlyReads.{Rested}
+use Rattle.nor_driver.specs.OnlyReads.{Rested, Spent}
 use Rattle.nor_driver.specs.Waits.{latch_when_idle}
 use Rattle.nor_driver.proofs.Polled.{PollsBusy}
 use Rattle.nor_driver.proofs.waits.wait.Given as goal
@@ -20,5 +20,5 @@ invariant-loop-polls g l =
       busy : old.honest ≡ true → now.chip.busy + l.polls ≡ old.chip.busy;
       running : old.honest ≡ true → 0 < now.chip.busy → now.chip.latch ≡ old.chip.latch;
       ended : old.honest ≡ true → now.chip.busy ≡ 0 → now.chip.latch ≡ latch_when_idle old.chip;
-      count : old.honest ≡ true → old.left ≡ now.left + l.polls;
+      count : old.honest ≡ true → Spent l.polls old now;
     }

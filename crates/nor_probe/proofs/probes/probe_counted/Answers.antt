@@ -53,8 +53,10 @@ returns-in_err-part-clause-honest g c honest =
     let still = c.wait.ensures.leaves.nature.honest ∙ honest in
     let read = c.in_ok-id.ensures.does.read still in
     let idle = read.busy ∙ waited.idle in
+    let nature = c.wait.ensures.leaves.nature in
     let errors = probe_errors c.args.named _ _ (rested_then _ _ _ waited.rested read.rested)
-    (omega (arith, waited.count, waited.polls, read.count))
+    (c.read_id.ensures.leaves.nature.punctual ∙ nature.punctual)
+    (λ punctual. omega (arith, waited.count punctual, waited.polls, read.count (nature.punctual ∙ punctual)))
     (omega (arith, waited.polls, c.in_ok-waited.ensures.does.few)) (g.B.Bus.state c.identify.new.bus)
     c.in_err-part.field-0.0 (search rules)
     (c.in_err-part.ensures.errors (c.has_further_types-further.ensures.honest honest)

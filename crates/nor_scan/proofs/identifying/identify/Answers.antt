@@ -1,4 +1,4 @@
-use Rattle.std.proofs.Common.{◌≡◌, ◌<◌, ◌∙◌, Option, arith}
+use Rattle.std.proofs.Common.{◌≡◌, ◌<◌, ◌∙◌, true, Option, arith}
 use Rattle.std.proofs.lemmas.Result.{err_from_is_err_and}
 use Rattle.nor_model.specs.Bus.{BusState}
 use Rattle.nor_probe.specs.declared.table.ChipName.{ChipName}
@@ -43,23 +43,24 @@ returns-clause-identifies g c =
 
 -- If a probe on a well-behaved bus was stopped, fewer transactions were left than the identification of the chip needs.
 probe_stopped : (named : Option ChipName) (old new : BusState) (fault : ProbeFault) → ProbeErrors named old new fault
-    → of_probe fault ≡ Stopped → old.left < needed_to_identify old.chip
-probe_stopped named old new Probes.Stopped errors is = let below = errors.0.below in omega arith
-probe_stopped named old new Probes.NoChip errors is = absurd cc
-probe_stopped named old new (Probes.UnknownChip fault) errors is = absurd cc
-probe_stopped named old new Probes.OtherName errors is = absurd cc
-probe_stopped named old new Probes.Timeout errors is = absurd errors
+    → old.punctual ≡ true → of_probe fault ≡ Stopped → old.left < needed_to_identify old.chip
+probe_stopped named old new Probes.Stopped errors punctual is = let below = (errors.0 punctual).below in omega arith
+probe_stopped named old new Probes.NoChip errors punctual is = absurd cc
+probe_stopped named old new (Probes.UnknownChip fault) errors punctual is = absurd cc
+probe_stopped named old new Probes.OtherName errors punctual is = absurd cc
+probe_stopped named old new Probes.Timeout errors punctual is = absurd errors
 
 pub returns-in_err-probed-clause-exact : goal.returns-in_err-probed-clause-exact
-returns-in_err-probed-clause-exact g c = λ honest.
+returns-in_err-probed-clause-exact g c = λ honest punctual.
     let p = err_from_is_err_and c.from_residual.result c.from_residual.ensures.1 in
     rw (p.1, p.2)
     (probe_stopped c.args.named (g.B.Bus.state c.args.bus.now) (g.B.Bus.state c.probe_counted.new.bus)
-    c.in_err-probed.field-0.0 (c.in_err-probed.ensures.honest honest).errors)
+    c.in_err-probed.field-0.0 (c.in_err-probed.ensures.honest honest).errors punctual)
 
 pub returns-in_err-identity-clause-exact : goal.returns-in_err-identity-clause-exact
-returns-in_err-identity-clause-exact g c = λ honest.
+returns-in_err-identity-clause-exact g c = λ honest punctual.
     let p = err_from_is_err_and c.from_residual-in_err-identity.result c.from_residual-in_err-identity.ensures.1 in
     let finds = c.in_ok-probed.ensures.honest honest in
-    let ran = c.in_err-identity.ensures.stops.ran_out (c.probe_counted.ensures.always.only_reads.nature.honest ∙ honest) in
+    let nature = c.probe_counted.ensures.always.only_reads.nature in
+    let ran = c.in_err-identity.ensures.stops.ran_out (nature.honest ∙ honest) (nature.punctual ∙ punctual) in
     rw (p.1, p.2) (λ is. grind (arith, common_steps, finds, ran))

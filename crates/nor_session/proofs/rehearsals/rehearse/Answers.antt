@@ -1,4 +1,4 @@
-use Rattle.std.proofs.Common.{rules, arith, ◌∙◌, refl, sym}
+use Rattle.std.proofs.Common.{rules, arith, ◌≡◌, ◌∙◌, true, refl, sym}
 use Rattle.std.proofs.lemmas.Bool.{true≢false}
 use Rattle.std.proofs.lemmas.Result.{err_from_is_err_and}
 use Rattle.nor_journal.specs.MemVault.{held_by}
@@ -23,8 +23,10 @@ returns-in_err-restores g c =
     let session = c.stopped_session.ensures.leaves in let undone = c.undo.ensures in let is = c.bytes.ensures in
     let sealed = sym c.is_sealed.ensures ∙ c.if-not-is_sealed.false in
     let refuses = c.in_err-restores.ensures.refuses in
-    let never = λ (modelled : IsModelled (g.B.Bus.state c.args.bus.now)).
-    let (then_modelled, can_undo) = undo_premises session sealed is undone modelled in refuses.never then_modelled _ _ can_undo in
+    let never = λ (modelled : IsModelled (g.B.Bus.state c.args.bus.now))
+    (punctual : (g.B.Bus.state c.args.bus.now).punctual ≡ true).
+    let (then_modelled, can_undo) = undo_premises session sealed is undone modelled in
+    refuses.never then_modelled (session.nature.punctual ∙ punctual) _ _ can_undo in
     let returned = undo_refused session sealed is undone (held_by c.args.vault.now) _ refuses in
     let nature = same_nature_then undone.nature session.nature in
     let tried = both_tried session sealed is undone c.args.stops.now c.later.ensures c.stopped_session.ensures.allowed
@@ -34,10 +36,10 @@ returns-in_err-restores g c =
     let writes = both_write session sealed is undone c.args.stops.now c.later.ensures in
     let p = err_from_is_err_and c.from_residual-in_err-restores.result c.from_residual-in_err-restores.ensures.1 in
     rw (p.1, p.2) (record {
-      restores_original = λ modelled steady_or_idle. absurd (never modelled);
+      restores_original = λ modelled punctual steady_or_idle. absurd (never modelled punctual);
       always = search rules;
-      honest = λ honest. refuses.fails (session.nature.honest ∙ honest);
-      modelled = λ modelled. absurd (never modelled);
+      honest = λ honest punctual. refuses.fails (session.nature.honest ∙ honest) (session.nature.punctual ∙ punctual);
+      modelled = λ modelled punctual. absurd (never modelled punctual);
     })
 
 -- Proves all clauses of `rehearse` for the case in which the last restore ended.
@@ -48,7 +50,8 @@ returns g c =
     let undoes = c.in_ok-restores.ensures.undoes in
     let undo_premises = undo_premises session sealed is undone in
     record {
-      restores_original = λ modelled steady_or_idle. let (then_modelled, can_undo) = undo_premises modelled in undoes.same then_modelled _ _ can_undo;
+      restores_original = λ modelled punctual steady_or_idle.
+          let (then_modelled, can_undo) = undo_premises modelled in undoes.same then_modelled _ _ can_undo;
       always = record {
         nature = same_nature_then undone.nature session.nature;
         allowed = both_allowed session sealed is undone c.args.stops.now c.later.ensures
@@ -71,11 +74,12 @@ returns g c =
         writes = both_write session sealed is undone c.args.stops.now c.later.ensures;
       };
       honest = search rules;
-      modelled = λ modelled.
+      modelled = λ modelled punctual.
+          let still = session.nature.punctual ∙ punctual in
           let (then_modelled, can_undo) = undo_premises modelled in
           let wears = both_wear session sealed is undone modelled in
-          let are = rw c.later.ensures at (undoes.are then_modelled _ _ can_undo) in
-          let last = rw c.later.ensures at (undoes.last then_modelled _ _ can_undo) in
+          let are = rw c.later.ensures at (undoes.are then_modelled still _ _ can_undo) in
+          let last = rw c.later.ensures at (undoes.last then_modelled still _ _ can_undo) in
           let latch = latch_alone _ c.in_ok-ended.ensures.shows undoes modelled then_modelled in
           search rules;
     }

@@ -1,4 +1,4 @@
-use Rattle.std.proofs.Common.{◌≡◌, ◌<◌, ◌+◌, refl, rules, arith}
+use Rattle.std.proofs.Common.{◌≡◌, ◌<◌, ◌+◌, true, refl, rules, arith}
 use Rattle.nor_request.specs.declared.refusal.Refusal.TheVariants.{Stopped}
 use Rattle.nor_request.specs.Request.{scanned_sectors}
 use Rattle.nor_scan.specs.Identity.{needed_to_identify}
@@ -29,10 +29,11 @@ returns-in_err-identity-clause-modelled g c = λ modelled.
     let vault = g.V.Vault.state c.args.vault.now in
     let errors = open_errors c.args.request.now c.args.image.now (g.B.Bus.state c.args.bus.now)
     (g.B.Bus.state c.identify.new.bus) vault vault c.in_err-identity.field-0.0 modelled c.in_err-identity.ensures.errors in
-    let early : c.in_err-identity.field-0.0 ≡ Stopped → (g.B.Bus.state c.args.bus.now).left
+    let early : (g.B.Bus.state c.args.bus.now).punctual ≡ true → c.in_err-identity.field-0.0 ≡ Stopped
+    → (g.B.Bus.state c.args.bus.now).left
     < needed_to_identify (g.B.Bus.state c.args.bus.now).chip
-    + scanned_sectors c.args.request.now (g.B.Bus.state c.args.bus.now).chip.config.size = λ is.
-    let few = c.in_err-identity.ensures.exact modelled.honest is in omega arith in
+    + scanned_sectors c.args.request.now (g.B.Bus.state c.args.bus.now).chip.config.size = λ punctual is.
+    let few = c.in_err-identity.ensures.exact modelled.honest punctual is in omega arith in
     let p = err_from_is_err_and c.from_residual.result c.from_residual.ensures.1 in
     rw (p.1, p.2) (search (rules, none_written))
 

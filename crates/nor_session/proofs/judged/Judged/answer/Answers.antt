@@ -83,8 +83,9 @@ returns-in_err-saved-clause-keeps g c = λ first only_reads opens.
           (c.requires.judged.accepts first.chip _ opened is_named refl) (search rules) returned.errors in
           let falls = (spends_more (most_sized request (opens.genuine modelled)) spent).falls modelled.honest in
           let unwritten = none_written 0 first new reads_all.sent in
-          let early = λ (is : refusal ≡ Stopped). save_early request c.args.self.image.now _ c.args.self.code _ _ _ modelled
-          only_reads opens (rw is at returned.errors) in
+          let early = λ (punctual : first.punctual ≡ true) (is : refusal ≡ Stopped).
+          save_early request c.args.self.image.now _ c.args.self.code _ _ _ modelled
+          only_reads opens (rw is at returned.errors) punctual in
           let undo : vault'.sealed ≡ true → CanBeUndone request c.args.self.image.now first new vault'
           = λ on. absurd (both_ways vault'.sealed unsealed on) in
           search (rules, inr, returned.begins, returned.cut, early, undo);
@@ -132,6 +133,7 @@ returns-in_err-work-clause-keeps g c = λ first only_reads opens.
           let unwritten = λ (none : ¬ NeedsStatusWrite request image first.chip).
           change_writes first is.honest_reads.same_sent leaves (never_written _ _ _ _ _ _ _ _ _ is of none) in
           let undo = can_be_undone _ _ _ _ _ _ _ _ _ _ _ vault' modelled only_reads opens keeps is of leaves in
+          let sealed : vault'.sealed ≡ true = c.in_ok-saved.ensures.puts.sealed in
           search rules;
     })
 
