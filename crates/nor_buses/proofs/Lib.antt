@@ -1,7 +1,11 @@
 pub mod Pauses
 pub mod SameReply
 pub mod ReturnedData
+pub mod ReadsKeep
+pub mod Polls
+pub mod Around
 pub mod ReadParts
 pub mod Held
 pub mod StatusRead
 pub mod Splits
+pub mod AfterRead

@@ -24,9 +24,9 @@ wait_lasts typical elapsed = omega (arith, long_pauses typical elapsed 65536)
 pub later_pause : (typical elapsed n : ℕ) → pause_before typical elapsed (n + 2) ≤ 6250
 later_pause typical elapsed n = grind (arith, nat_tests)
 
--- If all polls of a wait show BUSY, the pauses before its first `n + 2` polls add up to at most the typical duration
--- and 6.25 ms for each of the last `n` polls.
-pub short_pauses : (typical elapsed n : ℕ) → pauses typical elapsed (n + 2) ≤ typical + 6250 * n
+-- If all polls of a wait show BUSY, the pauses before its first `n + 2` polls add up to at most twice the typical
+-- duration and 6.25 ms for each of the last `n` polls.
+pub short_pauses : (typical elapsed n : ℕ) → pauses typical elapsed (n + 2) ≤ 2 * typical + 6250 * n
 unfolding pauses
 short_pauses typical elapsed zero = grind (arith, nat_tests)
 short_pauses typical elapsed (suc n) =

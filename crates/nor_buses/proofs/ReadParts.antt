@@ -26,12 +26,14 @@ nature_then old mid new one two = record {
   honest = two.honest ∙ one.honest;
   steady = two.steady ∙ one.steady;
   unlimited = two.unlimited ∙ one.unlimited;
+  punctual = two.punctual ∙ one.punctual;
   config = λ honest. two.config (one.honest ∙ honest) ∙ one.config honest;
 }
 
 pub record_then : (old mid new : BusState) → KeepsRecord old mid → KeepsRecord mid new → KeepsRecord old new
 record_then old mid new one two = record {
   sent = two.sent ∙ one.sent;
+  allowances = two.allowances ∙ one.allowances;
   polled_ready = two.polled_ready ∙ one.polled_ready;
 }
 
@@ -357,3 +359,11 @@ whole_same out answer old mid new same reads first other =
     let differing = other is in
     differing.differs (same_reply out old.chip mid.chip new.chip answer differing.other reads first.carries.step
     differing.carries.step differing.len))
+
+-- If a well-behaved bus accepts a read, it also accepts a read of data with a reply of the same length.
+pub fits_data : (at : ℕ) (out answer : List ℕ) (bus : BusState) → IsHonestFor out (length answer) bus
+    → IsHonestFor (data_read at) (length answer) bus
+fits_data at out answer bus honest = record {
+  honest = honest.honest;
+  fits = elim honest.fits [ inl unlimited ↦ inl unlimited | inr few ↦ inr (omega arith, few.1) ];
+}

@@ -1,10 +1,13 @@
--- Lemmas: if a status register was read twice in a history, this stays true when the history grows.
-use Rattle.std.proofs.Common.{◌≡◌, ◌∙◌, ℕ, Bool, true, false, List, [], ◌∷◌, Option, None, Some, refl, ap, sym, eq-eqb}
+-- Lemmas: if a status register was read twice in a history, this stays true when the history grows. Also which status
+-- writes and which reads a `CheckedStatus` passes on.
+use Rattle.std.proofs.Common.{◌≡◌, ◌∙◌, ℕ, Bool, true, false, List, [], ◌∷◌, Option, None, Some, refl, ap, sym, arith, eq-eqb}
 use Rattle.std.specs.Prelude.{◌||◌, ◌&&◌, ◌==◌}
 use Rattle.std.specs.Option.{ForSome}
 use Rattle.std.proofs.lemmas.Bool.{false≢true}
 use Rattle.nor_model.specs.Exchange.{Exchange}
-use Rattle.nor_buses.specs.StatusRead.{IsReadTwice, KeepsId, confirmed, has_read, has_read_id, is_known, pair, second, was_read_twice}
+use Rattle.nor_buses.specs.KnownStatus.{KeepsBits}
+use Rattle.nor_buses.specs.Twice.{begins_read}
+use Rattle.nor_buses.specs.StatusRead.{ChangesAsAllowed, IsReadTwice, KeepsId, begins_confirmed, confirmed, has_read, has_read_id, is_known, pair, second, was_read_twice}
 
 or_true : (a : Bool) → (a || true) ≡ true
 or_true true = refl
@@ -54,3 +57,24 @@ still_known read known later old new twice keeps =
       knows = ap is_known same ∙ twice.knows;
       is = twice.is ∙ sym (ap (λ (k : Option (List ℕ)). confirmed k (read ∷ confirmed k (read ∷ old))) same);
     }
+
+-- A status write that keeps the bits that are known changes only what it may.
+pub allowed_by : (locks : Bool) (one two one_known two_known : ℕ) → KeepsBits locks one two one_known two_known
+    → ChangesAsAllowed locks one two one_known two_known
+allowed_by true one two one_known two_known keeps = record { protection = keeps.protection; whole = keeps.whole }
+allowed_by false one two one_known two_known keeps = record {
+  srp0 = keeps.srp0;
+  locks = grind (arith, keeps.low);
+  low = grind (arith, keeps.low);
+}
+
+-- A further alternative keeps a choice true.
+or_more : (a b c d : Bool) → (a || b || c) ≡ true → (a || d || b || c) ≡ true
+or_more true b c d is = refl
+or_more false b c true is = refl
+or_more false b c false is = is
+
+-- A transaction after which the ID is read is a read.
+pub confirmed_reads : (out : List ℕ) → begins_confirmed out ≡ true → begins_read out ≡ true
+confirmed_reads [] is = is
+confirmed_reads (opcode ∷ rest) is = or_more (opcode == 0x03) (opcode == 0x5A) (opcode == 0x4B) (opcode == 0x9F) is

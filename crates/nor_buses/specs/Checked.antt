@@ -1,6 +1,7 @@
 -- A bus that notices a lost chip, reads status registers twice and checks status writes, as contracts see it.
 use Rattle.std.specs.Prelude.{ℕ, Bool, List, Option}
-use Rattle.nor_model.specs.Bus.{BusState, unknown_bus}
+use Rattle.nor_model.specs.Bus.{BusState}
+use Rattle.nor_buses.specs.ReadsAs.{beside}
 use Rattle.nor_model.specs.Exchange.{Exchange}
 use Rattle.nor_model.specs.declared.bus.Bus.{Ghosts}
 use Rattle.nor_buses.specs.declared.status.CheckedStatus.{CheckedStatus}
@@ -40,6 +41,8 @@ check_fault_of checked = checked.fault
 abbrev pub history_of : {B : Type 0} {over : Ghosts B} → CheckedStatus B over → List Exchange
 history_of checked = checked.history.exchanges
 
--- The state of the bus. Only its history is known, and whether the bus inside has further types.
+-- The state of the bus: the chip of the bus inside, with the history of this bus. What the history says (`sent` and
+-- `polled_ready`) is that of this bus: a status write that was refused counts as sent. It is not punctual, because it
+-- may stop for reasons of its own.
 abbrev pub checked_state : {B : Type 0} {over : Ghosts B} → CheckedStatus B over → BusState
-checked_state checked = record (unknown_bus (history_of checked)) { further = (inner_state checked).further }
+checked_state checked = beside (inner_state checked) (history_of checked)

@@ -1,6 +1,7 @@
 pub mod Pace
 pub mod Paced
 pub mod Again
+pub mod Keeps
 pub mod Twice
 pub mod Splitting
 pub mod Parts
@@ -9,3 +10,4 @@ pub mod ReadsAs
 pub mod StatusRead
 pub mod KnownStatus
 pub mod Checked
+pub mod SameChip

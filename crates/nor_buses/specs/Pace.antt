@@ -1,5 +1,5 @@
 -- The pauses between polls that show BUSY. Durations and pauses are in microseconds.
-use Rattle.std.specs.Prelude.{◌+◌, ◌-◌, ◌*◌, ◌/◌, ◌^◌, ◌==◌, ◌||◌, ℕ, zero, suc, true, List, [], ◌∷◌, Option, None, Some, min, max, if◌then◌else◌}
+use Rattle.std.specs.Prelude.{◌+◌, ◌-◌, ◌*◌, ◌/◌, ◌^◌, ◌==◌, ◌||◌, nat_lt, ℕ, zero, suc, true, List, [], ◌∷◌, Option, None, Some, min, max, if◌then◌else◌}
 use Rattle.nor_model.specs.PolledReady.{polled_ready_after}
 
 -- The number of polls in a row that showed BUSY (at most 2^64 - 1), after one more transaction that sent `out` and read
@@ -28,17 +28,21 @@ typical_after out before = elim (typical_of out) [ None ↦ before | Some typica
 abbrev pub third_pause : (typical : ℕ) → ℕ
 third_pause typical = min 6250 (max 100 (typical / 16))
 
--- The pause before a transaction that follows `busy_polls` polls in a row which showed BUSY. The operation typically
--- takes `typical`, and its command was sent `elapsed` ago. From the third poll on, the pause doubles after every 16
--- polls, up to 6,250.
+-- The pause before the first poll of a wait. There is none if the operation typically takes longer than 1 ms.
+abbrev pub first_pause : (typical elapsed : ℕ) → ℕ
+first_pause typical elapsed = if nat_lt 1000 typical then 0 else typical - elapsed
+
+-- The pause before a poll that follows `busy_polls` polls in a row which showed BUSY. The operation typically takes
+-- `typical`, and its command was sent `elapsed` ago. From the third poll on, the pause doubles after every 16 polls, up
+-- to 6,250.
 abbrev pub pause_before : (typical elapsed busy_polls : ℕ) → ℕ
 pause_before typical elapsed busy_polls =
-    if busy_polls == 0 then 0
+    if busy_polls == 0 then first_pause typical elapsed
     else if busy_polls == 1 then typical - elapsed
     else min 6250 (third_pause typical * 2 ^ min 6 (busy_polls / 16))
 
 -- The sum of the pauses before the first `polls` polls of a wait, if all of them show BUSY and no poll showed BUSY
--- immediately before the wait. The command was sent `elapsed` before the second poll.
+-- immediately before the wait. The command was sent `elapsed` before the first and the second poll.
 unfoldable pub pauses : (typical elapsed polls : ℕ) → ℕ
 pauses typical elapsed zero = 0
 pauses typical elapsed (suc polls) = pauses typical elapsed polls + pause_before typical elapsed polls

@@ -28,9 +28,29 @@ view_of inside history = record (unknown_bus history) {
   further = inside.further;
 }
 
--- Holds if no transaction that may modify the chip was recorded, and the result of the last poll is as it was.
+-- The state of a bus that has its own history, and may send several transactions of the bus inside for one of its own.
+-- The rest of its state is that of the bus inside. It is not punctual, because it may stop at each of these
+-- transactions.
+abbrev pub around : (inside : BusState) → (history : List Exchange) → BusState
+around inside history = record inside { history = history; punctual = false }
+
+-- The state of a bus that has its own history, and what follows from it, and may send several transactions of the bus
+-- inside for one of its own, or none. The chip is that of the bus inside.
+abbrev pub beside : (inside : BusState) → (history : List Exchange) → BusState
+beside inside history = record (unknown_bus history) {
+  chip = inside.chip;
+  honest = inside.honest;
+  worn = inside.worn;
+  steady = inside.steady;
+  unlimited = inside.unlimited;
+  further = inside.further;
+}
+
+-- Holds if no transaction that may modify the chip was recorded, no allowance was set, and the result of the last poll
+-- is as it was.
 pub record KeepsRecord (old new : BusState) : Type 0 where
   pub sent : new.sent ≡ old.sent
+  pub allowances : new.allowances ≡ old.allowances
   pub polled_ready : new.polled_ready ≡ old.polled_ready
 
 -- The bytes that the last transaction of a history sent. The list is empty if the history has no transaction.

@@ -1,7 +1,7 @@
 -- A bus that carries out reads twice, as contracts see it.
 use Rattle.std.specs.Prelude.{◌≡◌, ◌==◌, ◌||◌, ℕ, Bool, false, Option, None, Some, List, [], ◌∷◌}
 use Rattle.std.proofs.Common.{Vec, Global}
-use Rattle.nor_buses.specs.ReadsAs.{view_of}
+use Rattle.nor_buses.specs.ReadsAs.{around}
 use Rattle.nor_buses.specs.Again.{RepeatsDiffering, CarriesDiffering}
 use Rattle.nor_model.specs.Bus.{BusState, Carries}
 use Rattle.nor_model.specs.Exchange.{Exchange}
@@ -40,10 +40,9 @@ CarriesUnexpected twice out answer old new = elim twice.expected [
 abbrev pub history_of : {B : Type 0} → ReadTwice B → List Exchange
 history_of twice = twice.history.exchanges
 
--- The state of the bus: its own history, and from the bus inside only what was sent and the result of the last poll
--- (`view_of`).
+-- The state of the bus: that of the bus inside, but with its own history, and not punctual (`around`).
 abbrev pub twice_state : {B : Type 0} → (inside : B → BusState) → ReadTwice B → BusState
-twice_state inside twice = view_of (inside (twice_of twice)) (history_of twice)
+twice_state inside twice = around (inside (twice_of twice)) (history_of twice)
 
 -- True if the first byte of `out` is the opcode of a read of data (03h), of the ID (9Fh), of SFDP (5Ah) or of the
 -- unique ID (4Bh). The other bytes don't matter.

@@ -1,9 +1,10 @@
 //! Repeats a read and compares the replies: the whole read, or only the sectors whose bytes differ from an image.
-ghost use Rattle.std.specs.Prelude.{◌≡◌, ◌≢◌, ◌<◌, ◌≤◌, ◌+◌, ◌/◌, ◌∷◌, true, false, ℕ, length, OnErr, IfOk};
+ghost use Rattle.std.specs.Prelude.{◌≡◌, ◌≢◌, ◌<◌, ◌≤◌, ◌+◌, ◌/◌, ◌∷◌, true, false, ℕ, length, OnOk, OnErr, IfOk};
 ghost use Rattle.nor_model.specs.Bus.{IsHonestFor, SameNature, Carries};
 ghost use Rattle.nor_model.specs.History.{replied};
 ghost use Rattle.nor_buses.specs.ReadsAs.{part, KeepsRecord};
 ghost use Rattle.nor_buses.specs.Twice.{begins_read};
+ghost use Rattle.nor_buses.specs.Keeps.{KeepsAll, StopsUnread};
 ghost use Rattle.nor_buses.specs.Again.{CarriesOther};
 ghost use Rattle.nor_buses.specs.Again.{IsExpected, DiffersInSector, DiffersBetween, data_read, RepeatsBelow, HasData};
 
@@ -37,8 +38,12 @@ pub(crate) fn is_repeated<B: Bus>(
         → Carries out.now reply.now (B.state bus.old) (B.state bus.new)) }
     ensures differs { IsHonestFor out.now (length reply.now) (B.state bus.old) → IfOk result (λ same. same ≡ false
         → CarriesOther out.now reply.now (B.state bus.old) (B.state bus.new)) }
-    ensures stops { IsHonestFor out.now (length reply.now) (B.state bus.old)
+    ensures stops { IsHonestFor out.now (length reply.now) (B.state bus.old) → (B.state bus.old).punctual ≡ true
         → OnErr result ((B.state bus.new).left ≡ 0) }
+    ensures keeps { IsHonestFor out.now (length reply.now) (B.state bus.old) → begins_read out.now ≡ true
+        → OnOk result (KeepsAll (B.state bus.old) (B.state bus.new)) }
+    ensures stopped { IsHonestFor out.now (length reply.now) (B.state bus.old) → begins_read out.now ≡ true
+        → OnErr result (StopsUnread (B.state bus.old) (B.state bus.new)) }
 {
     let second = &mut again[..reply.len()];
     bus.transfer(out, &mut *second)?;
@@ -64,7 +69,11 @@ pub(crate) fn is_repeated_or_expected<B: Bus>(
     ensures same { IsHonestFor (data_read address) (length reply.now) (B.state bus.old)
         → HasData (B.state bus.old).chip address reply.now → IfOk result (λ same. same ≡ true) }
     ensures stops { IsHonestFor (data_read address) (length reply.now) (B.state bus.old)
-        → OnErr result ((B.state bus.new).left ≡ 0) }
+        → (B.state bus.old).punctual ≡ true → OnErr result ((B.state bus.new).left ≡ 0) }
+    ensures keeps { IsHonestFor (data_read address) (length reply.now) (B.state bus.old)
+        → OnOk result (KeepsAll (B.state bus.old) (B.state bus.new)) }
+    ensures stopped { IsHonestFor (data_read address) (length reply.now) (B.state bus.old)
+        → OnErr result (StopsUnread (B.state bus.old) (B.state bus.new)) }
 {
     let mut done = 0;
     while done < reply.len() {

@@ -13,6 +13,7 @@
 //! - `twice.rt`: a bus that reads IDs, SFDP and data twice and compares the replies
 //! - `again.rt`: repeats a read, as a whole or only for the sectors whose bytes differ from an image
 //! - `ahead.rt`: a bus that reads ahead
+//! - `same_chip.rt`: a bus that reads the unique ID again before the first modifying command
 #![tactic(auto)]
 
 mod again;
@@ -21,6 +22,7 @@ mod counts;
 mod known;
 mod paced;
 mod parts;
+mod same_chip;
 mod splitting;
 mod status;
 mod twice;
@@ -29,6 +31,7 @@ pub use ahead::ReadAhead;
 pub use counts::ChangedByte;
 pub use known::CheckFault;
 pub use paced::Paced;
+pub use same_chip::{OtherChip, SameChip};
 pub use splitting::SplittingBus;
 pub use status::CheckedStatus;
 pub use twice::ReadTwice;

@@ -8,6 +8,9 @@ use nor_model::{Bus, Stopped};
 use std::thread;
 use std::time::{Clock, Duration, Instant};
 
+// The longest typical duration of an operation, in microseconds, for which the first poll waits.
+const FIRST_POLL: u64 = 1000;
+
 // The shortest pause before the third poll of a wait, in microseconds: a seventh of the time of a page program.
 const SHORTEST: u64 = 100;
 
@@ -19,7 +22,9 @@ const LONGEST: u64 = 6250;
 ///
 /// The pause before a transaction depends on how many polls in a row showed BUSY before it:
 ///
-/// - none: no pause. The first poll after a command may be sent together with it (`BatchingBus`).
+/// - none: no pause, except before a poll after an operation that typically takes at most 1 ms (a page program). That
+///   pause lasts until this time has passed since the command was passed to the bus, so the poll often finds the chip
+///   ready, which saves an exchange.
 /// - one: the typical duration of the operation that began last, minus the time since its command was passed to the
 ///   bus. A page program typically takes 0.7 ms, a status write 10 ms, an erase of 4 KiB 45 ms, of 32 KiB 120 ms, of
 ///   64 KiB 150 ms (W25Q64FV datasheet, AC characteristics). An erase of the whole chip, whose duration depends on the
@@ -127,7 +132,7 @@ impl<B: Bus, C: Clock> Bus for Paced<B, C> {
         ensures stopped_operation { OnErr result (typical_in self.new ≡ typical_in self.old) }
         ensures short { (elapsed : ℕ) → pause_before (typical_in self.old) elapsed (busy_row self.old) ≤ 150000 }
     {
-        if self.busy_polls > 0 {
+        if self.busy_polls > 0 || matches!(out, [0x05]) {
             self.pause();
         }
         let begun = typical_micros(out);
@@ -178,14 +183,13 @@ fn typical_micros(out: &[u8]) -> Option<u64>
     }
 }
 
-// Returns the pause in microseconds before a transaction that follows `busy_polls` polls in a row which showed BUSY.
-// The operation typically takes `typical` microseconds, and its command was sent `elapsed` microseconds ago.
+// Returns the pause in microseconds before a poll that follows `busy_polls` polls in a row which showed BUSY. The operation typically takes `typical` microseconds, and its command was sent `elapsed` microseconds ago.
 fn pause_micros(typical: u64, elapsed: u64, busy_polls: u64) -> u64
     ensures { result ≡ pause_before typical elapsed busy_polls }
 {
     match busy_polls {
-        0 => 0,
-        1 => typical.saturating_sub(elapsed),
+        0 if typical > FIRST_POLL => 0,
+        0 | 1 => typical.saturating_sub(elapsed),
         _ => {
             let doublings = (busy_polls / 16).min(6);
             let first = (typical / 16).clamp(SHORTEST, LONGEST);

@@ -1,11 +1,11 @@
 //! A bus that notices a lost chip, reads status registers twice, and checks each status write.
 ghost use Rattle.std.specs.Prelude.{◌≡◌, ◌⊎◌, ◌%◌, ◌||◌, ◌∷◌, [], true, false, length, ℕ, List, None, Some, OnOk, OnErr, IfOk};
 ghost use Rattle.std.specs.Option.{ForSome};
-ghost use Rattle.std.proofs.lemmas.Bool.{false≢true};
-ghost use Rattle.nor_model.specs.Bus.{Transfers};
+ghost use Rattle.nor_model.specs.Bus.{IsHonestFor, SameNature, AtStop, Transfers};
 ghost use Rattle.nor_model.specs.Command.{begins_change};
 ghost use Rattle.nor_model.specs.History.{replied};
 ghost use Rattle.nor_model.specs.Sent.{with_sent};
+ghost use Rattle.nor_buses.specs.Keeps.{KeepsAll, StopsUnread, MakesStep};
 ghost use Rattle.nor_buses.specs.KnownStatus.{BelievesStatus, IsWritten, KeepsTask, PollAgrees, SendsKept};
 ghost use Rattle.nor_buses.specs.StatusRead.{HasStored, IsConfirmed, IsReadTwice, IsStatusAllowed, KeepsId};
 ghost use Rattle.nor_buses.specs.StatusRead.{begins_confirmed, ends_in_poll, read_id_while_busy, second, was_read_twice};
@@ -56,9 +56,15 @@ const BUSY: u8 = 0x01;
 /// that returns BUSY reads no ID, and data, SFDP, the unique ID and status 2 must be read only while the chip is ready.
 /// The engine does so: a probe waits first, and each operation waits at its end (`wait` of nor_driver).
 ///
-/// A transaction over this bus may be several over the bus inside, so this bus is not well-behaved as `Bus` defines it,
-/// even if the bus inside is. The history lists each transaction over this bus with its reply; a transaction that
-/// failed or was refused is listed without a reply.
+/// A transaction over this bus may be several over the bus inside, or none, and this bus may stop after each of them,
+/// so it is never punctual. It is proved to be well-behaved if the bus inside is, and steady if that bus is: of its own
+/// accord it stops only after transactions that left the chip as it was, which are reads, and polls that showed that
+/// the chip is ready. A poll that shows BUSY is returned at once. If a transaction fails, `reply` may contain bytes of
+/// it.
+///
+/// The history lists each transaction over this bus with its reply; a transaction that failed or was refused is listed
+/// without a reply. In contracts, the chip is that of the bus inside. The modifying commands and the result of the last
+/// poll are those of this bus's own history, so a status write that was refused is among these commands.
 #[derive(Drop)]
 pub struct CheckedStatus<B: Bus + Drop> {
     bus: B,
@@ -179,6 +185,11 @@ impl<B: Bus + Drop> CheckedStatus<B> {
             (inner_state self.old).history (inner_state self.new).history) }
         ensures idle { read_id_while_busy (inner_state self.new).history ≡ false }
         ensures last { ends_in_poll (inner_state self.new).history ≡ false }
+        ensures nature { SameNature (inner_state self.old) (inner_state self.new) }
+        ensures steps { (inner_state self.old).honest ≡ true
+            → IfOk result (λ reply. MakesStep (0x35 ∷ []) (reply ∷ []) (inner_state self.old) (inner_state self.new)) }
+        ensures stops { (inner_state self.old).honest ≡ true
+            → OnErr result (StopsUnread (inner_state self.old) (inner_state self.new)) }
     {
         let status = self.second_twice()?;
         self.known.two = Some(status);
@@ -201,6 +212,11 @@ impl<B: Bus + Drop> CheckedStatus<B> {
         ensures idle { read_id_while_busy (inner_state self.new).history ≡ false }
         ensures differs { OnErr result (ends_in_poll (inner_state self.new).history ≡ true
             → check_fault_of self.new ≡ Some CheckFault.Differs) }
+        ensures nature { SameNature (inner_state self.old) (inner_state self.new) }
+        ensures steps { (inner_state self.old).honest ≡ true
+            → IfOk result (λ reply. MakesStep (0x05 ∷ []) (reply ∷ []) (inner_state self.old) (inner_state self.new)) }
+        ensures stops { (inner_state self.old).honest ≡ true
+            → OnErr result (AtStop (0x05 ∷ []) (inner_state self.old) (inner_state self.new)) }
     {
         if self.known.is_changing && self.known.written.is_none() {
             return self.poll_once();
@@ -228,6 +244,11 @@ impl<B: Bus + Drop> CheckedStatus<B> {
         ensures idle { read_id_while_busy (inner_state self.old).history ≡ false
             → read_id_while_busy (inner_state self.new).history ≡ false }
         ensures last { OnErr result (ends_in_poll (inner_state self.new).history ≡ false) }
+        ensures nature { SameNature (inner_state self.old) (inner_state self.new) }
+        ensures keeps { (inner_state self.old).honest ≡ true
+            → OnOk result (KeepsAll (inner_state self.old) (inner_state self.new)) }
+        ensures stops { (inner_state self.old).honest ≡ true
+            → OnErr result (StopsUnread (inner_state self.old) (inner_state self.new)) }
     {
         let Some(sent) = self.known.written else {
             return Ok(());
@@ -255,6 +276,11 @@ impl<B: Bus + Drop> CheckedStatus<B> {
         ensures written { OnOk result (IsWritten out.now (written_of self.new)) }
         ensures carried { OnOk result ((inner_state self.new).history
             ≡ replied out.now reply.new ∷ (inner_state self.old).history) }
+        ensures nature { SameNature (inner_state self.old) (inner_state self.new) }
+        ensures steps { IsHonestFor out.now (length reply.old) (inner_state self.old)
+            → OnOk result (MakesStep out.now reply.new (inner_state self.old) (inner_state self.new)) }
+        ensures stops { IsHonestFor out.now (length reply.old) (inner_state self.old)
+            → OnErr result (AtStop out.now (inner_state self.old) (inner_state self.new)) }
     {
         let Some(sent) = kept_status(&self.known, out) else {
             return Err(self.stop(CheckFault::Refused));
@@ -285,6 +311,11 @@ impl<B: Bus + Drop> CheckedStatus<B> {
         ensures differs { out.now ≡ 0x05 ∷ [] → length reply.new ≡ 1
             → OnErr result (ends_in_poll (inner_state self.new).history ≡ true
             → check_fault_of self.new ≡ Some CheckFault.Differs) }
+        ensures nature { SameNature (inner_state self.old) (inner_state self.new) }
+        ensures steps { IsHonestFor out.now (length reply.old) (inner_state self.old)
+            → OnOk result (MakesStep out.now reply.new (inner_state self.old) (inner_state self.new)) }
+        ensures stops { IsHonestFor out.now (length reply.old) (inner_state self.old)
+            → OnErr result (AtStop out.now (inner_state self.old) (inner_state self.new)) }
     {
         match (out, reply.len()) {
             ([READ_STATUS1], 1) => {
@@ -318,7 +349,7 @@ impl<B: Bus + Drop> Bus for CheckedStatus<B> {
 
     ghost state = { checked_state };
 
-    ghost reaches = { λ checked honest. absurd (false≢true honest) };
+    ghost reaches = { λ checked honest. B.reaches checked.bus honest };
 
     fn transfer(&mut self, out: &[u8], reply: &mut [u8]) -> Result<(), Stopped>
         ensures law { Transfers out.now reply.old reply.new result (checked_state self.old) (checked_state self.new) }

@@ -1,9 +1,9 @@
 //! A bus that reads IDs, SFDP and data twice.
 ghost use Rattle.std.specs.Prelude.{◌≡◌, ◌≤◌, ◌⊎◌, ◌∷◌, [], true, false, None, Some, length, OnOk, OnErr, IfOk};
-ghost use Rattle.std.proofs.lemmas.Bool.{false≢true};
-ghost use Rattle.nor_model.specs.Bus.{BusState, IsHonestFor, SameNature, Carries, Records, Transfers};
+ghost use Rattle.nor_model.specs.Bus.{BusState, IsHonestFor, SameNature, AtStop, Carries, Records, Transfers};
 ghost use Rattle.nor_model.specs.History.{exchange_of, replied};
-ghost use Rattle.nor_buses.specs.ReadsAs.{view_of, KeepsRecord};
+ghost use Rattle.nor_buses.specs.ReadsAs.{around, KeepsRecord};
+ghost use Rattle.nor_buses.specs.Keeps.{KeepsAll, StopsUnread, MakesStep};
 ghost use Rattle.nor_buses.specs.Again.{FirstRead};
 ghost use Rattle.nor_buses.specs.Twice.{twice_of, has_differed, expected_of, begins_read, history_of, twice_state};
 ghost use Rattle.nor_buses.specs.Twice.{EndsTwice, ReadsTwice, RepeatsUnexpected, CarriesUnexpected};
@@ -38,11 +38,14 @@ const READ_ID: u8 = 0x9F;
 /// read twice: such a session saves only sectors that differ from the image, and reads each one with a single
 /// transaction.
 ///
-/// An error that is the same in both reads is not detected. A read over this bus may be several transactions over the
-/// bus inside, so this bus is not well-behaved as `Bus` defines it, even if the bus inside is. On any bus, each byte
-/// that a successful read returned is the expected one, or was returned a second time by a later transaction. If the
-/// bus inside is well-behaved and accepts a read of this length, a read of at most 65,536 bytes fails only if no
-/// transaction is left afterwards.
+/// An error that is the same in both reads is not detected. On any bus, each byte that a successful read returned is
+/// the expected one, or was returned a second time by a later transaction. If a read fails, `reply` may contain bytes
+/// of it.
+///
+/// A read over this bus may be several transactions over the bus inside, and this bus may stop at each of them, so it
+/// is never punctual. It is proved to be well-behaved if the bus inside is: contracts give it the state of that bus,
+/// with its own history. If the bus inside is well-behaved and punctual, and accepts a read of this length, a read of
+/// at most 65,536 bytes fails only if no transaction is left afterwards.
 ///
 /// The history lists each transaction over this bus with its reply; a transaction that failed is listed without a
 /// reply. A read that the bus inside repeated, as a whole or in part, is listed once. In contracts, the modifying
@@ -121,9 +124,15 @@ impl<B: Bus> ReadTwice<B> {
             CarriesUnexpected self.old out.now reply.new (B.state (twice_of self.old)) (B.state (twice_of self.new))
             ⊎ ReadsTwice out.now reply.new (B.state (twice_of self.old)) (B.state (twice_of self.new))) }
         ensures no_difference { IsHonestFor out.now (length reply.old) (B.state (twice_of self.old))
-            → length reply.old ≤ 65536 → OnErr result ((B.state (twice_of self.new)).left ≡ 0) }
+            → (B.state (twice_of self.old)).punctual ≡ true → length reply.old ≤ 65536
+            → OnErr result ((B.state (twice_of self.new)).left ≡ 0) }
+        ensures nature { SameNature (B.state (twice_of self.old)) (B.state (twice_of self.new)) }
+        ensures stops { IsHonestFor out.now (length reply.old) (B.state (twice_of self.old))
+            → OnErr result (AtStop out.now (B.state (twice_of self.old)) (B.state (twice_of self.new))) }
+        ensures steps { IsHonestFor out.now (length reply.old) (B.state (twice_of self.old))
+            → OnOk result (MakesStep out.now reply.new (B.state (twice_of self.old)) (B.state (twice_of self.new))) }
         ensures records { Records out.now reply.new result (twice_state B.state self.old)
-            (view_of (B.state (twice_of self.new)) (exchange_of out.now reply.new result ∷ history_of self.old)) }
+            (around (B.state (twice_of self.new)) (exchange_of out.now reply.new result ∷ history_of self.old)) }
         ensures history { history_of self.new ≡ history_of self.old }
         ensures expected { expected_of self.new ≡ expected_of self.old }
         ensures remembers { has_differed self.old ≡ true → has_differed self.new ≡ true }
@@ -153,6 +162,10 @@ impl<B: Bus> ReadTwice<B> {
         ensures history { history_of self.new ≡ history_of self.old }
         ensures expected { expected_of self.new ≡ expected_of self.old }
         ensures remembers { has_differed self.new ≡ has_differed self.old }
+        ensures keeps { IsHonestFor out.now (length reply.now) (B.state (twice_of self.old))
+            → OnOk result (KeepsAll (B.state (twice_of self.old)) (B.state (twice_of self.new))) }
+        ensures stopped { IsHonestFor out.now (length reply.now) (B.state (twice_of self.old))
+            → OnErr result (StopsUnread (B.state (twice_of self.old)) (B.state (twice_of self.new))) }
         ensures same { (before : BusState)
             → (B.state (twice_of self.old)).history ≡ replied out.now reply.now ∷ before.history
             → IfOk result (λ same. same ≡ true → RepeatsUnexpected self.old out.now reply.now before.history
@@ -166,7 +179,7 @@ impl<B: Bus> ReadTwice<B> {
         ensures no_difference { (before : BusState) → IsHonestFor out.now (length reply.now) before
             → FirstRead out.now reply.now before (B.state (twice_of self.old)) → IfOk result (λ same. same ≡ true) }
         ensures fails { IsHonestFor out.now (length reply.now) (B.state (twice_of self.old))
-            → OnErr result ((B.state (twice_of self.new)).left ≡ 0) }
+            → (B.state (twice_of self.old)).punctual ≡ true → OnErr result ((B.state (twice_of self.new)).left ≡ 0) }
     {
         let again = &mut self.again[..];
         match (&self.expected, data_address(out)) {
@@ -181,7 +194,7 @@ impl<B: Bus> ReadTwice<B> {
 impl<B: Bus> Bus for ReadTwice<B> {
     ghost state = { twice_state B.state };
 
-    ghost reaches = { λ twice honest. absurd (false≢true honest) };
+    ghost reaches = { λ twice honest. B.reaches twice.bus honest };
 
     fn transfer(&mut self, out: &[u8], reply: &mut [u8]) -> Result<(), Stopped>
         ensures law { Transfers out.now reply.old reply.new result
@@ -198,7 +211,8 @@ impl<B: Bus> Bus for ReadTwice<B> {
             CarriesUnexpected self.old out.now reply.new (B.state (twice_of self.old)) (B.state (twice_of self.new))
             ⊎ ReadsTwice out.now reply.new (B.state (twice_of self.old)) (B.state (twice_of self.new))) }
         ensures no_difference { IsHonestFor out.now (length reply.old) (B.state (twice_of self.old))
-            → length reply.old ≤ 65536 → OnErr result ((B.state (twice_of self.new)).left ≡ 0) }
+            → (B.state (twice_of self.old)).punctual ≡ true → length reply.old ≤ 65536
+            → OnErr result ((B.state (twice_of self.new)).left ≡ 0) }
         ensures expected { expected_of self.new ≡ expected_of self.old }
         ensures remembers { has_differed self.old ≡ true → has_differed self.new ≡ true }
     {

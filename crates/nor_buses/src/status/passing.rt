@@ -1,8 +1,10 @@
 //! How a `CheckedStatus` makes transactions whose own reply it does not check.
-ghost use Rattle.std.specs.Prelude.{◌≡◌, ◌||◌, ◌∷◌, [], true, length, Some, OnOk};
+ghost use Rattle.std.specs.Prelude.{◌≡◌, ◌||◌, ◌∷◌, [], true, length, Some, OnOk, OnErr};
+ghost use Rattle.nor_model.specs.Bus.{IsHonestFor, SameNature, AtStop};
 ghost use Rattle.nor_model.specs.Command.{begins_change};
 ghost use Rattle.nor_model.specs.History.{replied};
 ghost use Rattle.nor_model.specs.Sent.{with_sent};
+ghost use Rattle.nor_buses.specs.Keeps.{MakesStep};
 ghost use Rattle.nor_buses.specs.StatusRead.{IsConfirmed, KeepsId, begins_confirmed};
 
 use super::CheckedStatus;
@@ -30,6 +32,11 @@ impl<B: Bus + Drop> CheckedStatus<B> {
             → OnOk result ((known_of self.new).id ≡ Some reply.new) }
         ensures read { begins_confirmed out.now ≡ true → OnOk result (IsConfirmed (replied out.now reply.new)
             (known_of self.new).id (inner_state self.old).history (inner_state self.new).history) }
+        ensures nature { SameNature (inner_state self.old) (inner_state self.new) }
+        ensures steps { IsHonestFor out.now (length reply.old) (inner_state self.old)
+            → OnOk result (MakesStep out.now reply.new (inner_state self.old) (inner_state self.new)) }
+        ensures stops { IsHonestFor out.now (length reply.old) (inner_state self.old)
+            → OnErr result (AtStop out.now (inner_state self.old) (inner_state self.new)) }
     {
         match (out, reply.len()) {
             ([READ_ID], 3) => {
@@ -50,6 +57,11 @@ impl<B: Bus + Drop> CheckedStatus<B> {
         ensures id { KeepsId (known_of self.old).id (known_of self.new).id }
         ensures read { begins_confirmed out.now ≡ true → OnOk result (IsConfirmed (replied out.now reply.new)
             (known_of self.new).id (inner_state self.old).history (inner_state self.new).history) }
+        ensures nature { SameNature (inner_state self.old) (inner_state self.new) }
+        ensures steps { IsHonestFor out.now (length reply.old) (inner_state self.old)
+            → OnOk result (MakesStep out.now reply.new (inner_state self.old) (inner_state self.new)) }
+        ensures stops { IsHonestFor out.now (length reply.old) (inner_state self.old)
+            → OnErr result (AtStop out.now (inner_state self.old) (inner_state self.new)) }
     {
         if is_changing(out) {
             self.known.is_changing = true;

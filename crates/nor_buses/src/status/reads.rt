@@ -1,8 +1,10 @@
 //! How a `CheckedStatus` reads IDs and status registers. Each ID must equal the first one, and an ID is read after each
 //! read of a status register that must be confirmed.
-ghost use Rattle.std.specs.Prelude.{◌≡◌, ◌%◌, ◌∷◌, true, false, Some, OnOk, OnErr, IfOk};
+ghost use Rattle.std.specs.Prelude.{◌≡◌, ◌%◌, ◌∷◌, [], true, false, Some, OnOk, OnErr, IfOk};
+ghost use Rattle.nor_model.specs.Bus.{SameNature, AtStop, Transfers};
 ghost use Rattle.nor_model.specs.History.{exchange_of};
 ghost use Rattle.nor_model.specs.Sent.{with_sent};
+ghost use Rattle.nor_buses.specs.Keeps.{StopsUnread, MakesStep};
 ghost use Rattle.nor_buses.specs.KnownStatus.{KeepsStatus};
 ghost use Rattle.nor_buses.specs.StatusRead.{IsReadTwice, KeepsId, confirmed, pair, second};
 ghost use Rattle.nor_buses.specs.StatusRead.{ends_busy, ends_in_poll, read_id_while_busy};
@@ -29,6 +31,7 @@ impl<B: Bus + Drop> CheckedStatus<B> {
         ensures carried { (inner_state self.new).history
             ≡ exchange_of out.now reply.new result ∷ (inner_state self.old).history }
         ensures sent { (inner_state self.new).sent ≡ with_sent out.now (inner_state self.old).sent }
+        ensures law { Transfers out.now reply.old reply.new result (inner_state self.old) (inner_state self.new) }
     {
         self.bus.transfer(out, reply)
     }
@@ -57,6 +60,11 @@ impl<B: Bus + Drop> CheckedStatus<B> {
         ensures last { ends_in_poll (inner_state self.new).history ≡ false }
         ensures ready { ends_busy (inner_state self.old).history ≡ false
             → read_id_while_busy (inner_state self.new).history ≡ false }
+        ensures nature { SameNature (inner_state self.old) (inner_state self.new) }
+        ensures steps { (inner_state self.old).honest ≡ true
+            → IfOk result (λ id. MakesStep (0x9F ∷ []) id (inner_state self.old) (inner_state self.new)) }
+        ensures stops { (inner_state self.old).honest ≡ true
+            → OnErr result (StopsUnread (inner_state self.old) (inner_state self.new)) }
     {
         let mut found = [0; 3];
         self.pass(&[READ_ID], &mut found)?;
@@ -79,6 +87,9 @@ impl<B: Bus + Drop> CheckedStatus<B> {
         ensures last { ends_in_poll (inner_state self.new).history ≡ false }
         ensures ready { ends_busy (inner_state self.old).history ≡ false
             → read_id_while_busy (inner_state self.new).history ≡ false }
+        ensures nature { SameNature (inner_state self.old) (inner_state self.new) }
+        ensures stops { (inner_state self.old).honest ≡ true
+            → StopsUnread (inner_state self.old) (inner_state self.new) }
     {
         match self.read_id() {
             Ok(_) => self.stop(CheckFault::Differs),
@@ -98,6 +109,11 @@ impl<B: Bus + Drop> CheckedStatus<B> {
             → (inner_state self.new).history ≡ pair status ∷ (inner_state self.old).history) }
         ensures idle { read_id_while_busy (inner_state self.new).history ≡ false }
         ensures last { OnErr result (ends_in_poll (inner_state self.new).history ≡ false) }
+        ensures nature { SameNature (inner_state self.old) (inner_state self.new) }
+        ensures steps { (inner_state self.old).honest ≡ true
+            → IfOk result (λ reply. MakesStep (0x05 ∷ []) (reply ∷ []) (inner_state self.old) (inner_state self.new)) }
+        ensures stops { (inner_state self.old).honest ≡ true
+            → OnErr result (AtStop (0x05 ∷ []) (inner_state self.old) (inner_state self.new)) }
     {
         let mut bytes = [0; 2];
         self.pass(&[READ_STATUS1], &mut bytes)?;
@@ -127,6 +143,11 @@ impl<B: Bus + Drop> CheckedStatus<B> {
         ensures idle { read_id_while_busy (inner_state self.new).history ≡ false }
         ensures differs { OnErr result (ends_in_poll (inner_state self.new).history ≡ true
             → check_fault_of self.new ≡ Some CheckFault.Differs) }
+        ensures nature { SameNature (inner_state self.old) (inner_state self.new) }
+        ensures steps { (inner_state self.old).honest ≡ true
+            → IfOk result (λ reply. MakesStep (0x05 ∷ []) (reply ∷ []) (inner_state self.old) (inner_state self.new)) }
+        ensures stops { (inner_state self.old).honest ≡ true
+            → OnErr result (AtStop (0x05 ∷ []) (inner_state self.old) (inner_state self.new)) }
     {
         let status = self.poll_once()?;
         if status & BUSY != 0 {
@@ -155,6 +176,11 @@ impl<B: Bus + Drop> CheckedStatus<B> {
             (inner_state self.old).history (inner_state self.new).history) }
         ensures idle { read_id_while_busy (inner_state self.new).history ≡ false }
         ensures last { ends_in_poll (inner_state self.new).history ≡ false }
+        ensures nature { SameNature (inner_state self.old) (inner_state self.new) }
+        ensures steps { (inner_state self.old).honest ≡ true
+            → IfOk result (λ reply. MakesStep (0x35 ∷ []) (reply ∷ []) (inner_state self.old) (inner_state self.new)) }
+        ensures stops { (inner_state self.old).honest ≡ true
+            → OnErr result (StopsUnread (inner_state self.old) (inner_state self.new)) }
     {
         let mut first = [0];
         let mut last = [0];

@@ -2,6 +2,7 @@ use Rattle.std.proofs.Common.{ℕ, length, arith, sym, subst}
 use Rattle.std.proofs.lemmas.Grind.{common_steps}
 use Rattle.std.proofs.lemmas.List.{length-take-le}
 use Rattle.nor_model.specs.Bus.{IsHonestFor}
+use Rattle.nor_buses.proofs.ReadsKeep.{read_keeps, read_stops, on_err}
 use Rattle.nor_buses.proofs.again.is_repeated.Goals as goal
 
 pub returns-clause-differs : goal.returns-clause-differs
@@ -13,3 +14,15 @@ returns-clause-differs g c honest other =
       len = grind (arith, common_steps, c.transfer.auto.reply);
       differs = c.are_same.ensures.differ other;
     }
+
+pub returns-clause-keeps : goal.returns-clause-keeps
+returns-clause-keeps g c honest reads =
+    let whole = length-take-le (length c.args.reply.now) c.args.again.now c.requires in
+    let P : ℕ → Type 0 = λ n. IsHonestFor c.args.out.now n (g.B.Bus.state c.args.bus.now) in
+    read_keeps reads (c.in_ok-transfer.ensures.carries (subst P (sym whole) honest))
+
+pub returns-in_err-transfer-clause-stopped : goal.returns-in_err-transfer-clause-stopped
+returns-in_err-transfer-clause-stopped g c honest reads =
+    let whole = length-take-le (length c.args.reply.now) c.args.again.now c.requires in
+    let P : ℕ → Type 0 = λ n. IsHonestFor c.args.out.now n (g.B.Bus.state c.args.bus.now) in
+    on_err c.from_residual.result (read_stops reads (c.in_err-transfer.ensures.stops (subst P (sym whole) honest)))

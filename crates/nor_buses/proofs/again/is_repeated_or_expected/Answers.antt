@@ -4,6 +4,7 @@ use Rattle.nor_model.specs.Bus.{IsHonestFor, Carries}
 use Rattle.nor_model.specs.History.{replied}
 use Rattle.nor_buses.specs.ReadsAs.{part}
 use Rattle.nor_buses.proofs.ReadParts.{nature_then, record_then, repeats_read, part_fits, part_stays, part_same}
+use Rattle.nor_buses.proofs.ReadsKeep.{keeps_then, stops_then, on_err}
 use Rattle.nor_buses.proofs.again.is_repeated_or_expected.Goals as goal
 
 pub returns-then-not-branch-clause-same : goal.returns-then-not-branch-clause-same
@@ -43,7 +44,27 @@ loop-done-preserved-else-not-branch g c =
           (λ honest. subst C c.data_read-out.ensures
           (c.in_ok-is_repeated.ensures.carries (fits honest) c.if-not-branch.false))
           (c.run_from-run.ensures.differs c.if-not-run.true);
+      leaves = λ honest. keeps_then (was.leaves honest)
+          (c.in_ok-is_repeated.ensures.keeps (fits honest) (grind (arith, common_steps, c.data_read-out.ensures)));
       has = λ honest has. part_stays c.args.address n m c.data_read-out.result c.args.reply.now _ _ _
           c.data_read-out.ensures (was.has honest has)
           (c.in_ok-is_repeated.ensures.carries (fits honest) c.if-not-branch.false);
     }
+
+pub returns-then-not-branch-clause-keeps : goal.returns-then-not-branch-clause-keeps
+returns-then-not-branch-clause-keeps g c honest =
+    let was = c.loop-done.invariant in
+    let fits = part_fits c.args.address c.loop-done.done c.run_from-run.result.end c.data_read-out.result
+    c.args.reply.now (g.B.Bus.state c.args.bus.now) (g.B.Bus.state c.loop-done.bus) c.data_read-out.ensures
+    (omega (arith, c.run_from-run.ensures.after)) c.run_from-run.ensures.within was.nature honest in
+    keeps_then (was.leaves honest)
+    (c.in_ok-is_repeated.ensures.keeps fits (grind (arith, common_steps, c.data_read-out.ensures)))
+
+pub returns-in_err-is_repeated-clause-stopped : goal.returns-in_err-is_repeated-clause-stopped
+returns-in_err-is_repeated-clause-stopped g c honest =
+    let was = c.loop-done.invariant in
+    let fits = part_fits c.args.address c.loop-done.done c.run_from-run.result.end c.data_read-out.result
+    c.args.reply.now (g.B.Bus.state c.args.bus.now) (g.B.Bus.state c.loop-done.bus) c.data_read-out.ensures
+    (omega (arith, c.run_from-run.ensures.after)) c.run_from-run.ensures.within was.nature honest in
+    on_err c.from_residual.result (stops_then was.nature.steady (was.leaves honest)
+    (c.in_err-is_repeated.ensures.stopped fits (grind (arith, common_steps, c.data_read-out.ensures))))

@@ -1,6 +1,6 @@
 use Rattle.std.proofs.Common.{refl, inl, inr}
 use Rattle.nor_buses.proofs.SameReply.{fits_again}
-use Rattle.nor_buses.proofs.ReadParts.{if_ok, carries_expected, first_data_at, fits_first, carries_whole, whole_same}
+use Rattle.nor_buses.proofs.ReadParts.{if_ok, carries_expected, first_data_at, fits_first, fits_data, carries_whole, whole_same}
 use Rattle.nor_buses.proofs.twice.ReadTwice.is_confirmed.Goals as goal
 
 pub returns-in-Some-Some-clause-twice : goal.returns-in-Some-Some-clause-twice
@@ -28,3 +28,13 @@ returns-in_default-clause-no_difference g c before honest first =
     if_ok c.is_repeated.result _ _
     (c.is_repeated.ensures.differs (fits_again _ _ _ _ _ first.nature refl honest))
     (λ same other. whole_same c.args.out.now c.args.reply.now before _ _ same c.requires.reads first other)
+
+pub returns-in-Some-Some-clause-keeps : goal.returns-in-Some-Some-clause-keeps
+returns-in-Some-Some-clause-keeps g c honest =
+    c.is_repeated_or_expected.ensures.keeps
+    (fits_data c.in-Some-Some.address c.args.out.now c.args.reply.now _ honest)
+
+pub returns-in-Some-Some-clause-stopped : goal.returns-in-Some-Some-clause-stopped
+returns-in-Some-Some-clause-stopped g c honest =
+    c.is_repeated_or_expected.ensures.stopped
+    (fits_data c.in-Some-Some.address c.args.out.now c.args.reply.now _ honest)
