@@ -147,18 +147,20 @@ on_err (Ok x) P p = tt
 on_err (Err e) P p = p
 
 -- Holds if a call did not change whether the port is well-behaved (`honest`). If the port is well-behaved, the call did
--- not increase the number of calls left.
+-- not increase the number of calls left. The call was asked to send nothing.
 pub record UsesCalls (old new : PortState) : Type 0 where
   pub honest : new.honest ≡ old.honest
   pub fewer : old.honest ≡ true → new.left ≤ old.left
+  pub asked : new.asked ≡ old.asked
 
 pub uses_none : (state : PortState) → UsesCalls state state
-uses_none state = record { honest = refl; fewer = λ honest. omega arith }
+uses_none state = record { honest = refl; fewer = λ honest. omega arith; asked = refl }
 
 pub uses_then : {old mid new : PortState} → UsesCalls old mid → new.honest ≡ mid.honest
-    → (mid.honest ≡ true → new.left ≤ mid.left) → UsesCalls old new
-uses_then uses nature fewer = record {
+    → (mid.honest ≡ true → new.left ≤ mid.left) → new.asked ≡ mid.asked → UsesCalls old new
+uses_then uses nature fewer unasked = record {
   honest = nature ∙ uses.honest;
   fewer = λ honest.
       let first = uses.fewer honest in let second = fewer (uses.honest ∙ honest) in omega arith;
+  asked = unasked ∙ uses.asked;
 }

@@ -249,8 +249,8 @@ pub record HasReached {P C : Type 0} (port : P → PortState) (start : Link P C)
 -- `HasReached` holds after the link was synchronized.
 pub begins : {P C T : Type 0} {port : P → PortState} {start : Link P C} {IsValue : T → Type 0} {value : T}
     (hertz : Option ℕ) (least : Least) (link : Link P C)
-    → Concludes {C = C} 29 None IsValue (Ok value) (port start.port) (port link.port) → is_in_step link ≡ true
-    → HasReached port start hertz least 29 0 unchanged (port start.port).device.firmware.commands link
+    → Concludes {C = C} 28 None IsValue (Ok value) (port start.port) (port link.port) → is_in_step link ≡ true
+    → HasReached port start hertz least 28 0 unchanged (port start.port).device.firmware.commands link
 begins hertz least link done in_step = record {
   asks = done.asks;
   ready = record { in_step = in_step; awaits = done.asks.awaits; same = done.asks.firmware };
@@ -301,10 +301,10 @@ pub fails_at : {P C T T' : Type 0} {port : P → PortState} {start link : Link P
     → HasReached port start hertz least calls done after commands link
     → Concludes 3 fault IsValue (Err error)
     (with_settings (sets (port start.port).device.firmware (port link.port).device.settings) (port link.port)) new
-    → calls ≤ 56
+    → calls ≤ 55
     → faults_from least done (port start.port).device.firmware hertz
     ≡ option_or fault (faults_from least done' (port start.port).device.firmware hertz)
-    → Concludes 59 (least_fault least (port start.port).device.firmware hertz) IsValue' (Err error)
+    → Concludes 58 (least_fault least (port start.port).device.firmware hertz) IsValue' (Err error)
     (prepared_port (port start.port)) new
 fails_at {port = port} {start = start} {hertz = hertz} {least = least} {new = new} sets done' reached failed within next = record {
   usable = tt;
@@ -325,8 +325,8 @@ fails_at {port = port} {start = start} {hertz = hertz} {least = least} {new = ne
 -- succeeded with `programmer`.
 pub is_whole : {C : Type 0} {fault : Option (HandshakeFault C)} {firmware : Firmware} {hertz : Option ℕ}
     {any : AnyProgrammer} {old new : PortState} (programmer : Programmer)
-    → Concludes 59 fault (IsAnyProgrammerOf firmware hertz) (Ok any) old new → programmer.reported ≡ any
-    → Concludes 59 fault (IsProgrammerOf firmware hertz) (Ok programmer) old new
+    → Concludes 58 fault (IsAnyProgrammerOf firmware hertz) (Ok any) old new → programmer.reported ≡ any
+    → Concludes 58 fault (IsProgrammerOf firmware hertz) (Ok programmer) old new
 is_whole {firmware = firmware} {hertz = hertz} programmer found same =
     let P : AnyProgrammer → Type 0 = λ p. IsAnyProgrammerOf firmware hertz p in
     record {

@@ -4,3 +4,4 @@ pub mod Skipped
 pub mod Synchronized
 pub mod Handshaken
 pub mod Stops
+pub mod Framed

@@ -15,8 +15,8 @@ stops_cut : (out : List ℕ) (replies : ℕ) (old new : PortState) (history hist
     → old.left < 3 → Interrupted out replies replies old new
     → Stops out (over_port old history) (over_port new history')
 stops_cut out replies old new history history' few is = record {
-  none_left = omega (arith, few);
-  left = omega (arith, few, is.few);
+  none_left = λ punctual. omega (arith, few);
+  left = λ punctual. omega (arith, few, is.few);
   at_stop = record {
     count = is.cut.count;
     read = is.cut.read;
@@ -33,8 +33,8 @@ stops_cut out replies old new history history' few is = record {
 stops_silent : (out : List ℕ) (port : PortState) (history history' : List Exchange) → port.left < 3
     → Stops out (over_port port history) (over_port port history')
 stops_silent out port history history' few = record {
-  none_left = omega (arith, few);
-  left = refl;
+  none_left = λ punctual. omega (arith, few);
+  left = λ punctual. refl;
   at_stop = record {
     count = 0;
     read = [];

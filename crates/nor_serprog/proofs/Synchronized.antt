@@ -12,8 +12,8 @@ use Rattle.nor_serprog.proofs.Replied.{power_then}
 -- The commands of `ROW` (link.rt), the fixed sequence that the second part of `synchronize` sends.
 abbrev pub row : List Command
 row =
-    SyncNop ∷ SyncNop ∷ Nop ∷ SyncNop ∷ Nop ∷ Nop ∷ SyncNop ∷ SyncNop ∷ SyncNop ∷ Nop ∷ Nop ∷ Nop ∷ SyncNop ∷ Nop
-    ∷ SyncNop ∷ SyncNop ∷ []
+    Nop ∷ Nop ∷ Nop ∷ Nop ∷ Nop ∷ Nop ∷ Nop ∷ Nop ∷ Nop
+    ∷ SyncNop ∷ SyncNop ∷ Nop ∷ SyncNop ∷ Nop ∷ Nop ∷ SyncNop ∷ SyncNop ∷ SyncNop ∷ Nop ∷ []
 
 -- Holds if `bytes` are the frames of `commands`, and `answers` are the replies to them. Each programmer has these
 -- commands, and they make no settings. The frames have at most 260 bytes in total, the replies 1 to 25 bytes. The first
@@ -28,8 +28,8 @@ pub record IsRow (commands : List Command) (bytes answers : List ℕ) : Type 0 w
   pub few : length answers ≤ 25
   pub first : slice_index answers 0 ≢ 0
 
-pub sync_row : IsRow (SyncNop ∷ []) (0x10 ∷ []) (0x15 ∷ 0x06 ∷ [])
-sync_row = record {
+pub first_row : IsRow (Nop ∷ []) (0x00 ∷ []) (0x06 ∷ [])
+first_row = record {
   frames = refl;
   has = λ firmware. (tt, tt);
   answers_are = λ firmware. refl;
@@ -41,13 +41,14 @@ sync_row = record {
 }
 
 pub whole_row : IsRow row
-    (0x10 ∷ 0x10 ∷ 0x00 ∷ 0x10 ∷ 0x00 ∷ 0x00 ∷ 0x10 ∷ 0x10 ∷ 0x10 ∷ 0x00 ∷ 0x00 ∷ 0x00 ∷ 0x10 ∷ 0x00 ∷ 0x10 ∷ 0x10 ∷ [])
-    (0x15 ∷ 0x06 ∷ 0x15 ∷ 0x06 ∷ 0x06 ∷ 0x15 ∷ 0x06 ∷ 0x06 ∷ 0x06 ∷ 0x15 ∷ 0x06 ∷ 0x15 ∷ 0x06 ∷ 0x15 ∷ 0x06 ∷ 0x06
-    ∷ 0x06 ∷ 0x06 ∷ 0x15 ∷ 0x06 ∷ 0x06 ∷ 0x15 ∷ 0x06 ∷ 0x15 ∷ 0x06 ∷ [])
+    (0x00 ∷ 0x00 ∷ 0x00 ∷ 0x00 ∷ 0x00 ∷ 0x00 ∷ 0x00 ∷ 0x00 ∷ 0x00
+    ∷ 0x10 ∷ 0x10 ∷ 0x00 ∷ 0x10 ∷ 0x00 ∷ 0x00 ∷ 0x10 ∷ 0x10 ∷ 0x10 ∷ 0x00 ∷ [])
+    (0x06 ∷ 0x06 ∷ 0x06 ∷ 0x06 ∷ 0x06 ∷ 0x06 ∷ 0x06 ∷ 0x06 ∷ 0x06 ∷ 0x15 ∷ 0x06 ∷ 0x15 ∷ 0x06
+    ∷ 0x06 ∷ 0x15 ∷ 0x06 ∷ 0x06 ∷ 0x06 ∷ 0x15 ∷ 0x06 ∷ 0x15 ∷ 0x06 ∷ 0x15 ∷ 0x06 ∷ 0x06 ∷ [])
 whole_row = record {
   frames = refl;
   has = λ firmware.
-      (tt, (tt, (tt, (tt, (tt, (tt, (tt, (tt, (tt, (tt, (tt, (tt, (tt, (tt, (tt, (tt, tt))))))))))))))));
+      (tt, (tt, (tt, (tt, (tt, (tt, (tt, (tt, (tt, (tt, (tt, (tt, (tt, (tt, (tt, (tt, (tt, (tt, (tt, tt)))))))))))))))))));
   answers_are = λ firmware. refl;
   keeps = λ firmware settings. refl;
   short = omega arith;

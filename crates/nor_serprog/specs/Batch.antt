@@ -1,5 +1,5 @@
--- A link and the frames that wait to be sent over it, as contracts see them.
-use Rattle.std.specs.Prelude.{ℕ, List}
+-- A link and the write enable that waits to be sent over it, as contracts see them.
+use Rattle.std.specs.Prelude.{Bool}
 use Rattle.nor_serprog.specs.declared.batch.Batch.{Batch}
 use Rattle.nor_serprog.specs.declared.link.Link.{Link}
 use Rattle.nor_serprog.specs.declared.port.Port.{Ghosts}
@@ -8,10 +8,6 @@ use Rattle.nor_serprog.specs.declared.port.Port.{Ghosts}
 abbrev pub batch_link : {P C : Type 0} {over : Ghosts P C} → Batch P C over → Link P C
 batch_link batch = batch.link
 
--- The bytes of the frames that wait to be sent.
-abbrev pub waiting_in : {P C : Type 0} {over : Ghosts P C} → Batch P C over → List ℕ
-waiting_in batch = batch.waiting.items
-
--- The greatest number of bytes that may wait to be sent.
-abbrev pub most_in : {P C : Type 0} {over : Ghosts P C} → Batch P C over → ℕ
-most_in batch = batch.most
+-- True if the frame of a write enable waits to be sent.
+abbrev pub waits_in : {P C : Type 0} {over : Ghosts P C} → Batch P C over → Bool
+waits_in batch = batch.waits

@@ -1,5 +1,5 @@
 -- The bus to the chip at a programmer, as contracts see it.
-use Rattle.std.specs.Prelude.{◌/◌, Bool, false, List, [], Option}
+use Rattle.std.specs.Prelude.{◌/◌, Bool, true, false, List, [], Option}
 use Rattle.nor_model.specs.Bus.{BusState}
 use Rattle.nor_model.specs.Exchange.{Exchange}
 use Rattle.nor_model.specs.PolledReady.{polled_ready_in}
@@ -27,6 +27,7 @@ over_port port history = record {
   worn = port.device.worn;
   steady = false;
   unlimited = false;
+  punctual = true;
   polled_ready = polled_ready_in history;
   further = false;
 }

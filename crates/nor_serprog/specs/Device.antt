@@ -39,6 +39,11 @@ pub record PortState : Type 0 where
   pub left : ℕ
   -- true if the port is well-behaved, so that it obeys the contract of `Port`
   pub honest : Bool
+  -- On every port: the bytes that each call of `send` was asked to send, the last call first. The port may have failed
+  -- to send them.
+  pub asked : List (List ℕ)
+  -- On every port: the bytes that calls of `receive` returned, in order.
+  pub received : List ℕ
 
 -- The state of a port that differs from `port` only in the settings of its programmer, which are `settings`.
 abbrev pub with_settings : ProgrammerSettings → PortState → PortState
@@ -198,10 +203,10 @@ abbrev pub IfOperates : Command → (List ℕ → ℕ → Type 0) → Type 0
 IfOperates (Operate out replies) P = P out.now replies
 IfOperates _ P = ⊤
 
--- The state of a port about which nothing is known. The port is not well-behaved, so nothing is promised about its
--- device, and the device given here is arbitrary.
-abbrev pub unknown_port : PortState
-unknown_port = record {
+-- The state of a port about which nothing is known but what it was asked to send, and what it returned. The port is not
+-- well-behaved, so nothing is promised about its device, and the device given here is arbitrary.
+abbrev pub unknown_port : (asked : List (List ℕ)) → (received : List ℕ) → PortState
+unknown_port asked received = record {
   device = record {
     chip = unknown_chip;
     worn = λ s. false;
@@ -212,4 +217,6 @@ unknown_port = record {
   };
   left = 0;
   honest = false;
+  asked = asked;
+  received = received;
 }

@@ -1,45 +1,54 @@
-//! Frames that wait to be sent over a link. Several of them are sent together, which saves round trips.
-ghost use Rattle.std.specs.Prelude.{◌≡◌, ◌<◌, ◌≤◌, ◌⊎◌, ◌+◌, ◌++◌, [], true, false, length, OnOk, OnErr};
-ghost use Rattle.nor_model.specs.Command.{begins_change};
-ghost use Rattle.nor_serprog.specs.Link.{is_in_step};
+//! A write enable that waits to be sent over a link. It is sent together with the page program that it enables, which
+//! saves a round trip.
+ghost use Rattle.std.specs.Prelude.{◌≡◌, ◌<◌, ◌≤◌, ◌⊎◌, ◌++◌, ◌∷◌, [], true, false, length, OnOk, OnErr, IfOk};
+ghost use Rattle.nor_serprog.specs.Frame.{operation_frame};
+ghost use Rattle.nor_serprog.specs.Asked.{enable_frame, AsksLead, AsksInOrder, AsksSync, FitsOperation, IsLongProgram, acks};
+ghost use Rattle.nor_serprog.specs.Link.{port_of, is_in_step};
 
 use crate::{AnyProgrammer, Command, Failure, Frame, Link, Port, Sync};
 use arrayvec::ArrayVec;
-use nor_model::is_changing;
 
-// The greatest number of bytes in a batch. The frames of a write enable, a full page program and a poll have 283 bytes
-// in total.
-const LONGEST_BATCH: usize = 512;
+// The frame of a write enable (06h).
+const ENABLE: [u8; 8] = [0x13, 1, 0, 0, 0, 0, 0, 0x06];
 
-/// A link, and the frames that wait to be sent over it. Each of these frames is an O_SPIOP that requests no reply
-/// bytes.
+// The length of the frames of a write enable and a full page program.
+const LONGEST_PAIR: usize = 275;
+
+// The least length of a page program that is sent together with its write enable: an opcode, three address bytes and 32
+// data bytes. A synchronization sends 20 bytes. If the frame of a program is cut inside the address, these bytes can't
+// complete it, even if `Link::synchronize` takes the ACK of the write enable for the reply to its NOP.
+const LONG_PROGRAM: usize = 36;
+
+/// A link, and whether the frame of a write enable waits to be sent over it.
 ///
-/// The frames of a batch are sent in one write to the port, and together fit into the programmer's serial buffer. A
-/// frame that does not fit into the buffer by itself is sent at once, alone.
+/// The write enable is sent in one write to the port with the frame of the next transaction if that is a page program
+/// with at least 32 data bytes, and both fit into the programmer's serial buffer. Otherwise it is sent alone, and its
+/// ACK is received, before that transaction. Nothing is sent after the frame of any other command before its reply is
+/// received: if bytes of a frame are lost on the way, the programmer takes the next bytes as the rest of the frame.
+///
+/// Erases and status writes are never sent together with their write enable. So if the host stops in the middle of such
+/// a frame, no reply is pending, and a later `Link::synchronize` can't take an old ACK for the reply to its NOP.
 #[derive(Drop)]
 pub(crate) struct Batch<P: Port + Drop> {
     link: Link<P>,
-    waiting: ArrayVec<u8, LONGEST_BATCH>,
-    frames: u32,
-    most: usize,
+    waits: bool,
+    buffer: u16,
     longest_read: u32,
-    ghost fits: { most ≤ 512 },
-    ghost few: { length waiting.items ≤ most },
+    ghost spent: { is_in_step link ≡ false → waits ≡ false },
 }
 
 impl<P: Port + Drop> Batch<P> {
-    ghost use Rattle.nor_serprog.specs.Batch.{waiting_in, batch_link, most_in};
+    ghost use Rattle.nor_serprog.specs.Batch.{batch_link, waits_in};
 
-    /// Returns a batch without frames, over a link whose programmer was identified.
+    /// Returns a batch over a link whose programmer was identified. Nothing waits.
     pub(crate) fn new(link: Link<P>, programmer: &AnyProgrammer) -> Batch<P>
         ensures link { batch_link result ≡ link }
-        ensures empty { waiting_in result ≡ [] }
+        ensures empty { waits_in result ≡ false }
     {
         Batch {
             link,
-            waiting: ArrayVec::new(),
-            frames: 0,
-            most: usize::from(programmer.serial_buffer()).min(LONGEST_BATCH),
+            waits: false,
+            buffer: programmer.serial_buffer(),
             longest_read: programmer.longest_read(),
         }
     }
@@ -51,111 +60,131 @@ impl<P: Port + Drop> Batch<P> {
         &self.link
     }
 
-    /// Makes one transaction. A modifying command that requests no reply bytes waits for the next transaction instead,
-    /// if its frame fits into the serial buffer.
-    ///
-    /// If the transaction is sent, the frames that wait are sent before its frame. All of them are sent in the same
-    /// write if together they fit into the buffer and have at most 512 bytes. The frames that wait are also sent if
-    /// another frame should wait, but would exceed one of these limits.
+    /// Makes one transaction. A write enable that requests no reply bytes waits for the next transaction instead, if its
+    /// frame fits into the serial buffer.
     ///
     /// Returns `OutOfStep` or `CutFrame` if the link was out of step. Otherwise returns `TooLong` if the transaction
-    /// does not fit into one frame, or reads more than the programmer can; then nothing was sent, and the waiting
-    /// frames still wait. After any other error no frame waits.
+    /// does not fit into one frame, or reads more than the programmer can; then nothing was sent, and the write enable
+    /// still waits. After any other error nothing waits.
     pub(crate) fn transact(&mut self, out: &[u8], reply: &mut [u8]) -> Result<(), Failure<P::Cause>>
         ensures silent { is_in_step (batch_link self.old) ≡ false → self.new ≡ self.old }
         ensures was_in_step { OnOk result (is_in_step (batch_link self.old) ≡ true) }
         ensures ok { OnOk result (is_in_step (batch_link self.new) ≡ true) }
-        ensures err { OnErr result ((self.new ≡ self.old) ⊎ (is_in_step (batch_link self.new) ≡ false)) }
-        ensures sent { 0 < length reply.old → OnOk result (waiting_in self.new ≡ []) }
-        ensures quiet { begins_change out.now ≡ false → OnOk result (waiting_in self.new ≡ []) }
+        ensures err { OnErr result ((self.new ≡ self.old) ⊎ ((is_in_step (batch_link self.new) ≡ false)
+            × (AsksLead (waits_in self.old) (P.state (port_of (batch_link self.old))).asked
+            (P.state (port_of (batch_link self.new))).asked
+            ⊎ AsksInOrder (waits_in self.old) out.now (length reply.old)
+            (P.state (port_of (batch_link self.old))).asked (P.state (port_of (batch_link self.new))).asked))) }
+        ensures only_enable { OnOk result (waits_in self.new ≡ true
+            → (out.now ≡ 0x06 ∷ []) × (length reply.old ≡ 0)) }
+        ensures led { OnOk result (waits_in self.new ≡ true → AsksLead (waits_in self.old)
+            (P.state (port_of (batch_link self.old))).asked (P.state (port_of (batch_link self.new))).asked) }
+        ensures sent { OnOk result (waits_in self.new ≡ false → AsksInOrder (waits_in self.old)
+            out.now (length reply.old) (P.state (port_of (batch_link self.old))).asked
+            (P.state (port_of (batch_link self.new))).asked) }
+        ensures led_acked { OnOk result (waits_in self.new ≡ true → (P.state (port_of (batch_link self.new))).received
+            ≡ (P.state (port_of (batch_link self.old))).received ++ acks (waits_in self.old)) }
+        ensures acked { OnOk result (waits_in self.new ≡ false → (P.state (port_of (batch_link self.new))).received
+            ≡ (P.state (port_of (batch_link self.old))).received ++ (acks (waits_in self.old) ++ 0x06 ∷ reply.new)) }
     {
         if self.link.sync() != Sync::InStep || reply.len() > self.longest_read as usize {
             return Err(self.link.rejection());
         }
         let replies = reply.len() as u32;
-        let frame = encode(Command::Operate { out, replies })?;
-        self.make_room(frame.len())?;
-        if frame.len() > self.most {
-            return self.link.exchange_batch(&frame, 0, reply);
+        let frame = encode(out, replies)?;
+        if replies == 0 && is_enable(out) && usize::from(self.buffer) >= ENABLE.len() {
+            return self.wait();
         }
-        self.push(&frame);
-        if reply.is_empty() && is_changing(out) {
-            return Ok(());
+        if self.waits
+            && is_long_program(out)
+            && ENABLE.len() + frame.len() <= usize::from(self.buffer)
+        {
+            self.waits = false;
+            return self.link.exchange_batch(&after_enable(&frame), true, reply);
         }
-        self.send(reply)
+        self.flush()?;
+        self.link.exchange_batch(&frame, false, reply)
     }
 
-    /// Sends the frames that wait, and reads their ACKs. No frame waits afterwards, even after an error.
+    /// Sends the write enable that waits, and reads its ACK. Nothing waits afterwards, even after an error.
     pub(crate) fn flush(&mut self) -> Result<(), Failure<P::Cause>>
-        ensures most { most_in self.new ≡ most_in self.old }
-        ensures silent { is_in_step (batch_link self.old) ≡ false → batch_link self.new ≡ batch_link self.old }
+        ensures silent { is_in_step (batch_link self.old) ≡ false → self.new ≡ self.old }
         ensures ok { is_in_step (batch_link self.old) ≡ true → OnOk result (is_in_step (batch_link self.new) ≡ true) }
         ensures err { OnErr result (is_in_step (batch_link self.new) ≡ false) }
-        ensures empty { waiting_in self.new ≡ [] }
+        ensures empty { waits_in self.new ≡ false }
+        ensures acked { OnOk result ((P.state (port_of (batch_link self.new))).received
+            ≡ (P.state (port_of (batch_link self.old))).received ++ acks (waits_in self.old)) }
+        ensures asked { AsksLead (waits_in self.old) (P.state (port_of (batch_link self.old))).asked
+            (P.state (port_of (batch_link self.new))).asked }
     {
-        if self.waiting.is_empty() {
+        if !self.waits {
             return Ok(());
         }
-        self.send(&mut [])
+        self.waits = false;
+        self.link.exchange_batch(&ENABLE, false, &mut [])
     }
 
-    /// Synchronizes the programmer, as `Link::synchronize` does. The frames that waited are dropped, so no frame waits
-    /// afterwards.
+    /// Synchronizes the programmer, as `Link::synchronize` does, if the link is out of step. Nothing waits then.
     pub(crate) fn synchronize(&mut self) -> Result<(), Failure<P::Cause>>
         ensures ok { OnOk result (is_in_step (batch_link self.new) ≡ true) }
         ensures err { OnErr result (is_in_step (batch_link self.new) ≡ false) }
-        ensures empty { waiting_in self.new ≡ [] }
+        ensures waits { waits_in self.new ≡ waits_in self.old }
+        ensures asked { (self.new ≡ self.old) ⊎ ((is_in_step (batch_link self.old) ≡ false)
+            × AsksSync (P.state (port_of (batch_link self.old))).asked (P.state (port_of (batch_link self.new))).asked) }
     {
-        self.waiting.clear();
-        self.frames = 0;
+        if self.link.sync() == Sync::InStep {
+            return Ok(());
+        }
         self.link.synchronize()
     }
 
-    // Makes room for a frame of `len` bytes: sends the frames that wait if the batch would exceed `most` bytes with
-    // this frame. `most` is the size of the serial buffer, or 512 if that is less.
-    fn make_room(&mut self, len: usize) -> Result<(), Failure<P::Cause>>
+    // Lets a write enable wait. If another one waits already, sends that first.
+    fn wait(&mut self) -> Result<(), Failure<P::Cause>>
         requires in_step { is_in_step (batch_link self.old) ≡ true }
-        requires len { len ≤ 267 }
-        ensures most { most_in self.new ≡ most_in self.old }
         ensures ok { OnOk result (is_in_step (batch_link self.new) ≡ true) }
+        ensures waits { OnOk result (waits_in self.new ≡ true) }
+        ensures acked { OnOk result ((P.state (port_of (batch_link self.new))).received
+            ≡ (P.state (port_of (batch_link self.old))).received ++ acks (waits_in self.old)) }
         ensures err { OnErr result (is_in_step (batch_link self.new) ≡ false) }
-        ensures room { OnOk result
-            ((length (waiting_in self.new) + len ≤ most_in self.new) ⊎ (waiting_in self.new ≡ [])) }
+        ensures asked { AsksLead (waits_in self.old) (P.state (port_of (batch_link self.old))).asked
+            (P.state (port_of (batch_link self.new))).asked }
     {
-        if self.waiting.len() + len <= self.most {
-            return Ok(());
-        }
-        self.flush()
-    }
-
-    // Adds `frame` to the frames that wait.
-    fn push(&mut self, frame: &Frame)
-        requires room { length (waiting_in self.old) + length frame.now.items ≤ most_in self.old }
-        ensures link { batch_link self.new ≡ batch_link self.old }
-        ensures most { most_in self.new ≡ most_in self.old }
-        ensures waiting { waiting_in self.new ≡ waiting_in self.old ++ frame.now.items }
-    {
-        let _ = self.waiting.try_extend_from_slice(frame);
-        self.frames = self.frames.saturating_add(1);
-    }
-
-    // Sends the frames that wait, and reads their replies. The reply to the last frame has as many bytes as `reply`
-    // holds.
-    fn send(&mut self, reply: &mut [u8]) -> Result<(), Failure<P::Cause>>
-        ensures most { most_in self.new ≡ most_in self.old }
-        ensures silent { is_in_step (batch_link self.old) ≡ false → batch_link self.new ≡ batch_link self.old }
-        ensures ok { OnOk result (is_in_step (batch_link self.new) ≡ true) }
-        ensures err { OnErr result (is_in_step (batch_link self.new) ≡ false) }
-        ensures empty { waiting_in self.new ≡ [] }
-    {
-        let earlier = self.frames.saturating_sub(1);
-        let sent = self.link.exchange_batch(&self.waiting, earlier, reply);
-        self.waiting.clear();
-        self.frames = 0;
-        sent
+        self.flush()?;
+        self.waits = true;
+        Ok(())
     }
 }
 
-fn encode<C>(command: Command<'_>) -> Result<Frame, Failure<C>> {
+fn encode<C>(out: &[u8], replies: u32) -> Result<Frame, Failure<C>>
+    ensures exact { IfOk result (λ frame. frame.items ≡ operation_frame out.now replies) }
+    ensures len { IfOk result (λ frame. length frame.items ≤ 267) }
+    ensures fits { OnOk result (FitsOperation out.now replies) }
+{
+    let command = Command::Operate { out, replies };
     command.encode().map_err(|_| Failure::TooLong)
+}
+
+// Returns whether `out` is a write enable.
+fn is_enable(out: &[u8]) -> bool
+    ensures { result ≡ true → out.now ≡ 0x06 ∷ [] }
+{
+    matches!(out, [0x06])
+}
+
+// Returns whether `out` is a page program with at least 32 data bytes.
+fn is_long_program(out: &[u8]) -> bool
+    ensures { result ≡ true → IsLongProgram out.now }
+{
+    out.len() >= LONG_PROGRAM && matches!(out, [0x02, ..])
+}
+
+// Returns the frame of a write enable, followed by `frame`.
+fn after_enable(frame: &Frame) -> ArrayVec<u8, LONGEST_PAIR>
+    requires { length frame.now.items ≤ 267 }
+    ensures { result.items ≡ enable_frame ++ frame.now.items }
+{
+    let mut pair = ArrayVec::new();
+    let _ = pair.try_extend_from_slice(&ENABLE);
+    let _ = pair.try_extend_from_slice(frame);
+    pair
 }

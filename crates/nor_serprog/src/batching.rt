@@ -1,38 +1,41 @@
 //! A bus to the chip at a serial programmer that needs few round trips.
-ghost use Rattle.std.specs.Prelude.{◌≡◌, ◌<◌, ◌⊎◌, [], true, false, length, OnOk, OnErr, IsSome, option_copied};
+ghost use Rattle.std.specs.Prelude.{◌≡◌, ◌⊎◌, ◌∷◌, ◌++◌, [], ℕ, List, true, false, length, OnOk, OnErr, IsSome, option_copied};
 ghost use Rattle.std.proofs.lemmas.Bool.{false≢true};
 ghost use Rattle.nor_model.specs.Bus.{Transfers};
-ghost use Rattle.nor_model.specs.Command.{begins_change};
 
 use crate::batch::Batch;
 use crate::{AnyProgrammer, Failure, Link, Port, Programmer, Sync};
 use nor_model::{Bus, History, Stopped};
 
 /// A bus to the chip at a serial programmer, over any port. It needs fewer round trips than `SerprogBus`, because it
-/// sends a modifying command that requests no reply together with the next transaction of another kind, if the
-/// programmer's serial buffer holds both. After each page program the engine polls, so write enable, page program and
-/// the first poll are one write to the port, if the buffer holds all three.
+/// sends a write enable (06h) together with the page program (02h) after it, if that has at least 32 data bytes, and the
+/// programmer's serial buffer holds both frames.
 ///
-/// - `transfer` of a modifying command (06h, 01h, 02h, 20h, 52h, D8h, C7h) that reads no reply may return `Ok` before
-///   the command is sent. If the command fails later, the transaction or `flush` that sends it returns `Stopped`.
-/// - Every other transaction first sends the commands that wait, in order, unless the transaction is rejected. If it
-///   returns `Ok`, no command waits.
-/// - `flush` sends the commands that wait. Without `flush` or a later transaction they are never sent. A session or
-///   restore that returns `Ok` has polled after its last modifying command, so no command waits then.
-/// - The frames that are sent together fit into the programmer's serial buffer. No command waits if the programmer does
+/// Nothing is sent after any other frame before ACK and its reply were received. If a byte of a frame is lost on the way,
+/// the programmer takes the next byte that it receives as the last one of the frame, and the chip may carry out a command
+/// that was never sent, on another sector or with other status bits. After a write enable this does no harm: both frames
+/// have to arrive whole, or the chip ignores the command.
+///
+/// - `transfer` of a write enable that reads no reply may return `Ok` before it is sent. If it fails later, the
+///   transaction or `flush` that sends it returns `Stopped`.
+/// - Every other transaction that isn't rejected sends the write enable that waits: in one write with its own frame if it
+///   is a page program with at least 32 data bytes, otherwise in a write of its own, whose ACK it receives first. It
+///   returns `Ok` only after ACK was received for each frame (`acked`), so nothing waits then.
+/// - `flush` sends the write enable that waits. Without `flush` or a later transaction it is never sent.
+/// - The two frames that are sent together fit into the programmer's serial buffer. Nothing waits if the programmer does
 ///   not report the size of that buffer.
+/// - Whatever the port was asked to send since the bus was made is, in order, the frames of the transactions in the
+///   history, except for synchronizations (`frames`).
 ///
 /// Over any port the history lists each transaction with its reply; a transaction that failed or was rejected is listed
-/// without a reply. A modifying command that waits is already in the history, with an empty reply, and stays there even
-/// if it is dropped.
+/// without a reply. A write enable that waits is already in the history, with an empty reply.
 ///
 /// A transaction that sends more than 260 bytes, or reads 2^24 bytes or more, or more than the programmer can, is
-/// rejected: nothing is sent, and the commands that wait still wait. After any other transaction that failed, no
-/// command waits, and no transaction is sent until `synchronize` returns `Ok`. The programmer may have carried out any
-/// part of the commands that waited.
+/// rejected: nothing is sent, and the write enable that waits still waits. After any other transaction that failed,
+/// nothing waits, and no transaction is sent until `synchronize` returns `Ok`.
 ///
-/// The bus is not well-behaved as `Bus` defines it, even over a well-behaved port, because a command that waits has not
-/// reached the chip.
+/// The bus is not well-behaved as `Bus` defines it, even over a well-behaved port, because a write enable that waits
+/// has not reached the chip.
 #[derive(Drop)]
 pub struct BatchingBus<P: Port + Drop> {
     batch: Batch<P>,
@@ -42,16 +45,18 @@ pub struct BatchingBus<P: Port + Drop> {
 }
 
 impl<P: Port + Drop> BatchingBus<P> {
-    ghost use Rattle.nor_serprog.specs.Batching.{link_of, port_in, waiting_of, history_of, sent_of, polled_ready_of};
-    ghost use Rattle.nor_serprog.specs.Batching.{cause_of, is_ready};
+    ghost use Rattle.nor_serprog.specs.Batching.{link_of, port_in, waits_of, history_of, sent_of, polled_ready_of};
+    ghost use Rattle.nor_serprog.specs.Batching.{cause_of, is_ready, SendsFrames};
+    ghost use Rattle.nor_serprog.specs.Link.{port_of};
 
     /// Returns a bus over a link whose programmer was identified (`Programmer::identify`).
     pub fn new(link: Link<P>, programmer: Programmer) -> BatchingBus<P>
         ensures link { link_of result ≡ link }
-        ensures empty { waiting_of result ≡ [] }
+        ensures empty { waits_of result ≡ false }
         ensures history { history_of result ≡ [] }
         ensures sent { sent_of result ≡ [] }
         ensures polled_ready { polled_ready_of result ≡ false }
+        ensures frames { SendsFrames (P.state (port_of link)).asked result }
     {
         BatchingBus::over(link, *programmer.reported())
     }
@@ -61,10 +66,11 @@ impl<P: Port + Drop> BatchingBus<P> {
     /// is lower. Wrap it in a `SplittingBus`, which splits longer transactions.
     pub fn over(link: Link<P>, programmer: AnyProgrammer) -> BatchingBus<P>
         ensures link { link_of result ≡ link }
-        ensures empty { waiting_of result ≡ [] }
+        ensures empty { waits_of result ≡ false }
         ensures history { history_of result ≡ [] }
         ensures sent { sent_of result ≡ [] }
         ensures polled_ready { polled_ready_of result ≡ false }
+        ensures frames { SendsFrames (P.state (port_of link)).asked result }
     {
         let batch = Batch::new(link, &programmer);
         BatchingBus {
@@ -95,14 +101,15 @@ impl<P: Port + Drop> BatchingBus<P> {
         self.cause.as_ref()
     }
 
-    /// Sends the commands that wait, and reads their ACKs. Returns `Stopped` if an exchange failed. The history does
+    /// Sends the write enable that waits, and reads its ACK. Returns `Stopped` if the exchange failed. The history does
     /// not change, even then.
     pub fn flush(&mut self) -> Result<(), Stopped>
         ensures history { history_of self.new ≡ history_of self.old }
         ensures sent { sent_of self.new ≡ sent_of self.old }
         ensures polled_ready { polled_ready_of self.new ≡ polled_ready_of self.old }
         ensures silent { is_ready self.old ≡ false → link_of self.new ≡ link_of self.old }
-        ensures empty { waiting_of self.new ≡ [] }
+        ensures frames { (start : List (List ℕ)) → SendsFrames start self.old → SendsFrames start self.new }
+        ensures empty { waits_of self.new ≡ false }
     {
         match self.batch.flush() {
             Ok(()) => Ok(()),
@@ -114,23 +121,22 @@ impl<P: Port + Drop> BatchingBus<P> {
     }
 
     /// Synchronizes the programmer after a transaction failed, as `Link::synchronize` does. If the link is in step
-    /// already, nothing is sent; otherwise no command waits afterwards. The history of the bus does not change.
+    /// already, nothing is sent. The history of the bus does not change.
     pub fn synchronize(&mut self) -> Result<(), Failure<P::Cause>>
         ensures history { history_of self.new ≡ history_of self.old }
         ensures sent { sent_of self.new ≡ sent_of self.old }
         ensures polled_ready { polled_ready_of self.new ≡ polled_ready_of self.old }
+        ensures frames { (start : List (List ℕ)) → SendsFrames start self.old → SendsFrames start self.new }
         ensures ok { OnOk result (is_ready self.new ≡ true) }
         ensures err { OnErr result (is_ready self.new ≡ false) }
     {
-        if self.batch.link().sync() == Sync::InStep {
-            return Ok(());
-        }
         self.batch.synchronize()
     }
 }
 
 impl<P: Port + Drop> Bus for BatchingBus<P> {
-    ghost use Rattle.nor_serprog.specs.Batching.{link_of, waiting_of, cause_of, is_ready, serprog_state};
+    ghost use Rattle.nor_serprog.specs.Batching.{link_of, port_in, waits_of, cause_of, is_ready, serprog_state, SendsFrames};
+    ghost use Rattle.nor_serprog.specs.Asked.{acks};
 
     ghost state = { serprog_state };
 
@@ -142,8 +148,13 @@ impl<P: Port + Drop> Bus for BatchingBus<P> {
         ensures was_ready { OnOk result (is_ready self.old ≡ true) }
         ensures ok { OnOk result (is_ready self.new ≡ true) }
         ensures err { OnErr result ((link_of self.new ≡ link_of self.old) ⊎ (is_ready self.new ≡ false)) }
-        ensures sent { 0 < length reply.old → OnOk result (waiting_of self.new ≡ []) }
-        ensures quiet { begins_change out.now ≡ false → OnOk result (waiting_of self.new ≡ []) }
+        ensures only_enable { OnOk result (waits_of self.new ≡ true
+            → (out.now ≡ 0x06 ∷ []) × (length reply.old ≡ 0)) }
+        ensures frames { (start : List (List ℕ)) → SendsFrames start self.old → SendsFrames start self.new }
+        ensures led_acked { OnOk result (waits_of self.new ≡ true
+            → (P.state (port_in self.new)).received ≡ (P.state (port_in self.old)).received ++ acks (waits_of self.old)) }
+        ensures acked { OnOk result (waits_of self.new ≡ false → (P.state (port_in self.new)).received
+            ≡ (P.state (port_in self.old)).received ++ (acks (waits_of self.old) ++ 0x06 ∷ reply.new)) }
         ensures cause { is_ready self.old ≡ true → OnErr result (IsSome (cause_of self.new)) }
         ensures first_cause { is_ready self.old ≡ false → cause_of self.new ≡ cause_of self.old }
     {

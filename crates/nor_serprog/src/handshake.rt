@@ -38,7 +38,7 @@ pub(crate) fn synchronize<P: Port + Drop>(
 ) -> Result<(), HandshakeFault<P::Cause>>
     ensures in_step { OnOk result (is_in_step link.new ≡ true) }
     ensures concludes { AwaitsCommand (P.state (port_of link.old)) → is_cut link.old ≡ false
-        → Concludes 29 None (λ _. ⊤) result (P.state (port_of link.old)) (P.state (port_of link.new)) }
+        → Concludes 28 None (λ _. ⊤) result (P.state (port_of link.old)) (P.state (port_of link.new)) }
 {
     match link.synchronize() {
         Ok(()) => Ok(()),

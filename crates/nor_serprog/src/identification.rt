@@ -35,14 +35,14 @@ impl AnyProgrammer {
     /// 1 byte. If the programmer has Q_SERBUF but lacks Q_WRNMAXLEN, 12 bytes must fit into its serial buffer.
     ///
     /// If the port is well-behaved, the programmer is idle and the link is not `Sync::Cut`, the only errors are those
-    /// that the firmware causes (`narrow_fault`), and a failure of the port because fewer than 59 calls were left.
+    /// that the firmware causes (`narrow_fault`), and a failure of the port because fewer than 58 calls were left.
     pub fn identify<P: Port + Drop>(
         link: &mut Link<P>,
         hertz: Option<u32>,
     ) -> Result<AnyProgrammer, HandshakeFault<P::Cause>>
         ensures in_step { OnOk result (is_in_step link.new ≡ true) }
         ensures identifies { AwaitsCommand (P.state (port_of link.old)) → is_cut link.old ≡ false
-            → Concludes 59 (narrow_fault (P.state (port_of link.old)).device.firmware hertz)
+            → Concludes 58 (narrow_fault (P.state (port_of link.old)).device.firmware hertz)
             (IsAnyProgrammerOf (P.state (port_of link.old)).device.firmware hertz) result
             (prepared_port (P.state (port_of link.old))) (P.state (port_of link.new)) }
     {
@@ -104,7 +104,7 @@ impl Programmer {
     /// Documentation/serprog-protocol.txt.)
     ///
     /// If the port is well-behaved, the programmer is idle and the link is not `Sync::Cut`, the firmware determines the
-    /// result, unless the port fails because fewer than 59 calls were left. The error that the firmware causes is that
+    /// result, unless the port fails because fewer than 58 calls were left. The error that the firmware causes is that
     /// of the first step that fails (`identify_fault`). Under these premises, after `Ok`:
     ///
     /// - The programmer is idle again, and its chip is as it was.
@@ -116,7 +116,7 @@ impl Programmer {
     ) -> Result<Programmer, HandshakeFault<P::Cause>>
         ensures in_step { OnOk result (is_in_step link.new ≡ true) }
         ensures identifies { AwaitsCommand (P.state (port_of link.old)) → is_cut link.old ≡ false
-            → Concludes 59 (identify_fault (P.state (port_of link.old)).device.firmware hertz)
+            → Concludes 58 (identify_fault (P.state (port_of link.old)).device.firmware hertz)
             (IsProgrammerOf (P.state (port_of link.old)).device.firmware hertz) result
             (prepared_port (P.state (port_of link.old))) (P.state (port_of link.new)) }
     {
@@ -165,7 +165,7 @@ fn identify_for<P: Port + Drop>(
     ensures writes { IfOk result (λ programmer. least.write ≤ programmer.longest_write) }
     ensures reads { IfOk result (λ programmer. least.read ≤ programmer.longest_read) }
     ensures identifies { AwaitsCommand (P.state (port_of link.old)) → is_cut link.old ≡ false
-        → Concludes 59 (least_fault least (P.state (port_of link.old)).device.firmware hertz)
+        → Concludes 58 (least_fault least (P.state (port_of link.old)).device.firmware hertz)
         (IsAnyProgrammerOf (P.state (port_of link.old)).device.firmware hertz) result
         (prepared_port (P.state (port_of link.old))) (P.state (port_of link.new)) }
 {

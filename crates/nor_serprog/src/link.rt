@@ -1,12 +1,14 @@
 //! Exchanges with a programmer. An exchange sends the frame of a command, and receives the reply.
-ghost use Rattle.std.specs.Prelude.{◌≡◌, ◌≤◌, ◌+◌, ◌++◌, ◌⊎◌, ◌∷◌, [], true, false, length, drop, ◌↔◌, IsOk, IfOk, OnOk, OnErr, IfErr};
-ghost use Rattle.nor_serprog.specs.Device.{IsIdle, IsSent, IsCutOff, IsReceived, IsSilent, IfOperates, Exchanged, Interrupted};
+ghost use Rattle.std.specs.Prelude.{◌≡◌, ◌≤◌, ◌+◌, ◌++◌, ◌⊎◌, ◌∷◌, [], true, false, length, ◌↔◌, IsOk, IfOk, OnOk, OnErr, IfErr};
+ghost use Rattle.nor_serprog.specs.Device.{IsIdle, IsSent, IsCutOff, IfOperates, Exchanged, Interrupted};
 ghost use Rattle.nor_serprog.specs.Device.{AnswerBegins, TakesAnswer, MissesAnswer, MayLoseDevicePower};
 ghost use Rattle.nor_serprog.specs.Firmware.{HasReply, nak};
 ghost use Rattle.nor_serprog.specs.Frame.{frame_of, FitsFrame, IsFrame, ReadsAs};
 ghost use Rattle.nor_serprog.specs.Link.{port_of, sync_of, is_in_step, is_cut};
-ghost use Rattle.nor_serprog.specs.Replies.{AwaitsCommand, EndsExchange, IsPortFailure, IsRefused, IsPending, AsksUnlessFew};
+ghost use Rattle.nor_serprog.specs.Asked.{acks, AsksSync};
+ghost use Rattle.nor_serprog.specs.Replies.{AwaitsCommand, EndsExchange, IsPortFailure, IsRefused, AsksUnlessFew};
 
+use crate::skipping::{ROW_ANSWERS_LEN, skip_past};
 use crate::{Answer, Command, Frame, Port};
 use thiserror::Error;
 
@@ -34,8 +36,8 @@ pub enum Failure<C> {
     /// Nothing was sent, because a frame may have been sent only in part: any further byte could complete it.
     #[error("a frame may have been cut off: disconnect the programmer from power before it is used again")]
     CutFrame,
-    /// 65,536 bytes were received without the expected reply: the reply to SYNCNOP, or the replies to the sequence of
-    /// SYNCNOP and NOP that follows.
+    /// 65,536 bytes were received without the expected reply: the reply to the first NOP, or the replies to the sequence
+    /// of NOP and SYNCNOP that follows.
     #[error("the programmer did not reply to SYNCNOP as it must")]
     NoSync,
 }
@@ -63,22 +65,19 @@ pub struct Link<P: Port + Drop> {
 const O_SPIOP: u8 = 0x13;
 
 // The sequence of SYNCNOP (10h) and NOP (00h) that `synchronize` sends. These commands have no effect, and
-// `synchronize` recognizes their replies.
-const ROW: [u8; 16] = [
-    0x10, 0x10, 0x00, 0x10, 0x00, 0x00, 0x10, 0x10, 0x10, 0x00, 0x00, 0x00, 0x10, 0x00, 0x10, 0x10,
+// `synchronize` recognizes their replies. The sequence begins with nine zeros, because the frame of a status write (01h)
+// has ten bytes. If the programmer still waits for the rest of such a frame, it receives zeros only, and these set no
+// one-time bit.
+const ROW: [u8; 19] = [
+    0x00, 0x00, 0x00, 0x00, 0x00, 0x00, 0x00, 0x00, 0x00, 0x10, 0x10, 0x00, 0x10, 0x00, 0x00, 0x10,
+    0x10, 0x10, 0x00,
 ];
-
-const ROW_ANSWERS_LEN: usize = 25;
 
 // The replies to `ROW`: NAK and ACK (15h 06h) to each SYNCNOP, and ACK to each NOP.
 const ROW_ANSWERS: [u8; ROW_ANSWERS_LEN] = [
-    0x15, 0x06, 0x15, 0x06, 0x06, 0x15, 0x06, 0x06, 0x06, 0x15, 0x06, 0x15, 0x06, 0x15, 0x06, 0x06,
-    0x06, 0x06, 0x15, 0x06, 0x06, 0x15, 0x06, 0x15, 0x06,
+    0x06, 0x06, 0x06, 0x06, 0x06, 0x06, 0x06, 0x06, 0x06, 0x15, 0x06, 0x15, 0x06, 0x06, 0x15, 0x06,
+    0x06, 0x06, 0x15, 0x06, 0x15, 0x06, 0x15, 0x06, 0x06,
 ];
-
-// The greatest number of bytes that each of the two searches of `synchronize` receives. The first search is for the
-// reply to SYNCNOP, the second for the replies to `ROW`.
-const MOST_STALE: u32 = 1 << 16;
 
 impl<P: Port + Drop> Link<P> {
     /// Returns a link over this port. It is not synchronized yet.
@@ -124,6 +123,12 @@ impl<P: Port + Drop> Link<P> {
         reply: &mut [u8],
     ) -> Result<(), Failure<P::Cause>>
         ensures nature { (P.state (port_of self.new)).honest ≡ (P.state (port_of self.old)).honest }
+        ensures asked { OnOk result ((P.state (port_of self.new)).asked
+            ≡ frame_of command.entry ∷ (P.state (port_of self.old)).asked) }
+        ensures failed { OnErr result ((self.new ≡ self.old)
+            ⊎ ((P.state (port_of self.new)).asked ≡ frame_of command.entry ∷ (P.state (port_of self.old)).asked)) }
+        ensures acked { OnOk result ((P.state (port_of self.new)).received
+            ≡ (P.state (port_of self.old)).received ++ 0x06 ∷ reply.new) }
         ensures silent { is_in_step self.old ≡ false → self.new ≡ self.old }
         ensures was_in_step { OnOk result (is_in_step self.old ≡ true) }
         ensures ok { OnOk result (is_in_step self.new ≡ true) }
@@ -163,6 +168,12 @@ impl<P: Port + Drop> Link<P> {
         reply: &mut [u8],
     ) -> Result<(), Failure<P::Cause>>
         ensures nature { (P.state (port_of self.new)).honest ≡ (P.state (port_of self.old)).honest }
+        ensures asked { OnOk result ((P.state (port_of self.new)).asked
+            ≡ frame_of command.entry ∷ (P.state (port_of self.old)).asked) }
+        ensures failed { OnErr result ((self.new ≡ self.old)
+            ⊎ ((P.state (port_of self.new)).asked ≡ frame_of command.entry ∷ (P.state (port_of self.old)).asked)) }
+        ensures acked { OnOk result ((P.state (port_of self.new)).received
+            ≡ (P.state (port_of self.old)).received ++ 0x06 ∷ reply.new) }
         ensures ok { OnOk result (is_in_step self.new ≡ true) }
         ensures err { OnErr result ((self.new ≡ self.old) ⊎ (is_in_step self.new ≡ false)) }
         ensures fits { FitsFrame command.entry → OnErr result (is_in_step self.new ≡ false) }
@@ -187,18 +198,25 @@ impl<P: Port + Drop> Link<P> {
         Ok(())
     }
 
-    /// Sends frames of O_SPIOP together, and then reads their replies: an ACK for each frame, and after the last ACK as
-    /// many bytes as `reply` holds. `frames` has `earlier` frames that request no reply bytes, and then one more frame.
+    /// Sends `frames`, the frames of one O_SPIOP or of two, with one call of the port, and then reads their replies: an
+    /// ACK for each frame, and after the last ACK as many bytes as `reply` holds. `is_led` says that there are two frames;
+    /// the first of them requests no reply bytes.
     ///
-    /// If the link was out of step, the call returns `OutOfStep` or `CutFrame` and does not use the port. After any
-    /// other error the programmer may have carried out any of the frames. After each error no exchange sends anything
+    /// If the link was out of step, the call returns `OutOfStep` or `CutFrame` and does not use the port. The call returns
+    /// `Ok` only after it received ACK for each frame. After any other error the programmer may have carried out any of
+    /// the frames. After each error no exchange sends anything
     /// until `synchronize` returns `Ok`.
     pub(crate) fn exchange_batch(
         &mut self,
         frames: &[u8],
-        earlier: u32,
+        is_led: bool,
         reply: &mut [u8],
     ) -> Result<(), Failure<P::Cause>>
+        ensures nature { (P.state (port_of self.new)).honest ≡ (P.state (port_of self.old)).honest }
+        ensures asked { is_in_step self.old ≡ true → (P.state (port_of self.new)).asked
+            ≡ frames.now ∷ (P.state (port_of self.old)).asked }
+        ensures acked { OnOk result ((P.state (port_of self.new)).received
+            ≡ (P.state (port_of self.old)).received ++ (acks is_led ++ 0x06 ∷ reply.new)) }
         ensures silent { is_in_step self.old ≡ false → self.new ≡ self.old }
         ensures was_in_step { OnOk result (is_in_step self.old ≡ true) }
         ensures ok { OnOk result (is_in_step self.new ≡ true) }
@@ -210,34 +228,36 @@ impl<P: Port + Drop> Link<P> {
         self.sync = Sync::Cut;
         self.port.send(frames).map_err(Failure::Port)?;
         self.sync = Sync::Lost;
-        receive_acks(&mut self.port, earlier)?;
+        receive_acks(&mut self.port, is_led)?;
         receive_answer(&mut self.port, O_SPIOP, reply)?;
         self.sync = Sync::InStep;
         Ok(())
     }
 
-    /// Synchronizes the link, so that each later reply is matched to the frame that it belongs to. Sends SYNCNOP, and
-    /// skips all received bytes up to its reply, NAK and ACK. Then sends a fixed sequence of SYNCNOP and NOP, and skips
-    /// all bytes up to the replies to this sequence (serprog protocol, flashrom's Documentation/serprog-protocol.txt,
-    /// 10h).
+    /// Synchronizes the link, so that each later reply is matched to the frame that it belongs to. Sends one NOP, and
+    /// skips all received bytes up to its reply, ACK. Then sends a fixed sequence of NOP and SYNCNOP, and skips all bytes
+    /// up to the replies to this sequence (serprog protocol, flashrom's Documentation/serprog-protocol.txt, 00h and 10h).
     ///
     /// Returns `CutFrame`, and does not use the port, if a frame may have been sent only in part: further bytes could
     /// complete the frame, and the chip would carry out a command that was never intended. The link can't know about a
-    /// frame that another run sent in part, so disconnect the programmer from power after a run that was killed.
+    /// frame that another run sent in part. A programmer that waits for the rest of such a frame does not reply to the
+    /// NOP, so it receives this one byte of the frame, and nothing more until it is synchronized again. Disconnect it
+    /// from power first.
     ///
     /// If the link is not `Sync::Cut`, the port is well-behaved and the programmer is idle, the call fails only if
-    /// fewer than 29 calls of the port were left. The chip is not selected.
+    /// fewer than 28 calls of the port were left. The chip is not selected.
     ///
-    /// Returns `Port` if the port fails. Returns `NoSync` if the reply to the first SYNCNOP isn't among the next 65,536
+    /// Returns `Port` if the port fails. Returns `NoSync` if the reply to the first NOP isn't among the next 65,536
     /// bytes, or the replies to the sequence aren't among the 65,536 bytes after it.
     pub fn synchronize(&mut self) -> Result<(), Failure<P::Cause>>
         ensures nature { (P.state (port_of self.new)).honest ≡ (P.state (port_of self.old)).honest }
+        ensures asked { AsksSync (P.state (port_of self.old)).asked (P.state (port_of self.new)).asked }
         ensures fewer { (P.state (port_of self.old)).honest ≡ true
             → (P.state (port_of self.new)).left ≤ (P.state (port_of self.old)).left }
         ensures calls { (P.state (port_of self.old)).honest ≡ true
             → OnOk result (3 ≤ (P.state (port_of self.old)).left) }
         ensures synchronized { AwaitsCommand (P.state (port_of self.old)) → is_cut self.old ≡ false
-            → AsksUnlessFew 29 result (P.state (port_of self.old)) (P.state (port_of self.new)) }
+            → AsksUnlessFew 28 result (P.state (port_of self.old)) (P.state (port_of self.new)) }
         ensures silent { is_cut self.old ≡ true → self.new ≡ self.old }
         ensures was_whole { OnOk result (is_cut self.old ≡ false) }
         ensures ok { OnOk result (is_in_step self.new ≡ true) }
@@ -248,9 +268,9 @@ impl<P: Port + Drop> Link<P> {
         }
         self.sync = Sync::Lost;
         // Only this byte is sent before a reply is received. If the programmer is waiting for the rest of a frame, it
-        // treats the byte as part of that frame.
-        send_all(&mut self.port, &[0x10])?;
-        skip_past(&mut self.port, &[0x15, 0x06])?;
+        // treats the byte as part of that frame. A zero is the byte that does least harm there.
+        send_all(&mut self.port, &[0x00])?;
+        skip_past(&mut self.port, &[0x06])?;
         send_all(&mut self.port, &ROW)?;
         skip_past(&mut self.port, &ROW_ANSWERS)?;
         self.sync = Sync::InStep;
@@ -269,6 +289,8 @@ fn encode<C>(command: Command<'_>) -> Result<Frame, Failure<C>>
 
 fn send<P: Port>(port: &mut P, frame: &Frame) -> Result<(), Failure<P::Cause>>
     ensures nature { (P.state port.new).honest ≡ (P.state port.old).honest }
+    ensures asked { (P.state port.new).asked ≡ frame.now.items ∷ (P.state port.old).asked }
+    ensures unreceived { (P.state port.new).received ≡ (P.state port.old).received }
     ensures sent { (P.state port.old).honest ≡ true
         → OnOk result (IsSent frame.now.items (P.state port.old) (P.state port.new)) }
     ensures cut_off { (P.state port.old).honest ≡ true
@@ -281,6 +303,7 @@ fn send<P: Port>(port: &mut P, frame: &Frame) -> Result<(), Failure<P::Cause>>
 // Sends `bytes`, which contain no O_SPIOP.
 fn send_all<P: Port>(port: &mut P, bytes: &[u8]) -> Result<(), Failure<P::Cause>>
     ensures nature { (P.state port.new).honest ≡ (P.state port.old).honest }
+    ensures asked { (P.state port.new).asked ≡ bytes.now ∷ (P.state port.old).asked }
     ensures fewer { (P.state port.old).honest ≡ true → (P.state port.new).left ≤ (P.state port.old).left }
     ensures calls { (P.state port.old).honest ≡ true
         → OnOk result ((P.state port.old).left ≡ (P.state port.new).left + 1) }
@@ -308,6 +331,8 @@ fn receive_answer<P: Port>(
     ensures power { (P.state port.old).honest ≡ true
         → OnErr result (MayLoseDevicePower (P.state port.old).device (P.state port.new).device) }
     ensures cause { (P.state port.old).honest ≡ true → AnswerBegins (P.state port.old) → IfErr result IsPortFailure }
+    ensures unasked { (P.state port.new).asked ≡ (P.state port.old).asked }
+    ensures acked { OnOk result ((P.state port.new).received ≡ (P.state port.old).received ++ 0x06 ∷ reply.new) }
     ensures refused { (P.state port.old).honest ≡ true → (P.state port.old).device.pending ≡ nak
         → OnOk result ⊥ × IfErr result (IsRefused opcode 1 (P.state port.old).left) }
     ensures unread { (P.state port.old).honest ≡ true → OnErr result (reply.new ≡ reply.old) }
@@ -321,55 +346,15 @@ fn receive_answer<P: Port>(
     }
 }
 
-// Receives the replies to `count` frames of O_SPIOP that request no reply bytes.
-fn receive_acks<P: Port>(port: &mut P, count: u32) -> Result<(), Failure<P::Cause>> {
-    for _ in 0..count {
+// Receives the reply to a frame of O_SPIOP that requests no reply bytes, if there is such a frame (`is_led`). Returns `Ok`
+// only if the reply is ACK.
+fn receive_acks<P: Port>(port: &mut P, is_led: bool) -> Result<(), Failure<P::Cause>>
+    ensures nature { (P.state port.new).honest ≡ (P.state port.old).honest }
+    ensures unasked { (P.state port.new).asked ≡ (P.state port.old).asked }
+    ensures acked { OnOk result ((P.state port.new).received ≡ (P.state port.old).received ++ acks is_led) }
+{
+    if is_led {
         receive_answer(port, O_SPIOP, &mut [])?;
     }
     Ok(())
-}
-
-// Receives bytes until the last ones are `wanted`. Returns `NoSync` if they aren't after 65,536 bytes.
-fn skip_past<P: Port>(port: &mut P, wanted: &[u8]) -> Result<(), Failure<P::Cause>>
-    requires { length wanted.now ≤ 25 }
-    ensures nature { (P.state port.new).honest ≡ (P.state port.old).honest }
-    ensures fewer { (P.state port.old).honest ≡ true → (P.state port.new).left ≤ (P.state port.old).left }
-    ensures calls { (P.state port.old).honest ≡ true
-        → OnOk result ((P.state port.new).left + 1 ≤ (P.state port.old).left) }
-    ensures skips { IsPending wanted.now (P.state port.old)
-        → AsksUnlessFew (length wanted.now) result (P.state port.old) (P.state port.new) }
-{
-    let mut last = [0; ROW_ANSWERS_LEN];
-    for received in 0..MOST_STALE {
-        let byte = receive_one(port)?;
-        shift_in(&mut last, byte);
-        if last.ends_with(wanted) {
-            return Ok(());
-        }
-    }
-    Err(Failure::NoSync)
-}
-
-// Removes the first byte of `last`, and appends `byte`.
-fn shift_in(last: &mut [u8; ROW_ANSWERS_LEN], byte: u8)
-    ensures { last.new ≡ drop 1 last.old ++ byte ∷ [] }
-{
-    last.rotate_left(1);
-    last[ROW_ANSWERS_LEN - 1] = byte;
-}
-
-fn receive_one<P: Port>(port: &mut P) -> Result<u8, Failure<P::Cause>>
-    ensures nature { (P.state port.new).honest ≡ (P.state port.old).honest }
-    ensures fewer { (P.state port.old).honest ≡ true → (P.state port.new).left ≤ (P.state port.old).left }
-    ensures calls { (P.state port.old).honest ≡ true
-        → OnOk result ((P.state port.old).left ≡ (P.state port.new).left + 1) }
-    ensures received { (P.state port.old).honest ≡ true
-        → IfOk result (λ byte. IsReceived (byte ∷ []) (P.state port.old) (P.state port.new)) }
-    ensures silent { (P.state port.old).honest ≡ true
-        → OnErr result (IsSilent 1 (P.state port.old) (P.state port.new)) }
-    ensures cause { IfErr result IsPortFailure }
-{
-    let mut byte = [0];
-    port.receive(&mut byte).map_err(Failure::Port)?;
-    Ok(byte[0])
 }

@@ -1,5 +1,5 @@
 //! The contract of a port to a serial programmer.
-ghost use Rattle.std.specs.Prelude.{◌≡◌, true, length, OnOk, OnErr};
+ghost use Rattle.std.specs.Prelude.{◌≡◌, ◌∷◌, ◌++◌, true, length, OnOk, OnErr};
 ghost use Rattle.nor_model.specs.Chip.{IsChip};
 ghost use Rattle.nor_serprog.specs.Device.{PortState, IsSent, IsCutOff, IsReceived, IsSilent};
 
@@ -23,6 +23,9 @@ ghost use Rattle.nor_serprog.specs.Device.{PortState, IsSent, IsCutOff, IsReceiv
 /// whether a port is well-behaved. The state of a port of an operating system is `unknown_port`, which isn't
 /// well-behaved.
 ///
+/// Every port, also one that isn't well-behaved, records what each call of `send` was asked to send (`asked`), and the
+/// bytes that `receive` returned (`received`). A port of an operating system has a `Wire` for this.
+///
 /// Each call must return, so an implementation that can block forever needs a timeout.
 pub trait Port {
     /// The cause of a failure of the port.
@@ -33,6 +36,8 @@ pub trait Port {
     /// Sends all of `bytes`. After an error, any number of them may have been sent.
     fn send(&mut self, bytes: &[u8]) -> Result<(), Self::Cause>
         ensures nature { (state self.new).honest ≡ (state self.old).honest }
+        ensures asked { (state self.new).asked ≡ bytes.now ∷ (state self.old).asked }
+        ensures unreceived { (state self.new).received ≡ (state self.old).received }
         ensures sent { (state self.old).honest ≡ true
             → OnOk result (IsSent bytes.now (state self.old) (state self.new)) }
         ensures cut_off { (state self.old).honest ≡ true
@@ -42,6 +47,9 @@ pub trait Port {
     /// received, and a well-behaved port leaves `bytes` as it was.
     fn receive(&mut self, bytes: &mut [u8]) -> Result<(), Self::Cause>
         ensures nature { (state self.new).honest ≡ (state self.old).honest }
+        ensures unasked { (state self.new).asked ≡ (state self.old).asked }
+        ensures returned { OnOk result ((state self.new).received ≡ (state self.old).received ++ bytes.new) }
+        ensures nothing { OnErr result ((state self.new).received ≡ (state self.old).received) }
         ensures received { (state self.old).honest ≡ true
             → OnOk result (IsReceived bytes.new (state self.old) (state self.new)) }
         ensures silent { (state self.old).honest ≡ true

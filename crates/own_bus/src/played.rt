@@ -2,11 +2,12 @@
 //! hardware.
 ghost use Rattle.std.proofs.lemmas.Bool.{false≢true};
 ghost use Rattle.nor_serprog.specs.Device.{unknown_port};
+ghost use Rattle.nor_serprog.specs.Wire.{asked_on, received_on};
 
 use crate::own::Wires;
 use arrayvec::ArrayVec;
 use nor_chip::{Bus, SimBus, is_changing};
-use nor_serprog::{Port, frame_len};
+use nor_serprog::{Port, Wire, frame_len};
 use std::io::ErrorKind;
 use std::{fmt, io, mem};
 
@@ -35,6 +36,7 @@ pub struct PlayedPort {
     // received yet (`pending`).
     begun: ArrayVec<u8, MOST_BEGUN>,
     pending: ArrayVec<u8, MOST_PENDING>,
+    wire: Wire,
 }
 
 impl PlayedPort {
@@ -43,7 +45,22 @@ impl PlayedPort {
             chip,
             begun: ArrayVec::new(),
             pending: ArrayVec::new(),
+            wire: Wire::new(),
         }
+    }
+
+    // Takes the bytes of a call, and carries out each command that they complete.
+    fn take(&mut self, bytes: &[u8]) -> io::Result<()> {
+        for byte in bytes {
+            self.begun
+                .try_push(*byte)
+                .map_err(|_| ErrorKind::OutOfMemory)?;
+            if frame_len(&self.begun) == Some(self.begun.len()) {
+                let frame = mem::replace(&mut self.begun, ArrayVec::new());
+                self.carry_out(&frame)?;
+            }
+        }
+        Ok(())
     }
 
     // Appends `bytes` to the pending replies.
@@ -84,21 +101,16 @@ impl PlayedPort {
 impl Port for PlayedPort {
     type Cause = io::Error;
 
-    ghost state = { λ _. unknown_port };
+    ghost state = { λ port. unknown_port (asked_on port.wire) (received_on port.wire) };
 
     ghost reaches = { λ _ honest. absurd (false≢true honest) };
 
     fn send(&mut self, bytes: &[u8]) -> io::Result<()> {
-        for byte in bytes {
-            self.begun
-                .try_push(*byte)
-                .map_err(|_| ErrorKind::OutOfMemory)?;
-            if frame_len(&self.begun) == Some(self.begun.len()) {
-                let frame = mem::replace(&mut self.begun, ArrayVec::new());
-                self.carry_out(&frame)?;
-            }
-        }
-        Ok(())
+        let mut wire = mem::replace(&mut self.wire, Wire::new());
+        wire.asked(bytes);
+        let sent = self.take(bytes);
+        self.wire = wire;
+        sent
     }
 
     fn receive(&mut self, bytes: &mut [u8]) -> io::Result<()> {
@@ -111,6 +123,7 @@ impl Port for PlayedPort {
         bytes.copy_from_slice(received);
         let _ = rest.try_extend_from_slice(later);
         self.pending = rest;
+        self.wire.received(bytes);
         Ok(())
     }
 }

@@ -118,13 +118,13 @@ fn operations(rt: &impl Abort, alloc: Global, out: &[u8], has_reply: bool) -> (u
 }
 
 #[test]
-fn only_a_modifying_command_without_a_reply_waits(rt: HostRuntime) {
+fn only_a_write_enable_without_a_reply_waits(rt: HostRuntime) {
     let cases: [(&[u8], bool, u32); 8] = [
         (&[0x06], false, 0),
         (&[0x06], true, 1),
-        (&[0x01, 0x00, 0x00], false, 0),
+        (&[0x01, 0x00, 0x00], false, 1),
         (&[0x01, 0x00, 0x00], true, 1),
-        (&[0x20, 0x00, 0x10, 0x00], false, 0),
+        (&[0x20, 0x00, 0x10, 0x00], false, 1),
         (&[0x20, 0x00, 0x10, 0x00], true, 1),
         (&[0x04], false, 1),
         (&[0x05], true, 1),
@@ -144,7 +144,7 @@ fn assert_silent(rt: &impl Abort, bus: &mut BatchingBus<Model>) {
     assert_that!(rt; command.is_err() && flushed.is_ok() && poll.is_err());
 }
 
-// The write enable and the poll are one batch, and the fault occurs at the first frame of this batch. After the fault
+// The write enable waits for the poll, and the fault occurs at its frame, which is sent first. After the fault
 // no command is left to be sent.
 #[test]
 fn a_batch_is_sent_only_in_step(rt: HostRuntime) {

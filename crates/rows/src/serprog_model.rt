@@ -2,10 +2,11 @@
 
 ghost use Rattle.std.proofs.lemmas.Bool.{false≢true};
 ghost use Rattle.nor_serprog.specs.Device.{unknown_port};
+ghost use Rattle.nor_serprog.specs.Wire.{asked_on, received_on};
 
 use arrayvec::ArrayVec;
 use nor_chip::{Bus, Config, Delays, Meter, SimBus};
-use nor_serprog::{Port, frame_len};
+use nor_serprog::{Port, Wire, frame_len};
 use std::alloc::Global;
 use std::process::Abort;
 use std::{fmt, mem};
@@ -72,6 +73,7 @@ pub struct Model {
     pub received: u32,
     begun: ArrayVec<u8, MOST_BEGUN>,
     pub pending: ArrayVec<u8, MOST_PENDING>,
+    wire: Wire,
 }
 
 impl Model {
@@ -97,7 +99,25 @@ impl Model {
             received: 0,
             begun: ArrayVec::new(),
             pending: ArrayVec::new(),
+            wire: Wire::new(),
         }
+    }
+
+    // Takes the bytes of a call, and carries out each command that they complete.
+    fn take(&mut self, bytes: &[u8]) -> Result<(), Cause> {
+        let cut = self.fault == Some(Fault::Cut) && self.operations == self.fault_at;
+        for byte in bytes {
+            self.received = self.received.saturating_add(1);
+            let _ = self.begun.try_push(*byte);
+            let len = self.begun.len();
+            if cut && len == 7 && self.begun.first() == Some(&0x13) {
+                return Err(Cause::Cut);
+            }
+            if frame_len(&self.begun) == Some(len) {
+                self.carry_out();
+            }
+        }
+        Ok(())
     }
 
     fn reply(&mut self, bytes: &[u8]) {
@@ -196,24 +216,16 @@ fn exceeds(len: usize, limit: [u8; 3]) -> bool {
 impl Port for Model {
     type Cause = Cause;
 
-    ghost state = { λ _. unknown_port };
+    ghost state = { λ port. unknown_port (asked_on port.wire) (received_on port.wire) };
 
     ghost reaches = { λ _ honest. absurd (false≢true honest) };
 
     fn send(&mut self, bytes: &[u8]) -> Result<(), Cause> {
-        let cut = self.fault == Some(Fault::Cut) && self.operations == self.fault_at;
-        for byte in bytes {
-            self.received = self.received.saturating_add(1);
-            let _ = self.begun.try_push(*byte);
-            let len = self.begun.len();
-            if cut && len == 7 && self.begun.first() == Some(&0x13) {
-                return Err(Cause::Cut);
-            }
-            if frame_len(&self.begun) == Some(len) {
-                self.carry_out();
-            }
-        }
-        Ok(())
+        let mut wire = mem::replace(&mut self.wire, Wire::new());
+        wire.asked(bytes);
+        let sent = self.take(bytes);
+        self.wire = wire;
+        sent
     }
 
     fn receive(&mut self, bytes: &mut [u8]) -> Result<(), Cause> {
@@ -226,6 +238,7 @@ impl Port for Model {
         bytes.copy_from_slice(taken);
         let _ = rest.try_extend_from_slice(later);
         self.pending = rest;
+        self.wire.received(bytes);
         Ok(())
     }
 }

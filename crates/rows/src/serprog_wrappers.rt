@@ -99,9 +99,10 @@ fn polls_of_a_busy_chip_are_paced(rt: HostRuntime) {
     assert_that!(&rt; now.get() == 14 * 100 + 16 * 6200 + 505 * 6250);
 }
 
-// The chip shows BUSY in each poll. The first poll after a command is sent without a pause. The pause before the second
-// one is the expected time of the operation, less the time since the command; there is no pause if more time has
-// passed. If the clock fails, the pause is the whole expected time. A reply to a poll has one or two bytes.
+// The chip shows BUSY in each poll. The pause before the second poll after a command is the expected time of the
+// operation, less the time since the command; there is no pause if more time has passed. If the clock fails, the pause is
+// the whole expected time. The first poll after a page program waits in the same way; after other commands it is sent
+// without a pause. A reply to a poll has one or two bytes.
 #[test]
 fn the_second_poll_comes_after_the_typical_time(rt: HostRuntime) {
     for (command, typical, third) in COMMANDS {
@@ -110,10 +111,17 @@ fn the_second_poll_comes_after_the_typical_time(rt: HostRuntime) {
             let mut bus = always_busy(&rt, rt.alloc(), &now, fails);
             send(&rt, &mut bus, command);
             let _: [u8; 2] = read(&rt, &mut bus, &[0x05]);
-            assert_that!(&rt; now.get() == 1000);
-            now.set(1000_u64.saturating_add(passed));
+            let first = if matches!(command, [0x02, ..]) {
+                typical
+            } else {
+                0
+            };
+            assert_that!(&rt; now.get() == 1000_u64.saturating_add(first));
+            let polled = 1000_u64.saturating_add(passed.max(first));
+            now.set(polled);
             let _ = poll(&rt, &mut bus);
-            let second = 1000_u64.saturating_add(typical.max(passed));
+            let begun = if fails { polled } else { 1000 };
+            let second = polled.max(begun.saturating_add(typical));
             assert_that!(&rt; now.get() == second);
             let _: [u8; 2] = read(&rt, &mut bus, &[0x05]);
             assert_that!(&rt; now.get() == second.saturating_add(third));

@@ -77,7 +77,7 @@ lost_from_chip journal first old new can lost = λ state same.
 -- If a bus over a port ran out of transactions (`RanOut`), the port had few calls left (`HadFewCalls`).
 few_calls : (transactions : ℕ) (old new : PortState) (history history' : List Exchange)
     → RanOut transactions (over_port old history) (over_port new history') → HadFewCalls transactions old
-few_calls transactions old new history history' ran = let below = ran.below in omega arith
+few_calls transactions old new history history' ran = let below = (ran refl).below in omega arith
 
 -- ---- a session
 

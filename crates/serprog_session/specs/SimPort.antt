@@ -73,9 +73,13 @@ device_over bus bus_type pending = record {
 }
 
 -- A well-behaved port to the simulated programmer with the chip of this bus (`device_over`), with `left` calls left.
-abbrev pub port_over : BusState → (bus_type : Option ℕ) → (pending : List ℕ) → (left : ℕ) → PortState
-port_over bus bus_type pending left = record {
+-- `asked` is what the port was asked to send, and `received` what it returned.
+abbrev pub port_over : BusState → (bus_type : Option ℕ) → (pending : List ℕ) → (left : ℕ) → (asked : List (List ℕ))
+    → (received : List ℕ) → PortState
+port_over bus bus_type pending left asked received = record {
   device = device_over bus bus_type pending;
   left = left;
   honest = true;
+  asked = asked;
+  received = received;
 }

@@ -4,13 +4,14 @@ ghost use Rattle.std.specs.Prelude.{OnOk, OnErr};
 ghost use Rattle.nor_serprog.specs.Device.{IsIdle, IsSent, IsCutOff, IsCut, StepsOnce};
 ghost use Rattle.nor_serprog.specs.Firmware.{HaveReplies, frames_of, replies_of, settings_after_all};
 ghost use Rattle.nor_serprog.specs.Frame.{IsFrame, out_in, replies_in};
+ghost use Rattle.nor_serprog.specs.Wire.{asked_on, received_on};
 ghost use Rattle.nor_serprog.specs.declared.command.Command.{Command};
 ghost use Rattle.serprog_session.specs.SimPort.{simulated_chip, simulated_firmware, simulated_reply, left_of};
 ghost use Rattle.serprog_session.specs.SimPort.{bus_type_after, simulated_settings, device_over, port_over};
 
 use arrayvec::ArrayVec;
 use nor_chip::{Bus, Meter, SimBus};
-use nor_serprog::{Port, frame_len};
+use nor_serprog::{Port, Wire, frame_len};
 use thiserror::Error;
 
 const ACK: u8 = 0x06;
@@ -60,19 +61,22 @@ pub struct SimPort {
     // The flags of the last S_BUSTYPE, or `None` if no S_BUSTYPE was sent.
     bus_type: Option<u8>,
     left: u64,
+    wire: Wire,
 }
 
 impl SimPort {
     /// Returns a port to a programmer with this chip. At most `left` calls of the port can succeed.
     pub fn new(chip: SimBus, left: u64) -> SimPort
         ensures chip { simulated_chip result ≡ chip }
-        ensures state { ⟦<SimPort as Port>⟧.state result ≡ port_over (⟦<SimBus as Bus>⟧.state chip) None [] left }
+        ensures state { ⟦<SimPort as Port>⟧.state result ≡ port_over (⟦<SimBus as Bus>⟧.state chip) None [] left
+            [] [] }
     {
         SimPort {
             chip,
             pending: ArrayVec::new(),
             bus_type: None,
             left,
+            wire: Wire::new(),
         }
     }
 
@@ -102,11 +106,16 @@ impl SimPort {
     // the transaction (`cut`) and returns `Cut`.
     fn operate(&mut self, frame: &[u8]) -> Result<(), SimFailure>
         requires { slice_index frame.now 0 ≡ 0x13 }
+        ensures asked { (⟦<SimPort as Port>⟧.state self.new).asked
+            ≡ frame.now ∷ (⟦<SimPort as Port>⟧.state self.old).asked }
+        ensures unreceived { (⟦<SimPort as Port>⟧.state self.new).received
+            ≡ (⟦<SimPort as Port>⟧.state self.old).received }
         ensures sent { OnOk result (IsSent frame.now (⟦<SimPort as Port>⟧.state self.old)
             (⟦<SimPort as Port>⟧.state self.new)) }
         ensures cut_off { OnErr result (IsCutOff frame.now (⟦<SimPort as Port>⟧.state self.old)
             (⟦<SimPort as Port>⟧.state self.new)) }
     {
+        self.wire.asked(frame);
         let mut reply = [0; MOST_READ];
         let reply = match reply.get_mut(..reply_len(frame)) {
             Some(reply) if self.left > 0 && self.pending.is_empty() => reply,
@@ -126,7 +135,8 @@ impl SimPort {
 impl Port for SimPort {
     type Cause = SimFailure;
 
-    ghost state = { λ port. port_over (⟦<SimBus as Bus>⟧.state port.chip) port.bus_type port.pending.items port.left };
+    ghost state = { λ port. port_over (⟦<SimBus as Bus>⟧.state port.chip) port.bus_type port.pending.items port.left
+        (asked_on port.wire) (received_on port.wire) };
 
     ghost reaches = { λ port honest. record {
       busy = port.chip.flash.busy_in;
@@ -139,6 +149,7 @@ impl Port for SimPort {
         if is_operation(bytes) {
             return self.operate(bytes);
         }
+        self.wire.asked(bytes);
         if self.left == 0 {
             return Err(SimFailure::Cut);
         }
@@ -162,6 +173,7 @@ impl Port for SimPort {
         let mut rest = ArrayVec::new();
         let _ = rest.try_extend_from_slice(later);
         self.pending = rest;
+        self.wire.received(bytes);
         Ok(())
     }
 }

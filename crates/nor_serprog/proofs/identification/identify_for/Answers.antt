@@ -10,14 +10,14 @@ use Rattle.nor_serprog.proofs.identification.identify_for.Goals as goal
 -- ---- the handshake before each of its steps
 
 at_version : (g : _) (c : After-require_version g) → Starts g.P.Port.state c.args.link.now
-    → HasReached g.P.Port.state c.args.link.now c.args.hertz c.args.least 29 0 unchanged (g.P.Port.state c.args.link.now.port).device.firmware.commands
+    → HasReached g.P.Port.state c.args.link.now c.args.hertz c.args.least 28 0 unchanged (g.P.Port.state c.args.link.now.port).device.firmware.commands
     c.synchronize.new.link
 at_version g c start =
     begins c.args.hertz c.args.least c.synchronize.new.link (c.in_ok-synchronize.ensures.concludes start.0 start.1)
     c.in_ok-synchronize.ensures.in_step
 
 at_map : (g : _) (c : After-query_commands g) → Starts g.P.Port.state c.args.link.now
-    → HasReached g.P.Port.state c.args.link.now c.args.hertz c.args.least 32 1 unchanged (g.P.Port.state c.args.link.now.port).device.firmware.commands
+    → HasReached g.P.Port.state c.args.link.now c.args.hertz c.args.least 31 1 unchanged (g.P.Port.state c.args.link.now.port).device.firmware.commands
     c.require_version.new.link
 at_map g c start =
     let s = at_version g c.before.before.before.before start in
@@ -25,21 +25,21 @@ at_map g c start =
     (c.in_ok-require_version.ensures.in_step s.ready.in_step) refl refl
 
 at_spi : (g : _) (c : After-require_spi g) → Starts g.P.Port.state c.args.link.now
-    → HasReached g.P.Port.state c.args.link.now c.args.hertz c.args.least 35 2 unchanged c.in_ok-commands.commands c.query_commands.new.link
+    → HasReached g.P.Port.state c.args.link.now c.args.hertz c.args.least 34 2 unchanged c.in_ok-commands.commands c.query_commands.new.link
 at_spi g c start =
     let s = at_map g c.before.before.before.before.before start in
     let d = c.in_ok-commands.ensures.concludes _ s.ready in
     goes unchanged 2 c.query_commands.new.link s d (c.in_ok-commands.ensures.in_step s.ready.in_step) d.value refl
 
 at_bus : (g : _) (c : After-set g) → Starts g.P.Port.state c.args.link.now
-    → HasReached g.P.Port.state c.args.link.now c.args.hertz c.args.least 38 3 unchanged c.in_ok-commands.commands c.require_spi.new.link
+    → HasReached g.P.Port.state c.args.link.now c.args.hertz c.args.least 37 3 unchanged c.in_ok-commands.commands c.require_spi.new.link
 at_bus g c start =
     let s = at_spi g c.before.before.before.before.before start in
     goes unchanged 3 c.require_spi.new.link s (c.in_ok-require_spi.ensures.concludes _ s.ready s.map)
     (c.in_ok-require_spi.ensures.in_step s.ready.in_step) s.map refl
 
 at_write : (g : _) (c : After-query_write_limit g) → Starts g.P.Port.state c.args.link.now
-    → HasReached g.P.Port.state c.args.link.now c.args.hertz c.args.least 41 4 after_bus_type c.in_ok-commands.commands c.set.new.link
+    → HasReached g.P.Port.state c.args.link.now c.args.hertz c.args.least 40 4 after_bus_type c.in_ok-commands.commands c.set.new.link
 at_write g c start =
     let s = at_bus g c.before.before.before.before.before start in
     let takes = (g.P.Port.state c.args.link.now.port).device.firmware.takes_buses 8 in
@@ -47,35 +47,35 @@ at_write g c start =
     (c.in_ok-set.ensures.in_step s.ready.in_step) s.map refl
 
 at_read : (g : _) (c : After-query_read_limit g) → Starts g.P.Port.state c.args.link.now
-    → HasReached g.P.Port.state c.args.link.now c.args.hertz c.args.least 44 5 after_bus_type c.in_ok-commands.commands c.query_write_limit.new.link
+    → HasReached g.P.Port.state c.args.link.now c.args.hertz c.args.least 43 5 after_bus_type c.in_ok-commands.commands c.query_write_limit.new.link
 at_read g c start =
     let s = at_write g c.before.before.before.before.before start in
     goes unchanged 5 c.query_write_limit.new.link s (c.in_ok-longest_write.ensures.concludes _ s.ready s.map)
     (c.in_ok-longest_write.ensures.in_step s.ready.in_step) s.map refl
 
 at_buffer : (g : _) (c : After-query_buffer g) → Starts g.P.Port.state c.args.link.now
-    → HasReached g.P.Port.state c.args.link.now c.args.hertz c.args.least 47 6 after_bus_type c.in_ok-commands.commands c.query_read_limit.new.link
+    → HasReached g.P.Port.state c.args.link.now c.args.hertz c.args.least 46 6 after_bus_type c.in_ok-commands.commands c.query_read_limit.new.link
 at_buffer g c start =
     let s = at_read g c.before.before.before.before.before start in
     goes unchanged 6 c.query_read_limit.new.link s (c.in_ok-longest_read.ensures.concludes _ s.ready s.map)
     (c.in_ok-longest_read.ensures.in_step s.ready.in_step) s.map refl
 
 at_name : (g : _) (c : After-query_name g) → Starts g.P.Port.state c.args.link.now
-    → HasReached g.P.Port.state c.args.link.now c.args.hertz c.args.least 50 7 after_bus_type c.in_ok-commands.commands c.query_buffer.new.link
+    → HasReached g.P.Port.state c.args.link.now c.args.hertz c.args.least 49 7 after_bus_type c.in_ok-commands.commands c.query_buffer.new.link
 at_name g c start =
     let s = at_buffer g c.before.before.before.before.before start in
     goes unchanged 7 c.query_buffer.new.link s (c.in_ok-serial_buffer.ensures.concludes _ s.ready s.map)
     (c.in_ok-serial_buffer.ensures.in_step s.ready.in_step) s.map refl
 
 at_clock : (g : _) (c : After-set_frequency g) → Starts g.P.Port.state c.args.link.now
-    → HasReached g.P.Port.state c.args.link.now c.args.hertz c.args.least 53 7 after_bus_type c.in_ok-commands.commands c.query_name.new.link
+    → HasReached g.P.Port.state c.args.link.now c.args.hertz c.args.least 52 7 after_bus_type c.in_ok-commands.commands c.query_name.new.link
 at_clock g c start =
     let s = at_name g c.before.before.before.before.before start in
     goes unchanged 7 c.query_name.new.link s (c.in_ok-name.ensures.concludes _ s.ready s.map)
     (c.in_ok-name.ensures.in_step s.ready.in_step) s.map refl
 
 at_pins : (g : _) (c : After-set-2 g) → Starts g.P.Port.state c.args.link.now
-    → HasReached g.P.Port.state c.args.link.now c.args.hertz c.args.least 56 8 after_bus_type c.in_ok-commands.commands c.set_frequency.new.link
+    → HasReached g.P.Port.state c.args.link.now c.args.hertz c.args.least 55 8 after_bus_type c.in_ok-commands.commands c.set_frequency.new.link
 at_pins g c start =
     let s = at_clock g c.before.before.before.before.before start in
     goes unchanged 8 c.set_frequency.new.link s (c.in_ok-frequency.ensures.concludes _ s.ready s.map)
@@ -175,7 +175,7 @@ returns-clause-identifies g c awaits whole =
         selects = c.offers.ensures ∙ ap (λ (m : List ℕ). is_in_map m 0x16) bus.map;
       };
       asks =
-          subst (λ (s : ProgrammerSettings). OnlyAsks 59 (with_settings s old) (g.P.Port.state c.set-2.new.link.port))
+          subst (λ (s : ProgrammerSettings). OnlyAsks 58 (with_settings s old) (g.P.Port.state c.set-2.new.link.port))
           (is_prepared old.device.firmware old.device.settings selects.usable switches.usable) all.asks;
       fails = tt;
       power = tt;

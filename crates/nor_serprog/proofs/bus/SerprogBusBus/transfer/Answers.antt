@@ -7,7 +7,7 @@ returns-then-was_in_step-clause-law g c = record {
   nature = search rules;
   stops = stops_over g.P.Port.state c.args.out.now (length c.args.reply.now) c.args.self.now.link c.carry.new.link _ _
       c.args.self.now.idle c.in-Err.ensures.silent c.in-Err.ensures.interrupted c.in-Err.ensures.fits;
-  unread = search rules;
+  unread = λ honest punctual. search rules;
   carries = search rules;
   records = search rules;
 }
@@ -17,7 +17,7 @@ returns-else-was_in_step-clause-law g c = record {
   nature = search rules;
   stops = stops_over g.P.Port.state c.args.out.now (length c.args.reply.now) c.args.self.now.link c.carry.new.link _ _
       c.args.self.now.idle c.in-Err.ensures.silent c.in-Err.ensures.interrupted c.in-Err.ensures.fits;
-  unread = search rules;
+  unread = λ honest punctual. search rules;
   carries = search rules;
   records = search rules;
 }

@@ -3,7 +3,7 @@ use Rattle.std.proofs.lemmas.Bool.{false≢true}
 use Rattle.std.proofs.lemmas.Result.{err_from_is_err_and}
 use Rattle.nor_serprog.proofs.Exchanges.{uses_then}
 use Rattle.nor_serprog.proofs.Skipped.{skips_err, received_more, all_received, ends_if_all, skipped}
-use Rattle.nor_serprog.proofs.link.skip_past.Goals as goal
+use Rattle.nor_serprog.proofs.skipping.skip_past.Goals as goal
 
 pub returns-in_err-byte-clause-skips : goal.returns-in_err-byte-clause-skips
 returns-in_err-byte-clause-skips g c p =
@@ -30,7 +30,8 @@ returns-then-ends_with-clause-skips g c p =
 
 pub loop-received-preserved : goal.loop-received-preserved
 loop-received-preserved g c = record {
-  uses = uses_then c.loop-received.invariant.uses c.receive_one.ensures.nature c.receive_one.ensures.fewer;
+  uses = uses_then c.loop-received.invariant.uses c.receive_one.ensures.nature c.receive_one.ensures.fewer
+      c.receive_one.ensures.unasked;
   skips = λ p.
       let s = c.loop-received.invariant.skips p in
       let r = received_more c.args.wanted.now c.loop-received.last c.shift_in.new.last c.loop-received.received _

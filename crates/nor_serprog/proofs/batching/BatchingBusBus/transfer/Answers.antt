@@ -1,0 +1,23 @@
+use Rattle.std.proofs.Common.{length}
+use Rattle.nor_serprog.proofs.Framed.{framed_ok, framed_err}
+use Rattle.nor_serprog.proofs.batching.BatchingBusBus.transfer.Goals as goal
+
+pub returns-in-Ok-clause-frames : goal.returns-in-Ok-clause-frames
+returns-in-Ok-clause-frames g c start f =
+    framed_ok start (g.P.Port.state c.args.self.now.batch.link.port).asked
+    (g.P.Port.state c.transact.new.self.link.port).asked c.args.self.now.batch.waits c.transact.new.self.waits
+    c.args.self.now.history.exchanges c.replied-self.result.exchanges c.args.out.now c.transact.new.reply
+    (length c.args.reply.now) c.transact.auto.reply c.replied-self.ensures.exchanges c.in-Ok.ensures.only_enable
+    c.in-Ok.ensures.led c.in-Ok.ensures.sent f
+
+pub returns-then-was_in_step-clause-frames : goal.returns-then-was_in_step-clause-frames
+returns-then-was_in_step-clause-frames g c start f =
+    framed_err start c.args.self.now.batch c.transact.new.self c.args.self.now.history.exchanges
+    c.stopped-self.result.exchanges c.args.out.now (length c.args.reply.now) c.stopped-self.ensures.exchanges
+    c.in-Err.ensures.err f
+
+pub returns-else-was_in_step-clause-frames : goal.returns-else-was_in_step-clause-frames
+returns-else-was_in_step-clause-frames g c start f =
+    framed_err start c.args.self.now.batch c.transact.new.self c.args.self.now.history.exchanges
+    c.stopped-self.result.exchanges c.args.out.now (length c.args.reply.now) c.stopped-self.ensures.exchanges
+    c.in-Err.ensures.err f

@@ -1,0 +1,103 @@
+-- What a port is asked to send for transactions with the chip.
+use Rattle.std.specs.Prelude.{◌≡◌, ◌<◌, ◌≤◌, ◌++◌, ◌⊎◌, ℕ, Bool, true, List, [], ◌∷◌, Some, None, All, length, slice_index, if◌then◌else◌}
+use Rattle.nor_model.specs.Exchange.{Exchange}
+use Rattle.nor_serprog.specs.Frame.{operation_frame}
+
+-- All bytes of these calls in order; the last call comes first in the list.
+abbrev pub bytes_of_calls : List (List ℕ) → List ℕ
+bytes_of_calls [] = []
+bytes_of_calls (last ∷ before) = bytes_of_calls before ++ last
+
+-- The frame of a write enable (06h) that reads nothing.
+abbrev pub enable_frame : List ℕ
+enable_frame = operation_frame (0x06 ∷ []) 0
+
+-- The frame that waits to be sent: that of a write enable, or none.
+abbrev pub lead_frame : (waits : Bool) → List ℕ
+lead_frame waits = if waits then enable_frame else []
+
+-- The reply to a write enable that is sent before another frame: ACK.
+abbrev pub acks : (is_led : Bool) → List ℕ
+acks is_led = if is_led then 0x06 ∷ [] else []
+
+-- Holds if the port was asked to send the write enable if it waited, and nothing else.
+abbrev pub AsksLead : (waits : Bool) → (old new : List (List ℕ)) → Type 0
+AsksLead waits old new = new ≡ (if waits then enable_frame ∷ old else old)
+
+-- Holds if an O_SPIOP that sends `out` and reads `replies` bytes fits into a frame. The programmer then reads exactly
+-- this command from its `operation_frame`.
+abbrev pub FitsOperation : (out : List ℕ) → (replies : ℕ) → Type 0
+FitsOperation out replies = (length out ≤ 260) × (replies < 16777216)
+
+-- Holds if the chip takes `out` for a page program (02h), with at least 32 data bytes. These are more bytes than a
+-- synchronization sends, so if the frame was cut inside the address, no synchronization completes it.
+abbrev pub IsLongProgram : (out : List ℕ) → Type 0
+IsLongProgram out = (slice_index out 0 ≡ 0x02) × (36 ≤ length out)
+
+-- Holds if the port was asked to send a write enable if it waited, and then the frame of the O_SPIOP that sends `out` and
+-- reads `replies` bytes: in one call, if `out` is a long program; or in one call each.
+pub record AsksInOrder (waits : Bool) (out : List ℕ) (replies : ℕ) (old new : List (List ℕ)) : Type 0 where
+  pub fits : FitsOperation out replies
+  pub asks : ((new ≡ (lead_frame waits ++ operation_frame out replies) ∷ old) × (waits ≡ true → IsLongProgram out))
+      ⊎ ((waits ≡ true) × (new ≡ operation_frame out replies ∷ enable_frame ∷ old))
+
+-- Holds if the bytes are SYNCNOP (10h) and NOP (00h), commands that have no arguments and no effect.
+abbrev pub AreNops : List ℕ → Type 0
+AreNops bytes = All (λ (byte : ℕ). (byte ≡ 0x10) ⊎ (byte ≡ 0x00)) bytes
+
+-- The sequence of NOP and SYNCNOP that a synchronization sends after the reply to its first NOP.
+abbrev pub nop_row : List ℕ
+nop_row =
+    0x00 ∷ 0x00 ∷ 0x00 ∷ 0x00 ∷ 0x00 ∷ 0x00 ∷ 0x00 ∷ 0x00 ∷ 0x00
+    ∷ 0x10 ∷ 0x10 ∷ 0x00 ∷ 0x10 ∷ 0x00 ∷ 0x00 ∷ 0x10 ∷ 0x10 ∷ 0x10 ∷ 0x00 ∷ []
+
+-- Holds if the port was asked for at most what a synchronization sends.
+abbrev pub AsksSync : (old new : List (List ℕ)) → Type 0
+AsksSync old new =
+    (new ≡ old) ⊎ ((new ≡ (0x00 ∷ []) ∷ old) ⊎ (new ≡ nop_row ∷ (0x00 ∷ []) ∷ old))
+
+-- Holds if `argument`, what one call of the port was asked to send, is one frame of O_SPIOP. The frame of a long program
+-- may come after the frame of a write enable (06h). So nothing comes after a frame that modifies the chip.
+pub record IsOneOperation (argument : List ℕ) : Type 0 where
+  pub waits : Bool
+  pub out : List ℕ
+  pub replies : ℕ
+  pub fits : FitsOperation out replies
+  pub led : waits ≡ true → IsLongProgram out
+  pub is : argument ≡ lead_frame waits ++ operation_frame out replies
+
+-- Holds if `bytes` are what the port may have been asked to send for one transaction of a history. That is the frame of
+-- the transaction if it has a reply. If it stopped, its frame may request any number of bytes, or may be missing. Only
+-- transactions that fit into a frame are sent (`FitsOperation`).
+abbrev pub MayFrame : Exchange → List ℕ → Type 0
+MayFrame exchange bytes = elim exchange.reply [
+  | Some reply ↦ FitsOperation exchange.out (length reply) × (bytes ≡ operation_frame exchange.out (length reply))
+  | None ↦ (bytes ≡ [])
+      ⊎ ((replies : ℕ) × (FitsOperation exchange.out replies × (bytes ≡ operation_frame exchange.out replies)))
+]
+
+-- Holds if `bytes` are bytes that satisfy `Earlier`, then those for one transaction, and then perhaps those of
+-- synchronizations.
+pub record EndsFraming (exchange : Exchange) (Earlier : List ℕ → Type 0) (bytes : List ℕ) : Type 0 where
+  pub before : List ℕ
+  pub last : List ℕ
+  pub syncs : List ℕ
+  pub is : bytes ≡ before ++ (last ++ syncs)
+  pub nops : AreNops syncs
+  pub earlier : Earlier before
+  pub frame : MayFrame exchange last
+
+-- Holds if `bytes` are the frames of the transactions of a history, in order (`MayFrame`), with nothing but
+-- synchronizations between them. The last transaction comes first in the history.
+abbrev pub AreFrames : List Exchange → List ℕ → Type 0
+AreFrames [] bytes = AreNops bytes
+AreFrames (exchange ∷ earlier) bytes = EndsFraming exchange (AreFrames earlier) bytes
+
+-- Holds if all that the port was asked to send since it had been asked for `start`, followed by the write enable if it
+-- waits, are the frames of the transactions of the history, in order, and synchronizations. Each call was asked to send
+-- one frame, which may come after a write enable, or a part of a synchronization.
+pub record IsFramed (start asked : List (List ℕ)) (waits : Bool) (history : List Exchange) : Type 0 where
+  pub later : List (List ℕ)
+  pub since : asked ≡ later ++ start
+  pub frames : AreFrames history (bytes_of_calls later ++ lead_frame waits)
+  pub whole : All (λ (argument : List ℕ). IsOneOperation argument ⊎ AreNops argument) later

@@ -1,0 +1,45 @@
+//! The record of what a port was asked to send and of what it returned. It exists only in proofs: it takes no memory, and
+//! its functions do nothing at run time.
+ghost use Rattle.std.specs.Prelude.{◌≡◌, ◌∷◌, ◌++◌, []};
+
+use nor_model::History;
+
+/// The bytes that each call of a port was asked to send, and the bytes that its calls received.
+///
+/// A port has one `Wire`, to which it adds the bytes of each call. Only contracts can read it.
+#[derive(Drop)]
+pub struct Wire {
+    sent: History,
+    received: History,
+}
+
+impl Wire {
+    ghost use Rattle.nor_serprog.specs.Wire.{asked_on, received_on};
+
+    /// Returns the record of a port that was not used yet.
+    pub fn new() -> Wire
+        ensures asked { asked_on result ≡ [] }
+        ensures received { received_on result ≡ [] }
+    {
+        Wire {
+            sent: History::new(),
+            received: History::new(),
+        }
+    }
+
+    /// Adds the bytes that a call is asked to send.
+    pub fn asked(&mut self, bytes: &[u8])
+        ensures asked { asked_on self.new ≡ bytes.now ∷ asked_on self.old }
+        ensures received { received_on self.new ≡ received_on self.old }
+    {
+        self.sent = self.sent.replied(bytes, &[]);
+    }
+
+    /// Adds the bytes that a call received.
+    pub fn received(&mut self, bytes: &[u8])
+        ensures asked { asked_on self.new ≡ asked_on self.old }
+        ensures received { received_on self.new ≡ received_on self.old ++ bytes.now }
+    {
+        self.received = self.received.replied(bytes, &[]);
+    }
+}
