@@ -1,0 +1,31 @@
+-- The sums of sectors, and the encoding of a table of sums.
+use Rattle.std.specs.Prelude.{◌≡◌, ℕ, ⊤, List, ◌∷◌, ◌++◌, Option, None, Some, codes, replicate, slice_get, take}
+use Rattle.std.specs.List.{flat_map}
+use Rattle.std.specs.Option.{unwrap_or}
+use Rattle.sha2.specs.Sha256.{sha256}
+
+-- the sum of a sector with these bytes: the first eight bytes of their SHA-256
+unfoldable pub sum_of : (bytes : List ℕ) → List ℕ
+sum_of bytes = take 8 (sha256 bytes)
+
+-- the entry of sector `s`: its sum, or None if it isn't known
+abbrev pub entry_of : (entries : List (Option (List ℕ))) → (s : ℕ) → Option (List ℕ)
+entry_of entries s = unwrap_or (slice_get entries s) None
+
+-- Holds if nothing is known of a sector before, or if its sum is known before and after, and is the same.
+abbrev pub Agree : (before after : Option (List ℕ)) → Type 0
+Agree None after = ⊤
+Agree (Some sum) after = after ≡ Some sum
+
+-- the encoding of an entry, nine bytes: 1 and the sum, or nine zeros if the sector isn't known
+abbrev pub entry_text : Option (List ℕ) → List ℕ
+entry_text None = replicate 9 0
+entry_text (Some sum) = 1 ∷ sum
+
+-- the part of the encoding before its digest: the magic, the chip's ID and unique ID, and the entries
+unfoldable pub sums_body : (id unique : List ℕ) → (entries : List (Option (List ℕ))) → List ℕ
+sums_body id unique entries = codes "NORSUMS1" ++ id ++ unique ++ flat_map entry_text entries
+
+-- the encoding of a table for a chip with this ID and unique ID, with the SHA-256 of all bytes before it
+unfoldable pub sums_text : (id unique : List ℕ) → (entries : List (Option (List ℕ))) → List ℕ
+sums_text id unique entries = sums_body id unique entries ++ sha256 (sums_body id unique entries)

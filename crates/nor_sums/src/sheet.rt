@@ -1,0 +1,112 @@
+//! A table of sums with the IDs of its chip, and its encoding.
+ghost use Rattle.std.specs.Prelude.{◌≡◌, ◌++◌, IfOk, IfSome, OnOk};
+ghost use Rattle.nor_sums.specs.Sums.{entry_text, sums_text};
+
+use crate::sums::{SECTORS, Sums, sum_of};
+use nor_journal::Journal;
+use sha2::{Digest, Sha256};
+use std::alloc::{AllocError, Global};
+
+// The first eight bytes of an encoding. The last of them is the version.
+const MAGIC: [u8; 8] = *b"NORSUMS1";
+
+const HEADER_LEN: usize = 19;
+
+const ENTRY_LEN: usize = 9;
+
+/// The length of an encoding in bytes.
+pub const SHEET_LEN: usize = HEADER_LEN + ENTRY_LEN * SECTORS + 32;
+
+/// A table of sums, and the ID and the unique ID of the chip whose sectors it describes.
+#[derive(Drop)]
+pub struct Sheet {
+    pub id: [u8; 3],
+    pub unique: [u8; 8],
+    pub sums: Sums,
+}
+
+/// Puts the encoding of a table into `out`, in place of what `out` had. If `out` has room for `SHEET_LEN` bytes, nothing
+/// is allocated. Otherwise an error is possible, if memory runs out.
+pub fn encode(
+    id: [u8; 3],
+    unique: [u8; 8],
+    sums: &Sums,
+    out: &mut Vec<u8>,
+) -> Result<(), AllocError>
+    ensures { OnOk result (out.new.items ≡ sums_text id unique sums.now.entries.items) }
+{
+    out.clear();
+    out.extend_from_slice(&MAGIC)?;
+    out.extend_from_slice(&id)?;
+    out.extend_from_slice(&unique)?;
+    for sector in 0..sums.entries.len() {
+        push_entry(sums.entries[sector], &mut *out)?;
+    }
+    let digest = Sha256::digest(out.as_slice());
+    out.extend_from_slice(&digest)
+}
+
+// Appends the encoding of an entry.
+fn push_entry(entry: Option<[u8; 8]>, out: &mut Vec<u8>) -> Result<(), AllocError>
+    ensures { OnOk result (out.new.items ≡ out.old.items ++ entry_text entry) }
+{
+    match entry {
+        None => out.extend_from_slice(&[0; ENTRY_LEN]),
+        Some(sum) => {
+            out.push(1)?;
+            out.extend_from_slice(&sum)
+        }
+    }
+}
+
+/// Decodes a table. Returns `None` if the bytes are no encoding, and an error if memory runs out.
+pub fn decode(alloc: Global, bytes: &[u8]) -> Result<Option<Sheet>, AllocError>
+    ensures { IfOk result (λ found. IfSome found
+        (λ sheet. bytes.now ≡ sums_text sheet.id sheet.unique sheet.sums.entries.items)) }
+{
+    let Some(sheet) = read_fields(alloc, bytes)? else {
+        return Ok(None);
+    };
+    let mut again = Vec::new(alloc);
+    encode(sheet.id, sheet.unique, &sheet.sums, &mut again)?;
+    if again.as_slice() == bytes {
+        Ok(Some(sheet))
+    } else {
+        Ok(None)
+    }
+}
+
+// Reads the fields at their places. The magic, the first byte of each entry and the digest aren't checked. Returns
+// `None` if the length is wrong.
+fn read_fields(alloc: Global, bytes: &[u8]) -> Result<Option<Sheet>, AllocError> {
+    if bytes.len() != SHEET_LEN {
+        return Ok(None);
+    }
+    let mut id = [0; 3];
+    id.copy_from_slice(&bytes[8..11]);
+    let mut unique = [0; 8];
+    unique.copy_from_slice(&bytes[11..HEADER_LEN]);
+    let mut sums = Sums::new(alloc)?;
+    for sector in 0..SECTORS {
+        let start = HEADER_LEN + ENTRY_LEN * sector;
+        if bytes[start] == 1 {
+            let mut sum = [0; 8];
+            sum.copy_from_slice(&bytes[start + 1..start + ENTRY_LEN]);
+            sums.set(sector, sum);
+        }
+    }
+    Ok(Some(Sheet { id, unique, sums }))
+}
+
+impl Sheet {
+    /// True if the table may describe the chip before the session of this journal: the journal's IDs are those of the
+    /// table, and each sector that it saves has the sum in the table.
+    pub fn fits(&self, journal: &Journal<'_>) -> bool {
+        let is_same = journal.id() == self.id && journal.unique() == Some(self.unique);
+        is_same
+            && (0..journal.count()).all(|i| {
+                let (number, bytes) = journal.sector(i);
+                self.sums.get(number as usize) == Some(sum_of(bytes))
+            })
+    }
+}
