@@ -36,6 +36,7 @@ pub operation-asked : (given : Texts) (on_chip : ChipJob) (backup : Bool)
       named = on_chip.named;
       verifies_all = not given.no_verify_all;
       is_quick = given.quick;
+      is_replaced_chip = given.replaced_chip;
       is_backup = backup;
       is_flash_name = given.flash_name;
       srp0 = srp0;

@@ -43,11 +43,20 @@ has_wrong_regions given = (gives_layout given || is_some given.names)
     && not (gives_layout given
     && (is_some given.names && (takes_regions given && not (has_two_layouts given))))
 
--- true if `-N` is given without any of `-w`, `-E` and `--restore`, or `--quick` without `--restore`; flashnor has
--- neither option
+-- true if `--extract-image` is given without `--check-journal`
+abbrev pub lacks_check : Texts → Bool
+lacks_check given = is_some given.extract_image && not (is_some given.check_journal)
+
+-- true if `--replaced-chip` is given without `--restore`, or `--extract-image` without `--check-journal`; flashnor has
+-- none of these options except `--restore`
+abbrev pub has_unneeded_for_journal : Texts → Bool
+has_unneeded_for_journal given = (given.replaced_chip && not (is_some given.restore)) || lacks_check given
+
+-- true if `-N` is given without any of `-w`, `-E` and `--restore`, or `--quick` without `--restore`, or if
+-- `has_unneeded_for_journal` is true; flashnor has neither `-N` nor `--quick`
 abbrev pub has_unneeded_for_hardware : Texts → Bool
 has_unneeded_for_hardware given = (given.no_verify_all && not (is_new_content given || is_some given.restore))
-    || (given.quick && not (is_some given.restore))
+    || ((given.quick && not (is_some given.restore)) || has_unneeded_for_journal given)
 
 -- fault 8: true if `-n` or `--unlock` is given without `-w` or `-E`, or if `has_unneeded_for_hardware` is true
 abbrev pub has_unneeded : Texts → Bool

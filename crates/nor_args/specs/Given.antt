@@ -33,14 +33,16 @@ pub record Texts : Type 0 where
   pub erase : Bool
   pub wp_range : Option Text
   pub restore : Option Text
-  -- The values of `--backup FILE` and `--check-journal FILE`.
+  -- The values of `--backup FILE`, `--check-journal FILE` and `--extract-image FILE`.
   pub backup : Option Text
   pub check_journal : Option Text
+  pub extract_image : Option Text
   -- Whether `--wp-enable` and `--wp-disable` are set.
   pub wp_enable : Bool
   pub wp_disable : Bool
-  -- Whether `--quick` is set.
+  -- Whether `--quick` and `--replaced-chip` are set.
   pub quick : Bool
+  pub replaced_chip : Bool
   -- The values of `--journal FILE` and `--rehearse N,N,..`.
   pub journal : Option Text
   pub rehearse : Option Text
@@ -92,9 +94,11 @@ given_in rows = record {
   restore = text_in rows (codes "restore");
   backup = None;
   check_journal = None;
+  extract_image = None;
   wp_enable = false;
   wp_disable = false;
   quick = false;
+  replaced_chip = false;
   journal = text_in rows (codes "journal");
   rehearse = text_in rows (codes "rehearse");
   layout = text_in rows (codes "layout");
@@ -124,9 +128,11 @@ hardware_given_in rows = record (given_in rows) {
   flash_name = is_set_in rows (codes "flash-name");
   backup = text_in rows (codes "backup");
   check_journal = text_in rows (codes "check-journal");
+  extract_image = text_in rows (codes "extract-image");
   wp_enable = is_set_in rows (codes "wp-enable");
   wp_disable = is_set_in rows (codes "wp-disable");
   quick = is_set_in rows (codes "quick");
+  replaced_chip = is_set_in rows (codes "replaced-chip");
   fmap_file = text_in rows (codes "fmap-file");
   ifd_file = text_in rows (codes "ifd-file");
   fmap = is_set_in rows (codes "fmap");
@@ -160,9 +166,11 @@ texts_of given = record {
   restore = option_map (λ text. text.now) given.restore;
   backup = option_map (λ text. text.now) given.backup;
   check_journal = option_map (λ text. text.now) given.check_journal;
+  extract_image = option_map (λ text. text.now) given.extract_image;
   wp_enable = given.wp_enable;
   wp_disable = given.wp_disable;
   quick = given.quick;
+  replaced_chip = given.replaced_chip;
   journal = option_map (λ text. text.now) given.journal;
   rehearse = option_map (λ text. text.now) given.rehearse;
   layout = option_map (λ text. text.now) given.layout;

@@ -98,6 +98,7 @@ pub record IsOperation (given : Texts) (operation : Operation) : Type 0 where
   pub named : operation.named ≡ option_map name_of given.chip
   pub verifies_all : operation.verifies_all ≡ not given.no_verify_all
   pub is_quick : operation.is_quick ≡ given.quick
+  pub is_replaced_chip : operation.is_replaced_chip ≡ given.replaced_chip
   pub is_backup : operation.is_backup ≡ is_some given.backup
   pub is_flash_name : operation.is_flash_name ≡ given.flash_name
   pub srp0 : operation.srp0 ≡ srp0_of given
@@ -124,9 +125,11 @@ abbrev pub IsWrongForHardware : Texts → WrongArguments → Type 0
 IsWrongForHardware given wrong = ((is_some given.check_journal ≡ true) × IsWrongOperation given wrong)
     ⊎ ((given.check_journal ≡ None) × LacksProgrammer given wrong)
 
--- Holds if `--check-journal` names this file, and the options have none of the faults 4 to 9.
-pub record IsJournalCheck (given : Texts) (file : Bor Text) : Type 0 where
+-- Holds if `--check-journal` names this file, `image` is the value of `--extract-image`, and the options have none of
+-- the faults 4 to 9.
+pub record IsJournalCheck (given : Texts) (file : Bor Text) (image : Option (Bor Text)) : Type 0 where
   pub named : NamesFile given.check_journal file
+  pub extracted : option_map (λ (file : Bor Text). file.now) image ≡ given.extract_image
   pub sound : first_fault (operation_faults given) ≡ None
 
 -- Holds if `--check-journal` is missing and `on_chip.programmer` is the value of `-p`. `on_chip.operation` must be the
@@ -138,5 +141,5 @@ pub record IsProgrammerJob (given : Texts) (on_chip : ProgrammerJob) : Type 0 wh
 
 -- Holds if the options of a program for hardware ask for this job.
 abbrev pub IsHardwareAsked : Texts → HardwareJob → Type 0
-IsHardwareAsked given (hardware.CheckJournal file) = IsJournalCheck given file
+IsHardwareAsked given (hardware.CheckJournal file image) = IsJournalCheck given file image
 IsHardwareAsked given (hardware.Chip on_chip) = IsProgrammerJob given on_chip

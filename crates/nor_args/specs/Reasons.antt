@@ -5,7 +5,7 @@ use Rattle.std.specs.Prelude.{find, is_some, nat_eq, not, option_map, reverse, i
 use Rattle.std.specs.List.{list_any, starts_with}
 use Rattle.nor_args.specs.Text.{Text, pieces_of, reads}
 use Rattle.nor_args.specs.Given.{Texts, asks_change, has_two_layouts, is_new_content, progress_of}
-use Rattle.nor_args.specs.Faults.{is_no}
+use Rattle.nor_args.specs.Faults.{is_no, lacks_check}
 use Rattle.nor_args.specs.Numbers.{decimal_number}
 use Rattle.nor_args.specs.Programmer.{has_key, is_setting, is_alone_in, keys, settings_of}
 use Rattle.nor_args.specs.Stops.{stops_of}
@@ -43,6 +43,8 @@ option_text option.FmapFile = codes "--fmap-file"
 option_text option.IfdFile = codes "--ifd-file"
 option_text option.Fmap = codes "--fmap"
 option_text option.Ifd = codes "--ifd"
+option_text option.Quick = codes "--quick"
+option_text option.ReplacedChip = codes "--replaced-chip"
 option_text option.NoVerify = codes "-n"
 option_text option.Unlock = codes "--unlock"
 
@@ -157,15 +159,23 @@ regions_reason given =
     then operations_reason (first_given (layout_choices given)) (first_given (reverse (layout_choices given)))
     else names_reason (first_given (layout_choices given)) given.names
 
+-- the reason of fault 8 for an option that needs a journal: `--extract-image` needs `--check-journal`, and `--quick` and
+-- `--replaced-chip` need `--restore`
+abbrev pub journal_option_reason : Texts → Reason
+journal_option_reason given =
+    if lacks_check given then because.NoCheck
+    else if given.quick && not (is_some given.restore) then because.NoRestore option.Quick
+    else because.NoRestore option.ReplacedChip
+
 -- the reason of fault 8: the option that is given without the operation that it needs. `-n` and `--unlock` need `-w` or
--- `-E`, `-N` needs one of these or `--restore`, and `--quick` needs `--restore`.
+-- `-E`, and `-N` needs one of these or `--restore`. `journal_option_reason` has the other options.
 abbrev pub unneeded_reason : Texts → Reason
 unneeded_reason given =
-    if is_new_content given then because.NoRestore
+    if is_new_content given then journal_option_reason given
     else if given.no_verify then because.NoContent option.NoVerify
     else if given.no_verify_all && not (is_some given.restore) then because.NoComparison
     else if given.unlock then because.NoContent option.Unlock
-    else because.NoRestore
+    else journal_option_reason given
 
 -- the first part of the value of `--rehearse` that isn't a number
 abbrev pub first_unread : Text → Option Text

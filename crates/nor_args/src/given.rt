@@ -6,8 +6,7 @@ ghost use Rattle.std.specs.Option.{IsSomeAnd};
 ghost use Rattle.clap.specs.Words.{found_of, rows_of};
 ghost use Rattle.nor_args.specs.Given.{given_in, hardware_given_in, operations, is_new_content, asks_change};
 ghost use Rattle.nor_args.specs.Given.{takes_regions};
-ghost use Rattle.nor_args.specs.Given.{gives_layout, has_two_layouts, layout_file, layout_form, progress_mode};
-ghost use Rattle.nor_args.specs.Given.{progress_of, srp0_of};
+ghost use Rattle.nor_args.specs.Given.{progress_mode, progress_of, srp0_of};
 ghost use Rattle.nor_args.specs.Faults.{first_fault, has_unneeded, has_wrong_journal, has_wrong_regions, is_no};
 ghost use Rattle.nor_args.specs.Faults.{operation_faults, passes_test, usage_faults};
 ghost use Rattle.nor_args.specs.Job.{IsAsked, IsHardwareAsked, IsJournalUse, IsOperation, IsRegions, IsTask};
@@ -19,8 +18,8 @@ ghost use Rattle.nor_args.specs.Text.{reads};
 
 use crate::given::flags::is_set;
 use crate::job::{
-    Change, ChipJob, HardwareJob, Job, JournalUse, LayoutForm, Operation, ProgrammerJob,
-    ProgressMode, Regions, Task, Wanted,
+    Change, ChipJob, HardwareJob, Job, JournalUse, Operation, ProgrammerJob, ProgressMode, Regions,
+    Task, Wanted,
 };
 use crate::numbers::read_range;
 use crate::programmer::Programmer;
@@ -33,6 +32,7 @@ use nor_probe::ChipName;
 
 mod faults;
 mod flags;
+mod layouts;
 mod reasons;
 
 // A correct value of `-p`, without a `stop=`. The other options of a program for hardware are checked as if this were
@@ -58,9 +58,11 @@ pub struct Given<'a> {
     restore: Option<&'a str>,
     backup: Option<&'a str>,
     check_journal: Option<&'a str>,
+    extract_image: Option<&'a str>,
     wp_enable: bool,
     wp_disable: bool,
     quick: bool,
+    replaced_chip: bool,
     layout: Option<&'a str>,
     fmap_file: Option<&'a str>,
     ifd_file: Option<&'a str>,
@@ -101,9 +103,11 @@ impl<'a> Given<'a> {
             restore: matches.get_str("restore"),
             backup: None,
             check_journal: None,
+            extract_image: None,
             wp_enable: false,
             wp_disable: false,
             quick: false,
+            replaced_chip: false,
             layout: matches.get_str("layout"),
             fmap_file: None,
             ifd_file: None,
@@ -132,9 +136,11 @@ impl<'a> Given<'a> {
             flash_name: is_set(matches, "flash-name"),
             backup: matches.get_str("backup"),
             check_journal: matches.get_str("check-journal"),
+            extract_image: matches.get_str("extract-image"),
             wp_enable: is_set(matches, "wp-enable"),
             wp_disable: is_set(matches, "wp-disable"),
             quick: is_set(matches, "quick"),
+            replaced_chip: is_set(matches, "replaced-chip"),
             fmap_file: matches.get_str("fmap-file"),
             ifd_file: matches.get_str("ifd-file"),
             fmap: is_set(matches, "fmap"),
@@ -168,8 +174,8 @@ impl<'a> Given<'a> {
         }
     }
 
-    /// Returns the job of a program for hardware. With `--check-journal` the job has the file name of the journal.
-    /// Otherwise it has the value of `-p`, and the operation or the first of the faults 4 to 9 that the options have.
+    /// Returns the job of a program for hardware. With `--check-journal` the job has the file name of the journal, and
+    /// with `--extract-image` also that of the image. Otherwise it has the value of `-p`, and the operation or the first of the faults 4 to 9 that the options have.
     ///
     /// With `--check-journal`, returns the first of the faults 4 to 9 if the options have one. Returns fault 2 if both
     /// `-p` and `--check-journal` are missing. The options must not include `-L`.
@@ -180,7 +186,10 @@ impl<'a> Given<'a> {
     {
         match (self.check_journal, self.programmer) {
             (Some(file), _) => match self.emulated().fault() {
-                None => Ok(HardwareJob::CheckJournal { file }),
+                None => Ok(HardwareJob::CheckJournal {
+                    file,
+                    image: self.extract_image,
+                }),
                 Some(fault) => Err(self.explained(fault)),
             },
             (None, Some(programmer)) => Ok(HardwareJob::Chip(ProgrammerJob {
@@ -202,6 +211,7 @@ impl<'a> Given<'a> {
                 named,
                 verifies_all: !self.no_verify_all,
                 is_quick: self.quick,
+                is_replaced_chip: self.replaced_chip,
                 is_backup: self.backup.is_some(),
                 is_flash_name: self.flash_name,
                 srp0: self.srp0(),
@@ -273,38 +283,6 @@ impl<'a> Given<'a> {
         ensures { option_and_then stops_of (texts_of self.now).rehearse ≡ option_map (λ stops. stops.items) result }
     {
         self.rehearse.and_then(read_stops)
-    }
-
-    // Returns the file name of the layout: the value of the first of `-l`, `--fmap-file` and `--ifd-file` that is
-    // given. Returns `None` if none is given: there is no layout, or it is read from the chip.
-    fn layout_file(&self) -> Option<&'a str>
-        ensures { option_map (λ file. file.now) result ≡ layout_file (texts_of self.now) }
-    {
-        match (self.layout, self.fmap_file) {
-            (Some(file), _) => Some(file),
-            (None, Some(file)) => Some(file),
-            (None, None) => self.ifd_file,
-        }
-    }
-
-    // True if a layout is given, which is read from a file or from the chip.
-    fn gives_layout(&self) -> bool
-        ensures { result ≡ gives_layout (texts_of self.now) }
-    {
-        self.layout_file().is_some() || self.fmap || self.ifd
-    }
-
-    // Returns the form of the layout. The result has a meaning only if exactly one layout is given.
-    fn layout_form(&self) -> LayoutForm
-        ensures { result ≡ layout_form (texts_of self.now) }
-    {
-        if self.layout.is_some() {
-            LayoutForm::Lines
-        } else if self.fmap_file.is_some() || self.fmap {
-            LayoutForm::Fmap
-        } else {
-            LayoutForm::Descriptor
-        }
     }
 
     // Returns the operation on the chip. The options must have no fault, and must include neither `-L` nor

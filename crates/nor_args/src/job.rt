@@ -30,8 +30,12 @@ pub struct ChipJob<'a> {
 /// The job that the arguments of a program for hardware ask for.
 #[derive(Drop)]
 pub enum HardwareJob<'a> {
-    /// `--check-journal FILE`: describe the journal in the named file. This needs no programmer, so `-p` is ignored.
-    CheckJournal { file: &'a str },
+    /// `--check-journal FILE`: describe the journal in the named file, and with `--extract-image` also write the image
+    /// in it into the file `image`. This needs no programmer, so `-p` is ignored.
+    CheckJournal {
+        file: &'a str,
+        image: Option<&'a str>,
+    },
     /// Without `--check-journal`: a job on the chip of a programmer.
     Chip(ProgrammerJob<'a>),
 }
@@ -57,6 +61,8 @@ pub struct Operation<'a> {
     pub verifies_all: bool,
     /// True with `--quick`: a restore rewrites only the saved sectors that differ.
     pub is_quick: bool,
+    /// True with `--replaced-chip`: a restore accepts a journal of a whole chip for another device of the same type.
+    pub is_replaced_chip: bool,
     /// True with `--backup`: `task` is `Task::Read`, and its file is a new journal that saves the whole chip.
     pub is_backup: bool,
     /// True with `--flash-name`: `task` is `Task::Probe`, and the program prints only the name of the identified chip.

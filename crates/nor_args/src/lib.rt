@@ -17,6 +17,7 @@
 //! - `given.rt`: the values of the options, and the job that they ask for
 //! - `given/faults.rt`: the faults that the options have
 //! - `given/flags.rt`: whether a flag is set
+//! - `given/layouts.rt`: the layout that the options give
 //! - `given/reasons.rt`: the reason of each fault that the options have
 //! - `reasons.rt`: the types of reasons
 //! - `flaws.rt`: the reason why the value of `-p` is wrong

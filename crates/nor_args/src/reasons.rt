@@ -30,6 +30,8 @@ pub enum OptionName {
     IfdFile,
     Fmap,
     Ifd,
+    Quick,
+    ReplacedChip,
     NoVerify,
     Unlock,
 }
@@ -64,6 +66,8 @@ impl OptionName {
             OptionName::IfdFile => "--ifd-file",
             OptionName::Fmap => "--fmap",
             OptionName::Ifd => "--ifd",
+            OptionName::Quick => "--quick",
+            OptionName::ReplacedChip => "--replaced-chip",
             OptionName::NoVerify => "-n",
             OptionName::Unlock => "--unlock",
         }
@@ -135,8 +139,10 @@ pub enum Reason<'a> {
     NoContent(OptionName),
     /// 8: `-N` is given with none of `-w`, `-E` and `--restore`.
     NoComparison,
-    /// 8: `--quick` is given without `--restore`.
-    NoRestore,
+    /// 8: this option (`--quick` or `--replaced-chip`) is given without `--restore`.
+    NoRestore(OptionName),
+    /// 8: `--extract-image` is given without `--check-journal`.
+    NoCheck,
     /// 9: this is the first part of the value of `--rehearse` that isn't a number.
     Stop(&'a str),
     /// 9: the value of `--rehearse` has more than 64 numbers.

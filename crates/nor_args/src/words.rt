@@ -39,7 +39,8 @@ pub enum UsageFault {
     /// is this fault, too.
     Layout,
     /// 8: `-n` or `--unlock` is given without `-w` or `-E`. For a program for hardware also: `-N` is given without any
-    /// of `-w`, `-E` and `--restore`, or `--quick` without `--restore`.
+    /// of `-w`, `-E` and `--restore`, `--quick` or `--replaced-chip` without `--restore`, or `--extract-image` without
+    /// `--check-journal`.
     Unneeded,
     /// 9: the value of `--rehearse` isn't 1 to 64 numbers, or both `--rehearse` and a `stop=` of the programmer are
     /// given.

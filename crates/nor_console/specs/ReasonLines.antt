@@ -45,7 +45,8 @@ reason_line (because.NoRegions option) =
     concat (codes "error: " ∷ option_text option ∷ codes " and -i need -r, -v, -w or -E\n" ∷ [])
 reason_line (because.NoContent option) = concat (codes "error: " ∷ option_text option ∷ codes " needs -w or -E\n" ∷ [])
 reason_line because.NoComparison = codes "error: -N needs -w, -E or --restore\n"
-reason_line because.NoRestore = codes "error: --quick needs --restore\n"
+reason_line (because.NoRestore option) = concat (codes "error: " ∷ option_text option ∷ codes " needs --restore\n" ∷ [])
+reason_line because.NoCheck = codes "error: --extract-image needs --check-journal\n"
 reason_line (because.Stop part) =
     concat (codes "error: invalid number in --rehearse: '" ∷ escaped part.now ∷ codes "'\n" ∷ [])
 reason_line because.ManyStops = codes "error: more than 64 numbers in --rehearse\n"

@@ -37,8 +37,8 @@ pub use calls::{
 };
 pub use escapes::Escaped;
 pub use files::{
-    MOST_IMAGE_BYTES, create_log, empty, lost_output, make, read_file, read_journal, reading,
-    taken, unheld, unmade, unread,
+    MOST_IMAGE_BYTES, MOST_JOURNAL_BYTES, create_log, empty, lost_output, make, read_file,
+    read_journal, reading, taken, unheld, unmade, unread,
 };
 pub use messages::{Fault, FileFault, or_fault};
 pub use printing::{help_of, print_answer, print_fault, print_help, version_of};

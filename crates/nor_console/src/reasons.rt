@@ -60,7 +60,8 @@ impl fmt::Display for ReasonLine<'_> {
             }
             Reason::NoContent(option) => writeln!(f, "error: {} needs -w or -E", option.as_str()),
             Reason::NoComparison => f.write_str("error: -N needs -w, -E or --restore\n"),
-            Reason::NoRestore => f.write_str("error: --quick needs --restore\n"),
+            Reason::NoRestore(option) => writeln!(f, "error: {} needs --restore", option.as_str()),
+            Reason::NoCheck => f.write_str("error: --extract-image needs --check-journal\n"),
             Reason::Stop(part) => {
                 let part = Escaped(part);
                 writeln!(f, "error: invalid number in --rehearse: '{part}'")

@@ -2,8 +2,8 @@
 ghost use Rattle.std.specs.Prelude.{◌≡◌, ◌&&◌, ◌||◌, is_some, not};
 ghost use Rattle.nor_args.specs.Given.{asks_change, gives_layout, has_two_layouts, how_many, is_new_content};
 ghost use Rattle.nor_args.specs.Given.{layouts_given, operations, progress_of, takes_regions};
-ghost use Rattle.nor_args.specs.Faults.{first_fault, has_unneeded, has_wrong_journal, has_wrong_regions, is_no};
-ghost use Rattle.nor_args.specs.Faults.{passes_test, usage_faults};
+ghost use Rattle.nor_args.specs.Faults.{first_fault, has_unneeded, has_unneeded_for_journal, has_wrong_journal};
+ghost use Rattle.nor_args.specs.Faults.{has_wrong_regions, is_no, lacks_check, passes_test, usage_faults};
 ghost use Rattle.nor_args.specs.Numbers.{range_of};
 ghost use Rattle.nor_args.specs.Programmer.{has_stop, is_programmer_text};
 ghost use Rattle.nor_args.specs.Stops.{stops_of};
@@ -150,13 +150,27 @@ impl Given<'_> {
     }
 
     // Fault 8: true if `-n` or `--unlock` is given without `-w` or `-E`, `-N` without any of `-w`, `-E` and
-    // `--restore`, or `--quick` without `--restore`.
+    // `--restore`, `--quick` or `--replaced-chip` without `--restore`, or `--extract-image` without `--check-journal`.
     fn has_unneeded(&self) -> bool
         ensures { result ≡ has_unneeded (texts_of self.now) }
     {
         let (changes, restores) = (self.is_new_content(), self.restore.is_some());
         let unneeded = (self.no_verify_all && !(changes || restores)) || (self.quick && !restores);
-        ((self.no_verify || self.unlock) && !changes) || unneeded
+        ((self.no_verify || self.unlock) && !changes) || unneeded || self.has_unneeded_for_journal()
+    }
+
+    // True if `--replaced-chip` is given without `--restore`, or `--extract-image` without `--check-journal`.
+    fn has_unneeded_for_journal(&self) -> bool
+        ensures { result ≡ has_unneeded_for_journal (texts_of self.now) }
+    {
+        (self.replaced_chip && self.restore.is_none()) || self.lacks_check()
+    }
+
+    // True if `--extract-image` is given without `--check-journal`.
+    pub(super) fn lacks_check(&self) -> bool
+        ensures { result ≡ lacks_check (texts_of self.now) }
+    {
+        self.extract_image.is_some() && self.check_journal.is_none()
     }
 
     // Fault 7: true if a layout (`-l`, `--fmap-file`, `--ifd-file`, `--fmap` or `--ifd`) is given without `-i`, or `-i`

@@ -5,7 +5,7 @@ ghost use Rattle.nor_args.specs.Reasons.{IsProgrammerReason, IsReason, IsWrongMo
 ghost use Rattle.nor_args.specs.Reasons.{change_option, first_given, layout_choices};
 ghost use Rattle.nor_args.specs.declared.words.UsageFault.TheVariants.{Range};
 ghost use Rattle.nor_args.specs.Reasons.{journal_reason, operation_choices, operations_reason, regions_reason};
-ghost use Rattle.nor_args.specs.Reasons.{unneeded_reason};
+ghost use Rattle.nor_args.specs.Reasons.{journal_option_reason, unneeded_reason};
 
 use crate::flaws::programmer_reason;
 use crate::given::Given;
@@ -214,7 +214,7 @@ impl<'a> Given<'a> {
         ensures { result ≡ unneeded_reason (texts_of self.now) }
     {
         if self.is_new_content() {
-            Reason::NoRestore
+            self.journal_option_reason()
         } else if self.no_verify {
             Reason::NoContent(OptionName::NoVerify)
         } else if self.no_verify_all && self.restore.is_none() {
@@ -222,7 +222,21 @@ impl<'a> Given<'a> {
         } else if self.unlock {
             Reason::NoContent(OptionName::Unlock)
         } else {
-            Reason::NoRestore
+            self.journal_option_reason()
+        }
+    }
+
+    // Returns the reason of fault 8 for the options that need a journal: `--extract-image`, `--quick` and
+    // `--replaced-chip`.
+    fn journal_option_reason(&self) -> Reason<'a>
+        ensures { result ≡ journal_option_reason (texts_of self.now) }
+    {
+        if self.lacks_check() {
+            Reason::NoCheck
+        } else if self.quick && self.restore.is_none() {
+            Reason::NoRestore(OptionName::Quick)
+        } else {
+            Reason::NoRestore(OptionName::ReplacedChip)
         }
     }
 

@@ -6,7 +6,7 @@ use crate::options::Choice;
 
 // The options that only programs for hardware have, except `-R`, in the order of the help. The help prints them after
 // the options of `CHOICES`, and before `-R` and `-h`.
-static HARDWARE_CHOICES: [Choice; 14] = [
+static HARDWARE_CHOICES: [Choice; 16] = [
     Choice {
         letter: None,
         name: "backup",
@@ -27,6 +27,12 @@ static HARDWARE_CHOICES: [Choice; 14] = [
     },
     Choice {
         letter: None,
+        name: "replaced-chip",
+        value: None,
+        help: "Restore a backup on a new chip; with --restore",
+    },
+    Choice {
+        letter: None,
         name: "flash-name",
         value: None,
         help: "Print the name of the chip",
@@ -36,6 +42,12 @@ static HARDWARE_CHOICES: [Choice; 14] = [
         name: "check-journal",
         value: Some("FILE"),
         help: "Describe a journal; needs no programmer",
+    },
+    Choice {
+        letter: None,
+        name: "extract-image",
+        value: Some("FILE"),
+        help: "Write the image of a backup; with --check-journal",
     },
     Choice {
         letter: None,
@@ -94,7 +106,7 @@ static HARDWARE_CHOICES: [Choice; 14] = [
 ];
 
 // Returns the table `HARDWARE_CHOICES`. Its rows describe the options that the specification lists as `own_rules`.
-pub(super) fn hardware_choices() -> &'static [Choice; 14]
+pub(super) fn hardware_choices() -> &'static [Choice; 16]
     ensures { map chosen result.now ≡ own_rules }
 {
     &HARDWARE_CHOICES

@@ -1,0 +1,42 @@
+//! The layout that the options give.
+ghost use Rattle.std.specs.Prelude.{◌≡◌, option_map};
+ghost use Rattle.nor_args.specs.Given.{gives_layout, layout_file, layout_form};
+
+use crate::given::Given;
+use crate::job::LayoutForm;
+
+impl<'a> Given<'a> {
+    ghost use Rattle.nor_args.specs.Given.{texts_of};
+
+    // Returns the file name of the layout: the value of the first of `-l`, `--fmap-file` and `--ifd-file` that is
+    // given. Returns `None` if none is given: there is no layout, or it is read from the chip.
+    pub(super) fn layout_file(&self) -> Option<&'a str>
+        ensures { option_map (λ file. file.now) result ≡ layout_file (texts_of self.now) }
+    {
+        match (self.layout, self.fmap_file) {
+            (Some(file), _) => Some(file),
+            (None, Some(file)) => Some(file),
+            (None, None) => self.ifd_file,
+        }
+    }
+
+    // True if a layout is given, which is read from a file or from the chip.
+    pub(super) fn gives_layout(&self) -> bool
+        ensures { result ≡ gives_layout (texts_of self.now) }
+    {
+        self.layout_file().is_some() || self.fmap || self.ifd
+    }
+
+    // Returns the form of the layout. The result has a meaning only if exactly one layout is given.
+    pub(super) fn layout_form(&self) -> LayoutForm
+        ensures { result ≡ layout_form (texts_of self.now) }
+    {
+        if self.layout.is_some() {
+            LayoutForm::Lines
+        } else if self.fmap_file.is_some() || self.fmap {
+            LayoutForm::Fmap
+        } else {
+            LayoutForm::Descriptor
+        }
+    }
+}
