@@ -7,9 +7,11 @@ pub mod Restored
 pub mod Rates
 pub mod Estimated
 pub mod Described
+pub mod Whole
 pub mod Named
 pub mod Ran
 pub mod LogMade
+pub mod Extracted
 pub mod RegionNames
 pub mod RegionBytes
 pub mod RegionsKept

@@ -5,7 +5,7 @@ use Rattle.nor_files.specs.Files.{AreUntouched, FilesState, KeepsFile, Name, Vie
 use Rattle.nor_args.specs.Text.{Text}
 use Rattle.flashnor_serprog.specs.Logging.{CreatesLog, StayButLog}
 
-untouched_keeps : {old new : FilesState} (name : Name) → AreUntouched old new → KeepsFile name old new
+pub untouched_keeps : {old new : FilesState} (name : Name) → AreUntouched old new → KeepsFile name old new
 untouched_keeps name same = record {
   out = ap (λ (view : View). view.out name) same.view;
   seen = ap (λ (view : View). view.seen name) same.view;

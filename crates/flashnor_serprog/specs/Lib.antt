@@ -12,7 +12,9 @@ pub mod Regions
 pub mod RegionRoles
 pub mod RegionCopies
 pub mod Journals
+pub mod Images
 pub mod Run
 pub mod StatusLocks
 pub mod ChipLayouts
 pub mod Estimates
+pub mod Notes

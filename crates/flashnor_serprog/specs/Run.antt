@@ -22,10 +22,10 @@ use Rattle.nor_console.specs.declared.messages.Fault.TheVariants as end
 use Rattle.nor_request.specs.declared.refusal.Refusal.{Refusal}
 use Rattle.flashnor_serprog.specs.ChipLayouts.{IsShown, form_on_chip}
 use Rattle.flashnor_serprog.specs.Connected.{MayExpectImage, IsUnused, device_of, expected_by}
-use Rattle.flashnor_serprog.specs.Journals.{IsSealedIn}
+use Rattle.flashnor_serprog.specs.Images.{HasDescribed}
 use Rattle.flashnor_serprog.specs.Jobs.{DoesTask, FailsPerform, changes_bytes}
 use Rattle.flashnor_serprog.specs.Logging.{HasOwnLog, StayButLog}
-use Rattle.flashnor_serprog.specs.Sends.{SendsOnly}
+use Rattle.flashnor_serprog.specs.Sends.{KeepsSent, SendsOnly}
 use Rattle.flashnor_serprog.specs.StatusLocks.{HasRunLock}
 use Rattle.flashnor_serprog.specs.Setting.{IsDeviceOf}
 use Rattle.flashnor_serprog.specs.RegionCopies.{AreCopied}
@@ -55,7 +55,7 @@ pub record IsAskedFor (words : List Text) (device : Bor Text) (operation : Opera
 -- Holds if the arguments ask for this: the description of the journal in a file, or an operation on the chip of a
 -- programmer.
 abbrev pub IsAskedByArguments : List Text → Asked → Type 0
-IsAskedByArguments words (asked.Description file) = IsHardwareJob program words (hardware.CheckJournal file)
+IsAskedByArguments words (asked.Description file image) = IsHardwareJob program words (hardware.CheckJournal file image)
 IsAskedByArguments words (asked.Chip setting operation) = IsAskedFor words setting.device operation
 
 -- Holds if a job is prepared, before the programmer is used for it: neither the device nor a file that the job writes
@@ -71,7 +71,7 @@ pub record IsPrepared (state : Connected → BusState) (view : View) (device : B
   pub regions : AreJobRegions view shown operation.task files ranges
   pub names : AreNamed operation.task files
   pub file_roles : HaveFileRoles view.nature device operation.task operation.log files
-  pub sources : ArePreparedBytes view operation.task files bytes
+  pub sources : ArePreparedBytes view operation.is_replaced_chip operation.task files bytes
 
 -- Holds if a job ended with this result: the answer or the error of its call of the engine (such as `session` or
 -- `restore`), or a fault that occurred before that call or in the comparison of the chip after it.
@@ -122,15 +122,23 @@ abbrev pub HasPrintedAnswer : Operation → Result Answer JobFault → (out out'
 HasPrintedAnswer operation (Ok found) out out' = Prints (AreJobLines operation found) out out'
 HasPrintedAnswer operation (Err fault) out out' = ⊥
 
--- Holds for a run of a job on a chip; `old` and `new` are the states of the bus before and after it. The run sent only
--- what its job may send (`SendsOnly`). Its exit status is 0 or 1, and 0 only if the job ended with an answer, the
+-- Holds if this was sent after a job with this result: nothing after an answer, and no modifying command after a fault.
+abbrev pub LooksAfter : Result Answer JobFault → (ended new : BusState) → Type 0
+LooksAfter (Ok found) ended new = new ≡ ended
+LooksAfter (Err fault) ended new = KeepsSent ended new
+
+-- Holds for a run of a job on a chip; `old` and `new` are the states of the bus before and after it, and `ended` is the
+-- state when the job ended. The run sent only what its job may send (`SendsOnly`), and then only what `LooksAfter`
+-- allows. Its exit status is 0 or 1, and 0 only if the job ended with an answer, the
 -- answer's lines were printed, and the files of regions have the bytes that a read copies into them (`AreCopied`).
 pub record HasRun (operation : Operation) (files : List RegionFile) (ranges : Option (List Span)) (bytes : List ℕ)
     (before : View) (after : FilesState) (old new : BusState) (out out' : Option (List ℕ)) (status : ℕ)
     : Type 0 where
   pub outcome : Result Answer JobFault
-  pub ends : EndsJob operation ranges bytes before after old new outcome
-  pub sends : SendsOnly operation.task bytes old new after
+  pub ended : BusState
+  pub ends : EndsJob operation ranges bytes before after old ended outcome
+  pub sends : SendsOnly operation.task bytes old ended after
+  pub looked : LooksAfter outcome ended new
   pub few : status ≤ 1
   pub printed : status ≡ 0 → HasPrintedAnswer operation outcome out out'
   pub copied : status ≡ 0 → AreCopied operation files after.view
@@ -189,18 +197,20 @@ pub record HasRunJob (state : Connected → BusState) (files after : FilesState)
   pub asked : IsAskedFor words name operation
   pub run : HasRunOperation state files after name operation device last out out' status
 
--- Holds if the arguments ask for the description of a journal, and this journal is sealed and undamaged.
-pub record HasChecked (view : View) (words : List Text) : Type 0 where
+-- Holds if the arguments ask for the description of a journal, and this journal is sealed and undamaged. If they also
+-- ask for the image in it, the file of that name has this image (`HasDescribed`).
+pub record HasChecked (before after : View) (words : List Text) : Type 0 where
   pub file : Bor Text
-  pub asked : IsHardwareJob program words (hardware.CheckJournal file)
-  pub sealed : IsSealedIn view file.now
+  pub image : Option (Bor Text)
+  pub asked : IsHardwareJob program words (hardware.CheckJournal file image)
+  pub described : HasDescribed before file.now after image
 
 -- Holds if a run may end with exit status 0: its arguments ask for the help or the version; they ask for the
--- description of a journal that is sealed and undamaged; or their job was run, with status 0, on the bus that the run
+-- description of a journal that is sealed and undamaged, whose image was written if they ask for it; or their job was run, with status 0, on the bus that the run
 -- left in `used`.
 abbrev pub HasSucceeded : (state : Connected → BusState) → (files after : FilesState) → List Text
     → (used : Option Connected) → (out out' : Option (List ℕ)) → Type 0
 HasSucceeded state files after words used out out' = ArgumentsAskForHelp words
-    ⊎ (HasChecked files.view words
+    ⊎ (HasChecked files.view after.view words
     ⊎ IsSomeAnd used (λ connected.
     HasRunJob state files after words (device_of connected) (state connected) out out' 0))

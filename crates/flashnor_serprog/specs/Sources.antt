@@ -1,6 +1,6 @@
 -- The files of a job: the check that no file has two roles, and the contents that are read before the programmer is
 -- used.
-use Rattle.std.specs.Prelude.{◌≡◌, ◌⊎◌, ℕ, List, [], Option, None, Some, length, option_map, ⊤}
+use Rattle.std.specs.Prelude.{◌≡◌, ◌⊎◌, ℕ, Bool, List, [], Option, None, Some, length, option_map, ⊤}
 use Rattle.std.specs.Borrow.{Bor}
 use Rattle.nor_files.specs.Files.{Nature, View}
 use Rattle.nor_files.specs.Files.Failure.{There}
@@ -20,6 +20,7 @@ use Rattle.nor_console.specs.Stored.{AreTwo, Happens, IsRead}
 use Rattle.nor_console.specs.declared.messages.Fault.{Fault}
 use Rattle.nor_console.specs.declared.messages.Fault.TheVariants as end
 use Rattle.nor_console.specs.declared.messages.FileFault.TheVariants as file
+use Rattle.flashnor_serprog.specs.Images.{AreAdapted, FailsToAdapt}
 use Rattle.flashnor_serprog.specs.Regions.{AreFilesIn, AreReplaced, FailsToReplace, names_in, regions_of, with_names}
 use Rattle.flashnor_serprog.specs.declared.region_files.RegionFile.{RegionFile}
 use Rattle.flashnor_serprog.specs.declared.trouble.Trouble.{Trouble}
@@ -74,16 +75,17 @@ FailsCheck view (task.Restore journal) fault = IsInvalid view journal.now fault
 FailsCheck view _ fault = ⊥
 
 -- Holds if `bytes` are those that were read of the job's image or of the journal that it restores from. At most one
--- byte more is read than the largest chip or the longest journal has. A job that needs neither has no bytes.
+-- byte more is read than the largest chip or the longest journal has; a comparison may have a journal in place of an
+-- image. A job that needs neither has no bytes.
 abbrev pub AreBytes : View → Task → List ℕ → Type 0
-AreBytes view (task.Verify file regions) bytes = IsRead view file.now 16777217 bytes
+AreBytes view (task.Verify file regions) bytes = IsRead view file.now 16793662 bytes
 AreBytes view (task.Change change) bytes = IsImage view change.wanted bytes
 AreBytes view (task.Restore journal) bytes = IsRead view journal.now 16793662 bytes
 AreBytes view _ bytes = bytes ≡ []
 
 -- Holds for the faults of reading the job's image or journal.
 abbrev pub FailsToReadBytes : View → Task → Fault → Type 0
-FailsToReadBytes view (task.Verify file regions) fault = IsReadingFault view file.now 16777217 fault
+FailsToReadBytes view (task.Verify file regions) fault = IsReadingFault view file.now 16793662 fault
 FailsToReadBytes view (task.Change change) fault = FailsImage view change.wanted fault
 FailsToReadBytes view (task.Restore journal) fault = IsSharingFault view journal.now 16793662 fault
 FailsToReadBytes view _ fault = ⊥
@@ -94,24 +96,41 @@ abbrev pub AreReplacedIn : View → (image : Option (Bor Text)) → List RegionF
 AreReplacedIn view None files old new = new ≡ old
 AreReplacedIn view (Some image) files old new = AreReplaced view files old new
 
--- Holds if `bytes` are those of the job's image or journal (`AreBytes`), with the bytes of each region of an image
--- replaced by those of the region's file.
-pub record ArePreparedBytes (view : View) (job : Task) (files : List RegionFile) (bytes : List ℕ) : Type 0 where
+-- Holds if `whole` are the bytes that the job uses in place of those of its image or journal (`AreAdapted`).
+pub record AreUsed (view : View) (replaced : Bool) (job : Task) (whole : List ℕ) : Type 0 where
+  pub found : List ℕ
+  pub read : AreBytes view job found
+  pub adapted : AreAdapted replaced job found whole
+
+-- Holds if `bytes` are those that the job uses (`AreUsed`), with the bytes of each region of an image replaced by those
+-- of the region's file. `is_replaced` is true with `--replaced-chip`.
+pub record ArePreparedBytes (view : View) (is_replaced : Bool) (job : Task) (files : List RegionFile)
+    (bytes : List ℕ) : Type 0 where
   pub whole : List ℕ
-  pub read : AreBytes view job whole
+  pub used : AreUsed view is_replaced job whole
   pub replaced : AreReplacedIn view (named_by job).wanted files whole bytes
 
 -- Holds if replacing the bytes of regions may fail with this fault (`FailsToReplace`). Without an image, nothing fails.
-abbrev pub FailsToReplaceIn : View → (image : Option (Bor Text)) → Task → List RegionFile → Trouble → Type 0
-FailsToReplaceIn view None job files fault = ⊥
-FailsToReplaceIn view (Some image) job files fault =
-    (whole : List ℕ) × AreBytes view job whole × FailsToReplace view image files (length whole) fault
+abbrev pub FailsToReplaceIn : View → (replaced : Bool) → (image : Option (Bor Text)) → Task → List RegionFile → Trouble
+    → Type 0
+FailsToReplaceIn view replaced None job files fault = ⊥
+FailsToReplaceIn view replaced (Some image) job files fault =
+    (whole : List ℕ) × AreUsed view replaced job whole × FailsToReplace view image files (length whole) fault
 
--- Holds if reading and checking the files of a task may fail with this fault.
-abbrev pub FailsToPrepare : View → Task → List RegionFile → Trouble → Type 0
-FailsToPrepare view job files (trouble.Fault fault) = FailsToReadBytes view job fault
-    ⊎ (FailsCheck view job fault ⊎ FailsToReplaceIn view (named_by job).wanted job files (trouble.Fault fault))
-FailsToPrepare view job files fault = FailsToReplaceIn view (named_by job).wanted job files fault
+-- Holds if adapting the bytes of a job's file may fail with this fault (`FailsToAdapt`).
+abbrev pub FailsToUse : View → (replaced : Bool) → Task → Trouble → Type 0
+FailsToUse view replaced job fault =
+    (found : List ℕ) × AreBytes view job found × FailsToAdapt replaced job found fault
+
+-- Holds if reading or checking the files of a task may fail with this fault.
+abbrev pub FailsToReadOrCheck : View → Task → Trouble → Type 0
+FailsToReadOrCheck view job (trouble.Fault fault) = FailsToReadBytes view job fault ⊎ FailsCheck view job fault
+FailsToReadOrCheck view job fault = ⊥
+
+-- Holds if reading, checking and adapting the files of a task may fail with this fault.
+abbrev pub FailsToPrepare : View → (replaced : Bool) → Task → List RegionFile → Trouble → Type 0
+FailsToPrepare view replaced job files fault = FailsToReadOrCheck view job fault
+    ⊎ (FailsToUse view replaced job fault ⊎ FailsToReplaceIn view replaced (named_by job).wanted job files fault)
 
 -- ---- regions
 

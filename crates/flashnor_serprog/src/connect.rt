@@ -1,6 +1,7 @@
 //! Opens the device of a programmer and identifies the programmer.
 ghost use Rattle.std.specs.Prelude.{◌≡◌, [], IfOk, option_map, string_bytes};
 ghost use Rattle.nor_buses.specs.Checked.{bus_of, history_of as checked_history};
+ghost use Rattle.nor_buses.specs.SameChip.{checked_by};
 ghost use Rattle.nor_buses.specs.Twice.{expected_of, history_of, twice_of};
 ghost use Rattle.flashnor_serprog.specs.Connected.{IsUnused, device_of, expected_by};
 
@@ -8,7 +9,7 @@ use crate::port::{DevicePort, PortFault};
 use crate::progress::{Shown, StatusWrite, Terminal};
 use crate::setting::Setting;
 use crate::trouble::{ProgrammerFault, Trouble};
-use nor_buses::{CheckedStatus, Paced, ReadAhead, ReadTwice, SplittingBus};
+use nor_buses::{CheckedStatus, Paced, ReadAhead, ReadTwice, SameChip, SplittingBus};
 use nor_chip::Bus;
 use nor_console::Fault;
 use nor_files::LockFile;
@@ -29,10 +30,11 @@ const WAKE: [u8; 13] = [
 const WAKE_REPLIES: u32 = 10;
 
 /// The bus to a chip at a serial programmer. Its layers, from the outside to the programmer: one shows the progress on
-/// standard error; one reads data ahead; one reads IDs, SFDP and data twice; one reads status registers twice and
-/// checks status writes; one splits commands that are too long for the programmer; one pauses between the polls of a
-/// busy chip, also between the parts of a split program; and one sends several commands in one write to the port.
-pub type ChipBus<'a> = Shown<'a, ReadAhead<ReadTwice<CheckedStatus<PartsBus<'a>>>>>;
+/// standard error; one reads data ahead; one reads the unique ID again before the first modifying command; one reads
+/// IDs, SFDP and data twice; one reads status registers twice and checks status writes; one splits commands that are
+/// too long for the programmer; one pauses between the polls of a busy chip, also between the parts of a split program;
+/// and one sends several commands in one write to the port.
+pub type ChipBus<'a> = Shown<'a, ReadAhead<SameChip<ReadTwice<CheckedStatus<PartsBus<'a>>>>>>;
 
 // The inner layers of `ChipBus`: the bus that splits commands, around the bus that paces polls, around the bus that
 // sends commands together.
@@ -126,7 +128,7 @@ fn connect<'a>(
     let longest_read = programmer.longest_read();
     let paced = Paced::new(BatchingBus::over(link, programmer), rt);
     let splitting = SplittingBus::new(paced, programmer.longest_part(), longest_read);
-    let bus = reading_twice(checking(splitting, checks), image);
+    let bus = SameChip::new(reading_twice(checking(splitting, checks), image));
     Ok(Connected {
         device,
         bus: Shown::new(

@@ -41,7 +41,11 @@ After a run that was killed, disconnect the programmer from power for a second
 before the next run.
 
 --check-journal says what a journal holds, whether it is complete and undamaged,
-and how to restore from it. It needs no programmer.
+and how to restore from it. It needs no programmer. With --extract-image it also
+writes the image in a backup into FILE. -v takes a backup in place of an image.
+
+--replaced-chip lets --restore write a backup to another chip of the same type,
+whose own contents are lost: make a backup of them first.
 
 With --fmap and --ifd the regions are those of a table on the chip, which is
 read before the job. The files of --fmap-file and --ifd-file are images that you
@@ -62,7 +66,8 @@ Usage fault 4: there is more than one operation
 Usage fault 5: --wp-range needs two numbers, --progress one of its words
 Usage fault 6: -w, -E, --wp-range need --journal, and nothing else takes it
 Usage fault 7: -i and one layout need each other, and one of -r, -w, -v, -E
-Usage fault 8: -n, -N, --unlock or --quick with an operation that can't have it
+Usage fault 8: -n, -N, --unlock, --quick, --replaced-chip or --extract-image
+  with an operation that can't have it
 Usage fault 10: out of memory
 
 The manual page, flashnor-serprog(8), says what each fault asks for.";

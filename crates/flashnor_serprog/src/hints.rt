@@ -3,6 +3,7 @@
 
 use crate::journals::{StatusBits, advice};
 use crate::region_files::regions_of;
+use crate::replies::Replies;
 use crate::trouble::Left;
 use nor_args::{Change, Operation, Regions, Task};
 use nor_console::{Escaped, Fault, FileFault};
@@ -12,16 +13,6 @@ use nor_probe::{ChipName, part_for};
 use nor_session::Refusal;
 use std::fmt;
 use std::io::Write;
-
-/// What the chip replied last before the first modifying command. An ID is `None` if it was not read, and the status
-/// bytes are 0 if they were not read.
-#[derive(Clone, Copy, Default)]
-pub struct Replies {
-    pub id: Option<[u8; 3]>,
-    pub unique: Option<[u8; 8]>,
-    /// Status 1 and status 2.
-    pub status: [u8; 2],
-}
 
 /// What a journal says about its chip.
 #[derive(Clone, Copy)]
@@ -190,6 +181,7 @@ fn found_and_expected<'a>(
         Refusal::OtherChip => Some(Line::Chip {
             saved: saved?,
             id: replies.id?,
+            size: replies.size(),
         }),
         Refusal::StatusDiffers => {
             let saved = saved?;
@@ -262,6 +254,7 @@ enum Line<'a> {
     Chip {
         saved: Saved,
         id: [u8; 3],
+        size: Option<u32>,
     },
     Status {
         saved: [u8; 2],
@@ -320,13 +313,18 @@ impl fmt::Display for Line<'_> {
             Line::Unlock => f.write_str(
                 "Include only regions that aren't protected, or use --unlock.",
             ),
-            Line::Chip { saved, id } => write!(
-                f,
-                "The journal is of {} with {} bytes. The chip is {}.",
-                ChipText(saved.id),
-                saved.size,
-                ChipText(id)
-            ),
+            Line::Chip { saved, id, size } => {
+                let (journal, chip) = (ChipText(saved.id), ChipText(id));
+                let bytes = saved.size;
+                write!(
+                    f,
+                    "The journal is of {journal} with {bytes} bytes. The chip is {chip}"
+                )?;
+                match size {
+                    Some(size) if saved.id == id => write!(f, " with {size} bytes."),
+                    _ => f.write_str("."),
+                }
+            }
             Line::Status {
                 saved,
                 found,

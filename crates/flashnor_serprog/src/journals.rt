@@ -77,7 +77,8 @@ fn describe<'a, R: Store>(files: &mut R, name: &'a str) -> Result<Description, F
     }
 }
 
-fn description_of(journal: &Journal<'_>) -> Description
+/// Returns the description of the journal.
+pub fn description_of(journal: &Journal<'_>) -> Description
     ensures { Describes journal.now result }
 {
     Description {
@@ -143,7 +144,8 @@ pub fn advice(fault: JournalFault) -> &'static str {
     }
 }
 
-fn print_description<W: Write>(
+/// Prints the description of the journal in the file of this name.
+pub fn print_description<W: Write>(
     output: &mut W,
     name: &str,
     description: &Description,

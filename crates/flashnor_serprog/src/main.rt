@@ -12,6 +12,7 @@
 //! - `layout_lines.rt`: the lines of a fault of a layout
 //! - `hints.rt`: the line after that of a fault, for example with what to do, or what was found and expected
 //! - `quoted.rt`: names of files in commands that you may copy
+//! - `replies.rt`: what the chip replied before the first modifying command
 //! - `setting.rt`: the value of `-p`
 //! - `included.rt`: the addresses of the regions of `-i`
 //! - `region_files.rt`: the regions with a file of their own, whose bytes replace those of an image
@@ -33,9 +34,15 @@
 //! - `chip_layouts.rt`: reads the bytes of a layout on the chip itself, before the job
 //! - `jobs.rt`: performs a job on the chip
 //! - `journals.rt`: describes a journal, for `--check-journal`
+//! - `images.rt`: the image in a journal that saves the whole chip
+//! - `extracting.rt`: writes this image into a file, for `--extract-image`
+//! - `replacing.rt`: the journal of a whole chip for another device of its type, for `--replaced-chip`
 //! - `backups.rt`: saves a whole chip in a new journal
 //! - `restoring.rt`: restores the chip from a journal
 //! - `rest.rt`: the sectors that a restore's journal does not save, and the comparison of them after the restore
+//! - `notes.rt`: the sums of the sectors that a run reads, before the first modifying command and in a comparison
+//! - `sums_file.rt`: the file with these sums, beside a session's journal
+//! - `strays.rt`: the sectors that a run changed by accident, which these sums show
 //! - `status_lock.rt`: sets and clears SRP0, for `--wp-enable` and `--wp-disable`
 //! - `lock_job.rt`: a run of `--wp-enable` or `--wp-disable`, and what it prints
 //! - `following.rt`: the target of a change, and the comparison of the whole chip with it
@@ -51,16 +58,19 @@ mod chip_layouts;
 mod connect;
 mod ending;
 mod estimates;
+mod extracting;
 mod following;
 mod gauge;
 mod help;
 mod hints;
+mod images;
 mod included;
 mod jobs;
 mod journals;
 mod layout_lines;
 mod lock_job;
 mod log;
+mod notes;
 mod port;
 mod preparing;
 mod progress;
@@ -69,6 +79,8 @@ mod region_copies;
 mod region_faults;
 mod region_files;
 mod region_roles;
+mod replacing;
+mod replies;
 mod reports;
 mod rest;
 mod restoring;
@@ -81,6 +93,8 @@ mod status_line;
 mod status_lock;
 mod step_lines;
 mod steps;
+mod strays;
+mod sums_file;
 mod terminal;
 mod trouble;
 

@@ -1,8 +1,9 @@
 //! The serial port of a programmer: its device, such as /dev/ttyACM0, as a `Port` of nor_serprog.
 ghost use Rattle.std.proofs.lemmas.Bool.{false≢true};
 ghost use Rattle.nor_serprog.specs.Device.{unknown_port};
+ghost use Rattle.nor_serprog.specs.Wire.{asked_on, received_on};
 
-use nor_serprog::Port;
+use nor_serprog::{Port, Wire};
 use std::fs::File;
 use std::io::{ErrorKind, Read, Write};
 use std::{fmt, io};
@@ -25,33 +26,42 @@ impl fmt::Display for PortFault {
     }
 }
 
-/// A port over the device of a programmer. Its contract assumes nothing about the device.
+/// A port over the device of a programmer. Its contract assumes nothing about the device, and records what the port is
+/// asked to send, and what it returns.
 #[derive(Drop)]
 pub struct DevicePort {
     file: File,
+    wire: Wire,
 }
 
 impl DevicePort {
     /// Returns a port over `file`, which must be open for reading and writing.
     pub fn new(file: File) -> DevicePort {
-        DevicePort { file }
+        DevicePort {
+            file,
+            wire: Wire::new(),
+        }
     }
 }
 
 impl Port for DevicePort {
     type Cause = PortFault;
 
-    ghost state = { λ _. unknown_port };
+    ghost state = { λ port. unknown_port (asked_on port.wire) (received_on port.wire) };
 
     ghost reaches = { λ _ honest. absurd (false≢true honest) };
 
     fn send(&mut self, bytes: &[u8]) -> Result<(), PortFault> {
+        self.wire.asked(bytes);
         self.file.write_all(bytes).map_err(PortFault::System)
     }
 
     fn receive(&mut self, bytes: &mut [u8]) -> Result<(), PortFault> {
         match self.file.read_exact(bytes) {
-            Ok(()) => Ok(()),
+            Ok(()) => {
+                self.wire.received(bytes);
+                Ok(())
+            }
             Err(error) if error.kind() == ErrorKind::UnexpectedEof => Err(PortFault::Silent),
             Err(error) => Err(PortFault::System(error)),
         }

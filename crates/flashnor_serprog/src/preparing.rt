@@ -16,6 +16,7 @@ use crate::included::find_included;
 use crate::jobs::is_session;
 use crate::region_files::{RegionFile, find_region_files, named_regions};
 use crate::region_roles::check_region_files;
+use crate::replacing::print_replaced;
 use crate::roles::{has_own_log, have_one_role};
 use crate::run_log::{check_log, start_log};
 use crate::setting::Setting;
@@ -48,7 +49,7 @@ pub struct Prepared<'a, 'b> {
 ///    read from the chip, over a connection that ends with this step (`read_shown`).
 /// 3. The included addresses are found, the files of regions are checked, and the image or the journal is read and
 ///    checked, even if that was done in step 2.
-/// 4. The log is started.
+/// 4. The log is started, and what `--replaced-chip` does is printed.
 /// 5. The programmer is identified for the job.
 #[tactic(auto, using(crate::proofs::LogMade::log_steps))]
 pub fn prepare<'a, 'b, R: Store<Log = LogFile<File>>, E: Write>(
@@ -75,15 +76,17 @@ pub fn prepare<'a, 'b, R: Store<Log = LogFile<File>>, E: Write>(
     check_log(files, operation.log)?;
     check_new(files, operation)?;
     let terminal = Terminal::new(rt, screen, operation.progress, operation.is_verbose);
-    try_sources(files, &operation.task)?;
+    try_sources(files, operation)?;
     let chip = read_shown(rt, terminal, setting, operation, errors)?;
     let shown = bytes_of(&chip);
     let included = find_included(files, named_regions(&operation.task, names), shown)?;
     let regions = find_region_files(files, &operation.task, shown)?;
     check_region_files(files, setting.device, operation, &regions)?;
-    let sources = prepare_sources(files, &operation.task, included, &regions)?;
+    let replaced = operation.is_replaced_chip;
+    let sources = prepare_sources(files, &operation.task, replaced, included, &regions)?;
     let image = image_of(&sources, operation);
     start_log(files, screen.log(), operation.log)?;
+    print_replaced(errors, operation);
     let connected = connect_by(rt, terminal, setting, image, checks_for(operation))?;
     Ok(Prepared {
         regions,
@@ -105,11 +108,17 @@ fn checks_for(operation: &Operation<'_>) -> Checks {
 
 // If the layout of the task is on the chip, reads and checks the task's image or journal, and returns a fault of it
 // before the chip is read, which may take minutes.
-fn try_sources<'a, R: Store>(files: &mut R, task: &Task<'a>) -> Result<(), Trouble<'a>>
+fn try_sources<'a, R: Store>(files: &mut R, operation: &Operation<'a>) -> Result<(), Trouble<'a>>
     ensures { AreUntouched (R.state files.old) (R.state files.new) }
 {
-    if form_on_chip(task).is_some() {
-        prepare_sources(files, task, None, &[])?;
+    if form_on_chip(&operation.task).is_some() {
+        prepare_sources(
+            files,
+            &operation.task,
+            operation.is_replaced_chip,
+            None,
+            &[],
+        )?;
     }
     Ok(())
 }

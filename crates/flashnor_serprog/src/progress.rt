@@ -1,15 +1,18 @@
 //! A bus that shows the progress of a job on standard error: its steps, and lines before the first modifying command.
 ghost use Rattle.std.specs.Prelude.{◌≡◌};
 
+mod expecting;
+mod noting;
+
 use crate::estimates::Minutes;
 use crate::gauge::{Gauge, micros_between};
-use crate::hints::Replies;
+use crate::notes::Notes;
+use crate::replies::Replies;
 use crate::status_line::{are_equally_protected, protects};
 use crate::step_lines::{Counts, StepCount, StepOf, Took};
 use crate::steps::{Phase, Step, Total, step_of};
 use crate::terminal::Look;
 pub use crate::terminal::Terminal;
-use nor_buses::ReadAhead;
 use nor_chip::{Bus, Stopped, is_changing};
 use std::time::Instant;
 
@@ -99,6 +102,8 @@ pub struct Shown<'a, B> {
     replies: Replies,
     // how many polls showed BUSY before the ID was read
     busy_polls: u32,
+    // the sums of the sectors that were read, if the job notes them
+    notes: Option<Notes>,
 }
 
 /// Whether a job may write the chip's status.
@@ -131,6 +136,7 @@ impl<'a, B: Bus + Drop> Shown<'a, B> {
             status_write,
             replies: Replies::default(),
             busy_polls: 0,
+            notes: None,
         }
     }
 
@@ -204,6 +210,7 @@ impl<B> Shown<'_, B> {
         if self.may_clear_quad() {
             self.terminal.print(&QUAD);
         }
+        self.write_notes();
         let what = if self.in_session { SEALED } else { CHANGED };
         self.terminal.print(&what);
     }
@@ -227,23 +234,16 @@ impl<B> Shown<'_, B> {
         writes && self.replies.status[1] & QE != 0
     }
 
-    // Stores an ID or a status byte that the chip replied before the first modifying command.
+    // Stores what the chip replied before the first modifying command.
     fn remember(&mut self, out: &[u8], reply: &[u8])
         ensures { self.new.bus ≡ self.old.bus }
     {
-        match (self.phase, out, reply) {
-            (Phase::Before, [0x05, ..], [status1, ..]) => {
-                self.replies.status[0] = *status1;
-                self.count_busy(*status1);
-            }
-            (Phase::Before, [0x35, ..], [status2, ..]) => self.replies.status[1] = *status2,
-            (Phase::Before, [0x9F, ..], [maker, kind, capacity]) => {
-                self.replies.id = Some([*maker, *kind, *capacity]);
-            }
-            (Phase::Before, [0x4B, ..], [a, b, c, d, e, f, g, h]) => {
-                self.replies.unique = Some([*a, *b, *c, *d, *e, *f, *g, *h]);
-            }
-            _ => {}
+        if self.phase != Phase::Before {
+            return;
+        }
+        self.replies.remember(out, reply);
+        if let ([0x05, ..], [status1, ..]) = (out, reply) {
+            self.count_busy(*status1);
         }
     }
 
@@ -367,6 +367,7 @@ impl<B: Bus> Bus for Shown<'_, B> {
         self.terminal.log_command(out);
         match self.bus.transfer(out, reply) {
             Ok(()) => {
+                self.note(out, reply);
                 self.remember(out, reply);
                 self.measure(out, reply);
                 Ok(())
@@ -380,31 +381,5 @@ impl<B: Bus> Bus for Shown<'_, B> {
 
     fn has_further_types(&self) -> bool {
         self.bus.has_further_types()
-    }
-}
-
-impl<B: Bus + Drop> Progress for Shown<'_, ReadAhead<B>> {
-    fn expect_reads(&mut self, sectors: usize) {
-        let known = self.expected.unwrap_or(0);
-        if known > 0 && self.counts.scan >= known as u64 && sectors > known {
-            // The reads that were recorded before are done. The further ones are a scan of their own.
-            self.expected = Some(sectors - known);
-            self.counts.scan = 0;
-            self.gauge.restart_scan();
-        } else {
-            // A job may record the same reads again after it did some of them, or only those that are left.
-            self.expected = Some(sectors.max(known));
-        }
-    }
-
-    fn expect_comparison(&mut self, sectors: usize) {
-        self.show_duration();
-        self.expected = Some(sectors);
-        self.phase = Phase::After;
-        self.gauge.restart(self.terminal.now());
-    }
-
-    fn end_blocks_at(&mut self, address: u32) {
-        self.bus.end_blocks_at(address);
     }
 }

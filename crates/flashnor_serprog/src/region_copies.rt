@@ -88,8 +88,10 @@ fn part_in(bytes: &[u8], span: Span) -> Option<&[u8]>
     Some(&bytes[first..end])
 }
 
-// Creates or truncates the file of this name, and writes these bytes into it.
-fn write_file<'a, R: Store>(rt: &mut R, name: &'a str, bytes: &[u8]) -> Result<(), Fault<'a>>
+/// Creates or truncates the file of this name, and writes these bytes into it, without a sync.
+///
+/// Returns the faults of `empty`, or file fault 2 if the file can't be written.
+pub fn write_file<'a, R: Store>(rt: &mut R, name: &'a str, bytes: &[u8]) -> Result<(), Fault<'a>>
     ensures nature { (R.state rt.new).view.nature ≡ (R.state rt.old).view.nature }
     ensures others { is_lawful (R.state rt.old).view ≡ true
         → OthersStay name.now (R.state rt.old) (R.state rt.new) }

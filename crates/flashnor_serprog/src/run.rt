@@ -14,6 +14,7 @@ ghost use Rattle.flashnor_serprog.specs.Sources.{ArePlainNames};
 use crate::chip_faults::JobFault;
 use crate::connect::{ChipBus, Connected};
 use crate::ending::{end_badly, end_well, status_of};
+use crate::extracting::extract_image;
 use crate::help::HELP;
 use crate::hints::Saved;
 use crate::jobs::{changes_bytes, is_session, perform};
@@ -26,6 +27,8 @@ use crate::region_files::{RegionFile, plain_names};
 use crate::reports::{print_job_fault, print_trouble, print_used_name, report_changed_byte};
 use crate::run_log::end_log;
 use crate::setting::Setting;
+use crate::strays::{begin_notes, end_compared, report_strays};
+use crate::sums_file::{is_new, read_before};
 use crate::terminal::Screen;
 use crate::trouble::Trouble;
 use clap::Error as WordsError;
@@ -115,7 +118,13 @@ fn run_arguments<'b, R: Store<Log = LogFile<File>>, O: Write, E: Write>(
         (⟦<ChipBus<'b> as Bus>⟧.state connected.bus) (O.contents output.old) (O.contents output.new) result) }
 {
     match read_words(rt.alloc(), words) {
-        Ok(Asked::Description { file }) => check_journal(files, file, output, errors),
+        Ok(Asked::Description { file, image: None }) => check_journal(files, file, output, errors),
+        Ok(
+            Asked::Description {
+                file,
+                image: Some(image),
+            },
+        ) => extract_image(files, file, image, output, errors),
         Ok(Asked::Chip { setting, operation }) => {
             match plain_names(rt.alloc(), &operation.task) {
                 Ok(names) => run_on_chip(
@@ -150,6 +159,9 @@ fn run_on_chip<'a, 'b, R: Store<Log = LogFile<File>>, O: Write, E: Write>(
         setting.now.device operation.now (device_of connected) (⟦<ChipBus<'b> as Bus>⟧.state connected.bus)
         (O.contents output.old) (O.contents output.new) result) }
 {
+    if !is_new(files, operation, errors) {
+        return 1;
+    }
     match prepare(rt, screen, files, setting, operation, names, errors) {
         Ok(
             Prepared {
@@ -199,9 +211,10 @@ fn asked_text<'a>(trouble: &'a Trouble<'_>) -> Option<&'a WordsError>
 // What the arguments ask for.
 #[derive(Drop)]
 enum Asked<'a> {
-    // The description of the journal in the file of this name.
+    // The description of the journal in the file of this name, and its image in the file `image` if there is a name.
     Description {
         file: &'a str,
+        image: Option<&'a str>,
     },
     // An operation on the chip of a programmer.
     Chip {
@@ -216,7 +229,7 @@ fn read_words<'a>(alloc: Global, words: &'a [String]) -> Result<Asked<'a>, Troub
     ensures help { IfErr result (IsHelpAskedBy (map string_bytes words.now)) }
 {
     match operation_of(alloc, HELP, words)? {
-        HardwareJob::CheckJournal { file } => Ok(Asked::Description { file }),
+        HardwareJob::CheckJournal { file, image } => Ok(Asked::Description { file, image }),
         HardwareJob::Chip(job) => {
             let setting = Setting::read(job.programmer)?;
             let operation = job.operation?;
@@ -263,6 +276,8 @@ fn run_job<'b, R: Store, O: Write, E: Write>(
 {
     let saved = saved_by(&operation.task, &sources);
     mark_job(bus, &operation.task, saved);
+    begin_notes(errors, bus, operation, files.alloc());
+    let before = read_before(files, operation, &sources.bytes);
     let terminal = bus.terminal();
     match end_job(files, bus, terminal, operation, sources) {
         Ok(answer) if reads_out(operation) => {
@@ -272,12 +287,13 @@ fn run_job<'b, R: Store, O: Write, E: Write>(
         }
         Ok(answer) => {
             bus.end_progress(true);
-            let printed = end_well(output, errors, answer, operation);
+            let printed = end_compared(output, errors, bus, answer, operation, &before);
             end_run(errors, bus, operation, printed)
         }
         Err(fault) => {
             bus.end_progress(false);
             print_job_fault(errors, &fault, bus, operation, saved);
+            report_strays(errors, bus, &fault, operation);
             print_used_name(errors, &*files, &fault, bus, operation);
             end_log(errors, terminal.log(), operation.log, 1)
         }

@@ -6,10 +6,11 @@ ghost use Rattle.flashnor_serprog.specs.Sources.{AreBytes, ArePreparedBytes, Fai
 
 use crate::jobs::is_compared;
 use crate::region_files::{RegionFile, replace_regions};
+use crate::replacing::adapted;
 use crate::trouble::Trouble;
 use nor_args::{Operation, Task, Wanted};
 use nor_console::{
-    Fault, FileFault, MOST_IMAGE_BYTES, journal_of, named_by, read_file, read_journal,
+    Fault, FileFault, MOST_JOURNAL_BYTES, journal_of, named_by, read_file, read_journal,
 };
 use nor_files::Store;
 use nor_jobs::{Sources, journal_in, read_image};
@@ -44,40 +45,44 @@ fn ends_with_image(operation: &Operation<'_>) -> bool
     }
 }
 
-/// Reads the image or the journal of a task, and checks it. In an image, the bytes of each of the `regions` are
-/// replaced by those of the region's file. `included` has the addresses of the regions. Each file is as it was.
+/// Reads the image or the journal of a task, checks it, and adapts it (`adapted`; `is_replaced` is true with
+/// `--replaced-chip`). In an image, the bytes of each of the `regions` are replaced by those of the region's file.
+/// `included` has the addresses of the regions. Each file is as it was.
 ///
 /// Returns the faults of `read_file` and `read_journal`, error 15 for an invalid journal, file fault 4 if the journal
-/// of a change already exists, or a fault of `replace_regions`.
+/// of a change already exists, or a fault of `adapted` or `replace_regions`.
 pub fn prepare_sources<'a, R: Store>(
     rt: &mut R,
     task: &Task<'a>,
+    is_replaced: bool,
     included: Option<Ranges>,
     regions: &[RegionFile<'a>],
 ) -> Result<Sources, Trouble<'a>>
     ensures same { AreUntouched (R.state rt.old) (R.state rt.new) }
     ensures included { IfOk result (λ sources. sources.included ≡ included) }
     ensures ok { IfOk result (λ sources.
-        ArePreparedBytes (R.state rt.old).view task.now regions.now sources.bytes.items) }
-    ensures err { IfErr result (FailsToPrepare (R.state rt.old).view task.now regions.now) }
+        ArePreparedBytes (R.state rt.old).view is_replaced task.now regions.now sources.bytes.items) }
+    ensures err { IfErr result (FailsToPrepare (R.state rt.old).view is_replaced task.now regions.now) }
 {
-    let bytes = read_bytes(rt, task)?;
+    let whole = read_bytes(rt, task)?;
+    check(rt, task, &whole)?;
+    let bytes = adapted(rt.alloc(), task, is_replaced, whole)?;
     let mut sources = Sources { included, bytes };
-    check(rt, task, &sources)?;
     if let Some(image) = named_by(task).wanted {
         replace_regions(rt, image, regions, &mut sources.bytes)?;
     }
     Ok(sources)
 }
 
-// Reads the image or the journal of a task. Returns no bytes for a task that needs neither.
+// Reads the image or the journal of a task. Returns no bytes for a task that needs neither. A comparison may have a
+// journal in place of an image, which is a little longer.
 fn read_bytes<'a, R: Store>(rt: &mut R, task: &Task<'a>) -> Result<Vec<u8>, Fault<'a>>
     ensures same { AreUntouched (R.state rt.old) (R.state rt.new) }
     ensures ok { IfOk result (λ bytes. AreBytes (R.state rt.old).view task.now bytes.items) }
     ensures err { IfErr result (FailsToReadBytes (R.state rt.old).view task.now) }
 {
     match task {
-        Task::Verify { file, .. } => read_file(rt, *file, MOST_IMAGE_BYTES),
+        Task::Verify { file, .. } => read_file(rt, *file, MOST_JOURNAL_BYTES),
         Task::Change(change) => read_image(rt, change.wanted),
         Task::Restore { journal } => read_journal(rt, *journal),
         _ => Ok(Vec::new(rt.alloc())),
@@ -85,8 +90,8 @@ fn read_bytes<'a, R: Store>(rt: &mut R, task: &Task<'a>) -> Result<Vec<u8>, Faul
 }
 
 // Checks that the journal of a change doesn't exist yet, and that the file of a restore is a valid journal.
-fn check<'a, R: Store>(rt: &R, task: &Task<'a>, sources: &Sources) -> Result<(), Fault<'a>>
-    requires { AreBytes (R.state rt.now).view task.now sources.now.bytes.items }
+fn check<'a, R: Store>(rt: &R, task: &Task<'a>, bytes: &[u8]) -> Result<(), Fault<'a>>
+    requires { AreBytes (R.state rt.now).view task.now bytes.now }
     ensures { IfErr result (FailsCheck (R.state rt.now).view task.now) }
 {
     match task {
@@ -98,7 +103,7 @@ fn check<'a, R: Store>(rt: &R, task: &Task<'a>, sources: &Sources) -> Result<(),
             _ => Ok(()),
         },
         Task::Restore { .. } => {
-            journal_in(&sources.bytes)?;
+            journal_in(bytes)?;
             Ok(())
         }
         _ => Ok(()),

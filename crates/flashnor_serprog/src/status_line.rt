@@ -1,7 +1,7 @@
 //! The lines for two replies that differ, for a chip that is lost, for a status write that was refused or that the chip
 //! did not store, and for a port that seems to change bytes.
 
-use nor_buses::{ChangedByte, CheckFault};
+use nor_buses::{ChangedByte, CheckFault, OtherChip};
 use std::fmt;
 
 /// The line after that of error 12 if a `CheckedStatus` stopped because two replies differ, the chip is lost, a status
@@ -39,6 +39,22 @@ impl fmt::Display for ChangedLine {
             "Programmer fault 13: {read_as:02X}h was often read, {lost:02X}h never. The port probably changes \
             {lost:02X}h to {read_as:02X}h: then throw away what was read (also a journal), set up the port with stty, \
             and repeat the run."
+        )
+    }
+}
+
+/// The line after that of error 12 if a `SameChip` stopped because the chip is another one than before.
+#[derive(Clone, Copy, Drop)]
+pub struct OtherLine(pub OtherChip);
+
+impl fmt::Display for OtherLine {
+    fn fmt<W: fmt::Write>(&self, f: &mut fmt::Formatter<W>) -> fmt::Result {
+        let OtherChip { before, found } = self.0;
+        let (before, found) = (u64::from_be_bytes(before), u64::from_be_bytes(found));
+        write!(
+            f,
+            "Cause: the chip is another one than before: its unique ID was {before:016x}, and is {found:016x} now. \
+            Connect the right chip."
         )
     }
 }
@@ -90,12 +106,23 @@ impl fmt::Display for NotStored {
             "Check WP#, SRP0 and the supply."
         };
         f.write_str(advice)?;
+        let kept = (self.sent[1] ^ two) & KEPT;
+        if kept != 0 {
+            write!(f, " {KEEPS}{}.", Differing([0, kept]))?;
+        }
         if protects(self.sent) && !protects(self.found) {
             f.write_str(" The chip is unprotected.")?;
         }
         Ok(())
     }
 }
+
+// The bits of status 2 that no job of this program changes: all except CMP and SUS.
+const KEPT: u8 = 0x3F;
+
+const KEEPS: &str =
+    "With another tool, set these bits as they were, because this program never changes them, and a \
+    restore would end with error 17 (see Chip fault 3 in the manual page):";
 
 // True if a status write was to clear SRP0, and SRP0 is still set.
 fn keeps_srp0(sent: [u8; 2], found: [u8; 2]) -> bool {

@@ -123,6 +123,11 @@ impl<'a> Terminal<'a> {
         }
     }
 
+    /// Returns the runtime.
+    pub fn rt(&self) -> &'a HostRuntime {
+        self.rt
+    }
+
     /// Returns the log of the run.
     pub fn log(&self) -> &'a RunLog {
         self.screen.log()

@@ -2,14 +2,15 @@
 //! failed left, and the lines that are printed for all of these.
 ghost use Rattle.std.specs.Prelude.{◌≡◌};
 
+use crate::images::NotWhole;
 use crate::layout_lines::NamesLine;
 use crate::port::PortFault;
 use crate::quoted::Quoted;
 use crate::region_faults::RegionFault;
 use crate::setting::WrongSetting;
-use crate::status_line::{DIFFERED, StatusLine};
+use crate::status_line::{DIFFERED, OtherLine, StatusLine};
 use nor_args::{Flaw, Reason, WrongArguments};
-use nor_buses::CheckFault;
+use nor_buses::{CheckFault, OtherChip};
 use nor_console::{Escaped, Fault, text_of_flaw};
 use nor_serprog::{Failure, HandshakeFault};
 use std::fmt;
@@ -23,6 +24,8 @@ pub enum Trouble<'a> {
     Setting(WrongSetting<'a>),
     /// A region of `-i` with a file, or this file, can't be used.
     Region(RegionFault<'a>),
+    /// The journal doesn't save the whole chip.
+    NotWhole(NotWhole<'a>),
     /// Layout fault 8: this name of `-i` is no region. `known` has the regions of the layout.
     NoRegion {
         name: &'a str,
@@ -80,6 +83,16 @@ impl<'a> From<RegionFault<'a>> for Trouble<'a> {
     }
 }
 
+impl<'a> From<NotWhole<'a>> for Trouble<'a> {
+    ghost use Rattle.flashnor_serprog.specs.declared.trouble.Trouble.TheVariants as trouble;
+
+    ghost from_gives = { λ fault ended. ended ≡ trouble.NotWhole fault };
+
+    fn from(fault: NotWhole<'a>) -> Trouble<'a> {
+        Trouble::NotWhole(fault)
+    }
+}
+
 impl fmt::Display for Trouble<'_> {
     fn fmt<W: fmt::Write>(&self, f: &mut fmt::Formatter<W>) -> fmt::Result {
         match self {
@@ -92,6 +105,7 @@ impl fmt::Display for Trouble<'_> {
             Trouble::Fault(fault) => write!(f, "{fault}"),
             Trouble::Setting(wrong) => write!(f, "{wrong}Usage fault 3."),
             Trouble::Region(fault) => write!(f, "{fault}"),
+            Trouble::NotWhole(fault) => write!(f, "{fault}"),
             Trouble::NoRegion { name, known } => {
                 write!(f, "{}\n{known}", Fault::NoRegion { name: *name })
             }
@@ -239,8 +253,8 @@ fn number_of(fault: &HandshakeFault<PortFault>) -> u8 {
 fn help_for(fault: &HandshakeFault<PortFault>) -> Remedy {
     match fault {
         HandshakeFault::Failure(Failure::Port(PortFault::Silent)) => Remedy::DoAndSetUp(
-            "Check its cable, disconnect the programmer from power for a second, connect it again, and \
-            set up the port:",
+            "Check its cable. It may wait for the rest of a command of an interrupted run: disconnect the \
+            programmer from power for a second, connect it again, and set up the port:",
         ),
         HandshakeFault::Failure(Failure::Port(PortFault::System(_))) => {
             Remedy::DoAndSetUp("Connect the programmer again, and set up the port:")
@@ -298,6 +312,8 @@ impl fmt::Display for FailureText<'_> {
 /// The line that follows the line of error 12. It has the reason why the bus stopped, advice, and what the job left.
 #[derive(Drop)]
 pub struct StopLine<'a> {
+    /// The two unique IDs, if the chip was another one before the first modifying command.
+    pub other: Option<OtherChip>,
     /// The reason why a transaction failed, if one did.
     pub failure: Option<&'a Failure<PortFault>>,
     /// Why the replies of the chip are not believed, or what was wrong with a status write, if something was.
@@ -359,6 +375,9 @@ impl fmt::Display for Left<'_> {
 
 impl fmt::Display for StopLine<'_> {
     fn fmt<W: fmt::Write>(&self, f: &mut fmt::Formatter<W>) -> fmt::Result {
+        if let Some(other) = self.other {
+            return write!(f, "{}{}", OtherLine(other), self.left);
+        }
         match (self.failure, self.status) {
             (Some(failure), _) => write!(f, "Cause: {}. {UNPLUG}", FailureText(failure))?,
             (None, Some(fault)) => write!(f, "{}", StatusLine(fault))?,
@@ -369,4 +388,6 @@ impl fmt::Display for StopLine<'_> {
     }
 }
 
-const UNPLUG: &str = "Disconnect the programmer from power for a second before the next run.";
+const UNPLUG: &str =
+    "Disconnect the programmer from power for a second before the next run: it may wait for the rest of \
+    a command, which the next run would complete.";

@@ -1,5 +1,12 @@
-use Rattle.std.proofs.Common.{◌∙◌, Ok, sym}
-use Rattle.flashnor_serprog.proofs.RegionsKept.{sends_kept, task_kept}
+use Rattle.std.proofs.Common.{◌≡◌, ◌∙◌, ℕ, List, Option, Result, Ok, Err, arith, refl, rules, subst, sym}
+use Rattle.nor_model.specs.Bus.{BusState}
+use Rattle.nor_files.specs.Files.{FilesState, View}
+use Rattle.nor_layout.specs.declared.ranges.Span.{Span}
+use Rattle.nor_args.specs.declared.job.Operation.{Operation}
+use Rattle.nor_console.specs.declared.answers.Answer.{Answer}
+use Rattle.flashnor_serprog.specs.declared.chip_faults.JobFault.{JobFault}
+use Rattle.flashnor_serprog.specs.Run.{EndsJob}
+use Rattle.flashnor_serprog.proofs.RegionsKept.{none_copied, sends_kept, task_kept}
 use Rattle.flashnor_serprog.proofs.run.run_job.Goals as goal
 
 pub returns-in-Ok : goal.returns-in-Ok
@@ -7,14 +14,50 @@ returns-in-Ok g c =
     let reads = sym c.reads_out.ensures ∙ c.if-reads_out.true in
     record {
       outcome = Ok c.in-Ok.answer;
+      ended = _;
       ends = task_kept _ _ _ _ _ c.end_with_files-printed.ensures.nature _ _ c.args.operation.now
           c.args.operation.now.task c.in-Ok.answer reads c.end_with_files-printed.ensures.output
-          (rw c.mark_job.ensures at c.in-Ok.ensures.ends);
+          (rw (c.begin_notes.ensures, c.mark_job.ensures) at c.in-Ok.ensures.ends);
       sends = sends_kept c.args.sources.included c.args.sources.bytes.items (g.R.Store.state c.args.files.now).view
           (g.R.Store.state c.end_job.new.files) (g.R.Store.state c.end_with_files-printed.new.files)
           c.end_with_files-printed.ensures.nature _ _ c.args.operation.now c.args.operation.now.task reads
-          (rw c.mark_job.ensures at c.end_job.ensures.sends);
+          (rw (c.begin_notes.ensures, c.mark_job.ensures) at c.end_job.ensures.sends);
+      looked = refl;
       few = c.end_run.ensures.few c.end_with_files-printed.ensures.few;
       printed = λ zero. c.end_with_files-printed.ensures.printed (c.end_run.ensures.failed zero);
       copied = λ zero. c.end_with_files-printed.ensures.copied (c.end_run.ensures.failed zero);
     }
+
+-- If the states `mid` and `old` are the same, a job that began at `mid` began at `old`.
+ends_from : (operation : Operation) (ranges : Option (List Span)) (bytes : List ℕ) (before : View) (after : FilesState)
+    (mid old ended : BusState) (outcome : Result Answer JobFault) → mid ≡ old
+    → EndsJob operation ranges bytes before after mid ended outcome
+    → EndsJob operation ranges bytes before after old ended outcome
+ends_from operation ranges bytes before after mid old ended outcome same ends =
+    subst (λ (s : BusState). EndsJob operation ranges bytes before after s ended outcome) same ends
+
+pub returns-in-Ok-2 : goal.returns-in-Ok-2
+returns-in-Ok-2 g c = record {
+  outcome = Ok c.in-Ok-2.answer;
+  ended = _;
+  ends = rw (c.begin_notes.ensures, c.mark_job.ensures) at c.in-Ok-2.ensures.ends;
+  sends = rw (c.begin_notes.ensures, c.mark_job.ensures) at c.end_job.ensures.sends;
+  looked = refl;
+  few = c.end_run-in-Ok-2.ensures.few c.end_compared-printed.ensures.few;
+  printed = λ zero. search rules;
+  copied = λ zero. none_copied _ _ _ _ (sym c.reads_out.ensures ∙ c.if-reads_out.false);
+}
+
+pub returns : goal.returns
+returns g c = record {
+  outcome = Err c.in-Err.fault;
+  ended = _;
+  ends = ends_from c.args.operation.now c.args.sources.included c.args.sources.bytes.items
+      (g.R.Store.state c.args.files.now).view (g.R.Store.state c.end_job.new.files) _ _ _ (Err c.in-Err.fault)
+      (c.begin_notes.ensures ∙ c.mark_job.ensures) c.in-Err.ensures.ends;
+  sends = rw (c.begin_notes.ensures, c.mark_job.ensures) at c.end_job.ensures.sends;
+  looked = c.report_strays.ensures;
+  few = c.end_log.ensures.few (omega arith);
+  printed = λ zero. search rules;
+  copied = λ zero. search rules;
+}

@@ -5,7 +5,7 @@ pub returns-in_err-journal_in-in-Restore : goal.returns-in_err-journal_in-in-Res
 returns-in_err-journal_in-in-Restore g c =
     let p = err_from_is_err_and c.from_residual.result c.from_residual.ensures.1 in
     rw (p.1, p.2, c.in-Restore.is) (
-      c.args.sources.now.bytes.items,
+      c.args.bytes.now,
       rw c.in-Restore.is at c.requires,
-      rw c.deref.ensures.value at c.in_err-journal_in-in-Restore.ensures.err,
+      c.in_err-journal_in-in-Restore.ensures.err,
     )

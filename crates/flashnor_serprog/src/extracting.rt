@@ -1,0 +1,91 @@
+//! Writes the image in the journal of a whole chip into a file, for `--extract-image`. No programmer is used.
+ghost use Rattle.std.specs.Prelude.{◌≡◌, ◌≤◌, IfOk, true};
+ghost use Rattle.nor_files.specs.Files.{OthersStay, is_lawful};
+ghost use Rattle.flashnor_serprog.specs.Images.{IsExtracted};
+
+use crate::ending::status_of;
+use crate::hints::print_hint;
+use crate::images::whole_image;
+use crate::journals::{Description, description_of, print_description};
+use crate::region_copies::write_file;
+use crate::trouble::Trouble;
+use nor_console::{Escaped, apart, read_journal, unprinted};
+use nor_files::Store;
+use nor_jobs::journal_in;
+use std::io;
+use std::io::Write;
+
+/// Creates or truncates the file `image`, and writes the image in the journal `name` into it: the bytes of all sectors.
+/// A journal is never truncated. Prints the description of the journal to `output`, or to `errors` why there is no
+/// image. Returns the exit status: 0 if the journal is sealed and undamaged and saves the whole chip, the image was
+/// written, and all was printed.
+///
+/// The file is not synced, as that of `-r` isn't.
+pub fn extract_image<R: Store, O: Write, E: Write>(
+    files: &mut R,
+    name: &str,
+    image: &str,
+    output: &mut O,
+    errors: &mut E,
+) -> u8
+    ensures few { result ≤ 1 }
+    ensures others { is_lawful (R.state files.old).view ≡ true
+        → OthersStay image.now (R.state files.old) (R.state files.new) }
+    ensures extracted { result ≡ 0 → IsExtracted (R.state files.old).view name.now
+        (R.state files.new).view image.now }
+{
+    match extract(files, name, image) {
+        Ok(description) => {
+            let printed = print_extracted(output, name, image, &description);
+            status_of(printed, errors)
+        }
+        Err(trouble) => {
+            let _ = writeln!(errors, "{trouble}");
+            if let Trouble::Fault(fault) = &trouble {
+                print_hint(errors, fault);
+            }
+            1
+        }
+    }
+}
+
+// Writes the image in the journal `name` into the file `image`, and returns the description of the journal.
+//
+// Returns file fault 5 if both names are of one file, or the program prints to `image`; the faults of `read_journal`;
+// error 15 if the file is no journal; `NotWhole` if a sector isn't saved; or a fault of `write_file`.
+#[tactic(auto, using(crate::proofs::Extracted::others_after, crate::proofs::Extracted::others_same))]
+fn extract<'a, R: Store>(
+    files: &mut R,
+    name: &'a str,
+    image: &'a str,
+) -> Result<Description, Trouble<'a>>
+    ensures others { is_lawful (R.state files.old).view ≡ true
+        → OthersStay image.now (R.state files.old) (R.state files.new) }
+    ensures ok { IfOk result (λ description. IsExtracted (R.state files.old).view name.now
+        (R.state files.new).view image.now) }
+{
+    apart(files, Some(name), Some(image))?;
+    unprinted(files, Some(image))?;
+    let bytes = read_journal(files, name)?;
+    let journal = journal_in(&bytes)?;
+    let content = whole_image(files.alloc(), name, &journal)?;
+    write_file(files, image, &content)?;
+    Ok(description_of(&journal))
+}
+
+// Prints the description of the journal `name`, and the line about the file `image`.
+fn print_extracted<W: Write>(
+    output: &mut W,
+    name: &str,
+    image: &str,
+    description: &Description,
+) -> io::Result<()> {
+    print_description(output, name, description)?;
+    let size = description.size;
+    writeln!(
+        output,
+        "Wrote the image of this chip, {size} bytes: {}",
+        Escaped(image)
+    )?;
+    output.flush()
+}

@@ -1,0 +1,114 @@
+//! The image in a journal that saves the whole chip: for `--extract-image`, and for `-v` of a backup.
+ghost use Rattle.std.specs.Prelude.{◌≡◌, IfErr, IfOk, OnOk};
+ghost use Rattle.flashnor_serprog.specs.Images.{FailsToUnpack, FailsWhole, IsImageIn, IsNotWholeIn, IsUnpacked, IsWhole};
+ghost use Rattle.flashnor_serprog.specs.Images.{begins_as_journal, saved_image};
+
+use crate::rest::sectors_of;
+use crate::trouble::Trouble;
+use nor_console::{Escaped, Fault};
+use nor_jobs::journal_in;
+use nor_journal::Journal;
+use nor_session::Refusal;
+use std::alloc::{AllocError, Global};
+use std::fmt;
+
+/// The fault of a journal that doesn't save every sector of its chip, where only a whole chip will do.
+#[derive(Clone, Copy, Drop)]
+pub struct NotWhole<'a> {
+    /// The name of the file with the journal.
+    pub name: &'a str,
+    /// The number of saved sectors.
+    pub saved: usize,
+    /// The number of sectors of the chip.
+    pub sectors: u32,
+}
+
+impl fmt::Display for NotWhole<'_> {
+    fn fmt<W: fmt::Write>(&self, f: &mut fmt::Formatter<W>) -> fmt::Result {
+        let NotWhole {
+            name,
+            saved,
+            sectors,
+        } = *self;
+        write!(
+            f,
+            "Backup fault 1: {}.\nThis journal saves {saved} of {sectors} sectors. Give one that saves the whole chip \
+            (--backup).",
+            Escaped(name)
+        )
+    }
+}
+
+/// Checks that the journal, which is in the file of this name, saves every sector of its chip. Returns the fault
+/// otherwise.
+pub fn check_whole<'a>(name: &'a str, journal: &Journal<'_>) -> Result<(), NotWhole<'a>>
+    ensures ok { OnOk result (IsWhole journal.now) }
+    ensures err { IfErr result (IsNotWholeIn journal.now name.entry) }
+{
+    let sectors = sectors_of(journal);
+    for sector in 0..sectors {
+        if journal.find(sector).is_none() {
+            let saved = journal.count();
+            return Err(NotWhole {
+                name,
+                saved,
+                sectors,
+            });
+        }
+    }
+    Ok(())
+}
+
+/// Returns the image in the journal, which is in the file of this name: the bytes of all sectors, in order.
+///
+/// Returns `NotWhole` if a sector isn't saved, or error 18 if memory runs out.
+pub fn whole_image<'a>(
+    alloc: Global,
+    name: &'a str,
+    journal: &Journal<'_>,
+) -> Result<Vec<u8>, Trouble<'a>>
+    ensures ok { IfOk result (λ image. IsImageIn journal.now image.items) }
+    ensures err { IfErr result (FailsWhole journal.now name.entry) }
+{
+    check_whole(name, journal)?;
+    match join_sectors(alloc, journal) {
+        Ok(image) => Ok(image),
+        Err(_) => Err(Trouble::Fault(Fault::Refused(Refusal::Memory))),
+    }
+}
+
+// Returns the bytes of the saved sectors, in the order of their addresses.
+fn join_sectors(alloc: Global, journal: &Journal<'_>) -> Result<Vec<u8>, AllocError>
+    ensures { IfOk result (λ image. image.items ≡ saved_image journal.now) }
+{
+    let mut image = Vec::new(alloc);
+    for sector in 0..sectors_of(journal) {
+        if let Some(bytes) = journal.find(sector) {
+            image.extend_from_slice(bytes)?;
+        }
+    }
+    Ok(image)
+}
+
+/// Returns the image in `bytes`, which were read from the file of this name: the image in the journal if they begin as
+/// a journal does, and otherwise `bytes`.
+///
+/// If they begin as a journal does, returns error 15 if they are none, `NotWhole` if a sector isn't saved, or error 18
+/// if memory runs out.
+pub fn unpacked<'a>(alloc: Global, name: &'a str, bytes: Vec<u8>) -> Result<Vec<u8>, Trouble<'a>>
+    ensures ok { IfOk result (λ image. IsUnpacked bytes.items image.items) }
+    ensures err { IfErr result (FailsToUnpack bytes.items name.entry) }
+{
+    if !begins_as_journal(&bytes) {
+        return Ok(bytes);
+    }
+    let journal = journal_in(&bytes)?;
+    whole_image(alloc, name, &journal)
+}
+
+// True if the bytes begin as a journal of any format does.
+fn begins_as_journal(bytes: &[u8]) -> bool
+    ensures { result ≡ begins_as_journal bytes.now }
+{
+    bytes.starts_with(b"NORUNDO")
+}

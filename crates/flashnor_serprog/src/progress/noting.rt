@@ -1,0 +1,47 @@
+//! The sums of sectors that the bus of `progress.rt` notes.
+ghost use Rattle.std.specs.Prelude.{◌≡◌, option_copied};
+
+use super::Shown;
+use crate::notes::Notes;
+
+impl<B> Shown<'_, B> {
+    /// Notes the sums of the sectors that are read from now on.
+    pub fn begin_notes(&mut self, notes: Notes)
+        ensures { self.new.bus ≡ self.old.bus }
+    {
+        self.notes = Some(notes);
+    }
+
+    /// Returns the notes, if the job made any. Nothing is noted from now on.
+    pub fn end_notes(&mut self) -> Option<Notes>
+        ensures { self.new.bus ≡ self.old.bus }
+    {
+        self.notes.take()
+    }
+
+    /// Returns the notes, if the job makes any.
+    pub fn notes(&self) -> Option<&Notes>
+        ensures { option_copied result ≡ self.now.notes }
+    {
+        self.notes.as_ref()
+    }
+
+    // Notes a transaction that was carried out. Must be called before the phase changes.
+    pub(super) fn note(&mut self, out: &[u8], reply: &[u8])
+        ensures { self.new.bus ≡ self.old.bus }
+    {
+        if let Some(notes) = &mut self.notes {
+            notes.note(self.phase, out, reply);
+        }
+    }
+
+    // Writes the notes to their file, and prints a line if that fails. Must be called before the first modifying command.
+    pub(super) fn write_notes(&mut self)
+        ensures { self.new.bus ≡ self.old.bus }
+    {
+        let (terminal, replies) = (self.terminal, self.replies);
+        if let Some(notes) = &mut self.notes {
+            notes.write(terminal, replies);
+        }
+    }
+}

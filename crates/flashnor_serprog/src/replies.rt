@@ -1,0 +1,54 @@
+//! What the chip replied before the first modifying command.
+
+use nor_probe::part_for;
+
+// The length of an SFDP table, as a probe reads it (JESD216: double words 1 to 9).
+const TABLE_LEN: usize = 36;
+
+/// What the chip replied last before the first modifying command. An ID is `None` if it was not read, and the status
+/// bytes are 0 if they were not read.
+#[derive(Clone, Copy, Default)]
+pub struct Replies {
+    pub id: Option<[u8; 3]>,
+    pub unique: Option<[u8; 8]>,
+    /// Status 1 and status 2.
+    pub status: [u8; 2],
+    // Double word 2 of the SFDP table, which has the size in bits.
+    density: Option<u32>,
+}
+
+impl Replies {
+    /// Stores the reply to a transaction that sent `out`, if it is an ID, a status byte or an SFDP table.
+    pub fn remember(&mut self, out: &[u8], reply: &[u8]) {
+        match (out, reply) {
+            ([0x05, ..], [status1, ..]) => self.status[0] = *status1,
+            ([0x35, ..], [status2, ..]) => self.status[1] = *status2,
+            ([0x9F, ..], [maker, kind, capacity]) => self.id = Some([*maker, *kind, *capacity]),
+            ([0x4B, ..], [a, b, c, d, e, f, g, h]) => {
+                self.unique = Some([*a, *b, *c, *d, *e, *f, *g, *h]);
+            }
+            ([0x5A, ..], [_, _, _, _, a, b, c, d, ..]) if reply.len() == TABLE_LEN => {
+                self.density = Some(u32::from_le_bytes([*a, *b, *c, *d]));
+            }
+            _ => {}
+        }
+    }
+
+    /// Returns the size of the chip in bytes, if it is known: that of the row for its ID or, without a row, the one that
+    /// its SFDP gives.
+    pub fn size(&self) -> Option<u32> {
+        match part_for(true, self.id?) {
+            Some(part) => Some(part.size),
+            None => size_in_bytes(self.density?),
+        }
+    }
+}
+
+// Returns the size in bytes that a density double word gives: the number of bits minus 1 or, if bit 31 is set, the
+// binary logarithm of this number (JESD216, double word 2). Returns `None` for less than 8 bits, and for 4 GiB or more.
+fn size_in_bytes(density: u32) -> Option<u32> {
+    match density.checked_sub(1 << 31) {
+        None => Some(density / 8 + 1),
+        Some(exponent) => 1u32.checked_shl(exponent.checked_sub(3)?),
+    }
+}
