@@ -76,7 +76,7 @@ class Bench:
     def __init__(self, program, folder, part="TINY64", data=None, status=b"\0\0", unique=bytes(8), scale=0.0, **traits):
         self.program, self.folder, self.part = program, Path(folder), part
         self.chip = Chip(part, data, status, unique, scale)
-        self.server, self.command = None, ""
+        self.server, self.command, self.words = None, "", []
         self.before, self.image, self.remembers = None, None, True
         self.plug(**traits)
 
@@ -91,6 +91,11 @@ class Bench:
     def path(self, name):
         return self.folder / name
 
+    def remove_journal(self):
+        """Removes the journal j and the file beside it, where they exist."""
+        for name in "j", "j.sectors":
+            self.path(name).unlink(missing_ok=True)
+
     def write(self, name, content):
         self.path(name).write_bytes(content)
 
@@ -100,7 +105,7 @@ class Bench:
         return self.start_words(words, err, out)
 
     def start_words(self, words, err=subprocess.PIPE, out=subprocess.PIPE):
-        self.command = " ".join(map(str, words[1:]))
+        self.command, self.words = " ".join(map(str, words[1:])), [str(it) for it in words]
         self.before = copy.deepcopy(self.chip) if self.remembers else None
         names = [name for option, name in zip(words, words[1:]) if option in ("-w", "-v") and self.remembers]
         # Data is read once only if the whole chip is compared with the image in the end.
@@ -119,7 +124,22 @@ class Bench:
             process.kill()
             process.communicate()
             raise Differs(f"the run did not end in {LONGEST} seconds") from None
-        return Result(process.returncode, *(it.decode(errors="backslashreplace").splitlines() for it in (out, err)))
+        got = Result(process.returncode, *(it.decode(errors="backslashreplace").splitlines() for it in (out, err)))
+        return self.without_note(got)
+
+    def note(self):
+        """Returns the last line of the last run, if it restored a journal without the file beside it."""
+        names = [name for option, name in zip(self.words, self.words[1:]) if option == "--restore"]
+        if not names or {"-N", "--noverify-all"} & set(self.words) or self.path(f"{names[0]}.sectors").exists():
+            return []
+        is_partial = self.path(names[0]).exists() and reference.is_partial(self.path(names[0]).read_bytes())
+        return [reference.unknown_sectors(names[0])] if is_partial else []
+
+    def without_note(self, got):
+        """Checks that a restore that succeeded printed its note, if it has one, and returns the result without it."""
+        note = self.note() if got.status == 0 else []
+        check("the last line of a restore", got.err[len(got.err) - len(note) :], note)
+        return Result(got.status, got.out, got.err[: len(got.err) - len(note)])
 
     def run(self, *words, keys="", events=None):
         """Runs the program with these arguments, and returns its result. The log begins anew."""
@@ -144,7 +164,7 @@ class Bench:
         with ThreadPoolExecutor(1) as pool:
             shown = pool.submit(read_all, terminal)
             process.communicate(timeout=LONGEST)
-        check("lines at the terminal", shown.result().decode().splitlines(), [self.device(WAITING), *lines])
+        check("lines at the terminal", shown.result().decode().splitlines(), [self.device(WAITING), *lines, *self.note()])
         check("exit status", process.returncode, 0)
 
     def expect_to_wait(self, *words):

@@ -203,7 +203,7 @@ def begin(bench, work, traits):
     """Sets the chip up as before the job, and runs it with these faults."""
     bench.chip.wait()
     bench.chip.data[:], bench.chip.status[:], bench.chip.wel = work.before, work.status, False
-    bench.path("j").unlink(missing_ok=True)
+    bench.remove_journal()
     if work.words[:2] == RESTORE[:2]:
         bench.write("j", work.journal)
     return run(bench, work.words, traits)

@@ -105,7 +105,8 @@ def run_with_stops(bench, old, new, chance, numbers, count):
     changed = 0
     for number in range(count):
         session, restore = PAIRS[number % len(PAIRS)]
-        (bench.folder / "j").unlink()
+        for name in "j", "j.sectors":
+            (bench.folder / name).unlink(missing_ok=True)
         # A session whose restore is stopped too is stopped late: an early stop leaves little to restore.
         bench.run(WRITE, session, chance.choice(numbers[0][-len(numbers[0]) // 4 :] if restore else numbers[0]))
         bench.check_journal(old, new)

@@ -18,7 +18,8 @@ FIRMWARE = "Disconnect the programmer from power for a second, connect it again,
     f"run; install other firmware only if this line comes again. To set up the port: {STTY}"
 # The time-out for tests of silence, in tenths of a second.
 SOON = 10
-UNPLUG = "Disconnect the programmer from power for a second before the next run."
+UNPLUG = "Disconnect the programmer from power for a second before the next run: it may wait for the rest of a command, " \
+    "which the next run would complete."
 RESTORE = "Then restore the chip with --restore j."
 UNCHANGED = "The chip was not changed."
 LOST = "Cause: the chip did not reply its ID any more: "
@@ -130,10 +131,12 @@ def holds_its_lock(start):
 
 
 def needs_an_answer(start):
-    """A programmer that never replies is programmer fault 4."""
+    """A programmer that never replies is programmer fault 4. It receives one NOP, and nothing more."""
     bench = start(is_silent=True, timeout=SOON)
-    refuse(bench, "the programmer is silent. Check its cable, disconnect the programmer from power for a second, "
-           f"connect it again, and set up the port: {STTY}", number=4)
+    refuse(bench, "the programmer is silent. Check its cable. It may wait for the rest of a command of an interrupted "
+           "run: disconnect the programmer from power for a second, connect it again, and set up the port: "
+           f"{STTY}", number=4)
+    check("bytes that were sent", bytes(bench.server.received), b"\0")
 
 
 def says_why_it_waits(start):
@@ -141,7 +144,7 @@ def says_why_it_waits(start):
     bench = start(is_silent=True, is_set_up=False)
     bench.write("new", b"\xff" * 65536)
     bench.expect_to_wait("-w", "new", "--journal", "j")
-    check("bytes that were sent", bytes(bench.server.received), b"\x10")
+    check("bytes that were sent", bytes(bench.server.received), b"\0")
     bench.check_absent("j")
 
 
@@ -230,8 +233,8 @@ def reports_causes(start):
             # At the first of these transactions the journal doesn't exist yet.
             used = [reference.used_name()] * (at == seal)
             bench.compare(got, [], ["Error 12: stopped.", f"Cause: {text}. {UNPLUG} {after}", *used])
-            # The rest of a batch is on its way already.
-            batch = next(at for at in range(at, len(wire) + 1) if wire[at - 1][1])
+            # A page program after a write enable is on its way already.
+            batch = at + (wire[at - 1] == reference.WRITE_ENABLE and reference.joins(wire[at][0]))
             bench.check_carried(batch - (event == "nak"))
         got = bench.run("-r", "out", events={9: event})
         bench.compare(got, [], ["Error 12: stopped.", f"Cause: {text}. {UNPLUG}"])

@@ -59,7 +59,7 @@ def losses():
     found = [Loss(event, at) for event in ("kill", "lose") for at in range(2, len(wire) + 1)]
     found += [Loss(event, 0, at) for event in ("kill", "lose") for at in range(2, len(back) + 1)]
     # A session that is stopped in the middle, and its restore too.
-    middle = range(sealed_after(wire) + 6, len(wire) + 1)
+    middle = range(sealed_after(wire) + 10, len(wire) + 1)
     found += [Loss(event, at, at // 2) for event in ("kill", "lose") for at in middle]
     return found + rare_losses()
 
@@ -73,8 +73,11 @@ def rare_losses():
 
 
 def sealed_after(wire):
-    """Returns the number of transactions before the first modifying command, when the journal is sealed."""
-    return next(at for at, (out, _) in enumerate(wire) if out == b"\x06")
+    """Returns the number of transactions before the journal is sealed.
+
+    After the seal the unique ID is read again, and then the first modifying command follows.
+    """
+    return next(at for at, (out, _) in enumerate(wire) if out == b"\x06") - len(reference.compared(*reference.UNIQUE, 0))
 
 
 def try_loss(program, loss):

@@ -11,7 +11,7 @@ from pathlib import Path
 
 import reference
 from bench import LONGEST, check
-from losses import session_wire
+from losses import sealed_after, session_wire
 from options import ALL, images
 from refusals import LARGE
 
@@ -90,7 +90,7 @@ def plays_the_examples(start):
 
 
 def makes_the_first_write(start):
-    """The first write of a board, as the page gives it, backs the chip up and writes. Without a backup it stops."""
+    """The first write of a board, as the page gives it, saves the chip twice and writes. Without a backup it stops."""
     old, new = images("makes_the_first_write")
     for is_there in False, True:
         bench = start(data=old)
@@ -103,10 +103,12 @@ def makes_the_first_write(start):
             bench.check_chip(old)
             bench.check_absent("j1")
         else:
-            check("lines", lines[:3], [reference.found("TINY64"), "Read 65536 bytes.", reference.found("TINY64")])
-            check("the last line", [it.startswith("Done: ") for it in lines[3:]], [True])
+            found = reference.found("TINY64")
+            check("lines", lines[:5], [found, "Read 65536 bytes.", found, "Read 65536 bytes.", found])
+            check("the last line", [it.startswith("Done: ") for it in lines[5:]], [True])
             bench.check_chip(new)
             bench.check_file("whole.journal", reference.journal("TINY64", old, ALL))
+            bench.check_file("before.bin", old)
             bench.check_file("j1", reference.journal("TINY64", old, (1, 2, 7, 15)))
 
 
@@ -114,8 +116,8 @@ def rescues_in_four_lines(start):
     """After a kill at any point of a session, the four lines of RECOVERY restore the chip, or it wasn't changed."""
     old, new = images("rescues_in_four_lines")
     wire = session_wire(old, new)
-    sealed = next(at for at, (out, _) in enumerate(wire, 1) if out[0] in reference.CHANGING)
-    for number in sealed - 1, sealed, sealed + 1, sealed + 40, len(wire):
+    sealed = sealed_after(wire) + 1
+    for number in sealed - 1, sealed, sealed + 4, sealed + 5, sealed + 40, len(wire):
         bench = start(data=old)
         bench.write("new.bin", new)
         bench.write("before.bin", old)
@@ -131,15 +133,15 @@ def rescues_in_four_lines(start):
 
 
 def restores_after_chip_fault_4(start):
-    """The block of chip fault 4 restores the session's journal, and then the backup."""
+    """The block of chip fault 4 restores the session's journal, which ends with chip fault 5, and then the backup."""
     old, new = images("restores_after_chip_fault_4")
     bench = start(data=old)
     bench.write("new.bin", new)
     check("the backup", bench.run("--backup", "whole.journal").status, 0)
     check("the session", bench.run("-w", "new.bin", "--journal", "j1").status, 0)
     bench.chip.data[0x5000:0x6000] = b"\xff" * 4096
-    lines = run_in_shell(bench, block_with("whole.journal --quick"), {"P": SETTING})
-    check("lines", [it.partition(" ")[0] for it in lines], ["Found", "Done:"] * 2)
+    lines = run_in_shell(bench, block_with("# may end with chip fault 5"), {"P": SETTING})
+    check("lines", [it.partition(" ")[0] for it in lines], ["Chip", "Found", "Done:"])
     bench.check_chip(old)
 
 
@@ -151,7 +153,7 @@ def compares_journals(start):
         bench.write("new.bin", new)
         check("the session", bench.run("-w", "new.bin", "--journal", "j1").status, 0)
         bench.write("whole.journal", reference.journal("TINY64", old, ALL, unique=unique))
-        lines = run_in_shell(bench, block_with("--check-journal whole.journal"))
+        lines = run_in_shell(bench, block_with("--check-journal j1"))
         chips = [at for at, line in enumerate(lines) if line.startswith("Journal of ")]
         check("descriptions", len(chips), 2)
         first, second = (lines[at : at + 2] for at in chips)

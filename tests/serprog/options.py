@@ -78,7 +78,7 @@ def keeps_to_the_protocol(start):
     opcodes = [it[0] for it in bench.server.commands]
     at = opcodes.index(0x02)
     check("commands before Q_CMDMAP", set(opcodes[:at]), {0x00, 0x01, 0x10})
-    check("the first command", opcodes[0], 0x10)
+    check("the first commands", opcodes[:10], [0x00] * 10)
     check("commands that the map lacks", set(opcodes) - set(bench.server.known()), set())
     check("S_BUSTYPE", [it for it in bench.server.commands if it[0] == 0x12], [(0x12, b"\x08")])
     check("the pins", [bool(it[1][0]) for it in bench.server.commands if it[0] == 0x15], [True])

@@ -78,6 +78,26 @@ def not_stored(address, journal="j"):
             f"with --restore {journal}."]
 
 
+def unknown_sectors(journal, why="is missing"):
+    """Returns the line of a restore that can't know what the session did to the sectors which its journal lacks."""
+    return (f"{journal}.sectors {why}, so it isn't known whether the session damaged another sector. To find out, "
+            "compare the chip with an image (-v), or restore from a backup (--quick).")
+
+
+def sums(part, old, known, unique=bytes(8)):
+    """Returns the file beside a journal, which has the sums of these sectors (man/flashnor-serprog.8, FILES)."""
+    found = b"NORSUMS1" + PARTS[part].id + unique
+    for number in range(4096):
+        found += b"\1" + hashlib.sha256(sector_of(old, number)).digest()[:8] if number in known else bytes(9)
+    return found + hashlib.sha256(found).digest()
+
+
+def is_partial(whole):
+    """Returns whether these bytes are a journal of format 2 that saves some sectors of its chip, but not all."""
+    saved = (len(whole) - 61) // (SECTOR + 4)
+    return whole[:8] == b"NORUNDO2" and 0 < saved < int.from_bytes(whole[21:25], "little") // SECTOR
+
+
 def used_name(journal="j"):
     """Returns the last line of a session or a backup that failed before it changed the chip, and left its journal."""
     return f"Give the journal a new name: {journal} exists now."
@@ -93,6 +113,10 @@ def command(opcode, address=None, dummies=0):
     return bytes([opcode]) + (b"" if address is None else address.to_bytes(3, "big")) + bytes(dummies)
 
 
+# The read of the unique ID.
+UNIQUE = (command(READ_UNIQUE, 0, 1), 8)
+
+
 class Limited(tuple):
     """A read of a plan, as (bytes sent, bytes replied). A block that is read ahead for it ends at `limit` at the latest."""
     limit = 1 << 24
@@ -103,7 +127,8 @@ def carried(plan, longest=BLOCK, chip=None, image=None):
 
     First the chip is woken. Data is read ahead: a read that goes on where the last block ended reads a block of twice
     the length, up to the limit, the next multiple of 64 KiB and the limit of the read. A block is forgotten at each
-    other transaction. It is read twice. If an image is expected, only the sectors that differ from it are read again; `chip` is a model of the
+    other transaction. It is read twice. Before the first modifying command the unique ID is read again, if it was read.
+    If an image is expected, only the sectors that differ from it are read again; `chip` is a model of the
     chip before the plan, which is changed. Other replies are compared as `compared` says. After each of these reads the
     ID is read.
     """
@@ -112,6 +137,8 @@ def carried(plan, longest=BLOCK, chip=None, image=None):
         out, replies = item
         if out[0] != READ_DATA:
             end = begin
+            if out[0] in CHANGING and not last and UNIQUE in plan:
+                found += compared(*UNIQUE, last)
             found += compared(out, replies, last)
             last = out[0] if out[0] in CHANGING else 0x05 if last else 0
             if chip:
@@ -175,19 +202,25 @@ def frames(transactions):
     return bytes(found)
 
 
+def joins(out):
+    """Returns whether a command is sent together with its write enable: a page program with at least 32 data bytes."""
+    return out[0] == 0x02 and len(out) >= 36
+
+
 def writes(plan, buffer):
     """Returns the number of bytes of each write to the port for these transactions, with a serial buffer of this size.
 
-    A modifying command without a reply is sent together with the next transaction, if both fit into the buffer.
+    A write enable is sent together with the command after it, if that joins it and both fit into the buffer.
     """
     found, waiting = [], 0
     for out, replies in plan:
         length = 7 + len(out)
-        if waiting and waiting + length > buffer:
+        is_waiting = (out, replies) == WRITE_ENABLE and length <= buffer
+        if waiting and (not joins(out) or waiting + length > buffer):
             found.append(waiting)
             waiting = 0
         waiting += length
-        if replies or out[0] not in CHANGING or length > buffer:
+        if not is_waiting:
             found.append(waiting)
             waiting = 0
         if (out, replies) == WAKES:
@@ -205,7 +238,7 @@ def probe(part):
 
 def identify(part):
     """Returns the plan of the first step of a session or a restore."""
-    return probe(part) + [READ_STATUS_2, (command(READ_UNIQUE, 0, 1), 8)]
+    return probe(part) + [READ_STATUS_2, UNIQUE]
 
 
 def read_sector(number):

@@ -45,7 +45,7 @@ def unlocks_further_chips(start):
         "Error 10: protected at 0x3ff000.",
         "Include only regions that aren't protected, or use --unlock.", reference.used_name()])
     bench.check_chip(old, b"\x04\0")
-    bench.path("j").unlink(missing_ok=True)
+    bench.remove_journal()
     bench.expect(*job, "--unlock", out=[found, "Done: touched 1, erases 0, programs 1, transactions 16."])
     bench.check_chip(new, b"\x04\0")
     bench.check_file("j", reference.journal("W25Q32FV", old, [last], b"\x04\0"))
@@ -184,7 +184,7 @@ def refuses_regions(start):
         bench.check_frames(reference.probe("TINY64"))
         bench.check_absent("j")
         bench.expect(*words, "-N", err=[*errors, reference.used_name()])
-        bench.path("j").unlink()
+        bench.remove_journal()
     bench.expect("-E", "-l", "wrong", "-i", "a", "--journal", "k",
                  err=["error: the end is below the start", "Layout fault 3 at line 2.",
                       "The regions are in the file wrong."])
@@ -239,7 +239,7 @@ def uses_small_programmers(start):
 
 
 def fills_no_buffer(start):
-    """Modifying commands share a write to the port with the next poll, if all fit into the serial buffer."""
+    """A write enable shares a write to the port only with a page program, if both fit into the serial buffer."""
     old = bytes(SECTOR) + b"\xff" * (SIZE - SECTOR)
     new = b"\x01" + old[1:SECTOR] + bytes(range(255)) * 2 + b"\xff" * (SIZE - SECTOR - 510)
     plan = reference.session("TINY64", old, new)

@@ -49,7 +49,7 @@ def rescue(bench, old, status=b"\0\0"):
     for _ in range(MOST_RESTORES):
         bench.plug()
         got = bench.run("--restore", "j1")
-        if got.out[-1:] and got.out[-1].startswith("Done"):
+        if got.out[-1:] and got.out[-1].startswith("Done") or got.err[:1] and got.err[0].startswith("Chip fault 5"):
             break
         if got.err in (reference.UNSEALED, reference.file_fault(1, "j1")):
             bench.check_chip(old, status)

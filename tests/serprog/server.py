@@ -79,6 +79,8 @@ class Traits:
     lost: tuple = ()
     # The numbers of the first and the last transaction whose address has a wrong bit on its way to the chip, and which.
     wrong_address: tuple = ()
+    # The number of a transaction before which the board is exchanged, and the chip of the other board.
+    other: tuple = ()
     # Seconds for each way there and back, and bytes per second.
     latency: float = 0.0
     rate: float = 0.0
@@ -207,6 +209,8 @@ class Server:
     def carry(self, number, out, replies):
         """Carries a transaction out, with the faults of the wire, and returns what the programmer receives."""
         traits = self.traits
+        if traits.other and traits.other[0] == number:
+            self.chip, traits.other = traits.other[1], ()
         poll = (self.chip.operations, self.chip.polls + 1) if out == b"\x05" else None
         for at in number, poll:
             if at in traits.misses:

@@ -11,12 +11,13 @@ from pathlib import Path
 
 import reference
 from chip import CMP, PARTS, SECTOR, SRP0, SRP1, protected_range
-from stand_in_link import HELP, LOST, MISTAKE, Fault, Link, Stopped, arguments, check_usage, chip_text, probe
+from stand_in_link import HELP, LOST, MISTAKE, OTHER, Fault, Link, Stopped, arguments, check_usage, chip_text, probe
 
 UNCHANGED = " The chip was not changed."
 # The bits of both status bytes that protect.
 PROTECTION = 0x7C40
-UNPLUG = "Disconnect the programmer from power for a second before the next run."
+UNPLUG = "Disconnect the programmer from power for a second before the next run: it may wait for the rest of a command, " \
+    "which the next run would complete."
 # The names of the bits of both status bytes, from bit 0 on.
 BITS = ("BUSY WEL BP0 BP1 BP2 TB SEC SRP0".split(), "SRP1 QE reserved LB1 LB2 LB3 CMP SUS".split())
 
@@ -472,6 +473,8 @@ def run(words):
             advice = "Lower the clock (spispeed=), shorten the wires, and try again."
         elif str(why).startswith(LOST):
             advice = "Check contacts and supply."
+        elif str(why).startswith(OTHER):
+            advice = "Connect the right chip."
         else:
             advice = UNPLUG
         raise Fault("Error 12: stopped.", f"Cause: {why}. {advice}{after}", *used_name(job)) from None
@@ -495,11 +498,19 @@ def after_change(job, journal):
     return restores(journal) + unprotected if begun else UNCHANGED
 
 
+def print_note(words):
+    """Prints the last line of a restore. The stand-in writes no file beside a journal, so it never knows the sums."""
+    names = [name for option, name in zip(words, words[1:]) if option == "--restore"]
+    if names and "-N" not in words and reference.is_partial(read_file(names[0])):
+        print(reference.unknown_sectors(names[0]), file=sys.stderr)
+
+
 def main():
     try:
         lines = run(sys.argv[1:])
         try:
             print(*lines, sep="\n", flush=True)
+            print_note(sys.argv[1:])
         except OSError:
             print("File fault 2: standard output.", file=sys.stderr)
             os._exit(1)

@@ -6,12 +6,12 @@ import stat
 from collections import Counter
 
 import reference
-from chip import CMP, ERASES, PARTS, READ_DATA, READ_ID, SECTOR
+from chip import CMP, ERASES, PARTS, READ_DATA, READ_ID, READ_UNIQUE, SECTOR
 from reference import BLOCK
 
 MISTAKE = os.environ.get("MISTAKE", "")
 STTY = "stty -F {} raw -echo clocal -hupcl min 0 time 50"
-ROW = bytes.fromhex("10100010000010101000000010001010")
+ROW = bytes.fromhex("00000000000000000010100010000010101000")
 FIRMWARE = ". Disconnect the programmer from power for a second, connect it again, set up the port, and repeat the " \
     f"run; install other firmware only if this line comes again. To set up the port: {STTY}"
 # A chip that sleeps shows BUSY for ever. The mistake that lets it sleep gives up soon, since only its failure counts.
@@ -41,6 +41,9 @@ class Stopped(Exception):
 
 DIFFER = "two reads of the same bytes differ"
 LOST = "the chip did not reply its ID any more"
+OTHER = "the chip is another one than before"
+KEEPS = " With another tool, set these bits as they were, because this program never changes them, and a restore would " \
+    "end with error 17 (see Chip fault 3 in the manual page):"
 BITS = ((0x80, "SRP0"), (0x40, "SEC"), (0x20, "TB"), (0x10, "BP2"), (0x08, "BP1"), (0x04, "BP0"))
 
 
@@ -140,8 +143,8 @@ class Link:
         self.locks = False
         self.sends = self.receives = 1 << 24
         self.waiting, self.frames, self.buffer, self.longest, self.image = b"", 0, 0, BLOCK, b""
-        # The first ID that was received.
-        self.id = b""
+        # The first ID and the first unique ID that were received.
+        self.id = self.unique = b""
         # How often each value was received as data, and whether a session stops if the port seems to change one.
         self.values, self.guards = [0] * 256, False
         self.forget()
@@ -220,8 +223,8 @@ class Link:
         raise Stopped("the programmer did not reply to SYNCNOP as it must")
 
     def synchronize(self):
-        self.send(b"\x10")
-        self.find(b"\x15\x06")
+        self.send(b"\0")
+        self.find(b"\x06")
         if MISTAKE != "synchronizes once":
             self.send(ROW)
             self.find(b"".join(b"\x15\x06" if it else b"\x06" for it in ROW))
@@ -230,8 +233,8 @@ class Link:
         """Raises the programmer fault with this text."""
         set_up = f"and set up the port: {STTY.format(self.path)}"
         for begin, number, advice in (
-            ("the programmer is silent", 4, f"Check its cable, disconnect the programmer from power for a second, "
-             f"connect it again, {set_up}"),
+            ("the programmer is silent", 4, "Check its cable. It may wait for the rest of a command of an interrupted "
+             f"run: disconnect the programmer from power for a second, connect it again, {set_up}"),
             ("the port failed", 10, f"Connect the programmer again, {set_up}"),
             ("the programmer refused", 11, FIRMWARE.format(self.path).removeprefix(". ")),
             ("", 5, f"Disconnect the programmer from power, connect it again, {set_up}"),
@@ -322,6 +325,8 @@ class Link:
             self.check_status(out[1:])
             out = out[:2] + bytes([out[2] | 0x08 * (MISTAKE == "writes other bits")])
         if out[0] in reference.CHANGING:
+            if self.unique and not self.has_changed and MISTAKE != "reads the unique ID once":
+                self.check_unique()
             if self.guards and not self.has_changed and self.changed_byte():
                 raise Stopped(self.changed_byte())
             self.last, self.has_changed = out, True
@@ -332,7 +337,15 @@ class Link:
         if out[0] in reference.TWICE and MISTAKE != "reads IDs once" and self.confirmed(out, length) != reply \
                 and MISTAKE != "believes one ID":
             raise Stopped(DIFFER)
+        if out[0] == READ_UNIQUE and not self.unique:
+            self.unique = reply
         return reply
+
+    def check_unique(self):
+        """Reads the unique ID, which must be the one that was read first."""
+        found = self.compared(*reference.UNIQUE)
+        if found != self.unique and MISTAKE != "takes another unique ID":
+            raise Stopped(f"{OTHER}: its unique ID was {self.unique.hex()}, and is {found.hex()} now")
 
     def confirmed(self, out, length):
         """Makes a transaction, and reads the ID after one that reads data, SFDP or the unique ID."""
@@ -462,12 +475,13 @@ class Link:
         return b""
 
     def send_frame(self, out, length):
-        """Makes one transaction. A modifying command waits for the next one, if both fit into the serial buffer."""
+        """Makes one transaction. A write enable waits for the command after it, if both fit into the serial buffer."""
         frame = b"\x13" + len(out).to_bytes(3, "little") + length.to_bytes(3, "little") + out
-        if len(self.waiting) + len(frame) > self.buffer and MISTAKE != "overfills the buffer":
+        waits = (out, length) == reference.WRITE_ENABLE and len(frame) <= self.buffer and MISTAKE != "sends one by one"
+        fits = len(self.waiting) + len(frame) <= self.buffer or MISTAKE == "overfills the buffer"
+        if waits or not reference.joins(out) or not fits:
             self.flush()
         self.waiting, self.frames = self.waiting + frame, self.frames + 1
-        waits = not length and out[0] in reference.CHANGING and len(frame) <= self.buffer and MISTAKE != "sends one by one"
         return b"" if waits else self.flush(length)
 
     def flush(self, length=0):

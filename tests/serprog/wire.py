@@ -53,7 +53,7 @@ def compares_replies(start):
         out, reply = log[number - 1]
         for bit in (1, 3, 4, 5, 6) if out[0] in (0x05, 0x35) else (0,):
             bench.chip.status[:] = BEFORE
-            bench.path("j").unlink(missing_ok=True)
+            bench.remove_journal()
             bench.server.traits.wrong_bits = {number: (len(reply) - 1, bit)}
             cause = LOST if out[0] == READ_ID else DIFFER
             begins(f"{out.hex()}, bit {bit}", bench.run(*PROTECT), [STOPPED, cause])
@@ -102,7 +102,7 @@ def reads_status_writes_back(start):
     begins("--restore", bench.run("--restore", "j", "-N"), [STOPPED, not_stored(BEFORE, AFTER)])
     bench.check_chip(blank, AFTER)
     check("the restore", bench.run("--restore", "j").status, 0)
-    bench.path("j").unlink()
+    bench.remove_journal()
     bench.server.traits.misses = {number: 0xFF}
     begins("--wp-range", bench.run(*PROTECT), [STOPPED, not_stored(AFTER, BEFORE)])
     bench.check_chip(blank, BEFORE)
@@ -118,7 +118,7 @@ def reports_an_unprotected_chip(start):
     lifts, locks = numbers_of(bench, 0x01)
     for number, sent, found, data in ((lifts, b"\0\x02", b"\x04\x02", old), (locks, b"\x04\x02", b"\0\x02", new)):
         bench.chip.data[:], bench.chip.status[:] = old, b"\x04\x02"
-        bench.path("j").unlink()
+        bench.remove_journal()
         bench.server.traits.misses = {number: 0xFF}
         got = bench.run(*UNLOCK)
         begins("--unlock", got, [STOPPED, not_stored(sent, found)])
@@ -138,7 +138,7 @@ def says_that_the_chip_may_be_unprotected(start):
         check("the run", bench.run(*UNLOCK).status, 0)
         number = numbers_of(bench, 0x02)[0]
         bench.chip.data[:] = old
-        bench.path("j").unlink()
+        bench.remove_journal()
         got = bench.run(*UNLOCK, events={number: "nak"})
         begins("the session", got, [STOPPED])
         check("the end of the advice", got.err[-1][-len(ends) :], ends)
@@ -155,7 +155,7 @@ def finds_torn_status_writes(start):
     while torn:
         torn = torn - 1 & differing
         bench.chip.status[:] = BEFORE
-        bench.path("j").unlink(missing_ok=True)
+        bench.remove_journal()
         bench.server.traits.loss = {"torn": torn}
         found = (int.from_bytes(BEFORE, "big") & ~torn | int.from_bytes(AFTER, "big") & torn).to_bytes(2, "big")
         got = bench.run(*PROTECT, events={(1, 0): "dip"})
@@ -204,9 +204,11 @@ def finds_a_wrong_erase(start):
         chip.transfer(bytes.fromhex("20006000") if at == number else out, replies)
     check("the erase", wire[number - 1][0].hex(), "20002000")
     bench.write("new", new)
-    bench.expect("-w", "new", "--journal", "j",
-                 err=reference.not_stored(first_difference(chip.data, new, (1, 2, 7, 15))))
+    begins("the session", bench.run("-w", "new", "--journal", "j"),
+           reference.not_stored(first_difference(chip.data, new, (1, 2, 7, 15))))
     bench.server.traits.wrong_address = ()
+    # Without the sums of the sectors, the restore doesn't know the other one.
+    bench.path("j.sectors").unlink(missing_ok=True)
     check("the restore", bench.run("--restore", "j").status, 0)
     bench.check_chip(old[: 6 * SECTOR] + b"\xff" * SECTOR + old[7 * SECTOR :])
     bench.write("old", old)
@@ -226,6 +228,7 @@ def compares_the_rest(start):
            [f"Chip fault 4: the chip differs from its target at 0x{address:06x}."])
     bench.check_file("j", reference.journal("TINY64", old, (2, 7, 15)))
     bench.server.traits.wrong_address = ()
+    bench.path("j.sectors").unlink(missing_ok=True)
     check("the restore", bench.run("--restore", "j").status, 0)
     for number in 2, 7, 15:
         check("a saved sector", reference.sector_of(bench.chip.data, number), reference.sector_of(old, number))
@@ -282,7 +285,7 @@ def compares_excluded_sectors(start):
         bench.check_chip(wrong)
         bench.check_file("j", reference.journal("TINY64", old, [6]))
         bench.server.traits.wrong_address = ()
-        bench.path("j").unlink()
+        bench.remove_journal()
         bench.chip.data[:] = old
         bench.expect(*words, *option, out=[reference.found("TINY64"), reference.report(plan, 1)])
         bench.check_frames(whole)

@@ -1,0 +1,221 @@
+"""Cases of the image in a backup: --extract-image, -v of a backup, and --restore with --replaced-chip."""
+import hashlib
+
+import reference
+from bench import check
+from chip import SECTOR
+from journals import RESTORE, UNIQUE, describe
+from manual import SETTING, block_with, blocks, run_in_shell
+from options import ALL, images
+from wire import check_unchanged
+
+OTHER = bytes.fromhex("d1d2d3d4d5d6d7d8")
+PART = ["Backup fault 1: j.", "This journal saves 3 of 16 sectors. Give one that saves the whole chip (--backup)."]
+DAMAGED = ["error: the journal is damaged", "Error 15: journal fault 7.",
+           "Bytes of it have changed since it was sealed. Look for another copy."]
+NOTHING = [0, 5, 15]
+REPLACES = "The backup replaces all that this chip holds, whatever the chip's unique ID is (--replaced-chip)."
+
+
+def old_format(part, data, status=b"\0\0"):
+    """Returns the journal of a whole chip in format 1, which has no unique ID."""
+    journal = reference.journal(part, data, range(len(data) // SECTOR), status)
+    body = b"NORUNDO1" + journal[8:11] + journal[19:-32]
+    return body + hashlib.sha256(body).digest()
+
+
+def extracts_the_image(start):
+    """--extract-image writes the chip's bytes from a backup of either format, and prints the description."""
+    old, _ = images("extracts_the_image")
+    bench = start(data=old, unique=UNIQUE)
+    check("the backup", bench.run("--backup", "whole").status, 0)
+    before = bench.path("whole").read_bytes()
+    lines = ["Journal of SFDP (fe1010), 65536 bytes.", "Unit: unique ID d16288504b2f1a07.",
+             "Saves 16 of 16 sectors, from 0x000000 to 0x00ffff.", "Status: 00 00.", "Sealed and undamaged.",
+             RESTORE[:-1] + "whole", "Wrote the image of this chip, 65536 bytes: image"]
+    for present in None, b"", b"other bytes" * SECTOR:
+        if present is not None:
+            bench.write("image", present)
+        bench.compare(describe(bench, "whole", "--extract-image", "image"), lines, [])
+        bench.check_file("image", old)
+    bench.check_file("whole", before)
+    bench.write("j", old_format("TINY64", old))
+    check("lines", describe(bench, "j", "--extract-image", "b c").out[-1], f"{lines[-1][:-5]}b c")
+    bench.check_file("b c", old)
+    large = bytes(range(255, -1, -1)) * 32768
+    bench.write("large", reference.journal("W25Q64FV", large, range(2048)))
+    check("exit status", describe(bench, "large", "--extract-image", "image").status, 0)
+    bench.check_file("image", large)
+
+
+def refuses_part_of_a_chip(start):
+    """A journal that lacks a sector, wherever it is, or is damaged, has no image, and no file is changed."""
+    old, _ = images("refuses_part_of_a_chip")
+    bench = start(data=old)
+    bench.write("image", b"as before")
+    for saved in (0, 5, 15), (0, 1, 2), (13, 14, 15):
+        bench.write("j", reference.journal("TINY64", old, saved))
+        for name in "image", "new":
+            bench.compare(describe(bench, "j", "--extract-image", name), [], PART)
+    for lacks in 0, 7, 15:
+        bench.write("j", reference.journal("TINY64", old, [it for it in ALL if it != lacks]))
+        bench.compare(describe(bench, "j", "--extract-image", "new"), [], [PART[0], PART[1].replace("3 of", "15 of")])
+    whole = reference.journal("TINY64", old, ALL)
+    bench.write("j", whole[:40] + bytes([whole[40] ^ 1]) + whole[41:])
+    bench.compare(describe(bench, "j", "--extract-image", "new"), [], DAMAGED)
+    bench.compare(describe(bench, "none", "--extract-image", "new"), [], reference.file_fault(1, "none"))
+    bench.check_file("image", b"as before")
+    bench.check_absent("new")
+
+
+def keeps_journals(start):
+    """The file of the image may be neither a journal nor a second name of one, and is a usage fault elsewhere."""
+    old, _ = images("keeps_journals")
+    bench = start(data=old)
+    whole = reference.journal("TINY64", old, ALL)
+    for name in "whole", "j1":
+        bench.write(name, whole)
+    bench.path("link").symlink_to("whole")
+    bench.path("hard").hardlink_to(bench.path("whole"))
+    fault = [*reference.file_fault(4, "j1")]
+    bench.compare(describe(bench, "whole", "--extract-image", "j1"), [], fault)
+    for name in "whole", "./whole", "link", "hard":
+        bench.compare(describe(bench, "whole", "--extract-image", name), [], reference.file_fault(5, name))
+    bench.compare(describe(bench, "whole", "--extract-image", "none/image"), [],
+                  reference.file_fault(2, "none/image"))
+    for name in "whole", "j1":
+        bench.check_file(name, whole)
+    needs = ["error: --extract-image needs --check-journal", "Usage fault 8."]
+    for words in ("-r", "new"), ("--restore", "whole"), ("-w", "whole", "--journal", "k"), ():
+        bench.expect("--extract-image", "new", *words, err=needs)
+        bench.check_nothing_sent()
+    bench.check_absent("new")
+
+
+def verifies_with_a_backup(start):
+    """-v compares the chip with the image in a backup, also in regions, and takes the files of regions."""
+    old, new = images("verifies_with_a_backup")
+    bench = start(data=old, unique=UNIQUE)
+    check("the backup", bench.run("--backup", "whole").status, 0)
+    bench.write("first", old_format("TINY64", old))
+    found = reference.found("TINY64")
+    for name in "whole", "first":
+        bench.expect("-v", name, out=[found, "Verified."])
+        check_unchanged(bench, old, b"\0\0")
+    bench.chip.data[5 * SECTOR + 17] ^= 4
+    at = f"0x{5 * SECTOR + 17:06x}"
+    got = bench.run("-v", "whole")
+    check("the error", [got.status, got.err[0]], [1, f"Error 14: bytes differ at {at}."])
+    bench.write("layout", b"0000:4fff one\n5000:5fff two\n")
+    bench.expect("-v", "whole", "-l", "layout", "-i", "one", out=[found, "Verified."])
+    check("with the region", bench.run("-v", "whole", "-l", "layout", "-i", "two").status, 1)
+    bench.write("two", bytes(bench.chip.data[5 * SECTOR : 6 * SECTOR]))
+    bench.expect("-v", "whole", "-l", "layout", "-i", "two:two", out=[found, "Verified."])
+    bench.check_file("whole", reference.journal("TINY64", old, ALL, unique=UNIQUE))
+
+
+def verifies_with_nothing_less(start):
+    """What begins as a journal, and isn't one of a whole chip, is a fault before the programmer is used."""
+    old, _ = images("verifies_with_nothing_less")
+    bench = start(data=old)
+    bench.write("j", reference.journal("TINY64", old, NOTHING))
+    bench.expect("-v", "j", err=PART)
+    bench.check_nothing_sent()
+    whole = reference.journal("TINY64", old, ALL)
+    for content, fault in (b"NORUNDO2" + old[8:], 3), (b"NORUNDO3" + whole[8:], 2), (whole[:-1], 1), (whole + b"\0", 6):
+        bench.write("j", content)
+        got = bench.run("-v", "j")
+        check("the fault", [got.status, got.err[1]], [1, f"Error 15: journal fault {fault}."])
+        bench.check_nothing_sent()
+    # One byte less of the header, and it is an image.
+    image = b"NORUND\0\0" + old[8:]
+    bench.write("image", image)
+    bench.chip.data[:] = image
+    bench.expect("-v", "image", out=[reference.found("TINY64"), "Verified."])
+    # The image of another chip is too long or too short, as any image is.
+    bench.write("large", reference.journal("W25Q64FV", bytes(1 << 23), range(2048)))
+    check("the error", bench.run("-v", "large").err[0][:8], "Error 4:")
+
+
+def restores_a_replaced_chip(start):
+    """--replaced-chip restores a whole backup on another device of the same type, with its protection."""
+    size = 1 << 23
+    old = bytes(range(256)) * 32 + b"\xff" * (size - 16384) + bytes(range(255, -1, -1)) * 32
+    for words in ("--quick",), ("--quick", "-N"), ():
+        bench = start("W25Q64FV", data=old, status=b"\x04\0", unique=UNIQUE)
+        check("the backup", bench.run("--backup", "whole").status, 0)
+        whole = bench.path("whole").read_bytes()
+        blank = b"\xff" * SECTOR + bytes(2 * SECTOR) + b"\xff" * (size - 3 * SECTOR)
+        other = start("W25Q64FV", data=blank, unique=OTHER)
+        other.write("whole", whole)
+        got = other.run("--restore", "whole", *words)
+        check("without the option", [got.status, got.err[0]], [1, "Error 20: another unit than the journal's."])
+        check_unchanged(other, blank, b"\0\0")
+        got = other.run("--restore", "whole", "--replaced-chip", *words)
+        check("the restore", [got.status, got.err, got.out[-1][:5]], [0, [REPLACES], "Done:"])
+        other.check_chip(old, b"\x04\0")
+        other.check_file("whole", whole)
+
+
+def guards_the_replaced_chip(start):
+    """--replaced-chip needs --restore, a whole backup of this type, and status bits that fit, or nothing is sent."""
+    old, new = images("guards_the_replaced_chip")
+    bench = start(data=new, unique=OTHER)
+    for saved, lines in (NOTHING, PART), ([it for it in ALL if it != 9], [PART[0], PART[1].replace("3 of", "15 of")]):
+        bench.write("j", reference.journal("TINY64", old, saved, unique=UNIQUE))
+        bench.expect("--restore", "j", "--replaced-chip", err=lines)
+        bench.check_nothing_sent()
+    whole = reference.journal("TINY64", old, ALL, unique=UNIQUE)
+    bench.write("j", whole[:-1] + bytes([whole[-1] ^ 1]))
+    bench.expect("--restore", "j", "--replaced-chip", err=DAMAGED)
+    bench.check_nothing_sent()
+    bench.write("j", whole)
+    for words in ("-v", "j"), ("-w", "j", "--journal", "k"), ("-r", "k"), ():
+        bench.expect("--replaced-chip", *words, err=["error: --replaced-chip needs --restore", "Usage fault 8."])
+        bench.check_nothing_sent()
+    for content, word in (reference.journal("W25Q64FV", bytes(1 << 23), range(2048), unique=UNIQUE), "Error 16:"), \
+            (reference.journal("TINY64", old, ALL, b"\x80\0", UNIQUE), "Error 17:"):
+        bench.write("j", content)
+        got = bench.run("--restore", "j", "--replaced-chip")
+        check("the error", [got.status, got.err[1][:9]], [1, word])
+        check_unchanged(bench, new, b"\0\0")
+    check("files", bench.path("k").exists(), False)
+
+
+def follows_the_page(start):
+    """The page's commands for a replaced chip: a restore on one of the same type, and the image on any other."""
+    old, new = images("follows_the_page")
+    bench = start(data=new, unique=OTHER)
+    bench.write("whole.journal", reference.journal("TINY64", old, ALL, unique=UNIQUE))
+    lines = run_in_shell(bench, block_with("--replaced-chip"), {"P": SETTING})
+    check("first words", [it.partition(" ")[0] for it in lines], ["Found", "Read", "The", "Found", "Done:"])
+    bench.check_chip(old)
+    bench.check_file("new.journal", reference.journal("TINY64", new, ALL, unique=OTHER))
+    bench.chip.data[:] = new
+    lines = run_in_shell(bench, block_with("--extract-image"), {"P": SETTING})
+    check("first words", [it.partition(" ")[0] for it in lines[-3:]], ["Wrote", "Found", "Done:"])
+    bench.check_chip(old)
+    bench.check_file("old.bin", old)
+
+
+def rescues_without_an_image(start):
+    """Without an image, -v whole.journal also finds what a session did to another sector, and a line restores it."""
+    old, new = images("rescues_without_an_image")
+    bench = start(data=old)
+    bench.write("new.bin", new)
+    check("the backup", bench.run("--backup", "whole.journal").status, 0)
+    check("the session", bench.run("-w", "new.bin", "--journal", "j1").status, 0)
+    bench.chip.data[5 * SECTOR : 6 * SECTOR] = b"\xff" * SECTOR
+    four = block_with("--restore j1\n#").replace("before.bin", "whole.journal")
+    lines = run_in_shell(bench, four, {"P": SETTING})
+    check("first words", [it.partition(":")[0] for it in lines], ["Chip fault 5", "Error 14"])
+    own = [it for it in blocks() if it.strip() == "flashnor-serprog -p $P --restore whole.journal --quick"]
+    check("blocks", len(own), 1)
+    lines = run_in_shell(bench, own[0], {"P": SETTING})
+    check("first words", [it.partition(" ")[0] for it in lines], ["Found", "Done:"])
+    bench.check_chip(old)
+    bench.expect("-v", "whole.journal", out=[reference.found("TINY64"), "Verified."])
+
+
+CASES = [extracts_the_image, refuses_part_of_a_chip, keeps_journals, verifies_with_a_backup, verifies_with_nothing_less,
+         restores_a_replaced_chip, guards_the_replaced_chip, follows_the_page, rescues_without_an_image]

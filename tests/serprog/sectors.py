@@ -1,0 +1,192 @@
+"""Cases of the file beside a session's journal, which has the sums of the sectors before the session.
+
+A disturbed address erases or programs a sector that the journal doesn't save. The session names the sector, and a
+restore ends with chip fault 5 in place of "Done". Expected bytes and addresses are those of the models (chip.py).
+"""
+import reference
+from bench import check
+from chip import SECTOR
+from losses import sealed_after, session_wire
+from options import ALL, images
+from wire import begins
+
+# The sectors that a session changes. In sector 1 bits only change from 1 to 0.
+CHANGED = (1, 2, 7, 15)
+
+
+def places(numbers):
+    """Returns how lines name these sectors: at most four, and the number of the others."""
+    text = ", ".join(f"0x{number * SECTOR:06x}" for number in numbers[:4])
+    more = f" and {len(numbers) - 4} more" if len(numbers) > 4 else ""
+    return f"the sector{'s' * (len(numbers) > 1)} at {text}{more}"
+
+
+def strays(numbers):
+    """Returns the last line of a session that changed these other sectors."""
+    return (f"Also changed, though the journal doesn't save it: {places(numbers)}. A disturbed address on the wire has "
+            "probably erased or programmed it. After the restore, restore it from a backup.")
+
+
+def differs(numbers):
+    """Returns the line of a restore after which these sectors aren't as they were before the session."""
+    return (f"Chip fault 5: the journal was restored, but the chip differs from before the session in {places(numbers)}. "
+            "The journal doesn't save this. Did you accept another session since? Otherwise a disturbed address on the "
+            "wire has probably changed it: restore it from a backup.")
+
+
+def disturbed(start, seed, wrong, numbers=CHANGED):
+    """Runs a session in which the transactions from the first to the last of `wrong` have a wrong address bit.
+
+    Returns the bench, with the original chip in the backup `whole`, the original, and what the session printed.
+    """
+    old, new = images(seed, numbers)
+    bench = start(data=old)
+    bench.write("new", new)
+    bench.write("whole", reference.journal("TINY64", old, ALL))
+    bench.server.traits.wrong_address = (*wrong, 14)
+    got = bench.run("-w", "new", "--journal", "j")
+    bench.server.traits.wrong_address = ()
+    bench.check_file("j.sectors", reference.sums("TINY64", old, ALL))
+    return bench, old, got
+
+
+def first_of(seed, opcode):
+    """Returns the number of the first transaction with this opcode in a session."""
+    return next(at for at, (out, _) in enumerate(session_wire(*images(seed, CHANGED)), 1) if out[0] == opcode)
+
+
+def changed_in(bench, old):
+    """Returns the sectors of the chip that differ from the original."""
+    return [it for it in ALL if reference.sector_of(bench.chip.data, it) != reference.sector_of(old, it)]
+
+
+def names_the_other_sector(start):
+    """A wrong address bit of one erase or program: the session and each restore name the other sector.
+
+    A restore from a backup cures it, and the restore from the journal then ends with "Done".
+    """
+    for opcode in 0x20, 0x02:
+        number = first_of("names_the_other_sector", opcode)
+        for words in (), ("--quick",):
+            bench, old, got = disturbed(start, "names_the_other_sector", (number, number))
+            others = [it for it in changed_in(bench, old) if it not in CHANGED]
+            check("sectors that the journal doesn't save", len(others), 1)
+            begins(f"the session, {opcode:02x}h", got, ["Error 14: bytes differ at "])
+            check("its last line", got.err[2:], [strays(others)])
+            for _ in range(2):
+                bench.expect("--restore", "j", *words, err=[differs(others)])
+            check("what the restore left", changed_in(bench, old), others)
+            check("the backup", bench.run("--restore", "whole", "--quick").status, 0)
+            bench.check_chip(old)
+            got = bench.run("--restore", "j", *words)
+            check("a restore of a chip as before", (got.out[1][:5], got.err, got.status), ("Done:", [], 0))
+
+
+def names_all_other_sectors(start):
+    """If an address bit is wrong for the whole change, chip fault 4 and each restore name each other sector."""
+    numbers = (2, 7, 15)
+    wire = session_wire(*images("names_all_other_sectors", numbers))
+    first = next(at for at, (out, _) in enumerate(wire, 1) if out[0] in reference.CHANGING)
+    wrong = first, reference.compares_from(wire, first) - 1
+    bench, old, got = disturbed(start, "names_all_other_sectors", wrong, numbers)
+    others = [it for it in changed_in(bench, old) if it not in numbers]
+    check("other sectors", others, sorted(it ^ 4 for it in numbers))
+    begins("the session", got, ["Chip fault 4: the chip differs from its target at "])
+    check("its last line", got.err[1:], [strays(others)])
+    bench.expect("--restore", "j", err=[differs(others)])
+    bench.chip.data[12 * SECTOR] ^= 1
+    bench.expect("--restore", "j", "--quick", err=[differs([*others, 12])])
+
+
+def says_what_it_cannot_know(start):
+    """Without the file, or with a wrong one, a restore says so after "Done". With -N, or a backup, it needs none."""
+    number = first_of("says_what_it_cannot_know", 0x20)
+    bench, old, _ = disturbed(start, "says_what_it_cannot_know", (number, number))
+    right = bench.path("j.sectors").read_bytes()
+    files = [right[:at] + bytes([right[at] ^ 1]) + right[at + 1 :] for at in (0, 7, 8, 11, 19, 24, 40, 5000, len(right) - 1)]
+    wrong = [(None, "is missing"), *((it, "is damaged") for it in (*files, b"", right[:-1], right + b"\0"))]
+    new = bench.path("new").read_bytes()
+    others = (new, b"\1" * 8), (old, b"\1" * 8), (new, bytes(8))
+    wrong += [(reference.sums("TINY64", data, ALL, unique), "belongs to another journal") for data, unique in others]
+    wrong.append((reference.sums("TINY64", old, set(ALL) - {7}), "belongs to another journal"))
+    for words in (), ("--quick",):
+        for content, why in wrong:
+            if content is None:
+                bench.path("j.sectors").unlink()
+            else:
+                bench.write("j.sectors", content)
+            bench.server.begin({})
+            status, out, err = bench.finish(bench.start(("--restore", "j", *words)))
+            check(f"Done, {why}", (status, out[1][:5]), (0, "Done:"))
+            if content is not None:
+                check("the line", err, [reference.unknown_sectors("j", why)])
+            check("with -N", bench.run("--restore", "j", "-N", *words)[2], [])
+        bench.write("j.sectors", right)
+    check("a backup", bench.run("--restore", "whole").err, [])
+
+
+def notes_included_sectors(start):
+    """With regions and -N only the sectors that were read are known. With regions alone all are."""
+    old, new = images("notes_included_sectors", CHANGED)
+    for words, known in ((), ALL), (("-N",), range(1, 9)):
+        bench = start(data=old)
+        bench.write("new", new)
+        bench.write("layout", b"1000:8fff some\n")
+        check("the session", bench.run("-w", "new", "-l", "layout", "-i", "some", "--journal", "j", *words).status, 0)
+        bench.check_file("j.sectors", reference.sums("TINY64", old, known))
+        check("the restore", bench.run("--restore", "j").err, [])
+        bench.chip.data[4 * SECTOR] ^= 1
+        bench.chip.data[12 * SECTOR] ^= 1
+        bench.expect("--restore", "j", err=[differs([it for it in (4, 12) if it in known])])
+
+
+def keeps_an_old_file(start):
+    """A file that is there already is never overwritten. If the journal is there too, its own fault is printed."""
+    old, new = images("keeps_an_old_file", CHANGED)
+    bench = start(data=old)
+    bench.write("new", new)
+    bench.write("j.sectors", b"old")
+    words = ("-w", "new", "--journal", "j")
+    bench.expect(*words, err=reference.file_fault(4, "j.sectors"))
+    bench.check_nothing_sent()
+    bench.check_absent("j")
+    bench.write("j", b"old")
+    bench.expect(*words, err=reference.file_fault(4, "j"))
+    bench.check_file("j.sectors", b"old")
+    bench.check_chip(old)
+
+
+def goes_on_without_the_file(start):
+    """If the file can't be written, a line before the change says so, and the session goes on."""
+    old, new = images("goes_on_without_the_file", CHANGED)
+    bench = start(data=old)
+    bench.write("new", new)
+    name = "j" * 250
+    got = bench.run("-w", "new", "--journal", name)
+    check("the line", got.err, [f"{name}.sectors can't be written, so a restore won't find out whether another sector was "
+                                "damaged. The journal is sealed."])
+    check("the status", got.status, 0)
+    bench.check_chip(new)
+
+
+def writes_it_before_the_change(start):
+    """The file is complete when the journal was sealed, and a session without a change has none."""
+    old, new = images("writes_it_before_the_change", CHANGED)
+    wire = session_wire(old, new)
+    sealed = sealed_after(wire)
+    for number in sealed, sealed + 1:
+        bench = start(data=old)
+        bench.write("new", new)
+        bench.run("-w", "new", "--journal", "j", events={number: "kill"})
+        if number > sealed:
+            bench.check_file("j.sectors", reference.sums("TINY64", old, ALL))
+        else:
+            bench.check_absent("j.sectors")
+    bench = start(data=new)
+    bench.write("new", new)
+    check("no change", bench.run("-w", "new", "--journal", "j").status, 0)
+    bench.check_absent("j.sectors")
+
+
+CASES = [names_the_other_sector, names_all_other_sectors, says_what_it_cannot_know, notes_included_sectors,
+         keeps_an_old_file, goes_on_without_the_file, writes_it_before_the_change]

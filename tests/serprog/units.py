@@ -1,0 +1,109 @@
+"""Cases of a board that is exchanged while a job runs, and of a journal or a status that doesn't fit the chip.
+
+Both boards have a chip of the same kind, with the same bytes. Only their unique IDs differ. The program reads the
+unique ID when it identifies the chip, and again before the first modifying command. If the board is exchanged in
+between, the job must end with error 12, and neither chip may be changed.
+"""
+import reference
+from bench import check
+from chip import READ_UNIQUE, Chip
+from faults import DIFFER, RESTORE, UNCHANGED
+from losses import FEW, chip_images
+from refusals import LAYOUT, large_images
+from wire import STOPPED, UNLOCK
+
+FIRST, OTHER = bytes.fromhex("d1d2d3d4d5d6d7d8"), bytes.fromhex("0123456789abcdef")
+EXCHANGED = f"Cause: the chip is another one than before: its unique ID was {FIRST.hex()}, and is {OTHER.hex()} now. " \
+    "Connect the right chip."
+KEPT = "Check WP#, SRP0 and the supply. With another tool, set these bits as they were, because this program never " \
+    "changes them, and a restore would end with error 17 (see Chip fault 3 in the manual page): QE."
+
+
+def exchange(bench, words, journal, left):
+    """Exchanges the board before each transaction of a job in turn, from the first read of the unique ID on."""
+    before, status = bytes(bench.chip.data), bytes(bench.chip.status)
+    if journal:
+        bench.write("j", journal)
+    check("the job on one board", bench.run(*words).status, 0)
+    log = [out[0] for out, _ in bench.server.log]
+    first, again = [at for at, opcode in enumerate(log, 1) if opcode == READ_UNIQUE][:2]
+    seal = next(at for at, opcode in enumerate(log, 1) if opcode in reference.CHANGING)
+    used = [] if journal else [reference.used_name()]
+    # The last four transactions before the first modifying command are two reads of the unique ID, each with the ID
+    # after it. If the board is exchanged after these two, the program can't know it.
+    for number in range(first + 1, seal - 1):
+        bench.chip.data[:], bench.chip.status[:] = before, status
+        other = Chip(bench.part, before, status, OTHER)
+        if not journal:
+            bench.remove_journal()
+        bench.server.traits.other = number, other
+        # The two replies to one read differ if the board is exchanged between them.
+        cause = EXCHANGED if again < number <= seal - 4 else DIFFER
+        bench.expect(*words, err=[STOPPED, f"{cause} {left}", *used])
+        for chip in bench.chip, other:
+            check("the chip is unchanged", (chip.data == before, bytes(chip.status)), (True, status))
+        bench.server.chip = bench.chip
+    check("reads of the unique ID", log.count(READ_UNIQUE), 4)
+
+
+def changes_no_other_chip(start):
+    """A session doesn't change a board that came in the place of the one that it read."""
+    old, new = chip_images(FEW)
+    bench = start(data=old, unique=FIRST)
+    bench.write("new", new)
+    exchange(bench, ("-w", "new", "--journal", "j", "-N"), None, UNCHANGED)
+
+
+def restores_no_other_chip(start):
+    """The same for a restore, with --quick and without."""
+    old, new = chip_images(FEW)
+    journal = reference.journal("TINY64", old, FEW, unique=FIRST)
+    for words in ("-N",), ("-N", "--quick"):
+        bench = start(data=new, unique=FIRST)
+        exchange(bench, ("--restore", "j", *words), journal, RESTORE)
+
+
+def protects_no_other_chip(start):
+    """The same for --wp-range."""
+    bench = start("W25Q64FV", unique=FIRST)
+    exchange(bench, ("--wp-range", "0x000000,0x800000", "--journal", "j"), None, UNCHANGED)
+
+
+def prints_both_sizes(start):
+    """Error 16 of a journal of a chip with the same ID, but another size, names both sizes."""
+    old, new = chip_images(FEW)
+    bench = start(data=new)
+    bench.write("j", reference.journal("TINY64", old + old, FEW))
+    for words in (), ("-N",), ("--quick",):
+        bench.expect("--restore", "j", *words, err=[
+            "Error 16: another chip than the journal's.",
+            "The journal is of SFDP (fe1010) with 131072 bytes. The chip is SFDP (fe1010) with 65536 bytes."])
+    bench.check_chip(new)
+
+
+def advises_on_kept_bits(start):
+    """If a status write clears QE, the line of chip fault 3 says that QE must be set before a restore."""
+    old, new = large_images()
+    bench = start("W25Q64FV", data=old, status=b"\x04\x02")
+    bench.remembers = False
+    bench.write("new", new)
+    bench.write("layout", LAYOUT)
+    write = bench.chip.write_status
+
+    def clear_quad(sent):
+        accepted = write(sent)
+        bench.chip.status[1] &= ~0x02
+        return accepted
+
+    bench.chip.write_status = clear_quad
+    bench.expect(*UNLOCK, err=[
+        STOPPED, "Chip fault 3: the chip did not store a status write: 00h 02h was sent, 00h 00h was read back (these "
+        f"bits differ: QE). {KEPT} {RESTORE} Until then it may be unprotected."])
+    bench.chip.write_status = write
+    check("the restore", bench.run("--restore", "j", "-N").err[:1], ["Error 17: status differs from the journal's."])
+    bench.chip.status[1] |= 0x02
+    check("the restore with QE", bench.run("--restore", "j", "-N").status, 0)
+    bench.check_chip(old, b"\x04\x02")
+
+
+CASES = [changes_no_other_chip, restores_no_other_chip, protects_no_other_chip, prints_both_sizes, advises_on_kept_bits]
