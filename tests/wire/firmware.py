@@ -1,0 +1,79 @@
+"""A serial programmer, byte by byte: the firmware of a board with a UART and a chip behind it.
+
+The firmware reads one byte at a time, and replies as soon as it has all bytes of a command. It knows no end of a run:
+a command that was received in part waits for its rest until power is cut. Nothing marks where a frame begins, and there
+is no checksum (flashrom, serprog protocol, version 1).
+"""
+
+ACK, NAK = b"\x06", b"\x15"
+O_SPIOP = 0x13
+# The number of bytes that follow an opcode. O_SPIOP has its six bytes of lengths, and then its data.
+FOLLOW = {0x09: 3, 0x0A: 6, 0x0C: 4, 0x0E: 4, 0x12: 1, O_SPIOP: 6, 0x14: 4, 0x15: 1, 0x16: 1}
+KNOWN = (0, 1, 2, 3, 4, 5, 8, 0x10, 0x11, 0x12, O_SPIOP, 0x14, 0x15, 0x16)
+
+
+class Programmer:
+    """The firmware, which knows a `chip`. `buffer` is what Q_SERBUF replies; None: the command is unknown.
+
+    With `selects_early` CS# falls as soon as the lengths are received, and the bytes go to the chip as they arrive.
+    Then CS# rises, and the chip acts, if the programmer loses its power in the middle while the chip keeps its own.
+    """
+
+    def __init__(self, chip, buffer=0x2000, most=0x10000, selects_early=False):
+        self.chip, self.buffer, self.most, self.selects_early = chip, buffer, most, selects_early
+        self.partial = bytearray()
+        self.wanted = 0
+        self.frames = 0
+
+    def power_cycle(self, chip_too=True):
+        """Cuts the power of the programmer, and of the chip unless the board has a supply of its own."""
+        data = bytes(self.partial[7:])
+        is_selected = self.selects_early and self.partial[:1] == bytes([O_SPIOP]) and data
+        self.partial.clear()
+        if chip_too:
+            self.chip.cut_power()
+        elif is_selected:
+            self.chip.select(data, 0)
+
+    def state(self):
+        """Returns a copy of what the programmer and its chip hold, for `put_back`."""
+        return bytes(self.partial), self.wanted, self.chip.state()
+
+    def put_back(self, state):
+        self.partial, self.wanted = bytearray(state[0]), state[1]
+        self.chip.put_back(state[2])
+
+    def take(self, byte):
+        """Takes one byte from the line, and returns the reply to the command that it completes, or nothing."""
+        self.partial.append(byte)
+        if len(self.partial) == 1:
+            self.wanted = 1 + FOLLOW.get(byte, 0) if byte in KNOWN else 1
+        elif len(self.partial) == 7 and self.partial[0] == O_SPIOP:
+            self.wanted = 7 + int.from_bytes(self.partial[1:4], "little")
+        if len(self.partial) < self.wanted:
+            return b""
+        command, self.partial = bytes(self.partial), bytearray()
+        self.frames += 1
+        return self.carry_out(command)
+
+    def carry_out(self, command):
+        code, rest = command[0], command[1:]
+        if code == O_SPIOP:
+            replies = int.from_bytes(rest[3:6], "little")
+            return ACK + self.chip.select(rest[6:], replies)
+        if code not in KNOWN or code == 0x04 and self.buffer is None:
+            return NAK
+        if code == 0x10:
+            return NAK + ACK
+        return ACK + self.value(code, rest)
+
+    def value(self, code, rest):
+        if code == 0x02:
+            return sum(1 << it for it in KNOWN if it != 4 or self.buffer is not None).to_bytes(32, "little")
+        if code == 0x14:
+            return rest
+        values = {0x01: b"\x01\x00", 0x03: b"wire".ljust(16, b"\0"), 0x05: b"\x08",
+                  0x08: b"\x00\x20\x00", 0x11: self.most.to_bytes(3, "little")}
+        if code == 0x04:
+            return self.buffer.to_bytes(2, "little")
+        return values.get(code, b"")

@@ -1,0 +1,116 @@
+"""The frames of a run, and the faults that are tried at them: which bytes, and what happens to each."""
+from typing import NamedTuple
+
+from firmware import FOLLOW, KNOWN, O_SPIOP
+from line import OWN_SUPPLY, PLAIN, STALE, Fault
+
+# The instructions of a chip that change something.
+CHANGING = (0x06, 0x50, 0x01, 0x02, 0x20, 0x52, 0xD8, 0xC7)
+# What is inserted on the way to the programmer and back.
+TO_IT, FROM_IT = (0x00, 0x06, 0x10, 0x13, 0xFF), (0x00, 0x06, 0x15, 0xFF)
+# A frame of O_SPIOP begins with its opcode and two lengths.
+HEAD = 7
+
+
+class Frame(NamedTuple):
+    """The bytes `begin` to `end` of what a run sends, and `first` to `last` of what it is replied."""
+
+    begin: int
+    end: int
+    kind: tuple
+    first: int
+    last: int
+
+    @property
+    def changes(self):
+        return self.kind[1] in CHANGING
+
+    @property
+    def modifies(self):
+        """True if the chip changes its data or its status: not for a write enable."""
+        return self.changes and self.kind[1] not in (0x06, 0x50)
+
+    @property
+    def name(self):
+        code, inner = self.kind
+        return f"command {code:02x}h" if inner is None else f"frame of {inner:02x}h"
+
+    def begin_of(self, fault):
+        return self.begin if fault.way == "to" else self.first
+
+
+def frames_of(sent):
+    """Returns the frames of these bytes. The last one is left out if it isn't whole."""
+    found, at, replied = [], 0, 0
+    while at < len(sent):
+        code = sent[at]
+        end, replies, inner = at + 1 + (FOLLOW.get(code, 0) if code in KNOWN else 0), None, None
+        if code == O_SPIOP:
+            end += int.from_bytes(sent[at + 1 : at + 4], "little")
+            replies = 1 + int.from_bytes(sent[at + 4 : at + 7], "little")
+            inner = sent[at + HEAD] if end > at + HEAD else None
+        if end > len(sent):
+            break
+        replies = replies or REPLIES.get(code, 1)
+        found.append(Frame(at, end, (code, inner), replied, replied + replies))
+        at, replied = end, replied + replies
+    return found
+
+
+# The lengths of the programmer's replies, if they aren't 1.
+REPLIES = {0x01: 3, 0x02: 33, 0x03: 17, 0x04: 3, 0x05: 2, 0x08: 4, 0x10: 2, 0x11: 4, 0x14: 5}
+
+
+def frame_at(frames, fault):
+    """Returns the frame whose byte a fault hits. A cut hits the frame that isn't whole."""
+    if fault.way == "back":
+        return next(it for it in frames if it.first <= fault.at < it.last)
+    at = fault.at - (fault.kind == "cut")
+    return next(it for it in frames if it.begin <= at < it.end)
+
+
+def chosen(frames):
+    """Returns the frames whose bytes are tried: all that change something, and the first and last of each kind."""
+    kinds = {}
+    for number, frame in enumerate(frames):
+        kinds.setdefault(frame.kind, []).append(number)
+    numbers = {it for all_of_it in kinds.values() for it in (all_of_it[0], all_of_it[-1])}
+    numbers |= {number for number, frame in enumerate(frames) if frame.changes}
+    return [frames[it] for it in sorted(numbers)]
+
+
+def some(begin, end, all_up_to):
+    """Returns the numbers from `begin` to `end`: after the first `all_up_to` only first, second, middle and last."""
+    head = range(begin, min(end, begin + all_up_to))
+    rest = range(head.stop, end)
+    if len(rest) <= 4:
+        return [*head, *rest]
+    return [*head, rest[0], rest[1], rest[len(rest) // 2], rest[-1]]
+
+
+def sweep(frames, is_long=False):
+    """Returns the faults at the bytes of these frames, in both directions.
+
+    Of a job that `is_long` only those are returned that are on the way to the programmer, and modify the chip.
+    """
+    found = []
+    for frame in chosen(frames):
+        if is_long and not frame.modifies:
+            continue
+        for at in some(frame.begin, frame.end, HEAD + 4):
+            found += faults_at("to", at, TO_IT)
+        for at in some(frame.first, frame.last, 8) if not is_long else ():
+            found += faults_at("back", at, FROM_IT)
+    return found
+
+
+def faults_at(way, at, inserted):
+    """Returns the faults at this byte: it and its neighbours are lost, it is doubled, or one of these is inserted."""
+    lost = [Fault(way, at, "lose", count) for count in (1, 2, 3)]
+    return [*lost, Fault(way, at, "double"), *(Fault(way, at, "insert", byte) for byte in inserted)]
+
+
+def cuts(frames):
+    """Returns cuts in each frame that changes something, after each of its bytes except the last."""
+    return [Fault("to", at, "cut", kind) for frame in frames if frame.changes
+            for at in some(frame.begin + 1, frame.end, HEAD + 4) for kind in (PLAIN, STALE, OWN_SUPPLY)]

@@ -1,0 +1,183 @@
+"""Plays a job with one fault, and what a user does after it, and checks the chip."""
+import functools
+import tempfile
+from pathlib import Path
+from typing import NamedTuple
+
+import jobs
+from flash import SECTOR
+from line import LONGEST, OWN_SUPPLY, PATIENCE, Line, Result
+
+# The runs of a user who doesn't read: identifications until the programmer waits for nothing any more, at most.
+MOST_RUNS = 6
+# How patient the program is, in tenths of a second, if a finding is played again: a busy machine may cause it.
+LONG_PATIENCE = 50
+# The same of a run without a fault, in which nobody is ever silent.
+CLEAN_PATIENCE = 100
+
+
+class Played(NamedTuple):
+    """What a clean run of a job sends, and what the chip and the directory hold before it."""
+
+    sent: bytes
+    files: dict
+    old: bytes
+    new: bytes
+
+
+class Finding(NamedTuple):
+    """What is wrong: a kind of fault, and a text.
+
+    once: a one-time bit was set. wrong: status 0 with a wrong chip. silent: the same, but only sectors that no journal
+    has are wrong. lost: a restore after a power cycle did not restore a chip whose journal has all changed sectors.
+    hangs: a run did not end. moved: the run before the fault was another one than that without it. bits: QE or
+    protection bits are wrong, which can be written again; a restore reports it, and a job without a journal can't.
+    """
+
+    kind: str
+    text: str
+
+
+class Bench:
+    """A job's chip, programmer, line and directory."""
+
+    def __init__(self, program, job, folder, data, files, patience=PATIENCE, **traits):
+        self.job, self.folder = job, Path(folder)
+        for name, content in files.items():
+            (self.folder / name).write_bytes(content)
+        self.programmer = jobs.make_programmer(job, data, **traits)
+        self.chip = self.programmer.chip
+        self.line = Line(program, folder, self.programmer, patience)
+        self.found, self.told = [], []
+
+    def run(self, *words, fault=None) -> Result:
+        got = self.line.run(*words, fault=fault)
+        self.told.append(f"{' '.join(words) or 'identify'}: {got.status}: {' | '.join(got.out[1:] + got.err)}")
+        if self.chip.once:
+            self.find("once", f"one-time bits {', '.join(f'{it:02x}h' for it in sorted(self.chip.once))} are set")
+        return got
+
+    def find(self, kind, text):
+        if all(it.kind != kind for it in self.found):
+            self.found.append(Finding(kind, text))
+
+    def save(self):
+        return self.programmer.state(), {it.name: it.read_bytes() for it in self.folder.iterdir() if it.name != "dev"}
+
+    def put_back(self, saved):
+        state, files = saved
+        self.programmer.put_back(state)
+        for it in self.folder.iterdir():
+            if it.name != "dev" and it.name not in files:
+                it.unlink()
+        for name, content in files.items():
+            (self.folder / name).write_bytes(content)
+
+    def compare(self, got, data, status, what):
+        """Checks a run that must have left this data and these status bytes, if its exit status is 0."""
+        if got.status != 0:
+            return
+        wrong = {at // SECTOR for at in range(0, len(data), SECTOR)
+                 if self.chip.data[at : at + SECTOR] != data[at : at + SECTOR]} if self.chip.data != data else set()
+        registers = self.chip.registers()
+        said = [it for it in got.out + got.err if not it.startswith(("Found ", "Done: "))]
+        if wrong - self.job.sectors and not wrong & self.job.sectors and registers == status:
+            if not said:
+                self.find("silent", f"{what}: status 0, and {told(wrong)} are wrong")
+        elif wrong:
+            self.find("wrong", f"{what}: status 0, and {told(wrong)} are wrong")
+        elif registers != status:
+            kind = "wrong" if self.job.has_journal or what == "the run" else "bits"
+            self.find(kind, f"{what}: status 0, and the status bytes are {bytes(registers).hex(' ')}")
+
+
+def told(sectors):
+    shown = ", ".join(f"0x{it * SECTOR:06x}" for it in sorted(sectors)[:3])
+    return f"{len(sectors)} sectors ({shown}{', ..' if len(sectors) > 3 else ''})"
+
+
+@functools.lru_cache(maxsize=2)
+def clean(program, name):
+    """Returns what a job does without a fault. The chip and the exit status must be right then."""
+    job = jobs.JOBS[name]
+    old, new = jobs.images(job)
+    files = {"new": new, "layout": jobs.layout(job.changes)}
+    start, target = old, new
+    with tempfile.TemporaryDirectory() as folder:
+        bench = Bench(program, job, folder, old, files, CLEAN_PATIENCE)
+        try:
+            if job.before:
+                got = bench.run(*job.before)
+                start, target = bytes(bench.chip.data), old
+                files[jobs.JOURNAL] = (bench.folder / jobs.JOURNAL).read_bytes()
+                job = job._replace(status=bench.chip.registers())
+            got = bench.run(*job.words)
+            bench.compare(got, target, job.then, "the clean run")
+            if got.status or bench.found:
+                raise ValueError(f"{name} fails without a fault: {bench.told} {bench.found}")
+        finally:
+            bench.line.close()
+    return job, Played(got.sent, files, start, target)
+
+
+def original(job, played):
+    """Returns the data and the status bytes that a restore must bring back."""
+    return (played.new, job.then) if job.before else (played.old, job.status)
+
+
+def play(program, name, fault, patience=PATIENCE):
+    """Plays a job with a fault. Returns the findings, and what was run."""
+    job, played = clean(program, name)
+    traits = {"selects_early": True} if fault[2:] == ("cut", OWN_SUPPLY) else {}
+    with tempfile.TemporaryDirectory() as folder:
+        bench = Bench(program, job, folder, played.old, played.files, patience, **traits)
+        try:
+            got = bench.run(*job.words, fault=fault)
+            if fault.way == "to" and got.sent[: fault.at] != played.sent[: fault.at]:
+                return [Finding("moved", "the bytes before the fault vary from run to run")], bench.told
+            if got.status == -9 and fault.kind != "cut":
+                bench.find("hangs", f"the run did not end in {LONGEST} s")
+            bench.compare(got, played.new, job.then, "the run")
+            follow(bench, job, played)
+            return bench.found, bench.told
+        finally:
+            bench.line.close()
+
+
+def follow(bench, job, played):
+    """Plays what follows, once while the programmer keeps its power, and once after it was disconnected."""
+    saved = bench.save()
+    waits = bool(bench.programmer.partial) or bench.chip.latch
+    if waits:
+        bench.told.append("the programmer keeps its power:")
+        for _ in range(MOST_RUNS):
+            bench.run()
+            if not bench.programmer.partial:
+                break
+        finish(bench, job, played, False)
+        bench.put_back(saved)
+    bench.told.append("after a power cycle:")
+    bench.line.drop()
+    bench.programmer.power_cycle(chip_too=not bench.programmer.selects_early)
+    bench.run()
+    finish(bench, job, played, True)
+
+
+def finish(bench, job, played, had_cycle):
+    """Restores the chip, if the job has a journal, or else runs the job again."""
+    data, status = original(job, played)
+    if not job.has_journal:
+        got = bench.run(*job.words)
+        bench.compare(got, played.new, job.then, "the same job again")
+        return
+    if not (bench.folder / jobs.JOURNAL).exists():
+        return
+    words = ["--restore", jobs.JOURNAL] + ["-N"] * ("-N" in job.words)
+    got = bench.run(*words)
+    bench.compare(got, data, status, "the restore")
+    if any("journal fault" in it for it in got.err):
+        if bytes(bench.chip.data) != data or bench.chip.registers() != status:
+            bench.find("lost", "the journal isn't sealed, and the chip was changed")
+    elif had_cycle and got.status and bench.chip.hit <= job.sectors and not bench.chip.once:
+        is_status = any("Error 17" in it for it in got.err) and bench.chip.registers() != status
+        bench.find("bits" if is_status else "lost", "the restore failed after a power cycle")

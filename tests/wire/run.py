@@ -1,0 +1,103 @@
+#!/usr/bin/env python3
+"""tests/wire/run.py PROGRAM [--all] [--list] [JOB..]: single bytes that are lost, doubled or inserted, and cut frames.
+
+The programmer (firmware.py) works byte by byte, as a UART does, and keeps a part of a frame from one run to the next.
+The chips (flash.py, winbond.py) are written from datasheets, and share no code with tests/serprog. frames.py chooses
+the bytes, jobs.py has the jobs, and play.py plays each case and what a user does after it.
+
+A case that failed is printed with its runs. The last line is `N passed, M failed`, and the exit status is 1 if one
+failed. Without --all a part of the cases is played, which `is_in_part` chooses. --list also prints each case that
+`remains` allows.
+"""
+import argparse
+import collections
+import os
+import sys
+import time
+import traceback
+from concurrent.futures import ProcessPoolExecutor
+from pathlib import Path
+
+import frames
+import jobs
+import play
+from remains import remains
+
+# Most of a case is waiting for a program that waits for a reply.
+PROCESSES = 6 * (os.cpu_count() or 1)
+# Of the cases that don't belong to the part as a whole, each STEP-th one does.
+STEP = 29
+
+
+def cases_of(program, name):
+    """Returns the cases of a job: each fault, with the frame whose byte it hits."""
+    _, played = play.clean(program, name)
+    all_frames = frames.frames_of(played.sent)
+    faults = frames.sweep(all_frames, jobs.JOBS[name].is_long) + frames.cuts(all_frames)
+    return [(name, it, frames.frame_at(all_frames, it)) for it in faults]
+
+
+def is_in_part(number, fault, frame):
+    """True if a case belongs to the part: a byte that is lost, or a cut, in a frame that modifies the chip, and each
+    STEP-th of all others."""
+    is_main = frame.modifies and fault.way == "to" and (fault.kind, fault.value) in (("lose", 1), ("cut", 1))
+    return is_main or number % STEP == 0
+
+
+def try_case(program, case):
+    """Plays a case. Returns what was found, why it is allowed, or None if a part of it isn't, and what was run.
+
+    What isn't allowed must be found again by a more patient program, since a busy machine may be late, too.
+    """
+    name, fault, frame = case
+    try:
+        found, ran = play.play(program, name, fault)
+        reasons = [remains(it, name, fault, frame) for it in found]
+        if not all(reasons):
+            found, ran = play.play(program, name, fault, play.LONG_PATIENCE)
+            reasons = [remains(it, name, fault, frame) for it in found]
+        return found, set(reasons) if all(reasons) else None, ran
+    except Exception:  # a fault of the model must not look like a case that passed
+        return [play.Finding("broken", traceback.format_exc(limit=-4))], None, []
+
+
+def main(words):
+    parser = argparse.ArgumentParser(prog="tests/wire/run.py")
+    parser.add_argument("program")
+    parser.add_argument("jobs", nargs="*", metavar="JOB", help=", ".join(jobs.JOBS))
+    parser.add_argument("--all", action="store_true", help="all cases, in place of a part")
+    parser.add_argument("--list", action="store_true", help="print the cases that remain, too")
+    asked = parser.parse_args(words)
+    if not os.access(asked.program, os.X_OK) or set(asked.jobs) - set(jobs.JOBS):
+        parser.error("PROGRAM must be a program, and each JOB a job")
+    program, begun = str(Path(asked.program).resolve()), time.monotonic()
+    sys.stdout.reconfigure(line_buffering=True)
+    with ProcessPoolExecutor(PROCESSES) as pool:
+        cases = []
+        for found in pool.map(cases_of, *zip(*((program, it) for it in asked.jobs or jobs.JOBS))):
+            cases += [it for number, it in enumerate(found) if asked.all or is_in_part(number, *it[1:])]
+        failed, left = report(program, cases, pool, asked.list)
+    for text, number in sorted(left.items()):
+        print(f"{number} cases remain: {text}")
+    print(f"{len(cases)} cases in {time.monotonic() - begun:.0f} s")
+    print(f"{len(cases) - failed} passed, {failed} failed")
+    return int(failed > 0 or not cases)
+
+
+def report(program, cases, pool, shows_all):
+    """Plays these cases, and prints those that failed. Returns how many failed, and why others were allowed."""
+    failed, left = 0, collections.Counter()
+    plays = pool.map(try_case, [program] * len(cases), cases, chunksize=4)
+    for (name, fault, frame), (found, reasons, ran) in zip(cases, plays):
+        left.update(reasons or ())
+        failed += reasons is None
+        if reasons is None or found and shows_all:
+            print(f"{'FAILED' if reasons is None else 'remains'}: {name}, {frame.name}, byte "
+                  f"{fault.at - frame.begin_of(fault)} of {frame.end - frame.begin}, {fault.way} {fault.kind} "
+                  f"{fault.value:02x}h: {'; '.join(f'{it.kind}: {it.text}' for it in found)}")
+            print("".join(f"    {it}\n" for it in ran), end="")
+    return failed, left
+
+
+if __name__ == "__main__":
+    sys.exit(main(sys.argv[1:]))

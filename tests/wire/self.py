@@ -1,0 +1,261 @@
+#!/usr/bin/env python3
+"""tests/wire/self.py: the models against their datasheets, and the checks against a program with known faults."""
+import os
+import sys
+import traceback
+from concurrent.futures import ProcessPoolExecutor
+from pathlib import Path
+
+import frames
+import jobs
+import play
+from firmware import Programmer
+from flash import BLANK, Flash, SECTOR
+from line import OWN_SUPPLY, Fault, Way
+from winbond import LB, QE, SRP0, SRP1, Winbond
+
+WRONG = str(Path(__file__).with_name("wrong.py").resolve())
+# How long the program waits for a reply, in tenths of a second.
+PATIENCE = 10
+ENABLE, POLL = b"\x06", b"\x05"
+
+
+def same(got, wanted):
+    if got != wanted:
+        raise AssertionError(f"got {got!r}, wanted {wanted!r}")
+
+
+def winbond(status=(0, 0), **more):
+    return Winbond(bytes(Winbond.size), status=status, **more)
+
+
+def change(chip, *out):
+    """Sends a write enable and an instruction, and polls until the chip is ready."""
+    chip.select(ENABLE, 0)
+    chip.select(bytes(out), 0)
+    while chip.select(POLL, 1)[0] & 1:
+        pass
+    return chip
+
+
+def lengths_of_status_writes():
+    """01h takes one or two data bytes. One byte clears QE, CMP and SRP1, and other lengths do nothing."""
+    same(change(winbond((0, QE)), 0x01, 0x1C, QE).registers(), (0x1C, QE))
+    same(change(winbond((0, QE)), 0x01, 0x1C).registers(), (0x1C, 0))
+    same(change(winbond((0, QE)), 0x01).registers(), (0, QE))
+    same(change(winbond((0, QE)), 0x01, 0x1C, QE, 0).registers(), (0, QE))
+
+
+def one_time_bits():
+    """An LB bit that is set stays set, SRP1 locks the status until the power is cut, and both are recorded."""
+    chip = change(winbond(), 0x01, 0, 0x10)
+    same((chip.registers(), chip.once), ((0, 0x10), {0x10}))
+    same(change(chip, 0x01, 0, QE).registers(), (0, 0x10 | QE))
+    same(change(chip, 0x01, SRP0, SRP1).registers(), (SRP0, 0x10 | SRP1))
+    same(change(chip, 0x01, 0, 0).registers(), (SRP0, 0x10 | SRP1))
+    chip.cut_power()
+    same(change(chip, 0x01, 0, 0).registers(), (SRP0, 0x10 | SRP1))
+    chip = change(winbond(), 0x01, 0, SRP1)
+    chip.cut_power()
+    same(chip.registers(), (0, 0))
+
+
+def volatile_status():
+    """After 50h a status write lasts until the power is cut, and sets no one-time bit."""
+    chip = winbond()
+    chip.select(b"\x50", 0)
+    chip.select(bytes([0x01, 0x1C, LB | QE]), 0)
+    same((chip.select(POLL, 1), chip.select(b"\x35", 1), chip.once), (b"\x1c", bytes([QE]), set()))
+    chip.cut_power()
+    same(chip.select(POLL, 1), b"\0")
+
+
+def lengths_of_erases():
+    """An erase is carried out only if CS# rises just after the last byte of its address, and with the latch set."""
+    for out in b"\x20\x00\x10", b"\x20\x00\x10\x00\x00", b"\xc7\x00", b"\x60\x00":
+        same(change(Flash(bytes(Flash.size)), *out).hit, set())
+    same(change(Flash(bytes(Flash.size)), 0x20, 0, 0x1F, 0xFF).hit, {1})
+    same(change(Flash(bytes(Flash.size)), 0x52, 0, 0x80, 0).hit, set(range(8, 16)))
+    same(len(change(Flash(bytes(Flash.size)), 0x60).hit), 16)
+    chip = Flash(bytes(Flash.size))
+    chip.select(bytes([0x20, 0, 0, 0]), 0)
+    same(chip.hit, set())
+    chip.select(ENABLE + b"\0", 0)
+    same(chip.latch, False)
+    # Clocks of a reply are clocks, too.
+    chip.select(ENABLE, 0)
+    chip.select(bytes([0x20, 0, 0, 0]), 1)
+    same(chip.hit, set())
+    chip.select(bytes([0x20, 0, 0x30]), 1)
+    same(chip.hit, {3})
+
+
+def programs():
+    """A program changes bits from 1 to 0 only, and goes on at the first byte of its page."""
+    chip = Flash(bytes([BLANK]) * Flash.size)
+    change(chip, 0x02, 0, 0x12, 0xFE, 0xA5, 0x5A, 0x11)
+    same(bytes(chip.data[0x1200:0x1202]) + bytes(chip.data[0x12FE:0x1301]), b"\x11\xff\xa5\x5a\xff")
+    change(chip, 0x02, 0, 0x12, 0xFE, 0x0F)
+    same((chip.data[0x12FE], chip.hit), (0x05, {1}))
+    same(chip.select(b"\x03\x00\xff\xff", 3), b"\xff\xff\xff")
+
+
+def busy_chips():
+    """A busy chip takes only polls, and the latch is clear when it is ready."""
+    chip = Flash(bytes(Flash.size), polls=2)
+    chip.select(ENABLE, 0)
+    chip.select(bytes([0x20, 0, 0, 0]), 0)
+    same(chip.select(b"\x9f", 3), b"\xff\xff\xff")
+    same([chip.select(POLL, 1)[0] for _ in range(3)], [3, 3, 0])
+    same(chip.select(b"\x9f", 3), b"\xfe\x10\x10")
+
+
+def protection():
+    """The ranges of the datasheet, at their ends."""
+    end = Winbond.size
+    for status, free, shut in (
+        ((0x04, 0), 0x7DF000, 0x7E0000), ((0x24, 0), 0x020000, 0x01F000), ((0x18, 0), 0x3FF000, 0x400000),
+        ((0x44, 0), end - 2 * SECTOR, end - SECTOR), ((0x64, 0), SECTOR, 0), ((0x24, 0x40), 0x01F000, 0x020000)):
+        for at, wanted in (free, {free // SECTOR}), (shut, set()):
+            same(change(winbond(status), 0x20, *at.to_bytes(3, "big")).hit, wanted)
+    same(change(winbond((0x1C, 0)), 0xC7).hit, set())
+
+
+def further_instructions():
+    """Power-down, reset, QPI and the security registers."""
+    chip = winbond((0, QE))
+    chip.select(b"\xb9", 0)
+    same(chip.select(b"\x9f", 3), b"\xff\xff\xff")
+    same(chip.select(b"\xab\0\0\0", 1), b"\x16")
+    same(chip.select(b"\x9f", 3), b"\xef\x40\x17")
+    chip.select(ENABLE, 0)
+    chip.select(b"\x66", 0)
+    chip.select(b"\x99", 0)
+    same(chip.latch, False)
+    change(chip, 0x42, 0, 0x20, 0, 0x12)
+    same(chip.select(b"\x48\x00\x20\x00\x00", 2), b"\x12\xff")
+    change(change(chip, 0x01, 0, 0x10 | QE), 0x44, 0, 0x20, 0)
+    same(chip.select(b"\x48\x00\x20\x00\x00", 2), b"\x12\xff")
+    chip.select(b"\x38", 0)
+    same(chip.select(b"\x9f", 3), b"\xff\xff\xff")
+    chip.cut_power()
+    same(chip.select(b"\x9f", 3), b"\xef\x40\x17")
+
+
+def frames_byte_by_byte():
+    """The firmware replies as soon as a command has its last byte, and keeps a part until the power is cut."""
+    programmer = Programmer(Flash(bytes(Flash.size)))
+    same([programmer.take(it) for it in b"\x13\x01\0\0\x03\0\0\x9f"], [b""] * 7 + [b"\x06\xfe\x10\x10"])
+    same([programmer.take(it) for it in b"\x00\x10\x77"], [b"\x06", b"\x15\x06", b"\x15"])
+    same([programmer.take(it) for it in b"\x13\x01\0\0"], [b""] * 4)
+    programmer.power_cycle()
+    same(programmer.take(0), b"\x06")
+
+
+def a_supply_of_its_own():
+    """If only the programmer loses its power, CS# rises, and the chip acts on what it has got."""
+    for selects_early, wanted in (True, (0x1C, 0)), (False, (0, QE)):
+        chip = winbond((0, QE))
+        programmer = Programmer(chip, selects_early=selects_early)
+        chip.select(ENABLE, 0)
+        for byte in b"\x13\x03\0\0\0\0\0\x01\x1c":
+            programmer.take(byte)
+        programmer.power_cycle(chip_too=False)
+        same(chip.registers(), wanted)
+
+
+def faults_of_the_line():
+    """Each fault changes the bytes at its place, wherever a write ends."""
+    for kind, value, wanted in (("lose", 1, b"0134567"), ("lose", 3, b"01567"), ("double", 1, b"012234567"),
+                                ("insert", 0x41, b"01A234567"), ("cut", 1, b"01234567")):
+        for split in range(9):
+            way = Way(Fault("to", 2, kind, value))
+            same(way.pass_on(b"01234567"[:split]) + way.pass_on(b"01234567"[split:]), wanted)
+
+
+def found_in(wrong, faults):
+    """Returns the kinds of findings of a program with these faults, for each of these faults of its line."""
+    os.environ["WRONG"] = wrong
+    _, played = play.clean(WRONG, "wp-enable")
+    all_frames = frames.frames_of(played.sent)
+    plays = (play.play(WRONG, "wp-enable", fault, PATIENCE) for fault in faults(all_frames))
+    return [{it.kind for it in found} for found, _ in plays]
+
+
+def losses(all_frames, kind="lose"):
+    """Returns losses of the three bytes of the status write."""
+    write = next(it for it in all_frames if it.kind[1] == 0x01)
+    return [Fault("to", at, kind) for at in range(write.end - 3, write.end)]
+
+
+def cuts(all_frames):
+    """Returns cuts before the last two bytes of the status write. In these the program has sent its opcode."""
+    return losses(all_frames, "cut")[1:]
+
+
+def finds_what_is_sent_together():
+    """A lost byte of a status write sets a one-time bit if a poll follows, and only then."""
+    same([it & {"once"} for it in found_in("together", losses)][-2:], [{"once"}, {"once"}])
+    same(set().union(*found_in("", losses)) & {"once", "wrong", "silent"}, set())
+
+
+def finds_what_completes_a_frame():
+    """A cut status write sets a one-time bit if the next run begins with 10h, and only then."""
+    same({"once"} in [it & {"once"} for it in found_in("syncnop", cuts)], True)
+    same(set().union(*found_in("", cuts)) & {"once", "wrong", "silent"}, set())
+
+
+def finds_lies():
+    """A run that ends with status 0 without having done its job is found."""
+    same({"wrong"} in [it & {"wrong"} for it in found_in("lies", losses)], True)
+
+
+def finds_wrong_sectors():
+    """Status 0 with a wrong sector is found, and so is one that no journal has, unless the run says a word about it."""
+    job = jobs.JOBS["tiny-write"]
+    old, _ = jobs.images(job)
+    journaled, other = min(job.sectors) * SECTOR, 0
+    for at, err, wanted in (journaled, [], "wrong"), (other, [], "silent"), (other, ["1 sector differs"], None):
+        bench = play.Bench.__new__(play.Bench)
+        bench.job, bench.chip, bench.found = job, Flash(old), []
+        bench.chip.data[at] ^= 1
+        got = play.Result(0, ["Found SFDP (fe1010), 65536 bytes.", "Done: touched 4."], err, b"", 0)
+        bench.compare(got, old, (0, 0), "the restore")
+        same([it.kind for it in bench.found], [wanted] if wanted else [])
+
+
+def chooses_frames():
+    """The frames of a run are found, with their replies, and a cut is made within each that modifies."""
+    sent = b"\x00\x10" + bytes.fromhex("13010000030000 9f 13010000000000 06 13040000000000 20001000")
+    found = frames.frames_of(sent)
+    same([it[2:] for it in found], [((0, None), 0, 1), ((0x10, None), 1, 3), ((0x13, 0x9F), 3, 7), ((0x13, 0x06), 7, 8),
+                                    ((0x13, 0x20), 8, 9)])
+    same(len([it for it in frames.cuts(found) if it.value == OWN_SUPPLY]), 7 + 10)
+
+
+CASES = [lengths_of_status_writes, one_time_bits, volatile_status, lengths_of_erases, programs, busy_chips, protection,
+         further_instructions, frames_byte_by_byte, a_supply_of_its_own, faults_of_the_line, chooses_frames,
+         finds_what_is_sent_together, finds_what_completes_a_frame, finds_lies, finds_wrong_sectors]
+
+
+def try_case(number):
+    """Runs a case, and returns nothing, or the lines that say what was wrong."""
+    case = CASES[number]
+    try:
+        case()
+        return None
+    except Exception:  # whatever it is, the case failed
+        return f"FAILED: {case.__name__}: {case.__doc__}\n{traceback.format_exc(limit=-3)}"
+
+
+def main():
+    with ProcessPoolExecutor() as pool:
+        lines = [it for it in pool.map(try_case, range(len(CASES))) if it]
+    for it in lines:
+        print(it)
+    print(f"{len(CASES) - len(lines)} passed, {len(lines)} failed")
+    return int(bool(lines))
+
+
+if __name__ == "__main__":
+    sys.exit(main())
