@@ -21,15 +21,11 @@ BUILT_HARDWARE := $(subst $(blank),\ ,$(HARDWARE))
 is_new = @newer=$$(find $(SOURCES) -maxdepth 0 -newer '$(1)' -print -quit) && \
 	if [ -n "$$newer" ]; then echo "$(1) is older than $$newer" >&2; exit 1; fi
 
-# The directories of `make install`, below DESTDIR if that is given. Both commands go to bin: flashnor works only on
-# files, and flashnor-serprog on a serial port, which the members of a group (often `dialout`) may open. The latter is a
-# script that sets up the port and runs the program in libexec.
+# `make install` installs below these. Both commands go to bin: flashnor works only on files, and flashnor-serprog on a
+# serial port, which the members of a group (often `dialout`) may open. The latter is a script that sets up the port and
+# runs the program in libexec.
 PREFIX ?= /usr/local
-INTO = $(DESTDIR)$(PREFIX)
-IN_BIN = $(INTO)/bin
-IN_LIBEXEC = $(INTO)/libexec
-IN_MAN = $(INTO)/share/man
-IN_COMPLETIONS = $(INTO)/share/bash-completion/completions
+BELOW = PREFIX='$(PREFIX)' DESTDIR='$(DESTDIR)'
 
 # The contents of the archive of `make dist`.
 VERSION := 1.0
@@ -39,11 +35,14 @@ COMPLETION := completion/flashnor.bash
 # README, the licence if there is one, and each page that README or a manual page names.
 PAGES = README.md $(wildcard LICEN[CS]E*) $(sort $(shell grep -ohE '[A-Za-z_-]+(/[A-Za-z_-]+)*\.md' README.md $(MANUALS)))
 
+# Fills the directory (1) with what is installed and packed.
+pack = scripts/pack.sh $(1) '$(PROGRAM)' '$(HARDWARE)' $(MANUALS) $(COMPLETION) $(sort $(PAGES))
+
 # The cases that `make storm` runs: the seed, or the first and the last one (1-6), and the number of cases of each seed.
 SEED := 1
 COUNT := 1000
 
-.PHONY: all help build hardware toolchain demo try files bench compare storm sweep kill runs serprog install \
+.PHONY: all help build hardware toolchain demo files bench compare storm sweep kill runs serprog wire install \
   uninstall dist agree statement lint quick case prove check price clean
 
 all: build hardware ## proves and builds both programs, and the crates below them
@@ -86,28 +85,20 @@ files:
 	@{ printf '\001'; cat '$(SCRATCH)/rest'; } > '$(SCRATCH)/new.bin'
 
 # The first example of README, on the files of `make files`: a session that is stopped after 25 transactions, and its
-# restore. If the program fails, so does the target. If a program of these sources is built, the first line printed is
-# the command, and the last one says how to continue with README's session.
+# restore. If the program fails, so does the target. The target leaves a program in out/demo with which README's session
+# can go on: a link to the proved one, if it is built from these sources, or one that is compiled without its proof.
 demo: files ## rehearses a write that is stopped half-way, and its restore
-	@if [ -x '$(PROGRAM)' ] && $(MAKE) --no-print-directory -q '$(PROGRAM)'; then \
-	  program=$$(realpath '$(PROGRAM)'); \
-	  echo '$$ flashnor $(WORDS)'; \
-	  (cd '$(SCRATCH)' && "$$program" $(WORDS)); status=$$?; \
-	  echo "(go on in this directory: PATH=\$$PATH:'$${program%/*}'; cd '$(SCRATCH)')"; exit $$status; \
-	else \
-	  $(MAKE) --no-print-directory try; \
-	fi
-
-# The run of `make demo` if no program of these sources is built. If the run fails, the messages of `rt` are shown.
-try: toolchain files
-	@echo "(no proved program of these sources is built: this run compiles one without its proof, and keeps none)"
-	@echo '$$ flashnor $(WORDS)'
-	@cd crates/flashnor && \
-	rt try --data 'chip.bin=$(SCRATCH)/chip.bin' --data 'new.bin=$(SCRATCH)/new.bin' -- $(WORDS) \
-	  > '$(SCRATCH)/printed' 2> '$(SCRATCH)/said'; status=$$?; \
-	sed '/^run=/d' '$(SCRATCH)/printed'; \
-	if [ $$status -ne 0 ]; then cat '$(SCRATCH)/said' >&2; fi; \
-	echo "('make' proves and builds it, and then 'make demo' runs it)"; exit $$status
+	@program='$(SCRATCH)/flashnor'; \
+	if [ -x '$(PROGRAM)' ] && $(MAKE) --no-print-directory -q '$(PROGRAM)'; then \
+	  ln -sf "$$(realpath '$(PROGRAM)')" "$$program"; \
+	elif [ ! -x "$$program" ] || [ -L "$$program" ] || \
+	  [ -n "$$(find $(SOURCES) -maxdepth 0 -newer "$$program" -print -quit)" ]; then \
+	  $(MAKE) --no-print-directory toolchain && scripts/unproved.sh flashnor "$$program" || exit; \
+	fi; \
+	[ -L "$$program" ] || echo "(this program isn't proved; 'make' proves and builds it)"; \
+	echo '$$ flashnor $(WORDS)'; \
+	(cd '$(SCRATCH)' && ./flashnor $(WORDS)); status=$$?; \
+	echo "(go on in this directory: cd '$(SCRATCH)'; PATH=\$$PWD:\$$PATH)"; exit $$status
 
 bench: toolchain ## measures the parts, each as a ratio to simple work of the same size; marks those that are too slow
 	@cd crates/bench && rt run > /dev/null
@@ -124,20 +115,11 @@ compare: $(BUILT) ## compares both programs with flashrom and with a chip of QEM
 	@[ ! -x '$(HARDWARE)' ] || tests/serprog/emulated.py '$(HARDWARE)'
 	@[ ! -x '$(HARDWARE)' ] || tests/serprog/compare.py '$(HARDWARE)'
 
-install: $(BUILT) $(BUILT_HARDWARE) ## installs programs, manual pages and completion below PREFIX and DESTDIR
-	install -D -m 755 '$(PROGRAM)' '$(IN_BIN)/flashnor'
-	install -D -m 755 '$(HARDWARE)' '$(IN_LIBEXEC)/flashnor_serprog'
-	install -D -m 755 scripts/flashnor-serprog.sh '$(IN_BIN)/flashnor-serprog'
-	install -D -m 644 man/flashnor.8 '$(IN_MAN)/man8/flashnor.8'
-	install -D -m 644 man/flashnor-serprog.8 '$(IN_MAN)/man8/flashnor-serprog.8'
-	install -D -m 644 man/flashnor-journal.5 '$(IN_MAN)/man5/flashnor-journal.5'
-	install -D -m 644 $(COMPLETION) '$(IN_COMPLETIONS)/flashnor'
-	ln -sf flashnor '$(IN_COMPLETIONS)/flashnor-serprog'
+install: $(BUILT) $(BUILT_HARDWARE) ## installs programs, manual pages, pages and completion below PREFIX and DESTDIR
+	@work=$$(mktemp -d) && trap 'rm -rf "$$work"' EXIT && $(call pack,"$$work/all") && $(BELOW) "$$work/all/install.sh"
 
 uninstall: ## removes these files again
-	rm -f '$(IN_BIN)/flashnor' '$(IN_BIN)/flashnor-serprog' '$(IN_LIBEXEC)/flashnor_serprog'
-	rm -f '$(IN_MAN)/man8/flashnor.8' '$(IN_MAN)/man8/flashnor-serprog.8' '$(IN_MAN)/man5/flashnor-journal.5'
-	rm -f '$(IN_COMPLETIONS)/flashnor' '$(IN_COMPLETIONS)/flashnor-serprog'
+	@$(BELOW) scripts/archive/install.sh --remove
 
 # Before the first case this proves and builds storm.
 storm: toolchain ## compares random sessions with the reference implementation: make storm SEED=7 COUNT=5000
@@ -150,22 +132,20 @@ sweep: $(BUILT) ## runs the program with each of its allocations refused in turn
 kill: $(BUILT) ## kills the program at its calls on files, and makes them fail (with a C compiler)
 	@tests/kill/run.sh '$(PROGRAM)'
 
-# An archive for users without a prover: both proved programs, the script flashnor-serprog, PROVED-WITH, the pages in
-# their directories, and the checksum of each file. PROVED-WITH contains the lines of both programs. If a program's own
-# PROVED-WITH is missing, or belongs to another program, that program is proved and built first.
-dist: $(BUILT) $(BUILT_HARDWARE) ## packs an archive with both programs, their pages and PROVED-WITH
+# An archive for users without a prover: what scripts/pack.sh packs, PROVED-WITH, and the checksum of each file.
+# PROVED-WITH contains the lines of both programs. If a program's own PROVED-WITH is missing, or belongs to another
+# program, that program is proved and built first. The same files and commit give the same archive, byte by byte.
+dist: $(BUILT) $(BUILT_HARDWARE) ## packs an archive with both programs, their pages, an installer and PROVED-WITH
 	@cd '$(dir $(PROGRAM))' && tail -n 1 PROVED-WITH 2> /dev/null | sha256sum --check --status 2> /dev/null || \
 	  $(MAKE) --no-print-directory -C '$(CURDIR)' build
 	@cd '$(dir $(HARDWARE))' && tail -n 1 PROVED-WITH 2> /dev/null | sha256sum --check --status 2> /dev/null || \
 	  $(MAKE) --no-print-directory -C '$(CURDIR)' hardware
-	@rm -rf $(DIST) && mkdir -p $(DIST)
-	@cp '$(PROGRAM)' $(DIST)/flashnor
-	@cp '$(HARDWARE)' $(DIST)/flashnor_serprog
-	@cp scripts/flashnor-serprog.sh $(DIST)/flashnor-serprog
+	@rm -rf $(DIST) && $(call pack,$(DIST))
 	@cat '$(dir $(PROGRAM))PROVED-WITH' '$(dir $(HARDWARE))PROVED-WITH' > $(DIST)/PROVED-WITH
-	@cp --parents $(MANUALS) $(COMPLETION) $(sort $(PAGES)) $(DIST)
-	@cd $(DIST) && find * -type f -exec sha256sum -- {} + > ../SHA256SUMS && mv ../SHA256SUMS .
-	@tar --sort=name --owner=0 --group=0 --numeric-owner -C out -czf $(DIST).tar.gz flashnor-$(VERSION)
+	@cd $(DIST) && find * -type f | LC_ALL=C sort | xargs sha256sum -- > ../SHA256SUMS && mv ../SHA256SUMS .
+	@tar --sort=name --owner=0 --group=0 --numeric-owner --mode=u=rwX,go=rX --format=gnu \
+	  --mtime="@$$(git log -1 --format=%ct 2> /dev/null || echo 0)" -C out -c flashnor-$(VERSION) | \
+	  gzip -n > $(DIST).tar.gz
 	@echo $(DIST).tar.gz
 
 runs: $(BUILT) ## runs the program on each case of tests/cases and on the examples of the pages
@@ -173,6 +153,9 @@ runs: $(BUILT) ## runs the program on each case of tests/cases and on the exampl
 
 serprog: $(BUILT_HARDWARE) ## runs flashnor-serprog on the cases of tests/serprog
 	@tests/serprog/run.py '$(HARDWARE)'
+
+wire: $(BUILT_HARDWARE) ## loses, doubles and inserts single bytes at a modelled UART: all cases, half an hour and more
+	@tests/wire/run.py '$(HARDWARE)' --all
 
 agree: ## compares help, pages and completion with the sources
 	@bash scripts/agree.sh

@@ -27,10 +27,11 @@ _flashnor_words() {
     done
 }
 
-# Offers the candidates that begin as the word does. Bash splits the word at ':' and '=', and keeps the part before the
-# last of these on the line, so that part is removed from the candidates.
+# Offers the candidates that begin as the word does; `lead`, if it is set, is the part of the typed word before both.
+# Bash splits the typed word at ':' and '=', and keeps the part before the last of these on the line, so that part is
+# removed from the candidates.
 _flashnor_answer() {
-    local word=$1 mark kept=''
+    local word=${lead-}$1 mark kept=''
     for mark in : =; do
         if [[ $COMP_WORDBREAKS == *"$mark"* && $word == *"$mark"* ]]; then
             local front=${word%"$mark"*}$mark
@@ -39,6 +40,7 @@ _flashnor_answer() {
     done
     local candidate
     for candidate in "${@:2}"; do
+        candidate=${lead-}$candidate
         [[ $candidate == "$word"* ]] && COMPREPLY+=("${candidate:${#kept}}")
     done
 }
@@ -108,17 +110,57 @@ _flashnor_serprog_programmer() {
     esac
 }
 
-# Offers the regions of the layout file that -l names on this line, except those that -i has already. Offers begin with
-# the part of the word up to its last comma.
-_flashnor_regions() {
-    local word=$1 place file='' region regions=()
-    for ((place = 0; place + 1 < ${#words[@]}; place++)); do
-        [[ ${words[place]} == -l ]] && file=${words[place + 1]}
-    done
-    [[ -r $file ]] || return
+# Prints the name of each region of a layout file.
+_flashnor_layout_names() {
+    local region
     while read -r _ region || [[ -n $region ]]; do
-        [[ -z $region || ,${word%"${word##*,}"} == *",$region,"* ]] || regions+=("${word%"${word##*,}"}$region")
-    done < "$file"
+        [[ -z $region ]] || printf '%s\n' "$region"
+    done < "$1"
+}
+
+# Prints the name of each area of the first FMAP in an image. Its header takes 56 bytes, the last two of which are the
+# number of areas. An area takes 42 bytes, and has its name in bytes 8 to 39.
+_flashnor_fmap_names() {
+    local start count
+    start=$(LC_ALL=C grep -abom 1 __FMAP__ "$1" | head -n 1)
+    [[ -n $start ]] || return
+    start=${start%%:*}
+    count=$(tail -c "+$((start + 55))" "$1" | head -c 2 | od -An -v -tu2 | tr -d ' ')
+    tail -c "+$((start + 57))" "$1" | head -c "$((42 * ${count:-0}))" | od -An -v -tu1 -w42 |
+        awk '{ name = ""; for (at = 9; at <= 40 && $at > 0; at++) name = name sprintf("%c", $at); print name }'
+}
+
+# Prints the names of the regions of the layout on this line, as far as they are known without a chip.
+_flashnor_region_names() {
+    local place kind file
+    for ((place = 0; place + 1 < ${#words[@]}; place++)); do
+        kind=${words[place]}
+        file=${words[place + 1]}
+        case $kind in
+            -l?*) file=${kind#-l} ;;
+            --ifd | --ifd-file) printf '%s\n' fd bios me gbe pd bios2 ec ie 10gbe ;;
+        esac
+        [[ -r $file && ! -d $file ]] || continue
+        case $kind in
+            -l*) _flashnor_layout_names "$file" ;;
+            --fmap-file) _flashnor_fmap_names "$file" ;;
+        esac
+    done
+}
+
+# Offers the regions of the layout on this line, except those that -i has already, and for flashnor-serprog a file after
+# NAME: (with -r, whose files are truncated, only directories). Offers begin with the part of the word up to its last
+# comma.
+_flashnor_regions() {
+    local word=$1 front=${1%"${1##*,}"} last=${1##*,} region regions=() kind=-f
+    if [[ ${words[0]} == *serprog && $last == *:* ]]; then
+        [[ " ${words[*]} " != *" -r "* ]] || kind=-d
+        _flashnor_files "$word" "$front${last%%:*}:" "$kind"
+        return
+    fi
+    while IFS= read -r region; do
+        [[ ,$front == *",$region,"* || ,$front == *",$region:"* ]] || regions+=("$front$region")
+    done < <(_flashnor_region_names)
     compopt -o nospace 2> /dev/null
     _flashnor_answer "$word" "${regions[@]}"
 }
@@ -168,11 +210,20 @@ _flashnor_options() {
     _flashnor_answer "$word" "${rest[@]}"
 }
 
-# Stores the words of the line in `words`, the one that is being typed in `word`, and the one before it in `before`.
+# Stores the words of the line in `words`, the one that is being typed in `word`, and the one before it in `before`. A
+# long option before that word and its value after `=` are two words.
 _flashnor_begin() {
+    local given parts=()
     COMPREPLY=()
     _flashnor_words
     word=${words[${#words[@]} - 1]}
+    for given in "${words[@]:0:${#words[@]}-1}"; do
+        case $given in
+            --*=*) parts+=("${given%%=*}" "${given#*=}") ;;
+            *) parts+=("$given") ;;
+        esac
+    done
+    words=("${parts[@]}" "$word")
     before=''
     ((${#words[@]} < 2)) || before=${words[${#words[@]} - 2]}
 }
@@ -213,23 +264,27 @@ _flashnor_serprog() {
         -p) _flashnor_serprog_programmer "$word" ;;
         -c) _flashnor_answer "$word" "${_flashnor_chips[@]}" "${_flashnor_further_chips[@]}" SFDP ;;
         -w | -v | -l | --restore | --check-journal | --fmap-file | --ifd-file) _flashnor_files "$word" "" -f ;;
-        -o | -r | --journal | --backup) _flashnor_files "$word" "" -d ;;
+        -o | -r | --journal | --backup | --extract-image) _flashnor_files "$word" "" -d ;;
         --progress) _flashnor_answer "$word" auto plain none ;;
         -i) _flashnor_regions "$word" ;;
         --wp-range) ;;
         *)
             case $word in
+                --programmer=*) lead=--programmer= _flashnor_serprog_programmer "${word#*=}" ;;
+                --include=*) lead=--include= _flashnor_regions "${word#*=}" ;;
                 --write=* | --verify=* | --layout=* | --restore=* | --check-journal=* | --fmap-file=* | --ifd-file=*)
                     _flashnor_files "$word" "${word%%=*}=" -f
                     ;;
-                --output=* | --read=* | --journal=* | --backup=*) _flashnor_files "$word" "${word%%=*}=" -d ;;
+                --output=* | --read=* | --journal=* | --backup=* | --extract-image=*)
+                    _flashnor_files "$word" "${word%%=*}=" -d
+                    ;;
                 --progress=*) _flashnor_answer "$word" --progress={auto,plain,none} ;;
                 *)
                     _flashnor_options "$word" -p --programmer -r --read -w --write -v --verify -E --erase --backup \
-                        --restore --check-journal --flash-name --flash-size --wp-status --wp-list --wp-range \
-                        --wp-enable --wp-disable -c --chip -l --layout --fmap-file --ifd-file --fmap --ifd \
-                        -i --include --journal --unlock -n --noverify -N --noverify-all --quick --progress \
-                        -V --verbose -o --output -R --version -h --help
+                        --restore --check-journal --extract-image --flash-name --flash-size --wp-status --wp-list \
+                        --wp-range --wp-enable --wp-disable -c --chip -l --layout --fmap-file --ifd-file --fmap --ifd \
+                        -i --include --journal --unlock -n --noverify -N --noverify-all --quick --replaced-chip \
+                        --progress -V --verbose -o --output -R --version -h --help
                     ;;
             esac
             ;;

@@ -1,11 +1,11 @@
 #!/usr/bin/env bash
 # scripts/lint.sh: checks each script and C file with its linter.
 #
-# Shell scripts are checked by shellcheck, C by the compiler with its warnings, Python by Python and by pyflakes. Each
-# file outside crates/ must be executable if and only if its first line names an interpreter, and the completion must
-# not use what bash 3.2 lacks. For a linter that isn't installed a line `skipped: ..` is printed. The last line is `N
-# passed, M failed`, where each file counts once for each check, and the exit status is 1 if a check failed. Without
-# git, which lists the files, nothing is checked.
+# Shell scripts are checked by shellcheck, C by the compiler with its warnings, Python by Python and by pyflakes, and the
+# manual pages by mandoc if it is installed. Each file outside crates/ must be executable if and only if its first line
+# names an interpreter, and the completion must not use what bash 3.2 lacks. For another linter that isn't installed a
+# line `skipped: ..` is printed. The last line is `N passed, M failed`, where each file counts once for each check, and
+# the exit status is 1 if a check failed. Without git, which lists the files, nothing is checked.
 set -uo pipefail
 
 cd "$(dirname "$0")/.." || exit
@@ -17,13 +17,14 @@ if ! git ls-files --error-unmatch crates.txt > /dev/null 2>&1; then
     exit 0
 fi
 mapfile -d '' files < <(git ls-files -z --cached --others --exclude-standard -- . ':!crates')
-shell=() python=() c=()
+shell=() python=() c=() manuals=()
 for file in "${files[@]}"; do
     [[ -f $file ]] || continue
     IFS= read -r first < "$file" || true
     case $file in
         *.c) c+=("$file") ;;
         *.py) python+=("$file") ;;
+        man/*) manuals+=("$file") ;;
         *.sh | *.bash) shell+=("$file") ;;
         *) [[ $first != '#!'*sh ]] || shell+=("$file") ;;
     esac
@@ -82,6 +83,9 @@ if command -v cc > /dev/null; then
     each cc "${#c[@]}" "${c[@]}" is_c
 else
     echo "skipped: the C files' look by a compiler, since there is none (cc)"
+fi
+if command -v mandoc > /dev/null; then
+    each mandoc "${#manuals[@]}" "${manuals[@]}" mandoc -T lint -W warning
 fi
 if command -v pyflakes3 > /dev/null; then
     together pyflakes "${#python[@]}" "${python[@]}" pyflakes3

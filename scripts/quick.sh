@@ -3,8 +3,9 @@
 #
 # It checks that the sources are formatted, that the pages agree, and that each crate compiles. It runs the programs as
 # `rt ci` does: with the files `args`, `stdin` and `data/` of their crates, and each must print what `stdout` has and
-# end with the status in `status`. If crates are given, only these and what they need are compiled and run. If flashnor
-# or transcripts is built from these sources, it must pass its cases.
+# end with the status in `status`. If crates are given, only these and what they need are compiled and run. For a
+# library without tests, the first program that depends on it is. If flashnor or transcripts is built from these
+# sources, it must pass its cases.
 # Nothing is proved. The end of the output of what failed is shown, the last line has the counts, and the exit status is
 # 1 if anything failed. Some programs and tests would run for minutes in such a build: `rows` and `bench` are only
 # compiled, and `storm` and `transcripts` are given one case.
@@ -78,8 +79,24 @@ play_transcripts() {
 
 has_tests() { grep -rqF '#[test]' "$top/crates/$1/src"; }
 
-# Tries a crate without a proof: its tests, or a program with the files of its crate. A library without tests is
-# compiled with the crates that depend on it.
+is_tried() { [[ -f $top/crates/$1/src/main.rt ]] || has_tests "$1"; }
+
+# Prints the first crate of crates.txt that can be tried and is this crate or depends on it, or else this crate.
+tried_for() {
+    local crate
+    while IFS= read -r crate; do
+        if is_tried "$crate"; then
+            echo "$crate"
+            return
+        fi
+    done < <(awk -v lowest="$1" '
+        BEGIN { found[lowest] }
+        /^[^#]/ { name = $1; sub(/:$/, "", name); for (i = 2; i <= NF; i++) if ($i in found) found[name] }
+        name in found { print name; name = "" }' crates.txt)
+    echo "$1"
+}
+
+# Tries a crate without a proof: its tests, or a program with the files of its crate.
 try_crate() {
     local seconds=200 words=() input=/dev/null file
     cd "$top/crates/$1"
@@ -100,7 +117,9 @@ try_crate() {
                 ;;
         esac
     else
-        return 0
+        echo "$1 has no tests, and no program depends on it" > "$2/$1.log"
+        echo 1 > "$2/$1.status"
+        return
     fi
     timeout "$most" rt try --seconds "$seconds" "${words[@]}" < "$input" > "$2/$1.printed" 2> "$2/$1.log"
     echo $? > "$2/$1.status"
@@ -134,17 +153,13 @@ is_as_wanted() {
 # Counts the try of a crate.
 count_try() {
     local what="the program $1"
-    if has_tests "$1"; then
-        what="the tests of $1"
-    elif [[ ! -f crates/$1/src/main.rt ]]; then
-        return 0
-    fi
+    [[ -f crates/$1/src/main.rt ]] || what="the tests of $1"
     if [[ $compiled == *" $1 "* ]]; then
         step "$what, only compiled" is_compiled "$1"
-    elif has_tests "$1"; then
-        count "$what" "$(< "$work/$1.status")" "$work/$1.log"
-    else
+    elif [[ -f crates/$1/src/main.rt ]] && ! has_tests "$1"; then
         step "$what" is_as_wanted "$1"
+    else
+        count "$what" "$(< "$work/$1.status")" "$work/$1.log"
     fi
 }
 
@@ -165,6 +180,7 @@ on_built() {
     fi
 }
 
+mapfile -t tried < <(for crate in "${tried[@]}"; do tried_for "$crate"; done | awk '!seen[$0]++')
 step "layout of the sources" is_laid_out
 step "the pages agree" bash scripts/agree.sh
 echo "1 passed, 0 failed" > "$work/one_passed"

@@ -67,12 +67,12 @@ NAMES = {
         "before.",
     "IsHonestFor":
         "`IsHonestFor out n bus`: the bus is well-behaved, and takes a transaction of this length: `out` has at most "
-        "260 bytes and `n` is at most 4,096, or the bus is `unlimited`. No call sends or reads more.",
+        "260 bytes and `n` is at most 4,096, or the bus is `unlimited`. The code never sends or reads more.",
     "IsGenuine":
         "`IsGenuine config`: for an ID in the table, size, erase types and block protection are those of its row. The "
         "rows are EF 40 17 (W25Q64FV, 8 MiB) and EF 40 18 (W25Q128FV, 16 MiB), with all erase types and block "
-        "protection. Without a row, the chip has no block protection and, if its SFDP is accepted, the size and erase "
-        "types that the SFDP gives.",
+        "protection. The further chips of `flashnor-serprog` aren't in it. Without a row, the chip has no block "
+        "protection and, if its SFDP is accepted, the size and erase types that the SFDP gives.",
     "IsKnown":
         "`IsKnown config`: the chip is genuine, its ID isn't FF FF FF or 00 00 00, and the table has it or its SFDP is "
         "accepted.",

@@ -100,10 +100,11 @@ def tags(parts, section):
 
 
 def rows(parts, title):
-    """Returns the numbered rows of the tables of a part of a manual page: the number, and the next cell."""
+    """Returns the numbered rows of the tables of a part of a manual page: the number, and the next cell. A row without
+    a number continues the cell, after a vertical tab."""
     text = "".join(part.text for part in parts if part.title.startswith(title))
     text = re.sub(r"T\{\n(.*?)\nT\}", lambda cell: cell[1].replace("\n", " "), text, flags=re.S)
-    return dict(re.findall(r"(?m)^(\d+)\t([^\t\n]*)", text))
+    return dict(re.findall(r"(?m)^(\d+)\t([^\t\n]*)", text.replace("\n\t", "\v")))
 
 
 def running(parts):

@@ -2,147 +2,31 @@
 """tests/make.py: checks the Makefile.
 
 It must use no program that is older than its sources. An archive must have all pages to which its pages link, and name
-the toolchain and commit of each program. `make quick` must run each program with the files of its crate, and detect one
-that does not compile, print or end as it must. `make case` must fail if its case gives no answer, `make prove` must
-prove a crate and those that depend on it, and `make demo` must run the first example of README. The test uses a copy of
-the repository in a directory with a space in its name, with an `rt` that proves nothing and builds a program that
-prints how many programs were built. The last line is `N passed, M failed`.
+the toolchain and commit of each program; the same files must give the same archive. `make quick` must run each program
+with the files of its crate, and detect one that does not compile, print or end as it must, and a library that does not
+compile. `make case` must fail if its case gives no answer, `make prove` must prove a crate and those that depend on it,
+and `make demo` must run the first example of README, and leave a program. tree.py has the copy of the repository that
+the test uses. The last line is `N passed, M failed`.
 """
-import os
 import re
 import shutil
-import subprocess
 import sys
 import tempfile
 from pathlib import Path
 
-TOP = Path(__file__).resolve().parent.parent
-PROGRAM = Path("crates/flashnor/out/flashnor")
-SOURCE = Path("crates/nor_chip/src/lib.rt")
-HARDWARE = Path("crates/flashnor_serprog/out/flashnor_serprog")
-MANUALS = "man/flashnor.8", "man/flashnor-serprog.8", "man/flashnor-journal.5"
-# The `rt` of these tests. A try prints what the crate's program must print, and ends as it must, or does what the
-# script `as/CRATE` says; it writes its arguments and its input to `tried`. A check fails if there is `refused/CRATE`.
-RT = """#!/bin/sh
-crate=${PWD##*/}
-case $1 in
-    version) echo 'a kit' ;;
-    try)
-        mkdir -p "$WORK/tried"
-        echo "$*" > "$WORK/tried/$crate"
-        cat > "$WORK/tried/$crate.stdin"
-        [ ! -e "$WORK/as/$crate" ] || . "$WORK/as/$crate"
-        case $crate in
-            rows) exit 6 ;;
-            storm) echo '1 passed, 0 failed' ;;
-            transcripts) echo "$(grep -c '^case ' "$WORK/tried/$crate.stdin") passed, 0 failed" ;;
-            *) [ ! -e stdout ] || cat stdout ;;
-        esac
-        status=$(cat status 2> /dev/null || echo 0)
-        echo "run=ended status=$status runners=1 proved=no" >&2
-        exit $status ;;
-    check)
-        echo "$crate" >> "$WORK/checked"
-        [ ! -e "$WORK/refused/$crate" ] || { echo "a goal of $crate"; exit 1; } ;;
-    run)
-        sleep 0.02
-        echo "$crate" >> "$WORK/builds"
-        mkdir -p out
-        { echo '#!/bin/sh'; echo "echo $(grep -cx "$crate" "$WORK/builds")"; } > "out/$crate"
-        chmod 755 "out/$crate"
-        [ ! -e "$WORK/edits" ] || echo >> ../nor_chip/src/lib.rt
-        [ ! -e "$WORK/fails" ] ;;
-esac
-"""
+from archives import complete, installed, lacking, packed, repeated
+from tree import PROGRAM, SOURCE, TOP, Tree
+
 # A try that ended without an answer, as far as its last line says; its status may be 0 all the same.
 SILENT = "echo 'run=no-answer proved=no' >&2; exit 0\n"
-
-
-class Tree:
-    """A copy of the repository, with the `rt` that proves nothing."""
-
-    def __init__(self, work):
-        self.work = work
-        self.top = work / "a tree"
-        self.top.mkdir()
-        names = subprocess.run(["git", "ls-files", "-z"], cwd=TOP, capture_output=True, check=True).stdout.split(b"\0")
-        for name in map(os.fsdecode, names[:-1]):
-            if (TOP / name).exists():
-                (self.top / name).parent.mkdir(parents=True, exist_ok=True)
-                shutil.copy2(TOP / name, self.top / name)
-        (work / "bin").mkdir()
-        (work / "bin/rt").write_text(RT, encoding="utf-8")
-        (work / "bin/rt").chmod(0o755)
-        self.env = {**os.environ, "WORK": str(work), "PATH": f"{work / 'bin'}:{os.environ['PATH']}"}
-        for name in ("MAKEFLAGS", "MAKELEVEL", "MFLAGS", "DESTDIR", "PREFIX"):
-            self.env.pop(name, None)
-        self.run("git", "init", "-q")
-        self.commit()
-
-    def run(self, *words):
-        """Runs a command there, and returns its status and its output."""
-        ran = subprocess.run(words, cwd=self.top, env=self.env, stdin=subprocess.DEVNULL, stdout=subprocess.PIPE,
-                             stderr=subprocess.STDOUT, text=True, check=False)
-        return ran.returncode, ran.stdout
-
-    def make(self, *words):
-        return self.run("make", *words)
-
-    def commit(self):
-        """Commits all files, and returns the hash of the commit."""
-        self.run("git", "add", "-A")
-        self.run("git", "-c", "user.name=a", "-c", "user.email=a@example.org", "-c", "commit.gpgsign=false",
-                 "commit", "-q", "--allow-empty", "-m", "All")
-        return self.run("git", "rev-parse", "HEAD")[1].strip()
-
-    def builds(self, crate="flashnor"):
-        """Returns how often the program of this crate was built."""
-        path = self.work / "builds"
-        return path.read_text(encoding="utf-8").splitlines().count(crate) if path.exists() else 0
-
-    def edit(self, path=SOURCE, text="\n"):
-        with open(self.top / path, "a", encoding="utf-8") as it:
-            it.write(text)
-
-    def put(self, name, text, mode=0o644):
-        """Writes a file below the directory of the trial."""
-        path = self.work / name
-        path.parent.mkdir(parents=True, exist_ok=True)
-        path.write_text(text, encoding="utf-8")
-        path.chmod(mode)
-
-    def would_build(self, *targets):
-        """Returns those of the targets that would build the program first."""
-        return [it for it in targets if "rt run" in self.make("-n", it)[1]]
-
-    def archive(self):
-        """Makes an archive, and returns the directory with its files."""
-        self.run("tar", "-C", self.work, "-xf", self.make("dist")[1].splitlines()[-1])
-        return next(self.work.glob("flashnor-*"))
-
-    def packed(self):
-        """Makes an archive, and returns for each of its programs the toolchain and the commit in PROVED-WITH, and the
-        output of the program."""
-        folder = self.archive()
-        sums = self.run("sh", "-c", f"cd '{folder}' && sha256sum --check --quiet SHA256SUMS && grep '  ' PROVED-WITH | "
-                                    "sha256sum --check --quiet")
-        page = (folder / "PROVED-WITH").read_text(encoding="utf-8").splitlines()
-        named = [page[at].partition("  ")[2] for at in (2, 5)]
-        printed = [self.run(folder / name)[1].strip() for name in ("flashnor", "flashnor-serprog")]
-        shutil.rmtree(folder)
-        if sums != (0, "") or named != ["flashnor", "flashnor_serprog"]:
-            return sums[1], named
-        return [[*page[:2], printed[0]], [*page[3:5], printed[1]]]
-
-
-TARGETS = ["install", "dist", "runs", "serprog", "sweep", "kill", "compare"]
+TARGETS = ["install", "dist", "runs", "serprog", "wire", "sweep", "kill", "compare"]
 
 
 def stale(tree, expect):
     """No target uses a program that is older than its sources."""
     expect("no program", tree.would_build(*TARGETS), TARGETS)
     tree.make("build")
-    expect("only flashnor", tree.would_build(*TARGETS), ["install", "dist", "serprog"])
+    expect("only flashnor", tree.would_build(*TARGETS), ["install", "dist", "serprog", "wire"])
     tree.make()
     expect("new programs", tree.would_build(*TARGETS), [])
     tree.edit()
@@ -179,6 +63,13 @@ WRONG_TRIES = {
     "a program that isn't compiled in time": ("bench", "exit 124", QUICK("bench") + ", only compiled"),
     "tests that don't compile": ("rows", "exit 1", "the tests of rows, only compiled"),
 }
+# The program or tests that are tried for a library without tests, and what `make quick` then calls them.
+TRIED_FOR = {
+    "nor_args": ("flashnor", QUICK("flashnor")),
+    "nor_serprog": ("flashnor_serprog", QUICK("flashnor_serprog")),
+    "serprog_session": ("rows", "the tests of rows, only compiled"),
+    "unused": (None, "the tests of unused"),
+}
 
 
 def tried(tree, expect):
@@ -211,6 +102,15 @@ def tried(tree, expect):
                  f"{script}; echo 'run=ended status=0 runners=1 proved=no' >&2; exit 0")
         status, said = tree.make("quick", f"CRATES={crate}")
         expect(what, (status != 0, re.findall("(?m)^(.*): FAILED$", said)), (True, [WRONG_TRIES[what][2]]))
+    tree.edit("crates.txt", "unused: nor_args\n")
+    tree.put("a tree/crates/unused/src/lib.rt", "")
+    for library, (crate, name) in TRIED_FOR.items():
+        shutil.rmtree(tree.work / "as", ignore_errors=True)
+        if crate:
+            tree.put(f"as/{crate}", "echo 'error: a type' >&2; exit 1\n")
+        status, said = tree.make("quick", f"CRATES={library}")
+        expect(f"a library that doesn't compile: {library}", (status != 0, re.findall("(?m)^(.*): FAILED$", said)),
+               (True, [name]))
 
 
 def played(tree, expect):
@@ -284,93 +184,39 @@ def cloned(tree, expect):
     expect("the programs of a clone", f"\n{PROGRAM}\n" in said, False)
 
 
-def installed(tree, expect):
-    """`make install` installs both programs of the present sources, or nothing."""
-    root = tree.work / "a root"
-    program = root / "usr/local/bin/flashnor"
-    install = ("install", f"DESTDIR={root}")
-    tree.make()
-    tree.edit()
-    expect("the status of an install", tree.make(*install)[0], 0)
-    for crate, name in (("flashnor", "flashnor"), ("flashnor_serprog", "flashnor-serprog")):
-        expect(f"the {name} that is installed", tree.run(program.with_name(name))[1].strip(), str(tree.builds(crate)))
-    tree.make("uninstall", f"DESTDIR={root}")
-    expect("the files that an uninstall leaves", [str(it) for it in root.rglob("*") if not it.is_dir()], [])
-    for way in ("fails", "edits"):
-        (tree.work / way).touch()
-        tree.edit()
-        expect(f"an install where the build {way}", tree.make(*install)[0] != 0 and not program.exists(), True)
-        (tree.work / way).unlink()
-
-
-def packed(tree, expect):
-    """An archive names the commit with which each of its programs was proved, and not a later one."""
-    def built(commit, *counts):
-        return [["a kit", f"commit {commit}", str(count)] for count in counts]
-
-    def counts():
-        return tree.builds(), tree.builds("flashnor_serprog")
-
-    first = tree.commit()
-    tree.edit()
-    expect("sources that aren't committed", tree.packed(), built(f"{first}-dirty", *counts()))
-    second = tree.commit()
-    tree.edit()
-    tree.run("git", "checkout", "-q", "--", SOURCE)
-    expect("sources that are committed", tree.packed(), built(second, *counts()))
-    tree.edit("README.md")
-    tree.commit()
-    count, other = counts()
-    expect("a later commit of a page", tree.packed(), built(second, count, other))
-    tree.run("sh", "-c", "cd crates/flashnor && rt run")
-    third = tree.run("git", "rev-parse", "HEAD")[1].strip()
-    expect("a program that was built by hand", tree.packed(), built(third, count + 2) + built(second, other))
-    (tree.top / PROGRAM.parent / "PROVED-WITH").unlink()
-    expect("no page", tree.packed(), built(third, count + 3) + built(second, other))
-    (tree.top / HARDWARE.parent / "PROVED-WITH").unlink()
-    expect("no page of flashnor-serprog", tree.packed(), built(third, count + 3, other + 1))
-
-
-def lacking(folder):
-    """Returns the files that an archive needs and lacks: pages to which its pages link, and checksums."""
-    needed = {"flashnor", "flashnor-serprog", "flashnor_serprog", "PROVED-WITH", "README.md", "completion/flashnor.bash", *MANUALS}
-    for page in ("README.md", *MANUALS):
-        text = (folder / page).read_text(encoding="utf-8") if (folder / page).exists() else ""
-        needed |= {*re.findall(r"\]\(([^):#]+)\)", text), *re.findall(r"\bdocs/\w+\.md", text)}
-    files = {str(it.relative_to(folder)) for it in folder.rglob("*") if it.is_file()} - {"SHA256SUMS"}
-    summed = {line.split("  ", 1)[1] for line in (folder / "SHA256SUMS").read_text(encoding="utf-8").splitlines()}
-    return sorted(needed - files) + sorted(files - summed)
-
-
-def complete(tree, expect):
-    """An archive has each page to which its pages link, and the licence if there is one."""
-    folder = tree.archive()
-    expect("what an archive lacks", lacking(folder), [])
-    expect("a licence that isn't there", sorted(it.name for it in folder.glob("LICEN*")), [])
-    shutil.rmtree(folder)
-    tree.edit("LICENSE", "Free.\n")
-    tree.edit("man/flashnor-journal.5", "See docs/MORE.md.\n")
-    (tree.top / "docs/MORE.md").write_text("More.\n", encoding="utf-8")
-    folder = tree.archive()
-    expect("what an archive with a licence lacks", lacking(folder), [])
-    expect("the new files of an archive", [(folder / it).is_file() for it in ("LICENSE", "docs/MORE.md")], [True, True])
-    (tree.top / "docs/MORE.md").unlink()
-    expect("an archive whose page is missing", tree.make("dist")[0] != 0, True)
-
-
 def shown(tree, expect):
     """`make demo` prints the first example of README and runs it, even if nothing is built; and how to go on."""
     readme = (TOP / "README.md").read_text(encoding="utf-8")
     example = readme[readme.index("$ flashnor ") :].splitlines()[0]
-    tree.put("as/flashnor", "echo \"run= $*\"; echo \"tried: ${*#*-- }\"; exit 0\n")
-    said = tree.make("demo")[1].splitlines()
-    expect("a demo without a program", said[1:3], [example, f"tried: {example.removeprefix('$ flashnor ')}"])
+    program = tree.top / "out/demo/flashnor"
+
+    def demo(what, *wanted):
+        status, said = tree.make("demo")
+        said = said.splitlines()
+        expect(what, (status, said[:-1]), (0, list(wanted)))
+        way = said[-1].partition(": ")[2].removesuffix(")")
+        found = tree.run("bash", "-c", f"{way}; ls; command -v flashnor; flashnor 1 2")[1].split("\n")
+        expect(f"the files after {what}", (found[0], found[2], found[4]), ("chip.bin", "new.bin", str(program)))
+        return found[5]
+
+    unproved = "(this program isn't proved; 'make' proves and builds it)"
+    ran = f"unproved: {example.removeprefix('$ flashnor ')}"
+    expect("the program after a demo", demo("a demo without a program", unproved, example, ran), "unproved: 1 2")
+    shutil.rmtree(tree.work / "tried")
+    demo("a second demo", unproved, example, ran)
+    expect("what a second demo compiles", (tree.work / "tried").exists(), False)
+    tree.edit()
+    demo("a demo of other sources", unproved, example, ran)
+    expect("what a demo of other sources compiles", (tree.work / "tried/flashnor").exists(), True)
     tree.make("build")
-    said = tree.make("demo")[1].splitlines()
-    expect("a demo of the program", said[:-1], [example, str(tree.builds())])
-    way = said[-1].partition(": ")[2].removesuffix(")")
-    found = tree.run("bash", "-c", f"{way}; ls; command -v flashnor")[1].split("\n")[:-1]
-    expect("how to go on after a demo", [*found[:2], found[-1]], ["chip.bin", "new.bin", str(tree.top / PROGRAM)])
+    demo("a demo of the program", example, str(tree.builds()))
+    tree.edit()
+    demo("a demo after the program", unproved, example, ran)
+    expect("the built program after it", tree.run(tree.top / PROGRAM)[1].strip(), str(tree.builds()))
+    tree.edit()
+    tree.put("as/flashnor", "echo 'error: a type' >&2; exit 1\n")
+    status, said = tree.make("demo")
+    expect("a demo that isn't compiled", (status != 0, "error: a type" in said.splitlines()), (True, True))
 
 
 def wrong(tree, expect):
@@ -396,7 +242,7 @@ def main():
         if got != wanted:
             print(f"FAILED: make.py: {what}: wanted {wanted}, got {got}")
 
-    for trial in (stale, tried, played, proved, cloned, installed, packed, complete, shown, wrong):
+    for trial in (stale, tried, played, proved, cloned, installed, packed, complete, repeated, shown, wrong):
         with tempfile.TemporaryDirectory() as work:
             trial(Tree(Path(work)), expect)
     print(f"{counts[True]} passed, {counts[False]} failed")

@@ -95,7 +95,7 @@ def take_names(page):
         r'(?m)^program = codes "(.*)"', (CRATES / "flashnor_serprog/specs/Run.antt").read_text(encoding="utf-8")),
          manual=[next(part.text for part in page if part.section == "NAME").split()[0]],
          completion=re.findall(r"(?m)^complete -F \w+ (\S+-\S+)$", read("completion/flashnor.bash")),
-         Makefile=re.findall(r"(?m)^\tinstall .*'\$\(IN_BIN\)/(\S+-\S+)'$", read("Makefile")))
+         installer=re.findall(r'(?m)^install .*/bin/(\S+-\S+)"$', read("scripts/archive/install.sh")))
     same("version for hardware", help=re.findall(rf'about: "{NAME} ([\d.]+):', text),
          manual=re.findall(r'(?m)^\.TH .*"flashnor ([^"]*)"', read(PAGE)),
          flashnor=re.findall(r'about: "flashnor ([\d.]+):', code("nor_args/src/options.rt")))
@@ -118,7 +118,7 @@ def take_lines(page):
     reasons = re.findall(r'ProgrammerFault::(?!Handshake)\w+ => "(.*?)"', trouble)
     known |= {f"_ {text}" for text in reasons} | set(re.findall(r'write_str\("(the programmer is silent)"\)', trouble))
     shown = {blank(re.sub(r"\bXX(?=h\b)|text of the system", "{}", text)).removesuffix(".")
-             for cell in rows(page, "Programmer faults").values() for text in cell.split(" .br ")}
+             for cell in rows(page, "Programmer faults").values() for text in cell.split("\v")}
     same("texts of programmer faults", sources=known, manual=shown)
 
 

@@ -329,12 +329,12 @@ left_out() {
     done
 }
 
-# Fails for each option that docs/FLASHROM.md names and no row tried.
+# Fails for each option that docs/FLASHROM.md names before its section on flashnor-serprog, and no row tried.
 all_tried() {
     row "the options of docs/FLASHROM.md"
     local option
     # shellcheck disable=SC2016  # the backticks are the page's
-    grep -oE '`[^`]*`' "$top/docs/FLASHROM.md" | tr -d '`' |
+    sed '/^## flashnor-serprog/,$d' "$top/docs/FLASHROM.md" | grep -oE '`[^`]*`' | tr -d '`' |
         grep -oE -- '(^| )--?[A-Za-z][a-z-]*' | tr -d ' ' | sort -u > named
     [[ -s named ]] || wrong "docs/FLASHROM.md names no option"
     printf '%s\n' "${tried[@]}" | sort -u > were_tried

@@ -23,7 +23,8 @@ class Gate(unittest.TestCase):
             shutil.copy(TOP / ".ci/run", top / ".ci/run")
             for name in ("scripts/lint.sh", "scripts/agree.sh", "scripts/proved.sh", "tests/agree/run.py",
                          "tests/examples.py", "tests/make.py", "tests/clone.sh", "tests/run.py", "tests/sweep/run.sh",
-                         "tests/kill/run.sh", "tests/serprog/self.py", "tests/serprog/run.py"):
+                         "tests/kill/run.sh", "tests/serprog/self.py", "tests/serprog/run.py", "tests/wire/self.py",
+                         "tests/wire/run.py"):
                 self.put(top / name, "#!/bin/sh\n" + parts.get(name, PASSED))
             # (the gate removes storm's program, and this part builds it)
             self.put(top / "scripts/proved.sh", "#!/bin/sh\nmkdir -p crates/storm/out && "
@@ -41,13 +42,13 @@ class Gate(unittest.TestCase):
     def test_all_passed(self):
         for environment in {}, {"CI": "true"}:
             status, lines = self.run_gate({}, **environment)
-            self.assertEqual((status, lines[-2:]), (0, ["240001 passed, 0 failed, 0 skipped", "240001 passed, 0 failed"]))
+            self.assertEqual((status, lines[-2:]), (0, ["280001 passed, 0 failed, 0 skipped", "280001 passed, 0 failed"]))
 
     def test_skipped_is_counted_and_fails_with_ci(self):
         parts = {"tests/kill/run.sh": SKIPPED, "tests/run.py": LEFT_OUT}
         for environment, failed in ({}, 0), ({"CI": "true"}, 2):
             status, lines = self.run_gate(parts, **environment)
-            counts = f"220001 passed, {failed} failed"
+            counts = f"260001 passed, {failed} failed"
             self.assertEqual((status, lines[-2:]), (failed > 0, [f"{counts}, 2 skipped", counts]), lines)
 
     def test_failed(self):

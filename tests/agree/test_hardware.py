@@ -23,11 +23,11 @@ PLANTS = {
     "an option of the table that the program lacks": (
         "crates/nor_args/src/options.rt", r'name != "rehearse"', 'name != "unlock"', "sources has '--rehearse"),
     "an option that the completion lacks": (
-        COMPLETION, r" --noverify-all --quick --p", " --quick --p", "sources has '--noverify-all', completion hasn't"),
+        COMPLETION, r" --noverify-all --quick --r", " --quick --r", "sources has '--noverify-all', completion hasn't"),
     "an option of flashnor in the completion": (
-        COMPLETION, r"--quick --progress", "-L --quick --progress", "completion has '-L', sources hasn't"),
+        COMPLETION, r"--quick --replaced", "-L --quick --replaced", "completion has '-L', sources hasn't"),
     "a file that the completion doesn't offer": (
-        COMPLETION, r"-r \| --journal \| --backup\)", "-r | --journal)", "sources has '--backup', completion hasn't"),
+        COMPLETION, r"-r \| --journal \| --backup \|", "-r | --journal |", "sources has '--backup', completion hasn't"),
     "another ID of a further chip": (
         "docs/SPECIFICATION.md", r"\| EF 60 17 \|", "| EF 61 17 |", "'EF 61 17', 8388608)', sources hasn't"),
     "a chip that the completion lacks": (
@@ -41,7 +41,7 @@ PLANTS = {
     "another name in the help": (
         HELP, 'program: "flashnor-serprog"', 'program: "flashnor_serprog"', "help has 'flashnor_serprog', "),
     "another name of the installed program": (
-        "Makefile", r"'\$\(IN_BIN\)/flashnor-serprog'", "'$(IN_BIN)/flashnor-ser'", "Makefile has 'flashnor-ser'"),
+        "scripts/archive/install.sh", r'(?<=/bin/)flashnor-serprog"\n', 'flashnor-ser"\n', "installer has 'flashnor-ser'"),
     "another version": (HELP, "flashnor-serprog 1.0:", "flashnor-serprog 1.1:", "help has '1.1', manual hasn't"),
     "another setting of the port": (
         "docs/HARDWARE.md", "min 0 time 50", "min 1 time 50", "HARDWARE has 'raw -echo clocal -hupcl min 1 time 50'"),
@@ -52,11 +52,11 @@ PLANTS = {
     "another text of a programmer fault": (
         "crates/nor_serprog/src/programmer.rt", "types of bus are", "buses are", "sources has 'the programmer"),
     "a text of a programmer fault less": (
-        PAGE, r"(?m)^\.br\nthe programmer did not.*\n", "", "sources has 'the programmer did not reply"),
+        PAGE, r"T}\n\tT{\nthe programmer did not.*\n", "", "sources has 'the programmer did not reply"),
     "a usage fault that the program lacks": (PAGE, r"(?m)^10\tout of", "9\tout of", "manual has '9', sources hasn't"),
     "a file fault that the program lacks": (PAGE, r"4\tT\{\nexists", "6\tT{\nexists", "manual has '6', sources hasn't"),
     "a layout fault less": (PAGE, r"(?m)^8\ta name of.*\n", "", "sources has '8', manual hasn't"),
-    "a chip fault less": (PAGE, r"(?m)^2\tmaybe\t", "5\tmaybe\t", "manual has '5', sources hasn't"),
+    "a chip fault less": (PAGE, r"(?m)^2\tmaybe\t", "6\tmaybe\t", "manual has '6', sources hasn't"),
     "a programmer fault that HARDWARE invents": (
         "docs/HARDWARE.md", "programmer fault 8", "programmer fault 18", "HARDWARE has '18', the program hasn't"),
     "another number of a programmer fault": (
@@ -75,7 +75,6 @@ class Plants(unittest.TestCase):
         cls.tree = pathlib.Path(folder.name)
         for name in SOURCES.split():
             shutil.copytree(TOP / name, cls.tree / name, ignore=shutil.ignore_patterns("out", "__pycache__", "proofs"))
-        shutil.copy(TOP / "Makefile", cls.tree)
 
     def differences(self):
         """Returns the exit status, and the lines that report differences."""

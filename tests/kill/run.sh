@@ -212,9 +212,9 @@ lose_machines() {
     passed=$((passed + BASH_REMATCH[1])) failed=$((failed + BASH_REMATCH[2]))
 }
 
-# Prints the number of the last call before the session begins: the one that reads, writes or syncs the journal last, or
-# looks at it right after that. After the session the chip's files are written, and the journal is looked at once more.
-# Prints the number of all calls if the run has no journal.
+# Prints the number of the last call on the journal before the chip's files are written back: the last one that reads,
+# writes or syncs it, or a look at it (stat) directly after that. Prints the number of all calls if the run has no
+# journal.
 last_before() {
     local i is_last=''
     for ((i = ${#made[@]}; i > 0; i--)); do

@@ -1,0 +1,20 @@
+#!/usr/bin/env bash
+# scripts/pack.sh DIRECTORY PROGRAM HARDWARE FILE..: fills a new directory with what `make dist` packs: both programs,
+# the script flashnor-serprog, the installer, and the files, under their names.
+#
+# The directory gets a README for users without Rattle's kit, so the README of the project moves to its docs/, and the
+# links of the pages follow it.
+set -euo pipefail
+
+into=$(realpath -m "$1")
+mkdir -p "$into/docs"
+install -m 755 "$2" "$into/flashnor"
+install -m 755 "$3" "$into/flashnor_serprog"
+cd "$(dirname "$0")/.."
+install -m 755 scripts/flashnor-serprog.sh "$into/flashnor-serprog"
+install -m 755 scripts/archive/install.sh "$into/install.sh"
+cp --parents -- "${@:4}" "$into"
+sed 's#](\([A-Z]*\.md\)#](../\1#g; s#](docs/#](#g' README.md > "$into/docs/README.md"
+sed -i 's#](\.\./README\.md#](README.md#g' "$into"/docs/*.md
+sed -i 's#](README\.md#](docs/README.md#g' "$into"/*.md
+cp scripts/archive/README.md "$into/README.md"
