@@ -12,7 +12,7 @@ from terminal import Screen, logged, run, untimed, with_read_back
 TIMED = re.compile(r"\d+\.\d{3} (.*)")
 TAKEN = "It has two roles in this run, or another program uses it: give each role its own file."
 INCOMPLETE = "The log is incomplete, but the job went on: free disk space, or choose another file."
-SEALED = "SEALED: the chip is changed from here on."
+SEALED = reference.sealed("j")
 # The first line of a log, and the bytes with which an existing file must begin if it is to be overwritten.
 BEGIN = "Log of flashnor-serprog"
 FIRST = f"{BEGIN} 1.0"

@@ -413,7 +413,7 @@ def shows_progress(start):
     journal = 25 + 4 * 4100 + 36
     bench.expect_at_terminal("-w", "new", "--journal", "j", lines=[
         "identify 1", "scan: sector 1 of 16", f"Sectors to change: 4. Erases: 3. Bytes of journal: {journal}.",
-        "SEALED: the chip is changed from here on.", "erase: erases sent 1", "read back: sectors read 1",
+        reference.sealed("j"), "erase: erases sent 1", "read back: sectors read 1",
         "program: pages sent 1", *last_lines(reference.session("TINY64", old, new)), "compare: sector 1 of 16"])
     bench.expect_at_terminal("-v", "new", lines=["identify 1", "scan: sector 1 of 16"])
     steps = ["Sectors to change: 4. Erases: 4.", "The chip is changed from here on.", "erase: erases sent 1",
@@ -438,7 +438,7 @@ def shows_progress(start):
     bench.expect_at_terminal("-E", "--journal", "l", "-l", "layout", "-i", "byte", lines=[
         "identify 1", "scan: sector 1 of 16", "scan: sector 1 of 1",
         "Sectors to change: 1. Erases: 1. Bytes of journal: 4161.",
-        "SEALED: the chip is changed from here on.", "erase: erases sent 1", "program: pages sent 1",
+        reference.sealed("l"), "erase: erases sent 1", "program: pages sent 1",
         "read back: sectors read 1", "program: pages sent 16", "compare: sector 1 of 16"])
 
 
@@ -452,13 +452,13 @@ def shows_long_progress(start):
     bench.expect_at_terminal("-w", "new", "--journal", "j", lines=[
         "identify 1", *(f"scan: sector {n} of 2048" for n in range(1, 2048, 256)),
         f"Sectors to change: 34. Erases: 34. Bytes of journal: {25 + 34 * 4100 + 36}.",
-        "SEALED: the chip is changed from here on.", *(f"erase: erases sent {n}" for n in (1, 17, 33)),
+        reference.sealed("j"), *(f"erase: erases sent {n}" for n in (1, 17, 33)),
         *(f"program: pages sent {n}" for n in (1, 257, 513)), "read back: sectors read 1",
         "erase: erases sent 34", "program: pages sent 544", "read back: sectors read 34",
         *(f"compare: sector {n} of 2048" for n in range(1, 2048, 256))])
     bench.expect_at_terminal("--wp-range", "0,0x800000", "--journal", "k", lines=[
         "identify 1", "Sectors to change: 0. Erases: 0. Bytes of journal: 61.",
-        "SEALED: the chip is changed from here on.", "protect: status writes sent 1"])
+        reference.sealed("k"), "protect: status writes sent 1"])
 
 
 def shows_what_a_power_loss_means(start):
@@ -468,7 +468,7 @@ def shows_what_a_power_loss_means(start):
     old, new = images("shows_what_a_power_loss_means")
     large = b"\xff" * (1 << 23)
     words = "-E", "--journal", "j", "-l", "layout", "-i", "first"
-    sealed = "SEALED: the chip is changed from here on."
+    sealed = reference.sealed("j")
     for status, option, lines in (
             (b"\0\1", (), [srp1]), (b"\x80\1", (), []), (b"\0\2", (), []), (b"\0\2", ("--unlock",), []),
             (b"\x7c\2", ("--unlock",), [quad])):
@@ -483,8 +483,8 @@ def shows_what_a_power_loss_means(start):
     for status, lines in (b"\0\2", [quad]), (b"\0\0", []):
         bench = start("W25Q64FV", data=large, status=status)
         bench.expect_at_terminal("--wp-range", "0,0x800000", "--journal", "k", lines=[
-            "identify 1", "Sectors to change: 0. Erases: 0. Bytes of journal: 61.", *lines, sealed,
-            "protect: status writes sent 1"])
+            "identify 1", "Sectors to change: 0. Erases: 0. Bytes of journal: 61.", *lines,
+            reference.sealed("k"), "protect: status writes sent 1"])
     # A restore that needs no status write has no line on QE.
     for status, after, lines in ((b"\0\2", b"\0\2", []), (b"\x1c\2", b"\0\2", [quad]), (b"\x20\2", b"\0\2", [quad]),
                                  (b"\0\2", b"\x1c\2", [quad])):

@@ -64,6 +64,12 @@ LOCK_MEANING = {
 OTHER_NAME = ["Error 3: another chip than named.", "-c names W25Q64FV. The chip is SFDP (fe1010)."]
 
 
+def sealed(name):
+    """Returns the line before the first change of a session whose journal has this name."""
+    return ("SEALED: the chip is changed from here on. If this run is interrupted, disconnect the programmer from power "
+            f"before the next run, and restore with the journal {name}.")
+
+
 def unknown_chip(chip_id):
     """Returns the lines of a chip with this ID that has no SFDP."""
     return ["Error 2: unknown chip, SFDP fault 1.",

@@ -4,6 +4,7 @@ import re
 import signal
 from concurrent.futures import ThreadPoolExecutor
 
+import reference
 from bench import LONGEST, WAITING, Differs, check, read_all
 from options import SECTOR, images
 
@@ -105,7 +106,7 @@ def lines_of_a_write(bench, sectors, erases, *rest):
     journal = 25 + sectors * 4100 + 36
     return [bench.device(WAITING), f"Sectors to change: {sectors}. Erases: {erases}. Bytes of journal: {journal}.",
             "The change takes about M:SS at the chip's typical times and R.",
-            "SEALED: the chip is changed from here on.", *rest]
+            reference.sealed("j"), *rest]
 
 
 def rewrites_a_line(start):

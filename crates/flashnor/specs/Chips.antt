@@ -32,9 +32,9 @@ IsConfigWith chip (Some unique) config =
 abbrev pub allowance_of : Programmer → ℕ
 allowance_of programmer = unwrap_or programmer.stop 18446744073709551615
 
--- Holds for a well-behaved (`honest`), punctual bus to the emulated chip, which is idle. No modifying command was sent yet. The
--- bus carries out the number of transactions that `stop=` gives (`allowance_of`). It is steady (a stop doesn't cut the
--- chip's power) if and only if `power=` is not given.
+-- Holds for a well-behaved (`honest`), punctual bus to the emulated chip, which is idle. No modifying command was sent
+-- yet. The bus carries out the number of transactions that `stop=` gives (`allowance_of`). It is steady (a stop doesn't
+-- cut the chip's power) if and only if `power=` is not given.
 pub record IsReady (programmer : Programmer) (bus : BusState) : Type 0 where
   pub config : IsConfigWith programmer.chip programmer.unique bus.chip.config
   pub idle : bus.chip.busy ≡ 0
@@ -64,8 +64,8 @@ pub record OpensChip (programmer : Programmer) (content : Content) (bus : BusSta
   pub ready : IsReady programmer bus
   pub holds : HasContent content bus.chip
 
--- Holds for a well-behaved, punctual bus to the emulated chip, which is idle and has these contents. No modifying command was
--- sent yet. The number of transactions that are allowed, and the effect of a stop, are left open.
+-- Holds for a well-behaved, punctual bus to the emulated chip, which is idle and has these contents. No modifying
+-- command was sent yet. The number of transactions that are allowed, and the effect of a stop, are left open.
 pub record HoldsFiles (programmer : Programmer) (content : Content) (bus : BusState) : Type 0 where
   pub config : IsConfigWith programmer.chip programmer.unique bus.chip.config
   pub idle : bus.chip.busy ≡ 0

@@ -206,8 +206,8 @@ pub record HasChecked (before after : View) (words : List Text) : Type 0 where
   pub described : HasDescribed before file.now after image
 
 -- Holds if a run may end with exit status 0: its arguments ask for the help or the version; they ask for the
--- description of a journal that is sealed and undamaged, whose image was written if they ask for it; or their job was run, with status 0, on the bus that the run
--- left in `used`.
+-- description of a journal that is sealed and undamaged, whose image was written if they ask for it; or their job was
+-- run, with status 0, on the bus that the run left in `used`.
 abbrev pub HasSucceeded : (state : Connected → BusState) → (files after : FilesState) → List Text
     → (used : Option Connected) → (out out' : Option (List ℕ)) → Type 0
 HasSucceeded state files after words used out out' = ArgumentsAskForHelp words

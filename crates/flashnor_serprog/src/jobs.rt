@@ -188,6 +188,19 @@ pub fn is_session(task: &Task<'_>) -> bool {
     matches!(task, Task::Change(_))
 }
 
+/// Returns the name of the journal's file if the task is a session, whose journal is written to a file.
+pub fn journal_of<'a>(task: &Task<'a>) -> Option<&'a str> {
+    match task {
+        Task::Change(
+            Change {
+                journal_use: JournalUse::Journal { file },
+                ..
+            },
+        ) => Some(*file),
+        _ => None,
+    }
+}
+
 /// True for a write and an erase.
 pub fn changes_bytes(wanted: Wanted<'_>) -> bool
     ensures { result ≡ changes_bytes wanted.entry }

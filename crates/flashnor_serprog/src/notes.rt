@@ -14,8 +14,8 @@ use std::fmt;
 
 /// The sums that a run notes, and the file for them. All memory is allocated when the notes are made.
 ///
-/// `before` has the last reply to a read of each sector before the first modifying command. After that command, a sector
-/// is unknown again if an erase or a program was to change it, so that all known sectors must stay as they were.
+/// `before` has the last reply to a read of each sector before the first modifying command. After that command, a
+/// sector is unknown again if an erase or a program was to change it, so that all known sectors must stay as they were.
 /// `after` has the last reply to a read of each sector in the comparison after a restore; a session doesn't need it.
 #[derive(Drop)]
 pub struct Notes {
@@ -40,9 +40,9 @@ impl Notes {
         })
     }
 
-    /// Notes a transaction that was carried out. If it read a whole sector, the sum of its reply is noted: in `before` if
-    /// no modifying command was sent, and in `after` if the comparison after a restore began. If it was an erase or a
-    /// program, the sectors that it was to change become unknown in `before`.
+    /// Notes a transaction that was carried out. If it read a whole sector, the sum of its reply is noted: in `before`
+    /// if no modifying command was sent, and in `after` if the comparison after a restore began. If it was an erase or
+    /// a program, the sectors that it was to change become unknown in `before`.
     pub fn note(&mut self, phase: Phase, out: &[u8], reply: &[u8]) {
         match (phase, read_sector_of(out, reply)) {
             (Phase::Before, Some(sector)) => self.before.record(sector, reply),

@@ -14,6 +14,8 @@ use crate::steps::{Phase, Step, Total, step_of};
 use crate::terminal::Look;
 pub use crate::terminal::Terminal;
 use nor_chip::{Bus, Stopped, is_changing};
+use nor_console::Escaped;
+use std::fmt;
 use std::time::Instant;
 
 // Two bits of status 1, and two of status 2 (W25Q64FV datasheet, Status Registers).
@@ -25,16 +27,14 @@ const SRP1: u8 = 0x01;
 
 const QE: u8 = 0x02;
 
-// The line before the first modifying command of a session. The line of a restore is `CHANGED`.
-const SEALED: &str = "SEALED: the chip is changed from here on.";
-
+// The line before the first modifying command of a restore. The line of a session is `SealedLine`.
 const CHANGED: &str = "The chip is changed from here on.";
 
-// The line before `SEALED` or `CHANGED` if SRP1 is set without SRP0 (W25Q64FV datasheet, Status Register Protect).
+// The line before `SealedLine` or `CHANGED` if SRP1 is set without SRP0 (W25Q64FV datasheet, Status Register Protect).
 const POWER_LOCKED: &str =
     "Keep its power on: a loss of power clears SRP1, and a restore then ends with error 17.";
 
-// The line before `SEALED` or `CHANGED` if QE is set and the job may write the status.
+// The line before `SealedLine` or `CHANGED` if QE is set and the job may write the status.
 const QUAD: &str =
     "Keep its power on: a status write that is cut off may clear QE, and a restore then ends with error 17.";
 
@@ -88,6 +88,8 @@ pub struct Shown<'a, B> {
     bus: B,
     terminal: Terminal<'a>,
     in_session: bool,
+    // the name of the journal's file, if the job is a session and memory for the name was left
+    journal: Option<String>,
     phase: Phase,
     // the number of sectors that the present scan reads (a job may have two), or the comparison after a change, if that
     // number is known
@@ -128,6 +130,7 @@ impl<'a, B: Bus + Drop> Shown<'a, B> {
             bus,
             terminal,
             in_session: false,
+            journal: None,
             phase: Phase::Before,
             expected: None,
             counts: Counts::default(),
@@ -156,11 +159,17 @@ impl<'a, B: Bus + Drop> Shown<'a, B> {
     }
 
     /// Records whether the transactions from now on are those of a session, whose journal is sealed before the first
-    /// change, and whether the job may write the status.
-    pub fn begin_job(&mut self, in_session: bool, status_write: StatusWrite)
+    /// change, the name of the journal's file, and whether the job may write the status.
+    pub fn begin_job(
+        &mut self,
+        in_session: bool,
+        journal: Option<String>,
+        status_write: StatusWrite,
+    )
         ensures { self.new.bus ≡ self.old.bus }
     {
         self.in_session = in_session;
+        self.journal = journal;
         self.status_write = status_write;
     }
 
@@ -211,8 +220,11 @@ impl<B> Shown<'_, B> {
             self.terminal.print(&QUAD);
         }
         self.write_notes();
-        let what = if self.in_session { SEALED } else { CHANGED };
-        self.terminal.print(&what);
+        if self.in_session {
+            self.terminal.print(&SealedLine(self.journal.as_deref()));
+        } else {
+            self.terminal.print(&CHANGED);
+        }
     }
 
     // True if SRP1 was set without SRP0 before the first modifying command.
@@ -381,5 +393,23 @@ impl<B: Bus> Bus for Shown<'_, B> {
 
     fn has_further_types(&self) -> bool {
         self.bus.has_further_types()
+    }
+}
+
+// The line before the first modifying command of a session, whose journal is in the file of this name. A programmer
+// that received only a part of a frame takes the first byte of the next run for the rest, unless it lost its power.
+#[derive(Clone, Copy, Drop)]
+struct SealedLine<'a>(Option<&'a str>);
+
+impl fmt::Display for SealedLine<'_> {
+    fn fmt<W: fmt::Write>(&self, f: &mut fmt::Formatter<W>) -> fmt::Result {
+        f.write_str(
+            "SEALED: the chip is changed from here on. If this run is interrupted, disconnect the programmer from power \
+             before the next run",
+        )?;
+        match self.0 {
+            Some(name) => write!(f, ", and restore with the journal {}.", Escaped(name)),
+            None => f.write_str("."),
+        }
     }
 }

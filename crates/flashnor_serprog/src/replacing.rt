@@ -1,5 +1,5 @@
-//! The journal of a whole chip for another device of the same type, for `--replaced-chip`; and the bytes that a job uses
-//! in place of those of its file.
+//! The journal of a whole chip for another device of the same type, for `--replaced-chip`; and the bytes that a job
+//! uses in place of those of its file.
 ghost use Rattle.std.specs.Prelude.{◌≡◌, ◌++◌, IfErr, IfOk, OnOk};
 ghost use Rattle.nor_journal.specs.Text.{end_mark, head, record_text, text};
 ghost use Rattle.sha2.specs.Sha256.{sha256};

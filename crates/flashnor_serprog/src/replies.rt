@@ -34,8 +34,8 @@ impl Replies {
         }
     }
 
-    /// Returns the size of the chip in bytes, if it is known: that of the row for its ID or, without a row, the one that
-    /// its SFDP gives.
+    /// Returns the size of the chip in bytes, if it is known: that of the row for its ID or, without a row, the one
+    /// that its SFDP gives.
     pub fn size(&self) -> Option<u32> {
         match part_for(true, self.id?) {
             Some(part) => Some(part.size),

@@ -17,7 +17,7 @@ use crate::ending::{end_badly, end_well, status_of};
 use crate::extracting::extract_image;
 use crate::help::HELP;
 use crate::hints::Saved;
-use crate::jobs::{changes_bytes, is_session, perform};
+use crate::jobs::{changes_bytes, is_session, journal_of, perform};
 use crate::journals::check_journal;
 use crate::lock_job::run_lock;
 use crate::preparing::{Prepared, prepare};
@@ -275,7 +275,7 @@ fn run_job<'b, R: Store, O: Write, E: Write>(
         (O.contents output.old) (O.contents output.new) result }
 {
     let saved = saved_by(&operation.task, &sources);
-    mark_job(bus, &operation.task, saved);
+    mark_job(bus, &operation.task, saved, files.alloc());
     begin_notes(errors, bus, operation, files.alloc());
     let before = read_before(files, operation, &sources.bytes);
     let terminal = bus.terminal();
@@ -351,11 +351,12 @@ fn saved_by(task: &Task<'_>, sources: &Sources) -> Option<Saved> {
 }
 
 // Records in the bus, for its progress lines, whether the task is a session, whose journal is sealed before the first
-// change, and whether the task may write the status.
-fn mark_job<'b>(bus: &mut ChipBus<'b>, task: &Task<'_>, saved: Option<Saved>)
+// change, the name of the journal's file, and whether the task may write the status.
+fn mark_job<'b>(bus: &mut ChipBus<'b>, task: &Task<'_>, saved: Option<Saved>, alloc: Global)
     ensures { ⟦<ChipBus<'b> as Bus>⟧.state bus.new ≡ ⟦<ChipBus<'b> as Bus>⟧.state bus.old }
 {
-    bus.begin_job(is_session(task), status_write_of(task, saved));
+    let journal = journal_of(task).and_then(|file| String::from_str(alloc, file).ok());
+    bus.begin_job(is_session(task), journal, status_write_of(task, saved));
 }
 
 // Returns whether a task may write the status. `saved` is what the journal of a restore says.

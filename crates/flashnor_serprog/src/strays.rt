@@ -22,7 +22,8 @@ use std::io::Write;
 
 /// After a session that ended with error 14 or chip fault 4, reads each sector that the session read before its first
 /// modifying command and was not to change, and prints a line with those that differ. Prints nothing if none differs,
-/// or if the bus stops. After any other fault reads nothing, since the chip wasn't changed, can't be reached, or is busy.
+/// or if the bus stops. After any other fault reads nothing, since the chip wasn't changed, can't be reached, or is
+/// busy.
 pub fn report_strays<'b, E: Write>(
     errors: &mut E,
     bus: &mut ChipBus<'b>,

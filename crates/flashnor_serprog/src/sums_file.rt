@@ -59,8 +59,8 @@ pub fn is_new<R: Store, E: Write>(files: &R, operation: &Operation<'_>, errors: 
     false
 }
 
-/// Creates the file of this name, writes these bytes to it, and syncs it. Returns false if one of these steps fails: the
-/// file may then be missing or incomplete. Never overwrites a file.
+/// Creates the file of this name, writes these bytes to it, and syncs it. Returns false if one of these steps fails:
+/// the file may then be missing or incomplete. Never overwrites a file.
 pub fn store<R: Store>(files: &mut R, name: &str, bytes: &[u8]) -> bool {
     let Ok(mut vault) = files.vault_in_new(name) else {
         return false;
@@ -73,8 +73,8 @@ pub fn store<R: Store>(files: &mut R, name: &str, bytes: &[u8]) -> bool {
 /// What the file beside a restore's journal says.
 #[derive(Drop)]
 pub enum Before {
-    /// No comparison is made: there is no restore, or it isn't compared (`-N`), or its journal saves all sectors or none.
-    /// A session that saves none erases and programs nothing.
+    /// No comparison is made: there is no restore, or it isn't compared (`-N`), or its journal saves all sectors or
+    /// none. A session that saves none erases and programs nothing.
     Unneeded,
     /// The file is missing.
     Missing,

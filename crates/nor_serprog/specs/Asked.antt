@@ -34,8 +34,8 @@ FitsOperation out replies = (length out ≤ 260) × (replies < 16777216)
 abbrev pub IsLongProgram : (out : List ℕ) → Type 0
 IsLongProgram out = (slice_index out 0 ≡ 0x02) × (36 ≤ length out)
 
--- Holds if the port was asked to send a write enable if it waited, and then the frame of the O_SPIOP that sends `out` and
--- reads `replies` bytes: in one call, if `out` is a long program; or in one call each.
+-- Holds if the port was asked to send a write enable if it waited, and then the frame of the O_SPIOP that sends `out`
+-- and reads `replies` bytes: in one call, if `out` is a long program; or in one call each.
 pub record AsksInOrder (waits : Bool) (out : List ℕ) (replies : ℕ) (old new : List (List ℕ)) : Type 0 where
   pub fits : FitsOperation out replies
   pub asks : ((new ≡ (lead_frame waits ++ operation_frame out replies) ∷ old) × (waits ≡ true → IsLongProgram out))
@@ -56,8 +56,8 @@ abbrev pub AsksSync : (old new : List (List ℕ)) → Type 0
 AsksSync old new =
     (new ≡ old) ⊎ ((new ≡ (0x00 ∷ []) ∷ old) ⊎ (new ≡ nop_row ∷ (0x00 ∷ []) ∷ old))
 
--- Holds if `argument`, what one call of the port was asked to send, is one frame of O_SPIOP. The frame of a long program
--- may come after the frame of a write enable (06h). So nothing comes after a frame that modifies the chip.
+-- Holds if `argument`, what one call of the port was asked to send, is one frame of O_SPIOP. The frame of a long
+-- program may come after the frame of a write enable (06h). So nothing comes after a frame that modifies the chip.
 pub record IsOneOperation (argument : List ℕ) : Type 0 where
   pub waits : Bool
   pub out : List ℕ

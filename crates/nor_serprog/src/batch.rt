@@ -60,8 +60,8 @@ impl<P: Port + Drop> Batch<P> {
         &self.link
     }
 
-    /// Makes one transaction. A write enable that requests no reply bytes waits for the next transaction instead, if its
-    /// frame fits into the serial buffer.
+    /// Makes one transaction. A write enable that requests no reply bytes waits for the next transaction instead, if
+    /// its frame fits into the serial buffer.
     ///
     /// Returns `OutOfStep` or `CutFrame` if the link was out of step. Otherwise returns `TooLong` if the transaction
     /// does not fit into one frame, or reads more than the programmer can; then nothing was sent, and the write enable
@@ -130,7 +130,8 @@ impl<P: Port + Drop> Batch<P> {
         ensures err { OnErr result (is_in_step (batch_link self.new) ≡ false) }
         ensures waits { waits_in self.new ≡ waits_in self.old }
         ensures asked { (self.new ≡ self.old) ⊎ ((is_in_step (batch_link self.old) ≡ false)
-            × AsksSync (P.state (port_of (batch_link self.old))).asked (P.state (port_of (batch_link self.new))).asked) }
+            × AsksSync (P.state (port_of (batch_link self.old))).asked
+            (P.state (port_of (batch_link self.new))).asked) }
     {
         if self.link.sync() == Sync::InStep {
             return Ok(());

@@ -8,22 +8,22 @@ use crate::{AnyProgrammer, Failure, Link, Port, Programmer, Sync};
 use nor_model::{Bus, History, Stopped};
 
 /// A bus to the chip at a serial programmer, over any port. It needs fewer round trips than `SerprogBus`, because it
-/// sends a write enable (06h) together with the page program (02h) after it, if that has at least 32 data bytes, and the
-/// programmer's serial buffer holds both frames.
+/// sends a write enable (06h) together with the page program (02h) after it, if that has at least 32 data bytes, and
+/// the programmer's serial buffer holds both frames.
 ///
-/// Nothing is sent after any other frame before ACK and its reply were received. If a byte of a frame is lost on the way,
-/// the programmer takes the next byte that it receives as the last one of the frame, and the chip may carry out a command
-/// that was never sent, on another sector or with other status bits. After a write enable this does no harm: both frames
-/// have to arrive whole, or the chip ignores the command.
+/// Nothing is sent after any other frame before ACK and its reply were received. If a byte of a frame is lost on the
+/// way, the programmer takes the next byte that it receives as the last one of the frame, and the chip may carry out a
+/// command that was never sent, on another sector or with other status bits. After a write enable this does no harm:
+/// both frames have to arrive whole, or the chip ignores the command.
 ///
 /// - `transfer` of a write enable that reads no reply may return `Ok` before it is sent. If it fails later, the
 ///   transaction or `flush` that sends it returns `Stopped`.
-/// - Every other transaction that isn't rejected sends the write enable that waits: in one write with its own frame if it
-///   is a page program with at least 32 data bytes, otherwise in a write of its own, whose ACK it receives first. It
+/// - Every other transaction that isn't rejected sends the write enable that waits: in one write with its own frame if
+///   it is a page program with at least 32 data bytes, otherwise in a write of its own, whose ACK it receives first. It
 ///   returns `Ok` only after ACK was received for each frame (`acked`), so nothing waits then.
 /// - `flush` sends the write enable that waits. Without `flush` or a later transaction it is never sent.
-/// - The two frames that are sent together fit into the programmer's serial buffer. Nothing waits if the programmer does
-///   not report the size of that buffer.
+/// - The two frames that are sent together fit into the programmer's serial buffer. Nothing waits if the programmer
+///   does not report the size of that buffer.
 /// - Whatever the port was asked to send since the bus was made is, in order, the frames of the transactions in the
 ///   history, except for synchronizations (`frames`).
 ///
@@ -135,7 +135,8 @@ impl<P: Port + Drop> BatchingBus<P> {
 }
 
 impl<P: Port + Drop> Bus for BatchingBus<P> {
-    ghost use Rattle.nor_serprog.specs.Batching.{link_of, port_in, waits_of, cause_of, is_ready, serprog_state, SendsFrames};
+    ghost use Rattle.nor_serprog.specs.Batching.{link_of, port_in, waits_of, cause_of, is_ready, serprog_state};
+    ghost use Rattle.nor_serprog.specs.Batching.{SendsFrames};
     ghost use Rattle.nor_serprog.specs.Asked.{acks};
 
     ghost state = { serprog_state };
@@ -151,8 +152,8 @@ impl<P: Port + Drop> Bus for BatchingBus<P> {
         ensures only_enable { OnOk result (waits_of self.new ≡ true
             → (out.now ≡ 0x06 ∷ []) × (length reply.old ≡ 0)) }
         ensures frames { (start : List (List ℕ)) → SendsFrames start self.old → SendsFrames start self.new }
-        ensures led_acked { OnOk result (waits_of self.new ≡ true
-            → (P.state (port_in self.new)).received ≡ (P.state (port_in self.old)).received ++ acks (waits_of self.old)) }
+        ensures led_acked { OnOk result (waits_of self.new ≡ true → (P.state (port_in self.new)).received
+            ≡ (P.state (port_in self.old)).received ++ acks (waits_of self.old)) }
         ensures acked { OnOk result (waits_of self.new ≡ false → (P.state (port_in self.new)).received
             ≡ (P.state (port_in self.old)).received ++ (acks (waits_of self.old) ++ 0x06 ∷ reply.new)) }
         ensures cause { is_ready self.old ≡ true → OnErr result (IsSome (cause_of self.new)) }

@@ -36,8 +36,8 @@ pub enum Failure<C> {
     /// Nothing was sent, because a frame may have been sent only in part: any further byte could complete it.
     #[error("a frame may have been cut off: disconnect the programmer from power before it is used again")]
     CutFrame,
-    /// 65,536 bytes were received without the expected reply: the reply to the first NOP, or the replies to the sequence
-    /// of NOP and SYNCNOP that follows.
+    /// 65,536 bytes were received without the expected reply: the reply to the first NOP, or the replies to the
+    /// sequence of NOP and SYNCNOP that follows.
     #[error("the programmer did not reply to SYNCNOP as it must")]
     NoSync,
 }
@@ -65,9 +65,9 @@ pub struct Link<P: Port + Drop> {
 const O_SPIOP: u8 = 0x13;
 
 // The sequence of SYNCNOP (10h) and NOP (00h) that `synchronize` sends. These commands have no effect, and
-// `synchronize` recognizes their replies. The sequence begins with nine zeros, because the frame of a status write (01h)
-// has ten bytes. If the programmer still waits for the rest of such a frame, it receives zeros only, and these set no
-// one-time bit.
+// `synchronize` recognizes their replies. The sequence begins with nine zeros, because the frame of a status write
+// (01h) has ten bytes. If the programmer still waits for the rest of such a frame, it receives zeros only, and these
+// set no one-time bit.
 const ROW: [u8; 19] = [
     0x00, 0x00, 0x00, 0x00, 0x00, 0x00, 0x00, 0x00, 0x00, 0x10, 0x10, 0x00, 0x10, 0x00, 0x00, 0x10,
     0x10, 0x10, 0x00,
@@ -199,13 +199,12 @@ impl<P: Port + Drop> Link<P> {
     }
 
     /// Sends `frames`, the frames of one O_SPIOP or of two, with one call of the port, and then reads their replies: an
-    /// ACK for each frame, and after the last ACK as many bytes as `reply` holds. `is_led` says that there are two frames;
-    /// the first of them requests no reply bytes.
+    /// ACK for each frame, and after the last ACK as many bytes as `reply` holds. `is_led` says that there are two
+    /// frames; the first of them requests no reply bytes.
     ///
-    /// If the link was out of step, the call returns `OutOfStep` or `CutFrame` and does not use the port. The call returns
-    /// `Ok` only after it received ACK for each frame. After any other error the programmer may have carried out any of
-    /// the frames. After each error no exchange sends anything
-    /// until `synchronize` returns `Ok`.
+    /// If the link was out of step, the call returns `OutOfStep` or `CutFrame` and does not use the port. The call
+    /// returns `Ok` only after it received ACK for each frame. After any other error the programmer may have carried
+    /// out any of the frames. After each error no exchange sends anything until `synchronize` returns `Ok`.
     pub(crate) fn exchange_batch(
         &mut self,
         frames: &[u8],
@@ -235,8 +234,9 @@ impl<P: Port + Drop> Link<P> {
     }
 
     /// Synchronizes the link, so that each later reply is matched to the frame that it belongs to. Sends one NOP, and
-    /// skips all received bytes up to its reply, ACK. Then sends a fixed sequence of NOP and SYNCNOP, and skips all bytes
-    /// up to the replies to this sequence (serprog protocol, flashrom's Documentation/serprog-protocol.txt, 00h and 10h).
+    /// skips all received bytes up to its reply, ACK. Then sends a fixed sequence of NOP and SYNCNOP, and skips all
+    /// bytes up to the replies to this sequence (serprog protocol, flashrom's Documentation/serprog-protocol.txt, 00h
+    /// and 10h).
     ///
     /// Returns `CutFrame`, and does not use the port, if a frame may have been sent only in part: further bytes could
     /// complete the frame, and the chip would carry out a command that was never intended. The link can't know about a
@@ -346,8 +346,8 @@ fn receive_answer<P: Port>(
     }
 }
 
-// Receives the reply to a frame of O_SPIOP that requests no reply bytes, if there is such a frame (`is_led`). Returns `Ok`
-// only if the reply is ACK.
+// Receives the reply to a frame of O_SPIOP that requests no reply bytes, if there is such a frame (`is_led`). Returns
+// `Ok` only if the reply is ACK.
 fn receive_acks<P: Port>(port: &mut P, is_led: bool) -> Result<(), Failure<P::Cause>>
     ensures nature { (P.state port.new).honest ≡ (P.state port.old).honest }
     ensures unasked { (P.state port.new).asked ≡ (P.state port.old).asked }

@@ -1,5 +1,5 @@
-//! The record of what a port was asked to send and of what it returned. It exists only in proofs: it takes no memory, and
-//! its functions do nothing at run time.
+//! The record of what a port was asked to send and of what it returned. It exists only in proofs: it takes no memory,
+//! and its functions do nothing at run time.
 ghost use Rattle.std.specs.Prelude.{◌≡◌, ◌∷◌, ◌++◌, []};
 
 use nor_model::History;

@@ -27,8 +27,8 @@ impl Changed {
     }
 }
 
-/// Finds the sectors that don't have in `after` the sum that they have in `before`. A sector that is unknown in `before`
-/// is left out.
+/// Finds the sectors that don't have in `after` the sum that they have in `before`. A sector that is unknown in
+/// `before` is left out.
 pub fn find_changed(before: &Sums, after: &Sums) -> Changed
     ensures { result.count ≡ 0 → (s : ℕ) → s < 4096
         → Agree (entry_of before.now.entries.items s) (entry_of after.now.entries.items s) }

@@ -1,7 +1,8 @@
-//! Sums of a chip's sectors: what each sector held before a change, in eight bytes, and the encoding of a table of them.
+//! Sums of a chip's sectors: what each sector held before a change, in eight bytes, and the encoding of a table of
+//! them.
 //!
-//! A sum is the first eight bytes of the SHA-256 of the sector's 4,096 bytes. Other contents have another sum, except by
-//! an accident in 2^64.
+//! A sum is the first eight bytes of the SHA-256 of the sector's 4,096 bytes. Other contents have another sum, except
+//! by an accident in 2^64.
 //!
 //! - `sums.rt`: `Sums`, the table of the sums, with one entry per sector
 //! - `sheet.rt`: `Sheet`, a table with the chip's ID and unique ID, and its encoding

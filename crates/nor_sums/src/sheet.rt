@@ -25,8 +25,8 @@ pub struct Sheet {
     pub sums: Sums,
 }
 
-/// Puts the encoding of a table into `out`, in place of what `out` had. If `out` has room for `SHEET_LEN` bytes, nothing
-/// is allocated. Otherwise an error is possible, if memory runs out.
+/// Puts the encoding of a table into `out`, in place of what `out` had. If `out` has room for `SHEET_LEN` bytes,
+/// nothing is allocated. Otherwise an error is possible, if memory runs out.
 pub fn encode(
     id: [u8; 3],
     unique: [u8; 8],

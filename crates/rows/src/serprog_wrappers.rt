@@ -100,9 +100,9 @@ fn polls_of_a_busy_chip_are_paced(rt: HostRuntime) {
 }
 
 // The chip shows BUSY in each poll. The pause before the second poll after a command is the expected time of the
-// operation, less the time since the command; there is no pause if more time has passed. If the clock fails, the pause is
-// the whole expected time. The first poll after a page program waits in the same way; after other commands it is sent
-// without a pause. A reply to a poll has one or two bytes.
+// operation, less the time since the command; there is no pause if more time has passed. If the clock fails, the pause
+// is the whole expected time. The first poll after a page program waits in the same way; after other commands it is
+// sent without a pause. A reply to a poll has one or two bytes.
 #[test]
 fn the_second_poll_comes_after_the_typical_time(rt: HostRuntime) {
     for (command, typical, third) in COMMANDS {

@@ -35,7 +35,8 @@ impl<B> Shown<'_, B> {
         }
     }
 
-    // Writes the notes to their file, and prints a line if that fails. Must be called before the first modifying command.
+    // Writes the notes to their file, and prints a line if that fails. Must be called before the first modifying
+    // command.
     pub(super) fn write_notes(&mut self)
         ensures { self.new.bus ≡ self.old.bus }
     {
