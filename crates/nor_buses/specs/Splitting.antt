@@ -1,7 +1,8 @@
 -- A bus that splits transactions that exceed the limits of a programmer, as contracts see it.
-use Rattle.std.specs.Prelude.{ℕ, List}
-use Rattle.nor_model.specs.Bus.{BusState, unknown_bus}
+use Rattle.std.specs.Prelude.{◌&&◌, ℕ, Bool, List, false, nat_le}
+use Rattle.nor_model.specs.Bus.{BusState}
 use Rattle.nor_model.specs.Exchange.{Exchange}
+use Rattle.nor_buses.specs.ReadsAs.{beside}
 use Rattle.nor_buses.specs.declared.splitting.SplittingBus.{SplittingBus}
 
 -- The bus inside, which carries out the transactions of a `SplittingBus`.
@@ -21,7 +22,24 @@ receives_most splitting = splitting.longest_read
 abbrev pub history_of : {B : Type 0} → SplittingBus B → List Exchange
 history_of splitting = splitting.history.exchanges
 
--- The state of the bus. Only its history is known, and whether the bus inside has further types.
-abbrev pub splitting_state : {B : Type 0} → (B → BusState) → SplittingBus B → BusState
-splitting_state state splitting =
-    record (unknown_bus (history_of splitting)) { further = (state (split_of splitting)).further }
+-- True if one transaction can send a page program (260 bytes) and read a sector (4,096 bytes).
+abbrev pub takes_whole : (sends receives : ℕ) → Bool
+takes_whole sends receives = nat_le 260 sends && nat_le 4096 receives
+
+-- The state of a bus with this history that splits what the bus inside can't take. The chip is that of the bus inside.
+-- If `wide` is true, no transaction that a well-behaved bus must take is split: each is one of the bus inside. Then this
+-- bus is well-behaved if the bus inside is. Otherwise it isn't: a program in parts that stops may leave an idle chip
+-- whose write enable latch is set, which no stop of a single transaction does.
+abbrev pub splits : (wide : Bool) → (inside : BusState) → (history : List Exchange) → BusState
+splits wide inside history = record (beside inside history) {
+  honest = inside.honest && wide;
+  left = inside.left;
+  punctual = inside.punctual;
+  unlimited = false;
+}
+
+-- The state of the bus (`splits`).
+abbrev pub splitting_state : {B : Type 0} → (inside : B → BusState) → SplittingBus B → BusState
+splitting_state inside splitting =
+    splits (takes_whole (sends_most splitting) (receives_most splitting)) (inside (split_of splitting))
+    (history_of splitting)

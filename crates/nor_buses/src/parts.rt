@@ -1,5 +1,6 @@
 //! Reads and programs that are carried out in parts.
 ghost use Rattle.std.specs.Prelude.{◌≡◌, ◌<◌, ◌≤◌, ◌+◌, ◌*◌, ◌%◌, ◌⊎◌, ◌∷◌, ◌++◌, [], true, false, ℕ, All, length, drop, OnOk, OnErr, IfSome, IfOk};
+ghost use Rattle.nor_model.specs.Bus.{SameNature};
 ghost use Rattle.nor_model.specs.History.{exchange_of, replied, stopped};
 ghost use Rattle.nor_model.specs.Sent.{begins_program};
 ghost use Rattle.nor_buses.specs.ReadsAs.{address_in};
@@ -44,6 +45,7 @@ pub(crate) fn split_read<B: Bus>(
     reply: &mut [u8],
 ) -> Result<(), Stopped>
     requires { 1 ≤ longest }
+    ensures nature { SameNature (B.state bus.old) (B.state bus.new) }
     ensures parts { SplitsRead longest out.now reply.new result (B.state bus.old).history (B.state bus.new).history }
     ensures rejects { can_split_read out.now ≡ false → bus.new ≡ bus.old }
     ensures fails { can_split_read out.now ≡ false → OnOk result ⊥ }
@@ -81,7 +83,8 @@ fn read_parts<B: Bus>(
 ) -> Result<(), Stopped>
     requires longest { 1 ≤ longest }
     requires fits { address_in out.now + length reply.old ≤ 16777216 }
-    ensures { SplitsRead longest out.now reply.new result (B.state bus.old).history (B.state bus.new).history }
+    ensures nature { SameNature (B.state bus.old) (B.state bus.new) }
+    ensures parts { SplitsRead longest out.now reply.new result (B.state bus.old).history (B.state bus.new).history }
 {
     let mut done = 0;
     while done < reply.len() {
@@ -96,6 +99,7 @@ fn read_parts<B: Bus>(
 // and sends nothing if `out` is no read that can be split.
 fn read_part<B: Bus>(bus: &mut B, out: &[u8], from: u32, part: &mut [u8]) -> Result<(), Stopped>
     requires { address_in out.now + from ≤ 16777215 }
+    ensures nature { SameNature (B.state bus.old) (B.state bus.new) }
     ensures read { OnOk result
         ((B.state bus.new).history ≡ replied (further out.now from) part.new ∷ (B.state bus.old).history) }
     ensures stopped { OnErr result (((B.state bus.new).history ≡ (B.state bus.old).history)
@@ -138,6 +142,7 @@ pub(crate) fn split_program<B: Bus>(
     requires longest { 5 ≤ longest }
     requires long { longest < length out.now }
     requires polled { 1 ≤ polled }
+    ensures nature { SameNature (B.state bus.old) (B.state bus.new) }
     ensures parts { SplitsProgram longest (address_in out.now) (drop 4 out.now) result
         (B.state bus.old).history (B.state bus.new).history }
     ensures rejects { begins_program out.now ≡ false → bus.new ≡ bus.old }
@@ -181,7 +186,8 @@ fn program_parts<B: Bus>(
     requires some { 0 < length bytes.now }
     requires address { address ≤ 16777215 }
     requires page { address % 256 + length bytes.now ≤ 256 }
-    ensures { SplitsProgram longest address bytes.now result
+    ensures nature { SameNature (B.state bus.old) (B.state bus.new) }
+    ensures parts { SplitsProgram longest address bytes.now result
         (B.state bus.old).history (B.state bus.new).history }
 {
     let most = longest - HEADER_LEN;
@@ -201,7 +207,8 @@ fn program_parts<B: Bus>(
 fn program_part<B: Bus>(bus: &mut B, address: u32, part: &[u8]) -> Result<(), Stopped>
     requires address { address ≤ 16777215 }
     requires len { length part.now ≤ 256 }
-    ensures { (B.state bus.new).history
+    ensures nature { SameNature (B.state bus.old) (B.state bus.new) }
+    ensures history { (B.state bus.new).history
         ≡ exchange_of (0x02 ∷ address_bytes address ++ part.now) [] result ∷ (B.state bus.old).history }
 {
     let [_, high, middle, low] = address.to_be_bytes();
@@ -219,7 +226,8 @@ fn program_part<B: Bus>(bus: &mut B, address: u32, part: &[u8]) -> Result<(), St
 fn wait<B: Bus>(bus: &mut B, polled: usize) -> Result<(), Stopped>
     requires polled { 1 ≤ polled }
     requires few { polled ≤ 2 }
-    ensures { WaitsReady result (B.state bus.old).history (B.state bus.new).history }
+    ensures nature { SameNature (B.state bus.old) (B.state bus.new) }
+    ensures waits { WaitsReady result (B.state bus.old).history (B.state bus.new).history }
 {
     for _ in 0..MOST_POLLS {
         if poll(bus, polled)? {
@@ -233,6 +241,7 @@ fn wait<B: Bus>(bus: &mut B, polled: usize) -> Result<(), Stopped>
 fn poll<B: Bus>(bus: &mut B, polled: usize) -> Result<bool, Stopped>
     requires polled { 1 ≤ polled }
     requires few { polled ≤ 2 }
+    ensures nature { SameNature (B.state bus.old) (B.state bus.new) }
     ensures polls { PollsOnce (B.state bus.old).history (B.state bus.new).history }
     ensures ready { IfOk result (λ ready. ready ≡ true → EndsReady (B.state bus.new).history) }
 {

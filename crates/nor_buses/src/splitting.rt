@@ -1,7 +1,7 @@
 //! A bus that splits transactions that exceed the limits of a programmer.
 ghost use Rattle.std.specs.Prelude.{◌≡◌, ◌<◌, ◌≤◌, [], true, false, length, drop, OnOk};
-ghost use Rattle.std.proofs.lemmas.Bool.{false≢true};
-ghost use Rattle.nor_model.specs.Bus.{Records, Transfers};
+ghost use Rattle.std.proofs.lemmas.Bool.{and_parts};
+ghost use Rattle.nor_model.specs.Bus.{SameNature, Transfers};
 ghost use Rattle.nor_buses.specs.ReadsAs.{address_in};
 ghost use Rattle.nor_model.specs.Sent.{begins_program};
 ghost use Rattle.nor_buses.specs.Parts.{can_split_read, SplitsRead, SplitsProgram};
@@ -26,9 +26,14 @@ use nor_model::{Bus, History, Stopped};
 /// some of its bytes are programmed, as after an interrupted program. A restore can undo this, because the bytes lie in
 /// a sector that the journal saves.
 ///
+/// If the limits allow a page program (260 bytes sent) and the read of a sector (4,096 bytes read), this bus is proved
+/// to be well-behaved if the bus inside is. It then passes on each transaction within these two lengths unchanged, so it
+/// is also punctual and steady if the bus inside is. With narrower limits this bus is not well-behaved, because a
+/// program in parts that stops may leave an idle chip with its write enable latch set.
+///
 /// The history lists each transaction over this bus with its reply. A transaction that failed or was rejected is listed
-/// without a reply, and a transaction that was split is listed once. One transaction over this bus may be many over the
-/// bus inside, so this bus is not well-behaved as `Bus` defines it, even if the bus inside is.
+/// without a reply, and a transaction that was split is listed once. In contracts, the chip is that of the bus inside,
+/// and the modifying commands and the result of the last poll are those of this bus's own history.
 #[derive(Drop)]
 pub struct SplittingBus<B> {
     bus: B,
@@ -74,11 +79,12 @@ impl<B: Bus> SplittingBus<B> {
 
     // Makes one transaction, and does not add it to the history.
     fn carry(&mut self, out: &[u8], reply: &mut [u8]) -> Result<(), Stopped>
+        ensures nature { SameNature (B.state (split_of self.old)) (B.state (split_of self.new)) }
         ensures history { history_of self.new ≡ history_of self.old }
         ensures sends { sends_most self.new ≡ sends_most self.old }
         ensures receives { receives_most self.new ≡ receives_most self.old }
         ensures whole { length out.now ≤ sends_most self.old → length reply.old ≤ receives_most self.old
-            → Records out.now reply.new result (B.state (split_of self.old)) (B.state (split_of self.new)) }
+            → Transfers out.now reply.old reply.new result (B.state (split_of self.old)) (B.state (split_of self.new)) }
         ensures read { length out.now ≤ sends_most self.old → receives_most self.old < length reply.old
             → SplitsRead (receives_most self.old) out.now reply.new result
             (B.state (split_of self.old)).history (B.state (split_of self.new)).history }
@@ -111,7 +117,7 @@ impl<B: Bus> Bus for SplittingBus<B> {
 
     ghost state = { splitting_state B.state };
 
-    ghost reaches = { λ splitting honest. absurd (false≢true honest) };
+    ghost reaches = { λ splitting honest. B.reaches splitting.bus (and_parts _ _ honest).0 };
 
     fn transfer(&mut self, out: &[u8], reply: &mut [u8]) -> Result<(), Stopped>
         ensures law { Transfers out.now reply.old reply.new result
@@ -119,7 +125,7 @@ impl<B: Bus> Bus for SplittingBus<B> {
         ensures sends { sends_most self.new ≡ sends_most self.old }
         ensures receives { receives_most self.new ≡ receives_most self.old }
         ensures whole { length out.now ≤ sends_most self.old → length reply.old ≤ receives_most self.old
-            → Records out.now reply.new result (B.state (split_of self.old)) (B.state (split_of self.new)) }
+            → Transfers out.now reply.old reply.new result (B.state (split_of self.old)) (B.state (split_of self.new)) }
         ensures read { length out.now ≤ sends_most self.old → receives_most self.old < length reply.old
             → SplitsRead (receives_most self.old) out.now reply.new result
             (B.state (split_of self.old)).history (B.state (split_of self.new)).history }

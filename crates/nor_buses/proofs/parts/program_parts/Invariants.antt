@@ -1,4 +1,5 @@
 use Rattle.std.proofs.Common.{◌≤◌, ◌-◌, length}
+use Rattle.nor_model.specs.Bus.{SameNature}
 use Rattle.nor_buses.proofs.Splits.{ProgramsInParts}
 use Rattle.nor_buses.proofs.parts.program_parts.Given as goal
 
@@ -7,6 +8,7 @@ invariant-loop-done g l =
     record {
       programs : ProgramsInParts l.longest l.address l.bytes l.done (g.B.Bus.state l.fn.bus).history
           (g.B.Bus.state l.bus).history;
+      nature : SameNature (g.B.Bus.state l.fn.bus) (g.B.Bus.state l.bus);
       within : l.done ≤ length l.bytes;
     }
 

@@ -1,5 +1,6 @@
 use Rattle.std.proofs.Common.{◌≤◌, ◌-◌, length}
 use Rattle.std.specs.Prelude.{take}
+use Rattle.nor_model.specs.Bus.{SameNature}
 use Rattle.nor_buses.proofs.Splits.{ReadsInParts}
 use Rattle.nor_buses.proofs.parts.read_parts.Given as goal
 
@@ -8,6 +9,7 @@ invariant-loop-done g l =
     record {
       read : ReadsInParts l.longest l.out (take l.done l.reply) (g.B.Bus.state l.fn.bus).history
           (g.B.Bus.state l.bus).history;
+      nature : SameNature (g.B.Bus.state l.fn.bus) (g.B.Bus.state l.bus);
       within : l.done ≤ length l.reply;
     }
 

@@ -1,5 +1,10 @@
+use Rattle.nor_model.specs.Bus.{SameNature}
 use Rattle.nor_buses.proofs.Splits.{OnlyPolls}
 use Rattle.nor_buses.proofs.parts.wait.Given as goal
 
 abbrev pub invariant-loop : goal.invariant-loop
-invariant-loop g l = OnlyPolls (g.B.Bus.state l.fn.bus).history (g.B.Bus.state l.bus).history
+invariant-loop g l =
+    record {
+      polls : OnlyPolls (g.B.Bus.state l.fn.bus).history (g.B.Bus.state l.bus).history;
+      nature : SameNature (g.B.Bus.state l.fn.bus) (g.B.Bus.state l.bus);
+    }
