@@ -9,3 +9,4 @@ pub mod Held
 pub mod StatusRead
 pub mod Splits
 pub mod AfterRead
+pub mod HeldData

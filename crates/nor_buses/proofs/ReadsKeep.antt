@@ -84,6 +84,12 @@ worn_same : (command : Command) (worn now : Bool) (s : ℕ) → is_reading comma
 worn_same command worn now s is by =
     by ∙ ap (λ (b : Bool). worn || b) (reading_wears command is s) ∙ or-false worn
 
+-- A read erases nothing.
+pub read_wears_none : (chip : Chip) (out : List ℕ) (replies s : ℕ) (worn : Bool) → begins_read out ≡ true
+    → worn ≡ (worn || wears (done_of chip out replies) s)
+read_wears_none chip out replies s worn reads =
+    sym (ap (λ (b : Bool). worn || b) (reading_wears _ (reads_done chip out replies reads) s) ∙ or-false worn)
+
 -- A read that a well-behaved bus carried out leaves the chip and the record of erased sectors as they were.
 pub read_made : {out answer : List ℕ} {old new : BusState} → begins_read out ≡ true → MakesStep out answer old new
     → KeepsAll old new

@@ -3,7 +3,7 @@ use Rattle.std.specs.Prelude.{ℕ, List}
 use Rattle.nor_model.specs.Bus.{BusState}
 use Rattle.nor_model.specs.Exchange.{Exchange}
 use Rattle.nor_model.specs.declared.bus.Bus.{Ghosts}
-use Rattle.nor_buses.specs.ReadsAs.{view_of}
+use Rattle.nor_buses.specs.Blocks.{reads_ahead}
 use Rattle.nor_buses.specs.declared.ahead.ReadAhead.{ReadAhead}
 
 -- The bus inside, which carries out the transactions of a `ReadAhead`.
@@ -27,7 +27,10 @@ history_of ahead = ahead.history.exchanges
 abbrev pub inside_of : {B : Type 0} {over : Ghosts B} → ReadAhead B over → BusState
 inside_of {over = over} ahead = over.state (ahead_of ahead)
 
--- The state of the bus: its own history, and from the bus inside only what was sent and the result of the last poll
--- (`view_of`).
+-- The greatest length of a block.
+abbrev pub longest_of : {B : Type 0} {over : Ghosts B} → ReadAhead B over → ℕ
+longest_of ahead = ahead.longest
+
+-- The state of the bus (`reads_ahead`).
 abbrev pub ahead_state : {B : Type 0} {over : Ghosts B} → ReadAhead B over → BusState
-ahead_state ahead = view_of (inside_of ahead) (history_of ahead)
+ahead_state ahead = reads_ahead (longest_of ahead) (inside_of ahead) (history_of ahead)

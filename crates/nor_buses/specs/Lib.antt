@@ -6,6 +6,7 @@ pub mod Twice
 pub mod Splitting
 pub mod Parts
 pub mod Ahead
+pub mod Blocks
 pub mod ReadsAs
 pub mod StatusRead
 pub mod KnownStatus

@@ -18,16 +18,6 @@ address_in _ = 0
 abbrev pub part : (bytes : List ℕ) → (at n : ℕ) → List ℕ
 part bytes at n = take n (drop at bytes)
 
--- The state of a bus that has its own history and replaces reads of data by other reads of the bus inside. The
--- modifying commands that were sent, the result of the last poll, and whether the bus has further types are those of
--- the bus inside. Nothing else is known.
-abbrev pub view_of : (inside : BusState) → (history : List Exchange) → BusState
-view_of inside history = record (unknown_bus history) {
-  sent = inside.sent;
-  polled_ready = inside.polled_ready;
-  further = inside.further;
-}
-
 -- The state of a bus that has its own history, and may send several transactions of the bus inside for one of its own.
 -- The rest of its state is that of the bus inside. It is not punctual, because it may stop at each of these
 -- transactions.

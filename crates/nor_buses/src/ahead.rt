@@ -1,9 +1,12 @@
 //! A bus that reads ahead.
-ghost use Rattle.std.specs.Prelude.{◌≡◌, ◌<◌, ◌≤◌, ◌+◌, ◌-◌, ◌∷◌, [], true, false, length, take, OnOk, IfSome};
-ghost use Rattle.std.proofs.lemmas.Bool.{false≢true};
-ghost use Rattle.nor_model.specs.Bus.{Records, Transfers};
+ghost use Rattle.std.specs.Prelude.{◌≡◌, ◌<◌, ◌≤◌, ◌+◌, ◌-◌, ◌∷◌, [], true, false, length, take, OnOk, OnErr, IfSome};
+ghost use Rattle.std.proofs.lemmas.Bool.{and_parts};
+ghost use Rattle.nor_model.specs.Bus.{IsHonestFor, SameNature, AtStop, Records, Transfers};
 ghost use Rattle.nor_model.specs.History.{exchange_of};
-ghost use Rattle.nor_buses.specs.ReadsAs.{reads_data, address_in, view_of, KeepsRecord};
+ghost use Rattle.nor_buses.specs.Again.{data_read, HasData};
+ghost use Rattle.nor_buses.specs.Blocks.{takes_blocks, HoldsData};
+ghost use Rattle.nor_buses.specs.Keeps.{KeepsAll, StopsUnread, MakesStep};
+ghost use Rattle.nor_buses.specs.ReadsAs.{reads_data, address_in, around, KeepsRecord};
 ghost use Rattle.nor_buses.specs.ReadsAs.{HoldsReply, EndsWithRead, EndsWithData};
 
 use nor_geometry::SECTOR_LEN;
@@ -29,8 +32,9 @@ const READ_DATA: u8 = 0x03;
 /// If a read of data of at least one byte returns `Ok`, the last transaction over the bus inside is a read of data, and
 /// its reply has the returned bytes at the same addresses.
 ///
-/// A read over this bus may be no transaction over the bus inside, or a longer one, so this bus is not well-behaved as
-/// `Bus` defines it, even if the bus inside is. While this bus is used, nobody else may modify the chip.
+/// A read over this bus may be no transaction over the bus inside, or a longer one, so this bus is never punctual. It is
+/// proved to be well-behaved if the bus inside is and takes the blocks: if that bus is unlimited, or no block has more
+/// than 4,096 bytes (`longest_read` is less than 8,192). While this bus is used, nobody else may modify the chip.
 ///
 /// The history lists each transaction over this bus with its reply, even a read whose bytes came from memory; a
 /// transaction that failed is listed without a reply. In contracts, the modifying commands that were sent and the
@@ -54,16 +58,19 @@ pub struct ReadAhead<B: Bus + Drop> {
     ghost step_fits: { step ≤ 65536 },
     // If the block holds bytes, they are the whole reply to the last transaction over the bus inside.
     ghost holds: { HoldsReply block start len (B.state bus).history },
+    // They are also the bytes that the chip returns if they are read again.
+    ghost same: { HoldsData longest block start len (B.state bus) },
 }
 
 impl<B: Bus + Drop> ReadAhead<B> {
-    ghost use Rattle.nor_buses.specs.Ahead.{ahead_of, held, history_of};
+    ghost use Rattle.nor_buses.specs.Ahead.{ahead_of, held, history_of, longest_of};
 
     /// Returns a bus that reads ahead over `bus`. A transaction over `bus` can read `longest_read` bytes. If that is
     /// less than 4,096, nothing is read ahead.
     pub fn new(bus: B, longest_read: u32) -> ReadAhead<B>
         ensures bus { ahead_of result ≡ bus }
         ensures empty { held result ≡ 0 }
+        ensures longest { longest_of result ≤ longest_read }
         ensures history { history_of result ≡ [] }
     {
         let longest = longest_read.min(LONGEST_BLOCK) / SECTOR_LEN * SECTOR_LEN;
@@ -83,6 +90,7 @@ impl<B: Bus + Drop> ReadAhead<B> {
     /// `u32::MAX` removes this limit.
     pub fn end_blocks_at(&mut self, address: u32)
         ensures bus { ahead_of self.new ≡ ahead_of self.old }
+        ensures longest { longest_of self.new ≡ longest_of self.old }
         ensures history { history_of self.new ≡ history_of self.old }
     {
         self.end = address;
@@ -97,13 +105,19 @@ impl<B: Bus + Drop> ReadAhead<B> {
 }
 
 impl<B: Bus + Drop> ReadAhead<B> {
-    ghost use Rattle.nor_buses.specs.Ahead.{begin, held, history_of, inside_of, ahead_state};
+    ghost use Rattle.nor_buses.specs.Ahead.{begin, held, history_of, longest_of, inside_of, ahead_state};
 
     // Makes one transaction, and does not add it to the history. The clause `records` describes the state after the
     // caller has added the transaction.
     fn carry(&mut self, out: &[u8], reply: &mut [u8]) -> Result<(), Stopped>
         ensures records { Records out.now reply.new result (ahead_state self.old)
-            (view_of (inside_of self.new) (exchange_of out.now reply.new result ∷ history_of self.old)) }
+            (around (inside_of self.new) (exchange_of out.now reply.new result ∷ history_of self.old)) }
+        ensures nature { SameNature (inside_of self.old) (inside_of self.new) }
+        ensures longest { longest_of self.new ≡ longest_of self.old }
+        ensures stops { IsHonestFor out.now (length reply.old) (ahead_state self.old)
+            → OnErr result (AtStop out.now (inside_of self.old) (inside_of self.new)) }
+        ensures steps { IsHonestFor out.now (length reply.old) (ahead_state self.old)
+            → OnOk result (MakesStep out.now reply.new (inside_of self.old) (inside_of self.new)) }
         ensures history { history_of self.new ≡ history_of self.old }
         ensures forgets { reads_data out.now ≡ false → held self.new ≡ 0 }
         ensures read { reads_data out.now ≡ true → 0 < length reply.old
@@ -124,8 +138,16 @@ impl<B: Bus + Drop> ReadAhead<B> {
     // first if the block does not hold all of these bytes.
     fn read(&mut self, address: u32, reply: &mut [u8]) -> Result<(), Stopped>
         requires address { address ≤ 16777215 }
-        requires len { length reply.old ≤ 65536 }
+        requires len { length reply.old ≤ longest_of self.old }
         ensures record { KeepsRecord (inside_of self.old) (inside_of self.new) }
+        ensures nature { SameNature (inside_of self.old) (inside_of self.new) }
+        ensures longest { longest_of self.new ≡ longest_of self.old }
+        ensures stops { takes_blocks (longest_of self.old) (inside_of self.old) ≡ true
+            → OnErr result (StopsUnread (inside_of self.old) (inside_of self.new)) }
+        ensures keeps { takes_blocks (longest_of self.old) (inside_of self.old) ≡ true
+            → OnOk result (KeepsAll (inside_of self.old) (inside_of self.new)) }
+        ensures same { takes_blocks (longest_of self.new) (inside_of self.new) ≡ true
+            → OnOk result (HasData (inside_of self.new).chip address reply.new) }
         ensures history { history_of self.new ≡ history_of self.old }
         ensures read { 0 < length reply.old
             → OnOk result (EndsWithData address reply.new (inside_of self.new).history) }
@@ -140,8 +162,14 @@ impl<B: Bus + Drop> ReadAhead<B> {
     // begins at `address`.
     fn hold(&mut self, address: u32, len: u32) -> Result<(), Stopped>
         requires address { address ≤ 16777215 }
-        requires len { len ≤ 65536 }
+        requires len { len ≤ longest_of self.old }
         ensures record { KeepsRecord (inside_of self.old) (inside_of self.new) }
+        ensures nature { SameNature (inside_of self.old) (inside_of self.new) }
+        ensures longest { longest_of self.new ≡ longest_of self.old }
+        ensures stops { takes_blocks (longest_of self.old) (inside_of self.old) ≡ true
+            → OnErr result (StopsUnread (inside_of self.old) (inside_of self.new)) }
+        ensures keeps { takes_blocks (longest_of self.old) (inside_of self.old) ≡ true
+            → OnOk result (KeepsAll (inside_of self.old) (inside_of self.new)) }
         ensures history { history_of self.new ≡ history_of self.old }
         ensures begins { OnOk result (begin self.new ≤ address) }
         ensures ends { OnOk result (address + len ≤ begin self.new + held self.new) }
@@ -165,8 +193,14 @@ impl<B: Bus + Drop> ReadAhead<B> {
     // Reads a block of `len` bytes from `address` on. If that fails, the block holds no bytes.
     fn fill(&mut self, address: u32, len: u32) -> Result<(), Stopped>
         requires address { address ≤ 16777215 }
-        requires len { len ≤ 65536 }
+        requires len { len ≤ longest_of self.old }
         ensures record { KeepsRecord (inside_of self.old) (inside_of self.new) }
+        ensures nature { SameNature (inside_of self.old) (inside_of self.new) }
+        ensures longest { longest_of self.new ≡ longest_of self.old }
+        ensures stops { takes_blocks (longest_of self.old) (inside_of self.old) ≡ true
+            → OnErr result (StopsUnread (inside_of self.old) (inside_of self.new)) }
+        ensures keeps { takes_blocks (longest_of self.old) (inside_of self.old) ≡ true
+            → OnOk result (KeepsAll (inside_of self.old) (inside_of self.new)) }
         ensures history { history_of self.new ≡ history_of self.old }
         ensures begins { OnOk result (begin self.new ≡ address) }
         ensures filled { OnOk result (held self.new ≡ len) }
@@ -184,7 +218,7 @@ impl<B: Bus + Drop> Bus for ReadAhead<B> {
 
     ghost state = { ahead_state };
 
-    ghost reaches = { λ ahead honest. absurd (false≢true honest) };
+    ghost reaches = { λ ahead honest. B.reaches ahead.bus (and_parts _ _ honest).0 };
 
     fn transfer(&mut self, out: &[u8], reply: &mut [u8]) -> Result<(), Stopped>
         ensures law { Transfers out.now reply.old reply.new result (ahead_state self.old) (ahead_state self.new) }
@@ -214,6 +248,13 @@ fn read_block<B: Bus>(bus: &mut B, address: u32, len: u32, block: &mut [u8]) -> 
     requires address { address ≤ 16777215 }
     requires len { len ≤ length block.old }
     ensures record { KeepsRecord (B.state bus.old) (B.state bus.new) }
+    ensures nature { SameNature (B.state bus.old) (B.state bus.new) }
+    ensures stops { IsHonestFor (data_read address) len (B.state bus.old)
+        → OnErr result (StopsUnread (B.state bus.old) (B.state bus.new)) }
+    ensures keeps { IsHonestFor (data_read address) len (B.state bus.old)
+        → OnOk result (KeepsAll (B.state bus.old) (B.state bus.new)) }
+    ensures same { IsHonestFor (data_read address) len (B.state bus.old)
+        → OnOk result (HasData (B.state bus.new).chip address (take len block.new)) }
     ensures read { OnOk result (EndsWithRead address (take len block.new) (B.state bus.new).history) }
 {
     let [_, high, middle, low] = address.to_be_bytes();
@@ -236,8 +277,7 @@ pub(crate) fn data_address(out: &[u8]) -> Option<u32>
 // Returns whether `len` bytes from `address` on fit into a block. A block has at most `longest` bytes, and ends at the
 // next multiple of 64 KiB at the latest.
 fn is_in_block(address: u32, len: usize, longest: u32) -> bool
-    requires { longest ≤ 65536 }
-    ensures { result ≡ true → len ≤ 65536 }
+    ensures { result ≡ true → len ≤ longest }
 {
     len <= longest as usize && len <= (LONGEST_BLOCK - address % LONGEST_BLOCK) as usize
 }

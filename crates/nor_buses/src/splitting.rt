@@ -27,8 +27,8 @@ use nor_model::{Bus, History, Stopped};
 /// a sector that the journal saves.
 ///
 /// If the limits allow a page program (260 bytes sent) and the read of a sector (4,096 bytes read), this bus is proved
-/// to be well-behaved if the bus inside is. It then passes on each transaction within these two lengths unchanged, so it
-/// is also punctual and steady if the bus inside is. With narrower limits this bus is not well-behaved, because a
+/// to be well-behaved if the bus inside is. It then passes on each transaction within these two lengths unchanged, so
+/// it is also punctual and steady if the bus inside is. With narrower limits this bus is not well-behaved, because a
 /// program in parts that stops may leave an idle chip with its write enable latch set.
 ///
 /// The history lists each transaction over this bus with its reply. A transaction that failed or was rejected is listed

@@ -1,0 +1,22 @@
+-- The blocks of a bus that reads ahead, and its state.
+use Rattle.std.specs.Prelude.{◌≡◌, ◌<◌, ◌&&◌, ◌||◌, ℕ, Bool, true, List, take, nat_le}
+use Rattle.nor_model.specs.Bus.{BusState}
+use Rattle.nor_model.specs.Exchange.{Exchange}
+use Rattle.nor_buses.specs.Again.{HasData}
+use Rattle.nor_buses.specs.ReadsAs.{around}
+
+-- True if the bus inside is well-behaved and takes the read of each block. The greatest length of a block is `longest`.
+-- A well-behaved bus that isn't unlimited takes only reads of at most 4,096 bytes.
+abbrev pub takes_blocks : (longest : ℕ) → (inside : BusState) → Bool
+takes_blocks longest inside = inside.honest && (inside.unlimited || nat_le longest 4096)
+
+-- The state of a bus with this history that reads blocks of at most `longest` bytes from the bus inside. It is the state
+-- of that bus, except that it is well-behaved only if the bus inside takes the blocks. The bus is not punctual, because a read whose bytes
+-- are in memory is no transaction of the bus inside.
+abbrev pub reads_ahead : (longest : ℕ) → (inside : BusState) → (history : List Exchange) → BusState
+reads_ahead longest inside history = record (around inside history) { honest = takes_blocks longest inside }
+
+-- Holds if the block has no byte, or if its first `len` bytes are those that the chip returns if they are read again.
+-- For a bus inside that isn't well-behaved, or doesn't take the block, nothing is claimed.
+pub record HoldsData (longest : ℕ) (block : List ℕ) (start len : ℕ) (inside : BusState) : Type 0 where
+  pub same : 0 < len → takes_blocks longest inside ≡ true → HasData inside.chip start (take len block)
