@@ -14,12 +14,14 @@
 //! - `again.rt`: repeats a read, as a whole or only for the sectors whose bytes differ from an image
 //! - `ahead.rt`: a bus that reads ahead
 //! - `same_chip.rt`: a bus that reads the unique ID again before the first modifying command
+//! - `layers.rt`: all layers together, and that they are a well-behaved bus
 #![tactic(auto)]
 
 mod again;
 mod ahead;
 mod counts;
 mod known;
+mod layers;
 mod paced;
 mod parts;
 mod same_chip;
@@ -30,6 +32,7 @@ mod twice;
 pub use ahead::ReadAhead;
 pub use counts::ChangedByte;
 pub use known::CheckFault;
+pub use layers::{Layered, layers_are_well_behaved};
 pub use paced::Paced;
 pub use same_chip::{OtherChip, SameChip};
 pub use splitting::SplittingBus;
