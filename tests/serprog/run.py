@@ -3,8 +3,8 @@
 
 The programmer is server.py, and its chip is a model from the datasheets (chip.py). The cases are in options.py,
 journals.py, locks.py, maps.py, chip_maps.py, regions.py, terminal.py, logs.py, backups.py, refusals.py, faults.py,
-wire.py, contact.py, rest.py, sectors.py, narrow.py, extract.py, ports.py and units.py; manual.py and rescue.py play the
-manual page. bits.py tries each single wrong bit of each reply, and misses each single frame. losses.py kills the
+wire.py, contact.py, rest.py, sectors.py, narrow.py, extract.py, ports.py, units.py and typed.py; manual.py and rescue.py
+play the manual page. bits.py tries each single wrong bit of each reply, and misses each single frame. losses.py kills the
 program, and loses replies, at each transaction of a session and of its restores; busy.py does so while the chip is busy.
 What the program must send and print is computed by reference.py, without the program.
 
@@ -42,13 +42,14 @@ import rescue
 import rest
 import sectors
 import terminal
+import typed
 import units
 import wire
 from bench import Bench, Differs
 
 MODULES = (
     options, journals, maps, chip_maps, regions, terminal, backups, refusals, faults, wire, contact, rest, sectors, narrow,
-    busy, ports, manual, rescue, logs, locks, units, extract,
+    busy, ports, manual, rescue, logs, locks, units, extract, typed,
 )
 CASES = {case.__name__: case for module in MODULES for case in module.CASES}
 

@@ -63,6 +63,8 @@ pub record Texts : Type 0 where
   pub verbose : Bool
   -- The value of `-o FILE`.
   pub log : Option Text
+  -- Whether the program is one for hardware, which takes no file with the name `-`.
+  pub hardware : Bool
 
 -- true if the value is the text `true`, which `clap` gives a flag that is set
 abbrev pub is_flag_set : Option Text → Bool
@@ -113,6 +115,7 @@ given_in rows = record {
   progress = None;
   verbose = false;
   log = None;
+  hardware = false;
 }
 
 -- the options that flashnor's arguments contain, as `clap` parses them
@@ -141,6 +144,7 @@ hardware_given_in rows = record (given_in rows) {
   progress = text_in rows (codes "progress");
   verbose = is_set_in rows (codes "verbose");
   log = text_in rows (codes "output");
+  hardware = true;
 }
 
 -- the options that the arguments of a program for hardware contain, as `clap` parses them; `program` is the program's
@@ -185,6 +189,7 @@ texts_of given = record {
   progress = option_map (λ text. text.now) given.progress;
   verbose = given.verbose;
   log = option_map (λ text. text.now) given.log;
+  hardware = given.is_hardware;
 }
 
 -- the number of elements of the list that are true

@@ -30,6 +30,7 @@ use arrayvec::ArrayVec;
 use clap::ArgMatches;
 use nor_probe::ChipName;
 
+mod dashes;
 mod faults;
 mod flags;
 mod layouts;
@@ -77,6 +78,8 @@ pub struct Given<'a> {
     progress: Option<&'a str>,
     verbose: bool,
     log: Option<&'a str>,
+    // True in a program for hardware, which takes no file with the name `-`.
+    is_hardware: bool,
 }
 
 impl<'a> Given<'a> {
@@ -122,6 +125,7 @@ impl<'a> Given<'a> {
             progress: None,
             verbose: false,
             log: None,
+            is_hardware: false,
         }
     }
 
@@ -149,6 +153,7 @@ impl<'a> Given<'a> {
             progress: matches.get_str("progress"),
             verbose: is_set(matches, "verbose"),
             log: matches.get_str("output"),
+            is_hardware: true,
             ..Given::of(matches)
         }
     }

@@ -7,7 +7,7 @@
 //! - `calls.rt`: calls to the engine, with the files that they write (only flashnor-serprog makes backups)
 //! - `messages.rt`: the faults that end a run with exit status 1, and their texts
 //! - `reasons.rt`: the lines that precede the numbered line of a fault, and say what is wrong
-//! - `escapes.rt`: file names with their control characters escaped
+//! - `escapes.rt`: file names with the characters escaped that a terminal doesn't show as themselves
 //! - `printing.rt`: prints answers, help and faults
 //! - `files.rt`: reads, locks and creates the files of a job, and makes the faults of files
 //! - `requests.rt`: the request of a change, and its included addresses

@@ -43,6 +43,13 @@ impl fmt::Display for ReasonLine<'_> {
                 let value = Escaped(value);
                 writeln!(f, "error: invalid value of --progress: '{value}'")
             }
+            Reason::Dash(option) => {
+                let option = option.as_str();
+                writeln!(
+                    f,
+                    "error: '-' is no file for {option}; for a file with this name give ./-"
+                )
+            }
             Reason::NoJournal(option) => {
                 writeln!(f, "error: {} needs --journal", option.as_str())
             }
