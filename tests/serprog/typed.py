@@ -1,5 +1,6 @@
 """Cases of what people type: files with the name `-`, arguments that a terminal would not show, and flashrom's options."""
 from bench import check
+from maps import with_descriptor, with_fmap
 from options import FREE, SIZE
 import reference
 
@@ -81,4 +82,29 @@ def gives_tips(start):
     bench.expect("--reed", err=usage("error: unexpected argument '--reed' found"))
 
 
-CASES = [refuses_dash, finds_dash_in_its_turn, escapes_arguments, gives_tips]
+def takes_maps_of_larger_chips(start):
+    """A region of an FMAP or a flash descriptor that lies outside the chip is refused only if -i names it."""
+    fmap = with_fmap(FREE, 0x2000, [(0x1000, 0x1000, b"A"), (SIZE, 1, b"B"), (SIZE - 1, 2, b"C"), (0xFFFFFFFD, 2, b"D")])
+    descriptor = with_descriptor(FREE, [(0, 0), (16, 31), (1, 1), (2, 16), (0x7FFF, 0x7FFF)])
+    for image, option, own, inside, others in (
+            (fmap, "--fmap-file", "--fmap", "A", "BCD"),
+            (descriptor, "--ifd-file", "--ifd", "me", ("bios", "gbe", "pd"))):
+        bench = start(data=image)
+        bench.write("before", image)
+        bench.write("short", image[:0x4000])
+        wanted = b"\xff" * 0x1000 + image[0x1000:0x2000] + b"\xff" * (SIZE - 0x2000)
+        for layout in (option, "before"), (option, "short"), (own,):
+            got = bench.run("-r", "out", *layout, "-i", inside)
+            check("the run", (got.out, got.status), ([reference.found("TINY64"), f"Read {SIZE} bytes."], 0))
+            bench.check_file("out", wanted)
+            bench.path("out").unlink()
+            for name in others:
+                for words in ("-r", "out"), ("-v", "before"), ("-w", "before", "--journal", "j"), ("-E", "--journal", "j"):
+                    got = bench.run(*words, *layout, "-i", f"{inside},{name}")
+                    check("the fault", (got.err[0], got.out, got.status), ("Error 5: region outside the chip.", [], 1))
+                    bench.check_absent("out")
+                    bench.path("j").unlink(missing_ok=True)
+                    bench.check_chip(image)
+
+
+CASES = [refuses_dash, finds_dash_in_its_turn, escapes_arguments, gives_tips, takes_maps_of_larger_chips]
