@@ -7,35 +7,42 @@
 # settings of the device, it is no terminal or may not be opened: then the program is run, and prints its own fault. The
 # environment variable FLASHNOR_SERPROG_STTY=no leaves the port as it is.
 
-# The program is where `make install` puts it, or beside this script, as in the archive of `make dist`.
-here=$(dirname "$(readlink -f "$0")")
+# The program is where `make install` puts it, or beside this script, as in the archive of `make dist`. The dot keeps a
+# newline at the end of the name.
+here=$(readlink -f "$0" && echo .) || {
+    echo "flashnor-serprog: readlink -f doesn't find this script, so the program isn't found" >&2
+    exit 1
+}
+here=${here%/*}
 program=$here/../libexec/flashnor_serprog
 [ -x "$program" ] || program=$here/flashnor_serprog
 
-# Prints the device that a value of -p names, if it names one.
-device_of() {
-    case ,${1#serprog:} in
-        *,dev=*)
-            device=${1##*dev=}
-            printf '%s\n' "${device%%,*}"
-            ;;
-    esac
+# Sets `device` to the device that a value of -p names, if it names one. Commas separate the settings, as in the program.
+find_device() {
+    settings=${1#serprog:},
+    while [ -n "$settings" ]; do
+        setting=${settings%%,*}
+        settings=${settings#*,}
+        case $setting in
+            dev=*) device=${setting#dev=} ;;
+        esac
+    done
 }
 
 device=
 previous=
 for word in "$@"; do
     case $previous in
-        -p | --programmer) device=$(device_of "$word") ;;
+        -p | --programmer) find_device "$word" ;;
     esac
     case $word in
-        --programmer=*) device=$(device_of "${word#*=}") ;;
+        --programmer=*) find_device "${word#*=}" ;;
         --*) ;;
         -*)
             flags=${word#-}
             while :; do
                 case $flags in
-                    [VnNERh]?*) flags=${flags#?} ;;
+                    [VnNERhL]?*) flags=${flags#?} ;;
                     *) break ;;
                 esac
             done
@@ -43,7 +50,7 @@ for word in "$@"; do
                 p) word=-p ;;
                 p?*)
                     flags=${flags#p}
-                    device=$(device_of "${flags#=}")
+                    find_device "${flags#=}"
                     ;;
             esac
             ;;

@@ -183,6 +183,37 @@ def runs_nothing_if_the_port_stays_as_it_is(start):
     bench.check_nothing_sent()
 
 
-CASES = [refuses_a_port_that_changes_what_is_sent, notices_a_port_that_changes_what_is_received,
+def finds_each_name_of_a_port(start):
+    """Commas separate the settings: `dev=` within a name is no key. A newline at the end of a name belongs to it."""
+    old, _ = images("finds_each_name_of_a_port")
+    for name in "dev=port", "a dev=", "port\n", "dev=\n":
+        bench = start(data=old)
+        set_flags(bench, *COOKED, control=termios.HUPCL)
+        os.symlink("dev", bench.path(name))
+        words = ["-p", f"serprog:dev={bench.path(name)},spispeed=1000000", "-r", "out"]
+        done = run_script(bench, installed(bench), words)
+        check("raw, and the least bytes and tenths of a second of a read", raw_settings(bench), (True, 0, 50))
+        check(f"the run with {name!r}", (done.stderr, done.returncode), ("", 0))
+        bench.check_file("out", old)
+
+
+def runs_no_program_that_it_finds_by_chance(start):
+    """If the script can't find out where it is, nothing is run, also if the current directory has such a program."""
+    bench = start()
+    script, tools = installed(bench), bench.path("own")
+    tools.mkdir()
+    for name in "dirname", "stty", "sleep":
+        (tools / name).symlink_to(shutil.which(name))
+    chance = bench.path("flashnor_serprog")
+    chance.write_text("#!/bin/sh\n: > PWN\n")
+    chance.chmod(0o755)
+    done = run_script(bench, script, ("-p", f"serprog:dev={bench.path('dev')}"), {"PATH": str(tools)})
+    check("the exit status and the last line", (done.returncode, done.stderr.splitlines()[-1:]), (
+        1, ["flashnor-serprog: readlink -f doesn't find this script, so the program isn't found"]))
+    bench.check_absent("PWN")
+    bench.check_nothing_sent()
+
+
+CASES = [finds_each_name_of_a_port, runs_no_program_that_it_finds_by_chance, refuses_a_port_that_changes_what_is_sent, notices_a_port_that_changes_what_is_received,
          changes_nothing_with_wrong_data, sets_up_the_port, leaves_the_port,
          runs_nothing_if_the_port_stays_as_it_is]
