@@ -5,7 +5,7 @@ use Rattle.std.specs.Prelude.{drop, find, is_some, nat_eq, nat_lt, not, option_m
 use Rattle.std.specs.List.{list_any}
 use Rattle.std.specs.Option.{option_map_or}
 use Rattle.std.specs.Str.{bytes_eq}
-use Rattle.nor_args.specs.Text.{Text, file_of, pieces_of, reads}
+use Rattle.nor_args.specs.Text.{Text, after_colon, pieces_of, reads}
 use Rattle.nor_args.specs.Given.{Texts, asks_change, gives_layout, has_two_layouts, how_many, is_new_content}
 use Rattle.nor_args.specs.Given.{operations, progress_of, takes_regions}
 use Rattle.nor_args.specs.Numbers.{range_of}
@@ -49,7 +49,7 @@ is_dash = passes_test (λ text. bytes_eq text (codes "-"))
 
 -- true if a part of the value of `-i` names the file `-` for its region
 abbrev pub has_dash : Text → Bool
-has_dash piece = bytes_eq (file_of piece) (codes "-")
+has_dash piece = bytes_eq (after_colon piece) (codes "-")
 
 -- true if a value of `-i` names the file `-` for a region
 abbrev pub lists_dash : Text → Bool

@@ -4,7 +4,7 @@ use Rattle.std.specs.Prelude.{nat_lt, option_and_then, option_map, unwrap_or, if
 use Rattle.std.specs.List.{count_by}
 use Rattle.std.specs.Option.{option_map_or, option_or}
 use Rattle.std.specs.Str.{bytes_eq}
-use Rattle.clap.specs.Words.{Row, first_of, matches_of}
+use Rattle.clap.specs.Words.{Row, count_of, first_of, matches_of}
 use Rattle.nor_args.specs.Text.{Text}
 use Rattle.nor_args.specs.Options.{hardware_options, options}
 use Rattle.nor_args.specs.declared.given.Given.{Given}
@@ -142,7 +142,7 @@ hardware_given_in rows = record (given_in rows) {
   ifd = is_set_in rows (codes "ifd");
   no_verify_all = is_set_in rows (codes "noverify-all");
   progress = text_in rows (codes "progress");
-  verbose = is_set_in rows (codes "verbose");
+  verbose = nat_lt 0 (count_of (codes "verbose") rows);
   log = text_in rows (codes "output");
   hardware = true;
 }

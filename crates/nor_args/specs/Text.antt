@@ -34,8 +34,8 @@ abbrev pub value_of : Text → Text
 value_of = after_first (λ byte. byte == 61)
 
 -- the bytes that follow the first `:`, or no bytes if the text has no `:`
-abbrev pub file_of : Text → Text
-file_of = after_first (λ byte. byte == 58)
+abbrev pub after_colon : Text → Text
+after_colon = after_first (λ byte. byte == 58)
 
 -- true if the parser `reading` returns a value for the text
 abbrev pub reads : {T : Type 0} → (Text → Option T) → Text → Bool
