@@ -554,7 +554,8 @@ def takes_modes_of_progress(start):
         got = bench.run("--progress", mode)
         check("lines", (got.out, got.status), ([reference.found("TINY64")], 0))
     for mode in "", "Auto", "plain ", "all":
-        bench.expect("--progress", mode, err=[f"error: invalid value of --progress: '{mode}'", "Usage fault 5."])
+        bench.expect("--progress", mode, err=[
+            f"error: invalid value of --progress: '{mode}'; give auto, plain or none", "Usage fault 5."])
         bench.check_nothing_sent()
 
 

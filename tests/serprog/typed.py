@@ -47,7 +47,7 @@ def finds_dash_in_its_turn(start):
     bench = start()
     for words, *lines in (
             (("-r", "-", "-E"), "error: -r and -E cannot be used together", "Usage fault 4."),
-            (("-r", "-", "--progress", "all"), "error: invalid value of --progress: 'all'",
+            (("-r", "-", "--progress", "all"), "error: invalid value of --progress: 'all'; give auto, plain or none",
              "Usage fault 5."),
             (("-w", "-"), "error: '-' is no file for -w; for a file with this name give ./-", "Usage fault 5."),
             (("-r", "-", "--quick"), "error: '-' is no file for -r; for a file with this name give ./-",
@@ -110,7 +110,7 @@ def takes_repeated_flags(start):
     for words in ("--progress",), ("--progress", "-c", "SFDP"), ("-c", "SFDP", "--progress"):
         bench.expect(*words, out=[reference.found("TINY64")])
     bench.expect("--progress", "all", err=[
-        "error: invalid value of --progress: 'all'", "Usage fault 5."])
+        "error: invalid value of --progress: 'all'; give auto, plain or none", "Usage fault 5."])
 
 
 def takes_maps_of_larger_chips(start):

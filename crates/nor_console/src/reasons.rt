@@ -41,7 +41,10 @@ impl fmt::Display for ReasonLine<'_> {
             }
             Reason::Progress(value) => {
                 let value = Escaped(value);
-                writeln!(f, "error: invalid value of --progress: '{value}'")
+                writeln!(
+                    f,
+                    "error: invalid value of --progress: '{value}'; give auto, plain or none"
+                )
             }
             Reason::Dash(option) => {
                 let option = option.as_str();
