@@ -20,6 +20,7 @@ use Rattle.nor_console.specs.declared.answers.Answer.{Answer}
 use Rattle.flashnor.specs.declared.holding.Unwritten.{Unwritten}
 use Rattle.nor_console.specs.declared.messages.Fault.{Fault}
 use Rattle.nor_console.specs.declared.messages.Fault.TheVariants as end
+use Rattle.nor_console.specs.declared.messages.Wording.{Wording}
 use Rattle.flashnor.specs.declared.printing.Ending.{Ending}
 use Rattle.flashnor.specs.declared.run.Work.{Work}
 use Rattle.flashnor.specs.Streams.{IsReportedTo}
@@ -126,16 +127,17 @@ holds_readonly on_chip result old new not_written_back = grind arith
 
 -- ---- how a run ends
 
-module _ (files after : FilesState) (words : List Text) where
+module _ (files after : FilesState) (words : List Text) (wording : Wording) where
   module _ (outcome : Result Answer Fault) (unwritten : Unwritten) (to : Reports) (out out' err err' : Option (List ℕ))
       (ending : Ending) (answers : AnswersArguments files after words outcome unwritten)
       (printed_at : IsPrintedAt files.view.nature outcome to)
-      (prints : HasPrinted outcome unwritten to out out' err err' ending) where
-    pub is_status : IsStatus files after words out out' err err' ending
+      (prints : HasPrinted wording outcome unwritten to out out' err err' ending) where
+    pub is_status : IsStatus files after words wording out out' err err' ending
     is_status = grind arith
 
 -- If memory ran out for a run's arguments, and the run changed no file and printed this fault, `IsStatus` holds.
-pub is_without_memory : (files : FilesState) (words : List Text) (out out' err err' : Option (List ℕ)) (ending : Ending)
-    → HasPrinted (Err (end.Usage usage.Memory because.Unsaid)) all_written at.Errors out out' err err' ending
-    → IsStatus files files words out out' err err' ending
-is_without_memory files words out out' err err' ending prints = grind arith
+pub is_without_memory : (files : FilesState) (words : List Text) (wording : Wording)
+    (out out' err err' : Option (List ℕ)) (ending : Ending)
+    → HasPrinted wording (Err (end.Usage usage.Memory because.Unsaid)) all_written at.Errors out out' err err' ending
+    → IsStatus files files words wording out out' err err' ending
+is_without_memory files words wording out out' err err' ending prints = grind arith

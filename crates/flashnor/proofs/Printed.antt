@@ -14,6 +14,8 @@ use Rattle.flashnor.specs.declared.holding.Unwritten.{Unwritten}
 use Rattle.nor_console.specs.declared.messages.Fault.{Fault}
 use Rattle.nor_console.specs.declared.messages.Fault.TheVariants as end
 use Rattle.nor_console.specs.declared.messages.FileFault.TheVariants as file
+use Rattle.nor_console.specs.declared.messages.Wording.{Wording}
+use Rattle.nor_console.specs.declared.messages.Wording.TheVariants as worded
 use Rattle.flashnor.specs.declared.printing.Ending.{Ending}
 use Rattle.flashnor.specs.declared.streams.Reports.{Reports}
 use Rattle.flashnor.specs.declared.streams.Reports.TheVariants as at
@@ -25,32 +27,32 @@ pub appends_both : (line : Option (List ℕ)) (a b c : Option (List ℕ)) (other
 appends_both line a b c others one two = grind (arith, appends_then)
 
 -- `HasPrinted` holds after a run with an answer or the help.
-pub printed_well : (outcome : Result Answer Fault) (unwritten : Unwritten) (to : Reports)
+pub printed_well : (wording : Wording) (outcome : Result Answer Fault) (unwritten : Unwritten) (to : Reports)
     (out out' err err' : Option (List ℕ)) (ending : Ending) (is_printed : Bool)
     → IsAnswered outcome → (is_printed ≡ true → PrintsAnswer outcome out out')
-    → EndsWell is_printed unwritten err err' ending → HasPrinted outcome unwritten to out out' err err' ending
-printed_well outcome unwritten to out out' err err' ending is_printed answered prints ends = grind arith
+    → EndsWell is_printed unwritten err err' ending → HasPrinted wording outcome unwritten to out out' err err' ending
+printed_well wording outcome unwritten to out out' err err' ending is_printed answered prints ends = grind arith
 
 -- `HasPrinted` holds after a run with a fault that is not the help, if the fault was printed to standard error.
-pub printed_badly : (fault : Fault) (unwritten : Unwritten) (out err err' : Option (List ℕ)) (ending : Ending)
-    → (IsAnswered (Err fault) → ⊥) → EndsBadly fault unwritten err err' ending
-    → HasPrinted (Err fault) unwritten at.Errors out out err err' ending
-printed_badly fault unwritten out err err' ending never ends = grind arith
+pub printed_badly : (wording : Wording) (fault : Fault) (unwritten : Unwritten) (out err err' : Option (List ℕ)) (ending : Ending)
+    → (IsAnswered (Err fault) → ⊥) → EndsBadly wording fault unwritten err err' ending
+    → HasPrinted wording (Err fault) unwritten at.Errors out out err err' ending
+printed_badly wording fault unwritten out err err' ending never ends = grind arith
 
 -- `HasPrinted` holds after a run with a fault that is not the help, if the fault was printed to standard output.
-pub printed_aside : (fault : Fault) (unwritten : Unwritten) (out out' err : Option (List ℕ)) (ending : Ending)
-    → (IsAnswered (Err fault) → ⊥) → EndsBadly fault unwritten out out' ending
-    → HasPrinted (Err fault) unwritten at.Output out out' err err ending
-printed_aside fault unwritten out out' err ending never ends = grind arith
+pub printed_aside : (wording : Wording) (fault : Fault) (unwritten : Unwritten) (out out' err : Option (List ℕ)) (ending : Ending)
+    → (IsAnswered (Err fault) → ⊥) → EndsBadly wording fault unwritten out out' ending
+    → HasPrinted wording (Err fault) unwritten at.Output out out' err err ending
+printed_aside wording fault unwritten out out' err ending never ends = grind arith
 
 -- `HasPrinted` holds after a run with a fault that is not the help, if nothing was printed.
-pub printed_nowhere : (fault : Fault) (unwritten : Unwritten) (out err : Option (List ℕ)) (ending : Ending)
+pub printed_nowhere : (wording : Wording) (fault : Fault) (unwritten : Unwritten) (out err : Option (List ℕ)) (ending : Ending)
     → (IsAnswered (Err fault) → ⊥) → ending ≡ record { status = 1; printed = false; reported = false }
-    → HasPrinted (Err fault) unwritten at.Nowhere out out err err ending
-printed_nowhere fault unwritten out err ending never ends = grind arith
+    → HasPrinted wording (Err fault) unwritten at.Nowhere out out err err ending
+printed_nowhere wording fault unwritten out err ending never ends = grind arith
 
 -- ---- the message that standard output could not be written
 
-pub output_line : (fault : Fault) → IsLostOutput fault → line_of fault ≡ Some line_of_output
+pub output_line : (fault : Fault) → IsLostOutput fault → line_of worded.Numbered fault ≡ Some line_of_output
 output_line (end.File file.Write of) is = grind arith
 output_line _ is = absurd is

@@ -33,18 +33,32 @@ mod run;
 mod streams;
 mod tasks;
 
-use nor_console::{by_line, keep_streams};
+use nor_console::{Wording, by_line, keep_streams};
+use printing::ErrorStream;
 use run::{end_without_streams, run_words};
 use std::env;
+use std::io::IsTerminal;
 use std::process::ExitCode;
 
 fn main(rt: HostRuntime) -> ExitCode {
     let streams = keep_streams(&rt);
     let mut output = by_line(rt.alloc(), rt.stdout());
-    let mut errors = by_line(rt.alloc(), rt.stderr());
+    let mut errors = ErrorStream {
+        wording: wording_for(&rt),
+        writer: by_line(rt.alloc(), rt.stderr()),
+    };
     let status = match &streams {
         Ok(_) => run_words(&rt, env::args(&rt), &mut output, &mut errors),
         Err(_) => end_without_streams(&mut output, &mut errors),
     };
     ExitCode::from(status)
+}
+
+// Returns how faults are worded: a script that reads standard error expects only the lines with the faults' numbers.
+fn wording_for(rt: &HostRuntime) -> Wording {
+    if rt.stderr().is_terminal() {
+        Wording::Explained
+    } else {
+        Wording::Numbered
+    }
 }

@@ -7,9 +7,16 @@ ghost use Rattle.flashnor.specs.FaultLines.{line_if_lost, line_of_unwritten, lin
 use crate::holding::Unwritten;
 use crate::streams::Reports;
 use nor_console::{
-    Answer, Fault, help_of, lost_output, print_answer, print_fault, print_help, unmade,
+    Answer, Fault, Wording, help_of, lost_output, print_answer, print_help, print_worded, unmade,
 };
 use std::io::Write;
+
+/// The writer for standard error, and the wording in which a run prints its faults.
+#[derive(Drop)]
+pub struct ErrorStream<E> {
+    pub writer: E,
+    pub wording: Wording,
+}
 
 /// How a run ended, and what it could print.
 #[derive(Clone, Copy)]
@@ -24,21 +31,24 @@ pub struct Ending {
 }
 
 /// Prints the result of a run. An answer or the help is printed to `output`, and a message for each file that could not
-/// be written to `errors`. A fault, with the messages of such files, is printed where `to` says.
+/// be written to `errors`. A fault, with the messages of such files, is printed where `to` says, in the wording of
+/// `errors`.
 ///
 /// If the answer or the help can't be printed, prints file fault 2 with the name of standard output to `errors`, and
 /// the status is 1. Any other message that can't be printed is lost.
 #[tactic(auto, using(crate::proofs::Printed::printed_well, crate::proofs::Printed::printed_badly))]
 pub fn print_end<O: Write, E: Write>(
     output: &mut O,
-    errors: &mut E,
+    errors: &mut ErrorStream<E>,
     answer: Result<Answer, Fault<'_>>,
     unwritten: Unwritten<'_>,
     to: Reports,
 ) -> Ending
-    ensures { HasPrinted answer.entry unwritten.entry to (O.contents output.old) (O.contents output.new)
-        (E.contents errors.old) (E.contents errors.new) result }
+    ensures { HasPrinted errors.old.wording answer.entry unwritten.entry to (O.contents output.old)
+        (O.contents output.new) (E.contents errors.old.writer) (E.contents errors.new.writer) result }
 {
+    let wording = errors.wording;
+    let errors = &mut errors.writer;
     match answer {
         Ok(answer) => {
             let printed = print_answer(output, answer).is_ok();
@@ -50,8 +60,8 @@ pub fn print_end<O: Write, E: Write>(
                 end_after_answer(errors, printed, unwritten)
             }
             None => match to {
-                Reports::Errors => end_after_fault(errors, &fault, unwritten),
-                Reports::Output => end_after_fault(output, &fault, unwritten),
+                Reports::Errors => end_after_fault(errors, &fault, unwritten, wording),
+                Reports::Output => end_after_fault(output, &fault, unwritten, wording),
                 Reports::Nowhere => Ending {
                     status: 1,
                     printed: false,
@@ -62,12 +72,18 @@ pub fn print_end<O: Write, E: Write>(
     }
 }
 
-// Prints the message of the run's fault, and a message for each file that could not be written. The status is 1.
+// Prints the message of the run's fault in this wording, and a message for each file that could not be written. The
+// status is 1.
 #[tactic(auto, using(crate::proofs::Printed::appends_both))]
-fn end_after_fault<W: Write>(errors: &mut W, fault: &Fault<'_>, unwritten: Unwritten<'_>) -> Ending
-    ensures { EndsBadly fault.now unwritten.entry (W.contents errors.old) (W.contents errors.new) result }
+fn end_after_fault<W: Write>(
+    errors: &mut W,
+    fault: &Fault<'_>,
+    unwritten: Unwritten<'_>,
+    wording: Wording,
+) -> Ending
+    ensures { EndsBadly wording fault.now unwritten.entry (W.contents errors.old) (W.contents errors.new) result }
 {
-    let first = print_fault(errors, fault);
+    let first = print_worded(errors, fault, wording);
     let others = print_unwritten(errors, unwritten);
     Ending {
         status: 1,
@@ -108,7 +124,7 @@ fn print_lost<W: Write>(errors: &mut W, printed: bool) -> bool
     if printed {
         return true;
     }
-    print_fault(errors, &lost_output())
+    print_worded(errors, &lost_output(), Wording::Numbered)
 }
 
 // Prints a message for each file that could not be written. Returns true if all these messages were printed.
@@ -134,7 +150,7 @@ fn print_unwritten_file<W: Write>(errors: &mut W, name: Option<&str>) -> bool
     let Some(name) = name else {
         return true;
     };
-    print_fault(errors, &unmade(name))
+    print_worded(errors, &unmade(name), Wording::Numbered)
 }
 
 // True if every file was written.

@@ -16,7 +16,7 @@ use crate::existing::{existing_journal, fault_before};
 use crate::holding::{Held, Unwritten, hold_content, lost_journal, write_back};
 use crate::jobs::{Called, call_on};
 use crate::laws::runs_restore_original;
-use crate::printing::{Ending, print_end};
+use crate::printing::{Ending, ErrorStream, print_end};
 use crate::roles::{files_have_one_role, look_at_sources};
 use crate::streams::{Reports, StreamFault, are_unprinted};
 use crate::tasks::writes_back;
@@ -29,8 +29,9 @@ use std::io;
 use std::io::Write;
 use std::rt::Files;
 
-/// Performs the job given by the program's arguments, or prints the help. Prints results and the help to `output` and
-/// faults to `errors`. Returns the exit status: 0, or 1 after any fault or if not all results could be printed.
+/// Performs the job given by the program's arguments, or prints the help. Prints results and the help to `output`, and
+/// faults to `errors` in the wording that it has. Returns the exit status: 0, or 1 after any fault or if not all
+/// results could be printed.
 ///
 /// If standard error prints to a file of the job, the fault that reports this is printed to `output`. If standard
 /// output prints to a file of the job too, that fault isn't printed.
@@ -41,14 +42,16 @@ pub fn run_words<R: Files + AllocGlobal, O: Write, E: Write>(
     rt: &R,
     given: io::Result<Args>,
     output: &mut O,
-    errors: &mut E,
+    errors: &mut ErrorStream<E>,
 ) -> u8
 where
     R::File: LockFile,
-    ensures words { IfOk given (λ args. EndsWith (IsStatus unknown unknown (arguments_of args)
-        (O.contents output.old) (O.contents output.new) (E.contents errors.old) (E.contents errors.new)) result) }
-    ensures unread { IfErr given (λ error. EndsWith (IsUnread error
-        (O.contents output.old) (O.contents output.new) (E.contents errors.old) (E.contents errors.new)) result) }
+    ensures words { IfOk given (λ args. EndsWith (IsStatus unknown unknown (arguments_of args) errors.old.wording
+        (O.contents output.old) (O.contents output.new)
+        (E.contents errors.old.writer) (E.contents errors.new.writer)) result) }
+    ensures unread { IfErr given (λ error. EndsWith (IsUnread error errors.old.wording
+        (O.contents output.old) (O.contents output.new)
+        (E.contents errors.old.writer) (E.contents errors.new.writer)) result) }
 {
     let ending = match given {
         Ok(args) => run_given(&mut Disk::new(rt), args, output, errors),
@@ -60,9 +63,9 @@ where
 /// Ends a run that could not open a directory to occupy the descriptors of closed standard streams (`keep_streams`). If
 /// the run continued, a file that it opens could get such a descriptor. Opens no file, prints file fault 1 with the
 /// name of the directory, and returns the exit status, which is 1.
-pub fn end_without_streams<O: Write, E: Write>(output: &mut O, errors: &mut E) -> u8
-    ensures { EndsWith (IsWithoutStreams (O.contents output.old) (O.contents output.new)
-        (E.contents errors.old) (E.contents errors.new)) result }
+pub fn end_without_streams<O: Write, E: Write>(output: &mut O, errors: &mut ErrorStream<E>) -> u8
+    ensures { EndsWith (IsWithoutStreams errors.old.wording (O.contents output.old) (O.contents output.new)
+        (E.contents errors.old.writer) (E.contents errors.new.writer)) result }
 {
     let ending = end_before(unread(DIRECTORY), output, errors);
     ending.status
@@ -74,10 +77,11 @@ fn run_given<R: Store, O: Write, E: Write>(
     rt: &mut R,
     args: Args,
     output: &mut O,
-    errors: &mut E,
+    errors: &mut ErrorStream<E>,
 ) -> Ending
-    ensures { IsStatus (R.state rt.old) (R.state rt.new) (arguments_of args)
-        (O.contents output.old) (O.contents output.new) (E.contents errors.old) (E.contents errors.new) result }
+    ensures { IsStatus (R.state rt.old) (R.state rt.new) (arguments_of args) errors.old.wording
+        (O.contents output.old) (O.contents output.new)
+        (E.contents errors.old.writer) (E.contents errors.new.writer) result }
 {
     match arguments_after_name(rt.alloc(), args) {
         Ok(words) => run_over(rt, words.as_slice(), output, errors),
@@ -86,9 +90,14 @@ fn run_given<R: Store, O: Write, E: Write>(
 }
 
 // Ends a run that made no call to the engine, the crates that read or change a chip: prints `fault`.
-fn end_before<O: Write, E: Write>(fault: Fault<'_>, output: &mut O, errors: &mut E) -> Ending
-    ensures { HasPrinted (Err fault.entry) all_written to.Errors (O.contents output.old) (O.contents output.new)
-        (E.contents errors.old) (E.contents errors.new) result }
+fn end_before<O: Write, E: Write>(
+    fault: Fault<'_>,
+    output: &mut O,
+    errors: &mut ErrorStream<E>,
+) -> Ending
+    ensures { HasPrinted errors.old.wording (Err fault.entry) all_written to.Errors
+        (O.contents output.old) (O.contents output.new)
+        (E.contents errors.old.writer) (E.contents errors.new.writer) result }
 {
     let Work { answer, unwritten } = Work::before(Err(fault));
     print_end(output, errors, answer, unwritten, Reports::Errors)
@@ -101,10 +110,11 @@ pub fn run_over<R: Store, O: Write, E: Write>(
     rt: &mut R,
     words: &[String],
     output: &mut O,
-    errors: &mut E,
+    errors: &mut ErrorStream<E>,
 ) -> Ending
-    ensures { IsStatus (R.state rt.old) (R.state rt.new) (map string_bytes words.now)
-        (O.contents output.old) (O.contents output.new) (E.contents errors.old) (E.contents errors.new) result }
+    ensures { IsStatus (R.state rt.old) (R.state rt.new) (map string_bytes words.now) errors.old.wording
+        (O.contents output.old) (O.contents output.new)
+        (E.contents errors.old.writer) (E.contents errors.new.writer) result }
 {
     // `runs_restore_original` is a theorem: a function with only a contract, which does nothing at run time. The prover
     // checks its contract only in a program that calls it.

@@ -6,7 +6,7 @@
 //! - `answers.rt`: the result of a job
 //! - `calls.rt`: calls to the engine, with the files that they write (only flashnor-serprog makes backups)
 //! - `messages.rt`: the faults that end a run with exit status 1, and their texts
-//! - `reasons.rt`: the lines that precede the numbered line of a fault, and say what is wrong
+//! - `reasons.rt`: the lines that say what is wrong, and may precede the numbered line of a fault
 //! - `escapes.rt`: file names with the characters escaped that a terminal doesn't show as themselves
 //! - `printing.rt`: prints answers, help and faults
 //! - `files.rt`: reads, locks and creates the files of a job, and makes the faults of files
@@ -40,8 +40,8 @@ pub use files::{
     MOST_IMAGE_BYTES, MOST_JOURNAL_BYTES, create_log, empty, lost_output, make, read_file,
     read_journal, reading, taken, unheld, unmade, unread,
 };
-pub use messages::{Fault, FileFault, or_fault};
-pub use printing::{help_of, print_answer, print_fault, print_help, version_of};
+pub use messages::{Fault, FileFault, Wording, or_fault};
+pub use printing::{help_of, print_answer, print_fault, print_help, print_worded, version_of};
 pub use reasons::text_of_flaw;
 pub use requests::{include_regions, read_included, read_layout, request_for};
 pub use roles::{

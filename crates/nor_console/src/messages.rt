@@ -122,37 +122,78 @@ impl From<AllocError> for Fault<'_> {
     }
 }
 
-// This `Display` is written by hand, because a derived one has no contract.
+/// What is printed for a fault.
+#[derive(Clone, Copy)]
+pub enum Wording {
+    /// The line with the fault's number. Scripts rely on it, so nothing else is printed.
+    Numbered,
+    /// A line for the user that says what is wrong, if there is one, and then the line with the number.
+    Explained,
+}
+
 impl fmt::Display for Fault<'_> {
     ghost use Rattle.nor_console.specs.FaultLines.{text_of};
+    ghost use Rattle.nor_console.specs.declared.messages.Wording.TheVariants.{Explained};
 
-    ghost output = { text_of };
+    ghost output = { text_of Explained };
 
     fn fmt<W: fmt::Write>(&self, f: &mut fmt::Formatter<W>) -> fmt::Result {
-        match self {
-            Fault::Usage { fault, reason } => write!(f, "{}{fault}", ReasonLine(*reason)),
+        write!(f, "{}{}", Explanation(self), NumberedLine(self))
+    }
+}
+
+/// The line that says what is wrong, with its line feed, or no text if there is no such line.
+#[derive(Drop)]
+pub struct Explanation<'a>(pub &'a Fault<'a>);
+
+impl fmt::Display for Explanation<'_> {
+    ghost use Rattle.nor_console.specs.FaultLines.{explanation_of};
+
+    ghost output = { λ shown. Some (explanation_of shown.0.now) };
+
+    fn fmt<W: fmt::Write>(&self, f: &mut fmt::Formatter<W>) -> fmt::Result {
+        match self.0 {
+            Fault::Usage { reason, .. } => write!(f, "{}", ReasonLine(*reason)),
+            Fault::Layout(fault) => write!(f, "{}", LayoutLine(*fault)),
+            Fault::NoRegion { name } => {
+                let name = Escaped(name);
+                writeln!(f, "error: the layout has no region '{name}'")
+            }
+            Fault::Refused(refusal) => write!(f, "{}", JournalLine(refusal)),
+            _ => Ok(()),
+        }
+    }
+}
+
+/// The line with the number of a fault, without its line feed. For usage fault 1 the text of the argument parser
+/// precedes it.
+#[derive(Drop)]
+pub struct NumberedLine<'a>(pub &'a Fault<'a>);
+
+impl fmt::Display for NumberedLine<'_> {
+    ghost use Rattle.nor_console.specs.FaultLines.{numbered_line};
+
+    ghost output = { λ shown. numbered_line shown.0.now };
+
+    fn fmt<W: fmt::Write>(&self, f: &mut fmt::Formatter<W>) -> fmt::Result {
+        match self.0 {
+            Fault::Usage { fault, .. } => write!(f, "{fault}"),
             Fault::NoText => f.write_str(
                 "error: invalid UTF-8 was detected in one or more arguments\n\nUsage fault 1.",
             ),
             Fault::Layout(fault) => {
                 let (number, place) = (fault.number(), Place(fault.line()));
-                write!(f, "{}Layout fault {number}{place}.", LayoutLine(*fault))
+                write!(f, "Layout fault {number}{place}.")
             }
             Fault::Map(fault) => write!(f, "Map fault {}.", fault.number()),
-            Fault::NoRegion { name } => {
-                let name = Escaped(name);
-                write!(
-                    f,
-                    "error: the layout has no region '{name}'\nLayout fault 8."
-                )
-            }
+            Fault::NoRegion { .. } => f.write_str("Layout fault 8."),
             Fault::File { fault, name } => {
                 let name = Escaped(name);
                 write!(f, "File fault {}: {name}.", fault.number())
             }
             Fault::Refused(refusal) => {
                 let number = refusal.number();
-                write!(f, "{}Error {number}: {refusal}.", JournalLine(refusal))
+                write!(f, "Error {number}: {refusal}.")
             }
         }
     }

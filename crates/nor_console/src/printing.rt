@@ -5,9 +5,10 @@ ghost use Rattle.nor_probe.specs.Table.{chips};
 ghost use Rattle.nor_console.specs.AnswerLines.{AreLines, AreRangeLines, chip_line, chip_lines, counts_line, done_lines, found_line, restored_line, how_it_went, name_line, protected_line, protection_lines, range_line, read_lines, rehearsal_lines, restores_line, size_line, stop_line, verified_lines};
 ghost use Rattle.nor_console.specs.FaultLines.{line_of};
 ghost use Rattle.nor_console.specs.Printing.{AsksForVersion, IsAnswered, Prints};
+ghost use Rattle.nor_console.specs.declared.messages.Wording.TheVariants.{Explained};
 
 use crate::answers::Answer;
-use crate::messages::Fault;
+use crate::messages::{Fault, NumberedLine, Wording};
 use clap::Error as WordsError;
 use clap::error::ErrorKind;
 use nor_args::UsageFault;
@@ -253,9 +254,22 @@ impl fmt::Display for Digits {
     }
 }
 
-/// Prints the text of a fault and a line feed. Returns true if no write to `errors` failed.
+/// Prints the text of a fault and a line feed. If there is a line that says what is wrong, it comes first. Returns true
+/// if no write to `errors` failed.
 pub fn print_fault<W: Write>(errors: &mut W, fault: &Fault<'_>) -> bool
-    ensures { IsTrue result → IfSome (line_of fault.now) (Appends (W.contents errors.old) (W.contents errors.new)) }
+    ensures { IsTrue result
+        → IfSome (line_of Explained fault.now) (Appends (W.contents errors.old) (W.contents errors.new)) }
 {
     writeln!(errors, "{fault}").is_ok()
+}
+
+/// Prints the text of a fault in this wording and a line feed. Returns true if no write to `errors` failed.
+pub fn print_worded<W: Write>(errors: &mut W, fault: &Fault<'_>, wording: Wording) -> bool
+    ensures { IsTrue result
+        → IfSome (line_of wording fault.now) (Appends (W.contents errors.old) (W.contents errors.new)) }
+{
+    match wording {
+        Wording::Numbered => writeln!(errors, "{}", NumberedLine(&*fault)).is_ok(),
+        Wording::Explained => print_fault(errors, fault),
+    }
 }

@@ -1,4 +1,4 @@
-//! The lines that say what is wrong, such as `error: the option -p is missing`. Each of these lines is printed before
+//! The lines that say what is wrong, such as `error: the option -p is missing`. If such a line is printed, it precedes
 //! the numbered line of its fault.
 ghost use Rattle.std.specs.Prelude.{◌≡◌, Some};
 ghost use Rattle.nor_console.specs.ReasonLines.{flaw_text, line_fault_text};
