@@ -74,7 +74,8 @@ module _ (files after : FilesState) (on_chip : ChipJob) (unwritten : Unwritten) 
   fails_ends (end.Layout fault) fails = fails
   fails_ends (end.Map fault) fails = fails
   fails_ends (end.NoRegion name) fails = fails
-  fails_ends (end.File fault name) fails = fails
+  fails_ends (end.File fault name cause) fails = fails
+  fails_ends end.NoJournal fails = fails
 
   pub failed_ends : (fault : Fault) (returned : Result Answer Fault) → returned ≡ Err fault
       → FailsJob files.view on_chip fault → EndsChipJob files after on_chip unwritten returned

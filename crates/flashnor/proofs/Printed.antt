@@ -54,5 +54,5 @@ printed_nowhere wording fault unwritten out err ending never ends = grind arith
 -- ---- the message that standard output could not be written
 
 pub output_line : (fault : Fault) → IsLostOutput fault → line_of worded.Numbered fault ≡ Some line_of_output
-output_line (end.File file.Write of) is = grind arith
+output_line (end.File file.Write of cause) is = grind arith
 output_line _ is = absurd is

@@ -13,6 +13,7 @@ use Rattle.flashnor.specs.FaultLines.{line_if_lost, lines_of_unwritten}
 use Rattle.flashnor.specs.Streams.{AppendsTo}
 use Rattle.nor_console.specs.declared.answers.Answer.{Answer}
 use Rattle.flashnor.specs.declared.holding.Unwritten.{Unwritten}
+use Rattle.nor_console.specs.declared.causes.Cause.TheVariants as because
 use Rattle.nor_console.specs.declared.messages.Fault.{Fault}
 use Rattle.nor_console.specs.declared.messages.Fault.TheVariants as end
 use Rattle.nor_console.specs.declared.messages.FileFault.TheVariants as file
@@ -99,5 +100,6 @@ pub record IsUnread (error : Error) (wording : Wording) (out out' err err' : Opt
 -- run has file fault 1 (a file can't be read), and its status is 1.
 pub record IsWithoutStreams (wording : Wording) (out out' err err' : Option (List ℕ)) (ending : Ending) : Type 0 where
   pub name : Bor Text
-  pub prints : HasPrinted wording (Err (end.File file.Read name)) all_written at.Errors out out' err err' ending
+  pub prints : HasPrinted wording (Err (end.File file.Read name because.Unknown)) all_written at.Errors
+      out out' err err' ending
   pub status : ending.status ≡ 1

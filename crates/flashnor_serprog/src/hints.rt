@@ -81,6 +81,7 @@ pub fn print_operation_hint<E: Write>(
         Fault::File {
             fault: FileFault::Exists,
             name,
+            ..
         } if operation.log == Some(*name) => {
             let _ = writeln!(errors, "{IS_NO_LOG}");
         }

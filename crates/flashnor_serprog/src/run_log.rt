@@ -4,7 +4,7 @@ ghost use Rattle.nor_console.specs.Files.{IsMaking};
 ghost use Rattle.flashnor_serprog.specs.Logging.{BeginsNoLog, CreatesLog, IsExistingLog};
 
 use crate::help::HELP;
-use nor_console::{Fault, FileFault, create_log, print_fault, unmade};
+use nor_console::{Cause, Fault, create_log, exists, print_fault, unmade};
 use nor_files::{LogFile, Store};
 use std::cell::{Cell, RefCell};
 use std::fs::File;
@@ -156,10 +156,7 @@ pub fn check_log<'a, R: Store>(rt: &R, name: Option<&'a str>) -> Result<(), Faul
         return Ok(());
     }
     match rt.read_named(name, FIRST.len() as u64) {
-        Ok(Some(start)) if !may_begin_log(&start) => {
-            let fault = FileFault::Exists;
-            Err(Fault::File { fault, name })
-        }
+        Ok(Some(start)) if !may_begin_log(&start) => { Err(exists(name, Cause::Unknown)) }
         _ => Ok(()),
     }
 }

@@ -126,6 +126,9 @@ fn text_of_line(fault: LineFault) -> &'static str
     }
 }
 
+/// The line for a file that doesn't begin as a journal.
+pub const NO_JOURNAL: &str = "error: the file is no journal, or is damaged\n";
+
 /// The line that says what may be wrong with an invalid journal (never sealed, cut off, damaged, or no journal), or no
 /// text for any other error.
 #[derive(Drop)]
@@ -141,9 +144,7 @@ impl fmt::Display for JournalLine<'_> {
             Refusal::BadJournal(JournalFault::Short) => {
                 f.write_str("error: the journal was never sealed, or was cut off later\n")
             }
-            Refusal::BadJournal(JournalFault::Magic) => {
-                f.write_str("error: the file is no journal, or is damaged\n")
-            }
+            Refusal::BadJournal(JournalFault::Magic) => f.write_str(NO_JOURNAL),
             Refusal::BadJournal(_) => f.write_str("error: the journal is damaged\n"),
             _ => Ok(()),
         }

@@ -10,7 +10,8 @@ ghost use Rattle.nor_console.specs.Requests.{IsLayoutText, LacksLayout, LacksSho
 ghost use Rattle.nor_console.specs.Requests.{request_for, what_of};
 ghost use Rattle.nor_console.specs.declared.messages.Fault.TheVariants as Faults;
 
-use crate::files::{MOST_LAYOUT_BYTES, read_file, unread};
+use crate::causes::Cause;
+use crate::files::{MOST_LAYOUT_BYTES, read_file, unread_by};
 use crate::messages::Fault;
 use nor_args::{Change, LayoutForm, Reason, Regions, UsageFault, Wanted};
 use nor_files::Store;
@@ -81,7 +82,7 @@ fn read_layout_file<'a, R: Store>(rt: &R, name: &'a str) -> Result<Vec<u8>, Faul
 {
     let text = read_file(rt, name, MOST_LAYOUT_BYTES + 1)?;
     if text.len() as u64 > MOST_LAYOUT_BYTES {
-        return Err(unread(name));
+        return Err(unread_by(name, Cause::LongLayout));
     }
     Ok(text)
 }
