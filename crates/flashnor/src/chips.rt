@@ -99,7 +99,7 @@ pub fn read_chip_file<'a, R: Store>(
     Ok(Some(bytes))
 }
 
-// Returns the cause of file fault 3 if a file must have `wanted` bytes, and at most one byte more was read: `found` bytes.
+// Returns the cause of file fault 3 if a file must have `wanted` bytes, and at most one byte more was read (`found`).
 fn cause_of_length(wanted: u32, found: usize) -> Cause {
     if found > wanted as usize {
         Cause::TooLong(wanted)

@@ -15,6 +15,7 @@
 //! - `chips.rt`: reads the chip's files, and makes the simulated bus
 //! - `changes.rt`: the jobs that change a chip, and rehearsals; `nor_jobs` and `nor_console` have the other jobs
 //! - `laws.rt`: a theorem about a change and the restores that follow it
+//! - `details.rt`: what an error compared, such as the name of `-c` with that of the chip
 //! - `printing.rt`: prints the end of a run, and chooses the exit status
 //!
 //! The crates `nor_jobs` and `nor_console` have the code that this program shares with `flashnor_serprog`: the jobs
@@ -23,6 +24,7 @@
 
 mod changes;
 mod chips;
+mod details;
 mod existing;
 mod holding;
 mod jobs;

@@ -9,9 +9,11 @@ ghost use Rattle.flashnor.specs.Roles.{FilesHaveOneRole};
 ghost use Rattle.flashnor.specs.Run.{AnswersArguments, EndsChipJob, FailsJob, HoldsResult, IsPrintedAt, IsStatus};
 ghost use Rattle.flashnor.specs.Run.{KeepsFiles, StayBut};
 ghost use Rattle.flashnor.specs.Tasks.{writes_back};
+ghost use Rattle.flashnor.specs.declared.details.Detail.TheVariants.{Unsaid};
 ghost use Rattle.flashnor.specs.declared.streams.Reports.TheVariants as to;
 
 use crate::chips::read_content;
+use crate::details::{Detail, detail_of};
 use crate::existing::{existing_journal, fault_before};
 use crate::holding::{Held, Unwritten, hold_content, lost_journal, write_back};
 use crate::jobs::{Called, call_on};
@@ -95,12 +97,16 @@ fn end_before<O: Write, E: Write>(
     output: &mut O,
     errors: &mut ErrorStream<E>,
 ) -> Ending
-    ensures { HasPrinted errors.old.wording (Err fault.entry) all_written to.Errors
+    ensures { HasPrinted errors.old.wording Unsaid (Err fault.entry) all_written to.Errors
         (O.contents output.old) (O.contents output.new)
         (E.contents errors.old.writer) (E.contents errors.new.writer) result }
 {
-    let Work { answer, unwritten } = Work::before(Err(fault));
-    print_end(output, errors, answer, unwritten, Reports::Errors)
+    let Work {
+        answer,
+        unwritten,
+        detail,
+    } = Work::before(Err(fault));
+    print_end(output, errors, answer, unwritten, Reports::Errors, detail)
 }
 
 /// Performs the job given by `words`, the arguments without the program's name, over any store of files. Prints the
@@ -120,15 +126,20 @@ pub fn run_over<R: Store, O: Write, E: Write>(
     // checks its contract only in a program that calls it.
     runs_restore_original::<R>();
     let (work, to) = run(rt, words);
-    let Work { answer, unwritten } = work;
-    print_end(output, errors, answer, unwritten, to)
+    let Work {
+        answer,
+        unwritten,
+        detail,
+    } = work;
+    print_end(output, errors, answer, unwritten, to, detail)
 }
 
-// The result of a run's work, and the names of the files that were not written or were lost.
+// The result of a run's work, the names of the files that were not written or were lost, and what an error compared.
 #[derive(Drop)]
 struct Work<'a> {
     answer: Result<Answer, Fault<'a>>,
     unwritten: Unwritten<'a>,
+    detail: Detail,
 }
 
 impl<'a> Work<'a> {
@@ -136,6 +147,7 @@ impl<'a> Work<'a> {
     fn before(answer: Result<Answer, Fault<'a>>) -> Work<'a>
         ensures answer { result.answer ≡ answer.entry }
         ensures none { result.unwritten ≡ all_written }
+        ensures unsaid { result.detail ≡ Unsaid }
     {
         let unwritten = Unwritten {
             image: None,
@@ -143,7 +155,11 @@ impl<'a> Work<'a> {
             trace: None,
             journal: None,
         };
-        Work { answer, unwritten }
+        Work {
+            answer,
+            unwritten,
+            detail: Detail::Unsaid,
+        }
     }
 }
 
@@ -220,7 +236,8 @@ fn look_at_files<'a, R: Store>(rt: &mut R, job: &ChipJob<'a>) -> Result<Work<'a>
 {
     let content = read_content(rt, &job.programmer)?;
     let called = call_on(rt, content, job)?;
-    let Called { outcome, lost, .. } = called;
+    let Called { bus, outcome, lost } = called;
+    let detail = detail_of(rt, job, &outcome, &bus);
     let unwritten = Unwritten {
         image: None,
         status: None,
@@ -228,7 +245,11 @@ fn look_at_files<'a, R: Store>(rt: &mut R, job: &ChipJob<'a>) -> Result<Work<'a>
         journal: None,
     };
     let answer = or_fault(outcome);
-    Ok(Work { answer, unwritten })
+    Ok(Work {
+        answer,
+        unwritten,
+        detail,
+    })
 }
 
 // Locks and reads the chip's files, performs a task that changes the chip, and writes the chip back to its files.
@@ -251,6 +272,7 @@ fn change_files<'a, R: Store>(rt: &mut R, job: &ChipJob<'a>) -> Result<Work<'a>,
     } = held;
     let called = call_on(rt, content, job)?;
     let Called { bus, outcome, lost } = called;
+    let detail = detail_of(rt, job, &outcome, &bus);
     let (image, status) = write_back(rt, &job.programmer, image_there, status_there, &bus);
     let unwritten = Unwritten {
         image,
@@ -259,5 +281,9 @@ fn change_files<'a, R: Store>(rt: &mut R, job: &ChipJob<'a>) -> Result<Work<'a>,
         journal: lost_journal(rt, &job.task),
     };
     let answer = or_fault(outcome);
-    Ok(Work { answer, unwritten })
+    Ok(Work {
+        answer,
+        unwritten,
+        detail,
+    })
 }
