@@ -18,9 +18,8 @@ STRIDE = int(os.environ.get("STRIDE", "1"))
 # How long a run may take, in seconds. A run that takes longer hangs, even on a busy machine.
 LONGEST = 300
 
-# The line that a terminal shows before the first exchange, with DEV in the place of the device.
-WAITING = ("Waiting for the programmer. If no line follows in 10 seconds, press Ctrl-C, disconnect the programmer from "
-           "power for a second, connect it again, and run: stty -F DEV raw -echo clocal -hupcl min 0 time 50")
+# The line before the first exchange. A terminal shows it until the programmer replies, except with plain progress.
+WAITING = "Waiting for the programmer. No reply in 10 s? Ctrl-C; see flashnor-serprog(8)."
 
 
 class Differs(Exception):
@@ -164,7 +163,7 @@ class Bench:
         with ThreadPoolExecutor(1) as pool:
             shown = pool.submit(read_all, terminal)
             process.communicate(timeout=LONGEST)
-        check("lines at the terminal", shown.result().decode().splitlines(), [self.device(WAITING), *lines, *self.note()])
+        check("lines at the terminal", shown.result().decode().splitlines(), [WAITING, *lines, *self.note()])
         check("exit status", process.returncode, 0)
 
     def expect_to_wait(self, *words):
@@ -174,7 +173,10 @@ class Bench:
         process = self.start(words, err=slave)
         os.close(slave)
         with os.fdopen(terminal, "rb") as source:
-            check("the line at the terminal", source.readline().decode().splitlines(), [self.device(WAITING)])
+            shown = b""
+            while not shown.endswith(b"\x1b[K"):
+                shown += source.read(1)
+            check("the line at the terminal", shown.decode(), f"\r{WAITING}\x1b[K")
             try:
                 process.wait(1)
                 raise Differs("the run ended, and should wait")

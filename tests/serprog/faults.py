@@ -15,14 +15,14 @@ from options import images
 
 STTY = "stty -F DEV raw -echo clocal -hupcl min 0 time 50"
 FIRMWARE = "Disconnect the programmer from power for a second, connect it again, set up the port, and repeat the " \
-    f"run; install other firmware only if this line comes again. To set up the port: {STTY}"
+    f"run; install other firmware only if the same line appears again. To set up the port: {STTY}"
 # The time-out for tests of silence, in tenths of a second.
 SOON = 10
 UNPLUG = "Disconnect the programmer from power for a second before the next run: it may wait for the rest of a command, " \
     "which the next run would complete."
 RESTORE = "Then restore the chip with --restore j."
 UNCHANGED = "The chip was not changed."
-LOST = "Cause: the chip did not reply its ID any more: "
+LOST = "Cause: the chip's ID changed from "
 DIFFER = "Cause: two reads of the same bytes differ. Lower the clock (spispeed=), shorten the wires, and try again."
 CAUSES = {
     "nak": "the programmer refused command 13h",

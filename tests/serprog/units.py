@@ -97,8 +97,7 @@ def advises_on_kept_bits(start):
 
     bench.chip.write_status = clear_quad
     bench.expect(*UNLOCK, err=[
-        STOPPED, "Chip fault 3: the chip did not store a status write: 00h 02h was sent, 00h 00h was read back (these "
-        f"bits differ: QE). {KEPT} {RESTORE} Until then it may be unprotected."])
+        STOPPED, f"{reference.not_stored_status(bytes([0, 2]), bytes(2))} {KEPT} {RESTORE} Until then it may be unprotected."])
     bench.chip.write_status = write
     check("the restore", bench.run("--restore", "j", "-N").err[:1], ["Error 17: status differs from the journal's."])
     bench.chip.status[1] |= 0x02

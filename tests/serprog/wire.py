@@ -87,8 +87,7 @@ def believes_busy(start):
 
 def not_stored(sent, found):
     """Returns the beginning of the line of a status write that the chip didn't store."""
-    return "Chip fault 3: the chip did not store a status write: " \
-        f"{sent[0]:02X}h {sent[1]:02X}h was sent, {found[0]:02X}h {found[1]:02X}h was read back"
+    return reference.not_stored_status(sent, found)
 
 
 def reads_status_writes_back(start):

@@ -11,7 +11,8 @@ ghost use Rattle.flashnor_serprog.specs.Jobs.{changes_bytes, is_compared, may_be
 use crate::backups::backup_chip;
 use crate::chip_faults::JobFault;
 use crate::following::{complete, follow, ranges_if, sectors_before_change, sectors_to_read};
-use crate::progress::{Progress, Terminal};
+use crate::hints::Saved;
+use crate::progress::{Progress, StatusWrite, Terminal};
 use crate::restoring::restore_chip;
 use nor_args::{Change, JournalUse, Operation, Reason, Task, UsageFault, Wanted};
 use nor_chip::Bus;
@@ -198,6 +199,19 @@ pub fn journal_of<'a>(task: &Task<'a>) -> Option<&'a str> {
             },
         ) => Some(*file),
         _ => None,
+    }
+}
+
+/// Returns whether a task may write the status. `saved` is what the journal of a restore says.
+pub fn status_write_of(task: &Task<'_>, saved: Option<Saved>) -> StatusWrite {
+    match task {
+        Task::Change(change) if !changes_bytes(change.wanted) => StatusWrite::OnAnyChip,
+        Task::Change(change) if change.unlock => StatusWrite::IfProtected,
+        Task::Restore { .. } => match saved {
+            Some(saved) => StatusWrite::Restoring(saved.status),
+            None => StatusWrite::IfProtected,
+        },
+        _ => StatusWrite::Never,
     }
 }
 

@@ -1,29 +1,25 @@
 //! A bus that shows the progress of a job on standard error: its steps, and lines before the first modifying command.
 ghost use Rattle.std.specs.Prelude.{◌≡◌};
 
+mod durations;
 mod expecting;
 mod noting;
 
-use crate::estimates::Minutes;
-use crate::gauge::{Gauge, micros_between};
+use crate::change_lines::SealedLine;
+use crate::gauge::Gauge;
+use crate::lock_bits::Lock;
 use crate::notes::Notes;
 use crate::replies::Replies;
 use crate::status_line::{are_equally_protected, protects};
-use crate::step_lines::{Counts, StepCount, StepOf, Took};
+use crate::step_lines::{Counts, PlainLine};
 use crate::steps::{Phase, Step, Total, step_of};
 use crate::terminal::Look;
 pub use crate::terminal::Terminal;
 use nor_chip::{Bus, Stopped, is_changing};
-use nor_console::Escaped;
-use std::fmt;
 use std::time::Instant;
 
-// Two bits of status 1, and two of status 2 (W25Q64FV datasheet, Status Registers).
+// A bit of status 1, and one of status 2 (W25Q64FV datasheet, Status Registers).
 const BUSY: u8 = 0x01;
-
-const SRP0: u8 = 0x80;
-
-const SRP1: u8 = 0x01;
 
 const QE: u8 = 0x02;
 
@@ -40,7 +36,8 @@ const QUAD: &str =
 
 // The line at poll number `POLLS_UNTIL_LINE` that shows BUSY before the ID is read.
 const BUSY_CHIP: &str =
-    "The chip shows BUSY: its contacts or its supply fail, or an earlier operation still runs.";
+    "The chip shows BUSY. If no erase is running, it has no contact or no supply: press Ctrl-C, and check both. \
+    (The run gives up after 400 seconds.)";
 
 // 256 polls take about a second (`Paced`), or longer over a slow wire. If the chip has no contact, all replies are FFh,
 // which shows BUSY, and the wait ends only after 400 seconds.
@@ -194,7 +191,7 @@ impl<B> Shown<'_, B> {
         if is_changing(out) && self.phase == Phase::Before {
             self.begin_change();
         }
-        let Some(step) = step_of(out, self.phase) else {
+        let Some(step) = self.step_of(out) else {
             return;
         };
         let count = self.counts.count(step);
@@ -229,8 +226,7 @@ impl<B> Shown<'_, B> {
 
     // True if SRP1 was set without SRP0 before the first modifying command.
     fn has_power_lock(&self) -> bool {
-        let [one, two] = self.replies.status;
-        two & SRP1 != 0 && one & SRP0 == 0
+        Lock::of(self.replies.status) == Lock::Power
     }
 
     // True if QE was set before the first modifying command, and the job may write the status.
@@ -274,14 +270,23 @@ impl<B> Shown<'_, B> {
 
     // Prints and logs the plain line of a step. `count` is the number of its transactions so far.
     fn show_step(&self, step: Step, count: u64) {
-        let text = step.plain_text();
-        match (step, self.expected) {
-            (Step::Scan | Step::Compare, Some(expected)) => self.terminal.print_plain(&StepOf {
-                text,
-                count,
-                expected,
-            }),
-            _ => self.terminal.print_plain(&StepCount { text, count }),
+        let expected = match step {
+            Step::Scan | Step::Compare => self.expected.map(|sectors| sectors as u64),
+            _ => None,
+        };
+        self.terminal.print_plain(&PlainLine {
+            step,
+            count,
+            expected,
+        });
+    }
+
+    // Returns the step that a transaction belongs to. If the job announced what it will change, its scan is done: a
+    // sector that is programmed without an erase is read again, maybe before the first modifying command.
+    fn step_of(&self, out: &[u8]) -> Option<Step> {
+        match step_of(out, self.phase) {
+            Some(Step::Scan) if self.terminal.announced().is_some() => Some(Step::ReadBack),
+            step => step,
         }
     }
 
@@ -294,7 +299,7 @@ impl<B> Shown<'_, B> {
             return;
         }
         let now = self.terminal.now();
-        let step = step_of(out, self.phase);
+        let step = self.step_of(out);
         let Some(step) = self.gauge.record(step, out, reply, now) else {
             return;
         };
@@ -313,8 +318,7 @@ impl<B> Shown<'_, B> {
         let total = self.total_of(step);
         let line = self.gauge.line(step, total, now);
         if line.is_complete() {
-            self.terminal.draw(&line);
-            self.terminal.end_line();
+            self.terminal.draw_last(&line);
         } else if self.gauge.is_due(now) {
             self.terminal.draw(&line);
             self.gauge.record_drawing(now);
@@ -328,43 +332,6 @@ impl<B> Shown<'_, B> {
             (Step::Erase, _, Some(announced)) => Total::Exactly(u64::from(announced.erases)),
             (Step::Program, _, Some(announced)) => Total::AtMost(16 * u64::from(announced.touched)),
             _ => Total::Unknown,
-        }
-    }
-
-    // If a change began and its comparison did not, shows how many pages were programmed and how many sectors were read
-    // back; with `Look::Plain` and in the log also how many erases were sent, with `Look::Line` and in the log also how
-    // long the change took.
-    fn show_duration(&self) {
-        if self.phase != Phase::Changing {
-            return;
-        }
-        self.show_last(Step::Erase, self.counts.erase);
-        self.show_last(Step::Program, self.counts.program);
-        self.show_last(Step::ReadBack, self.counts.read_back);
-        let now = self.terminal.now();
-        if self.terminal.look() == Look::Line {
-            self.terminal.clear_line();
-            self.draw_last(Step::Program, now);
-            self.draw_last(Step::ReadBack, now);
-        }
-        self.terminal
-            .print_time(&Took(Minutes(micros_between(self.changed, now))));
-    }
-
-    // Prints and logs the last plain line of a step with `count` transactions, unless there are none, or a line with
-    // this number was printed before.
-    fn show_last(&self, step: Step, count: u64) {
-        if count > 0 && count % step.stride() != 1 {
-            self.show_step(step, count);
-        }
-    }
-
-    // Prints the last line of a step, if at least one of its operations is done.
-    fn draw_last(&self, step: Step, now: Option<Instant>) {
-        let line = self.gauge.line(step, Total::Done, now);
-        if line.tally.done > 0 {
-            self.terminal.draw(&line);
-            self.terminal.end_line();
         }
     }
 }
@@ -393,23 +360,5 @@ impl<B: Bus> Bus for Shown<'_, B> {
 
     fn has_further_types(&self) -> bool {
         self.bus.has_further_types()
-    }
-}
-
-// The line before the first modifying command of a session, whose journal is in the file of this name. A programmer
-// that received only a part of a frame takes the first byte of the next run for the rest, unless it lost its power.
-#[derive(Clone, Copy, Drop)]
-struct SealedLine<'a>(Option<&'a str>);
-
-impl fmt::Display for SealedLine<'_> {
-    fn fmt<W: fmt::Write>(&self, f: &mut fmt::Formatter<W>) -> fmt::Result {
-        f.write_str(
-            "SEALED: the chip is changed from here on. If this run is interrupted, disconnect the programmer from power \
-             before the next run",
-        )?;
-        match self.0 {
-            Some(name) => write!(f, ", and restore with the journal {}.", Escaped(name)),
-            None => f.write_str("."),
-        }
     }
 }

@@ -1,14 +1,15 @@
 //! What a run prints after an operation failed: the line of the fault, its hint, the cause of error 12, the line for a
 //! port that changes bytes, and a note.
 ghost use Rattle.std.specs.Prelude.{◌≡◌, ◌≤◌, true};
-ghost use Rattle.flashnor_serprog.specs.declared.trouble.Left.TheVariants.{Unchanged};
+ghost use Rattle.flashnor_serprog.specs.declared.stop_line.Left.TheVariants.{Unchanged};
 
 use crate::chip_faults::JobFault;
 use crate::connect::ChipBus;
 use crate::hints::{Known, Saved, print_operation_hint, unlocks};
 use crate::layout_lines::MapLines;
 use crate::status_line::{ChangedLine, protects};
-use crate::trouble::{Left, StopLine, Trouble};
+use crate::stop_line::{Left, StopLine};
+use crate::trouble::Trouble;
 use nor_args::{Operation, Task};
 use nor_console::{Escaped, Fault, named_by};
 use nor_files::Store;

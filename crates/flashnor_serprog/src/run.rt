@@ -17,11 +17,11 @@ use crate::ending::{end_badly, end_well, status_of};
 use crate::extracting::extract_image;
 use crate::help::HELP;
 use crate::hints::Saved;
-use crate::jobs::{changes_bytes, is_session, journal_of, perform};
+use crate::jobs::{is_session, journal_of, perform, status_write_of};
 use crate::journals::check_journal;
 use crate::lock_job::run_lock;
 use crate::preparing::{Prepared, prepare};
-use crate::progress::{Progress, StatusWrite, Terminal};
+use crate::progress::{Progress, Terminal};
 use crate::region_copies::{reads_out, write_region_files};
 use crate::region_files::{RegionFile, plain_names};
 use crate::reports::{print_job_fault, print_trouble, print_used_name, report_changed_byte};
@@ -282,7 +282,8 @@ fn run_job<'b, R: Store, O: Write, E: Write>(
     match end_job(files, bus, terminal, operation, sources) {
         Ok(answer) if reads_out(operation) => {
             bus.end_progress(true);
-            let printed = end_with_files(files, operation, regions, answer, output, errors);
+            let status = bus.replies().status;
+            let printed = end_with_files(files, operation, regions, answer, status, output, errors);
             end_run(errors, bus, operation, printed)
         }
         Ok(answer) => {
@@ -322,6 +323,7 @@ fn end_with_files<R: Store, O: Write, E: Write>(
     operation: &Operation<'_>,
     regions: &[RegionFile<'_>],
     answer: Answer,
+    status: [u8; 2],
     output: &mut O,
     errors: &mut E,
 ) -> u8
@@ -333,7 +335,7 @@ fn end_with_files<R: Store, O: Write, E: Write>(
     ensures copied { result ≡ 0 → AreCopied operation.now regions.now (R.state files.new).view }
 {
     match write_region_files(files, operation, regions) {
-        Ok(()) => end_well(output, errors, answer, operation),
+        Ok(()) => end_well(output, errors, answer, operation, status),
         Err(fault) => {
             print_trouble(errors, &Trouble::Fault(fault), operation);
             1
@@ -357,19 +359,6 @@ fn mark_job<'b>(bus: &mut ChipBus<'b>, task: &Task<'_>, saved: Option<Saved>, al
 {
     let journal = journal_of(task).and_then(|file| String::from_str(alloc, file).ok());
     bus.begin_job(is_session(task), journal, status_write_of(task, saved));
-}
-
-// Returns whether a task may write the status. `saved` is what the journal of a restore says.
-fn status_write_of(task: &Task<'_>, saved: Option<Saved>) -> StatusWrite {
-    match task {
-        Task::Change(change) if !changes_bytes(change.wanted) => StatusWrite::OnAnyChip,
-        Task::Change(change) if change.unlock => StatusWrite::IfProtected,
-        Task::Restore { .. } => match saved {
-            Some(saved) => StatusWrite::Restoring(saved.status),
-            None => StatusWrite::IfProtected,
-        },
-        _ => StatusWrite::Never,
-    }
 }
 
 // Performs a job, and returns its answer or its fault.
