@@ -230,7 +230,7 @@ def reports_causes(start):
             bench.write("new", new)
             got = bench.run("-w", "new", "--journal", "j", events={at: event})
             after = RESTORE if at > seal else UNCHANGED
-            # At the first of these transactions the journal doesn't exist yet.
+            # At the first of these transactions the journal doesn't exist yet. At the second one it is sealed.
             used = [reference.used_name()] * (at == seal)
             bench.compare(got, [], ["Error 12: stopped.", f"Cause: {text}. {UNPLUG} {after}", *used])
             # A page program after a write enable is on its way already.
@@ -293,12 +293,9 @@ def reads_twice(start):
     for first in reads[0], reads[2], reads[5]:
         bench.server.traits.wrong_bits = {first: (0, 4)}
         got = bench.run("-w", "new", "--journal", f"j{first}")
-        bench.compare(got, [], ["Error 12: stopped.", f"{DIFFER} {UNCHANGED}", reference.used_name(f"j{first}")])
+        bench.compare(got, [], ["Error 12: stopped.", f"{DIFFER} {UNCHANGED}"])
         bench.check_chip(old)
-        journal = bench.path(f"j{first}").read_bytes()
-        whole = reference.journal("TINY64", old, (1, 2, 7, 15))
-        check("the journal is a prefix", journal == whole[: len(journal)] and len(journal) < len(whole), True)
-        bench.expect("--restore", f"j{first}", err=reference.UNSEALED)
+        bench.check_absent(f"j{first}")
     bench.write("same", old)
     wire = reference.carried(reference.probe("TINY64"))
     # The second block, after the first one and the ID.

@@ -10,7 +10,7 @@ from options import images, last_lines
 from terminal import Screen, logged, run, untimed, with_read_back
 
 TIMED = re.compile(r"\d+\.\d{3} (.*)")
-TAKEN = "It has two roles in this run, or another program uses it: give each role its own file."
+TAKEN = "It has two roles in this run, or another program uses it: give each role its own file, or wait for that program."
 INCOMPLETE = "The log is incomplete, but the job went on: free disk space, or choose another file."
 SEALED = reference.sealed("j")
 # The first line of a log, and the bytes with which an existing file must begin if it is to be overwritten.

@@ -396,7 +396,8 @@ def protects(start):
         "Found W25Q64FV (ef4017), 8388608 bytes.", "Done: touched 0, erases 0, programs 0, transactions 7."])
     check("status bytes", bytes(bench.chip.status), b"\x04\x40")
     bench.expect("--wp-range", "0x1000,0x1000", "--journal", "k",
-                 err=[*reference.NOT_OFFERED, reference.used_name("k")])
+                 err=reference.NOT_OFFERED)
+    bench.check_absent("k")
 
 
 def last_lines(plan):

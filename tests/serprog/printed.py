@@ -162,14 +162,41 @@ def fits_narrow_terminals(start):
 
 def says_a_line_a_minute(start):
     """A run whose standard error is a file prints nothing for a minute, and then a line with its progress."""
-    bench = start(rate=1_600)
-    got = bench.run("-v", "image") if bench.path("image").exists() else None
-    bench.write("image", bytes(bench.chip.data))
-    got = bench.run("-v", "image", "-N")
-    check("status", got.status, 0)
-    if len(got.err) != 1 or not terminal.STEP.fullmatch(got.err[0]):
-        raise Differs("this is not one line of the progress:", repr(got.err))
+    bench = start(rate=1_600, longest_read=4096)
+    got = bench.run("-r", "out")
+    check("the run", (got.status, got.err), (0, []))
+    if len(bench.minutes) != 1 or not terminal.STEP.fullmatch(bench.minutes[0]):
+        raise Differs("this is not one line of the progress:", repr(bench.minutes))
 
 
-CASES = [quotes_names, quotes_names_after_error_12, quotes_the_device, counts_what_it_reads_again,
-         says_how_long_a_change_takes, shows_locks, advises_on_locks, fits_narrow_terminals]
+def removes_an_unsealed_journal(start):
+    """A refused session removes the journal that it created, so its command may be repeated. A backup keeps its file."""
+    old, new = images("removes_an_unsealed_journal")
+    wire = session_wire(old, new)
+    seal = wire.index(reference.WRITE_ENABLE)
+    sealed = seal - len(reference.compared(*reference.UNIQUE, 0))
+    bench = start(data=old)
+    bench.write("new", new)
+    created = len(reference.carried(reference.probe("TINY64"))) + 1
+    for at, is_left in (created, False), (sealed, False), (sealed + 1, True), (seal + 1, True):
+        got = bench.run("-w", "new", "--journal", "j", events={at: "nak"})
+        check("error 12", got.err[0], "Error 12: stopped.")
+        check(f"the journal is left, at {at}", bench.path("j").exists(), is_left)
+        if is_left:
+            bench.check_file("j", reference.journal("TINY64", old, reference.touched(old, new)))
+        check("the last line", got.err[-1] == reference.used_name(), at == sealed + 1)
+        bench.remove_journal()
+        bench.plug()
+    # A file that existed before stays, whatever it is.
+    for content in b"", b"NORUNDO2", b"other bytes":
+        bench.write("j", content)
+        bench.expect("-w", "new", "--journal", "j", err=reference.file_fault(4, "j"))
+        bench.check_file("j", content)
+    bench.remove_journal()
+    check("status", bench.run("-w", "new", "--journal", "j").status, 0)
+    got = bench.run("--backup", "whole", events={created + 9: "nak"})
+    check("the last line", got.err[-1], reference.used_name("whole"))
+
+
+CASES = [removes_an_unsealed_journal, says_a_line_a_minute, quotes_names, quotes_names_after_error_12, quotes_the_device,
+         counts_what_it_reads_again, says_how_long_a_change_takes, shows_locks, advises_on_locks, fits_narrow_terminals]

@@ -32,7 +32,7 @@ FILE_HINTS = {
     1: "It is missing or can't be read: correct its name or its permissions.",
     2: "It can't be created, written or locked: correct its name or permissions, or free disk space.",
     4: "It exists already, and is never overwritten: choose a new name.",
-    5: "It has two roles in this run, or another program uses it: give each role its own file."}
+    5: "It has two roles in this run, or another program uses it: give each role its own file, or wait for that program."}
 IS_JOURNAL = "It is a journal, which is never overwritten: choose a new name."
 IS_NO_LOG = "It exists, and is no log, so it isn't overwritten: choose a new name."
 # The lines of a journal that was not sealed.
@@ -154,8 +154,8 @@ def is_partial(whole):
 
 
 def used_name(journal="j"):
-    """Returns the last line of a session or a backup that failed before it changed the chip, and left its journal."""
-    return f"Give the journal a new name: {journal} exists now."
+    """Returns the last line of a backup that failed, or of a session that failed between its seal and its first change."""
+    return f"This run has created {journal}: repeat the command with a new journal name."
 
 
 def file_fault(number, name):

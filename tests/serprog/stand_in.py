@@ -483,9 +483,15 @@ def run(words):
 
 
 def used_name(job):
-    """Returns the line about the journal that a session or a backup left before it changed the chip."""
+    """Removes the journal of a session that isn't sealed and changed nothing. Returns the line about one that is left."""
     name = job.given.get("--journal", job.given.get("--backup"))
-    return [reference.used_name(name)] if name and Path(name).exists() and not job.link.has_changed else []
+    if not name or not Path(name).exists() or job.link.has_changed:
+        return []
+    whole = Path(name).read_bytes()
+    if "--journal" in job.given and hashlib.sha256(whole[:-32]).digest() != whole[-32:]:
+        Path(name).unlink()
+        return []
+    return [reference.used_name(name)]
 
 
 def restores(journal):

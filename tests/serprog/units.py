@@ -39,7 +39,8 @@ def exchange(bench, words, journal, left):
         bench.server.traits.other = number, other
         # The two replies to one read differ if the board is exchanged between them.
         cause = EXCHANGED if again < number <= seal - 4 else DIFFER
-        bench.expect(*words, err=[STOPPED, f"{cause} {left}", *used])
+        # If the second read of the unique ID shows the exchange, the journal is sealed, and left.
+        bench.expect(*words, err=[STOPPED, f"{cause} {left}", *(used if number > again else [])])
         for chip in bench.chip, other:
             check("the chip is unchanged", (chip.data == before, bytes(chip.status)), (True, status))
         bench.server.chip = bench.chip

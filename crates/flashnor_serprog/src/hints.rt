@@ -143,7 +143,7 @@ fn file_hint(fault: FileFault) -> Option<&'static str> {
             "It exists already, and is never overwritten: choose a new name.",
         ),
         FileFault::Taken => Some(
-            "It has two roles in this run, or another program uses it: give each role its own file.",
+            "It has two roles in this run, or another program uses it: give each role its own file, or wait for that program.",
         ),
         _ => None,
     }

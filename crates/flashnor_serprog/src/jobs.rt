@@ -167,6 +167,7 @@ fn change_chip<'a, R: Store, B: Progress>(
     let outcome = session_in_file(rt, bus, *file, &mut image, &request, |announcement| {
         terminal.print_session(announcement)
     })?;
+    terminal.record_journal();
     follow(bus, outcome, compared, named, &target)
 }
 

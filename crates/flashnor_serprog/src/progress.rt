@@ -3,6 +3,7 @@ ghost use Rattle.std.specs.Prelude.{◌≡◌};
 
 mod durations;
 mod expecting;
+mod minutes;
 mod noting;
 
 use crate::change_lines::SealedLine;
@@ -71,7 +72,8 @@ pub trait Progress: Bus {
 /// (`StepLine::is_complete`). It is ended or cleared before any other line is printed.
 ///
 /// With `Look::Plain` there is a line for the first transaction of each step, and then one after each `Step::stride`
-/// further transactions of that step. With `Look::Hidden` nothing is shown, except the lines of `-V`. The log (`-o`)
+/// further transactions of that step. With `Look::Minutes` the line of the step is printed if nothing was printed for a
+/// minute. With `Look::Hidden` nothing is shown, except the lines of `-V`. The log (`-o`)
 /// receives the lines of `Look::Plain`, the lines of `-V`, and those that say how long the change takes and took, with
 /// any look.
 ///
@@ -101,6 +103,8 @@ pub struct Shown<'a, B> {
     replies: Replies,
     // how many polls showed BUSY before the ID was read
     busy_polls: u32,
+    // when the last line was printed with `Look::Minutes`, or when the run began
+    said: Option<Instant>,
     // the sums of the sectors that were read, if the job notes them
     notes: Option<Notes>,
 }
@@ -136,6 +140,7 @@ impl<'a, B: Bus + Drop> Shown<'a, B> {
             status_write,
             replies: Replies::default(),
             busy_polls: 0,
+            said: terminal.started(),
             notes: None,
         }
     }
@@ -266,6 +271,7 @@ impl<B> Shown<'_, B> {
         if self.busy_polls == POLLS_UNTIL_LINE {
             self.terminal.print(&BUSY_CHIP);
         }
+        self.print_each_minute(&BUSY_CHIP);
     }
 
     // Prints and logs the plain line of a step. `count` is the number of its transactions so far.
@@ -290,12 +296,13 @@ impl<B> Shown<'_, B> {
         }
     }
 
-    // Counts and times a transaction that was carried out, if there is a log or the look is `Look::Line`. Then draws
-    // the line of its step (`draw`).
+    // Counts and times a transaction that was carried out, if there is a log or the look is `Look::Line` or
+    // `Look::Minutes`. Then draws or prints the line of its step (`draw`, `print_each_minute`).
     fn measure(&mut self, out: &[u8], reply: &[u8])
         ensures { self.new.bus ≡ self.old.bus }
     {
-        if self.terminal.look() != Look::Line && !self.terminal.log().is_open() {
+        let is_timed = matches!(self.terminal.look(), Look::Line | Look::Minutes);
+        if !is_timed && !self.terminal.log().is_open() {
             return;
         }
         let now = self.terminal.now();
@@ -305,6 +312,9 @@ impl<B> Shown<'_, B> {
         };
         self.terminal.record_reads(self.gauge.scanned());
         self.draw(step, now);
+        let total = self.total_of(step);
+        let line = self.gauge.line(step, total, now);
+        self.print_each_minute(&line);
     }
 
     // With `Look::Line`, draws the line of a step if the last drawing is a tenth of a second old, or if the step is

@@ -24,7 +24,7 @@ use crate::preparing::{Prepared, prepare};
 use crate::progress::{Progress, Terminal};
 use crate::region_copies::{reads_out, write_region_files};
 use crate::region_files::{RegionFile, plain_names};
-use crate::reports::{print_job_fault, print_trouble, print_used_name, report_changed_byte};
+use crate::reports::{clear_journal, print_job_fault, print_trouble, report_changed_byte};
 use crate::run_log::end_log;
 use crate::setting::Setting;
 use crate::strays::{begin_notes, end_compared, report_strays};
@@ -295,7 +295,7 @@ fn run_job<'b, R: Store, O: Write, E: Write>(
             bus.end_progress(false);
             print_job_fault(errors, &fault, bus, operation, saved);
             report_strays(errors, bus, &fault, operation);
-            print_used_name(errors, &*files, &fault, bus, operation);
+            clear_journal(errors, &*files, &fault, bus, operation);
             end_log(errors, terminal.log(), operation.log, 1)
         }
     }

@@ -38,6 +38,8 @@ struct Known {
     // whether `print_waiting` was called before
     has_waited: bool,
     row: Row,
+    // whether the run created the journal of a session
+    has_journal: bool,
     announced: Option<Announcement>,
     read: Transfer,
 }
@@ -66,6 +68,7 @@ impl Screen {
             known: Cell::new(Known {
                 has_waited: false,
                 row: Row::Empty,
+                has_journal: false,
                 announced: None,
                 read: Transfer::default(),
             }),
@@ -164,6 +167,20 @@ impl<'a> Terminal<'a> {
     /// Returns the numbers of touched sectors and of erases that were announced last, or `None` if none were.
     pub fn announced(&self) -> Option<Announcement> {
         self.screen.known.get().announced
+    }
+
+    /// Records that this run created the journal of a session.
+    pub fn record_journal(&self) {
+        let known = self.screen.known.get();
+        self.screen.known.set(Known {
+            has_journal: true,
+            ..known
+        });
+    }
+
+    /// Returns whether this run created the journal of a session.
+    pub fn has_journal(&self) -> bool {
+        self.screen.known.get().has_journal
     }
 
     /// Records how fast data was read so far.
