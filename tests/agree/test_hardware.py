@@ -48,7 +48,8 @@ PLANTS = {
     "an error less": (PAGE, r"(?m)^13\t.*\n", "", "sources has 'Error 13: timeout at _.', manual hasn't"),
     "another text of an error": (PAGE, r"8\trange not", "8\trange never", "manual has 'Error 8: range never offered.'"),
     "another step": (
-        "crates/flashnor_serprog/src/steps.rt", 'Step::Scan => "scan"', 'Step::Scan => "seek"', "sources has 'seek', manual hasn't"),
+        "crates/flashnor_serprog/src/steps.rt", 'Step::Scan => "scan"', 'Step::Scan => "seek"',
+        "sources has 'seek', manual hasn't"),
     "another text of a programmer fault": (
         "crates/nor_serprog/src/programmer.rt", "types of bus are", "buses are", "sources has 'the programmer"),
     "a text of a programmer fault less": (

@@ -154,7 +154,7 @@ def needs_its_step(start):
     bench.write("new", b"\xff" * 65536)
     got = bench.run("-w", "new", "--journal", "j")
     advice = f"Disconnect the programmer from power, connect it again, and set up the port: {STTY}"
-    text = "the programmer did not reply to SYNCNOP as it must"
+    text = "the programmer gave a wrong reply to SYNCNOP"
     bench.compare(got, [], [bench.device(f"Programmer fault 5: {text}. {advice}")])
     bench.check_unselected()
     bench.check_absent("j")

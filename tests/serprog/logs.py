@@ -10,7 +10,7 @@ from options import images, last_lines
 from terminal import Screen, logged, run, untimed, with_read_back
 
 TIMED = re.compile(r"\d+\.\d{3} (.*)")
-TAKEN = "It has two roles in this run, or another program uses it: give each role its own file, or wait for that program."
+TAKEN = reference.FILE_HINTS[5]
 INCOMPLETE = "The log is incomplete, but the job went on: free disk space, or choose another file."
 SEALED = reference.sealed("j")
 # The first line of a log, and the bytes with which an existing file must begin if it is to be overwritten.
@@ -55,9 +55,9 @@ def logs_a_run(start):
         "read back: 1 sector", "program: 1 page", *last_lines(plan), TOOK, "compare: sector 1 of 16",
         *got.out])
     check("the order of the lines", lines_of(bench)[:3], [WAITING, lines_of(bench)[1], "identify"])
-    got = bench.run("--restore", "j", "--output=log", "-V")
-    check("lines of -V on the screen", got.err, [it for it in lines_of(bench) if TIMED.fullmatch(it)])
-    check("the last lines", lines_of(bench)[-2:], got.out)
+    got = bench.run("--restore", "j", "--output=new log", "-V")
+    check("lines of -V on the screen", got.err, [it for it in lines_of(bench, "new log") if TIMED.fullmatch(it)])
+    check("the last lines", lines_of(bench, "new log")[-2:], got.out)
     bench.check_chip(old)
 
 

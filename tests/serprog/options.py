@@ -90,8 +90,8 @@ def names_the_chip(start):
     bench.expect("-c", "SFDP", out=[reference.found("TINY64")])
     bench.expect("-c", "W25Q64FV", err=reference.OTHER_NAME)
     bench.expect("-c", "other", err=[
-        reference.OTHER_NAME[0], "This program knows no chip with the name of -c. The connected chip has the ID fe1010, and "
-        "only its SFDP is known: its name for -c is SFDP."])
+        reference.OTHER_NAME[0], "This program knows no chip with the name of -c. The connected chip has the ID fe1010, "
+        "and only its SFDP is known: its name for -c is SFDP."])
     bench.check_frames(reference.probe("TINY64"))
 
 

@@ -6,6 +6,7 @@ import os
 import re
 import shutil
 import subprocess
+import time
 
 import reference
 import terminal
@@ -13,13 +14,16 @@ from bench import WAITING, Differs, check
 from chip import SECTOR
 from journals import RESTORE, describe
 from losses import session_wire
+from maps import with_fmap
 from options import images
+from regions import random_image
 
 SHELLS = [it for it in ("sh", "dash", "bash", "busybox") if shutil.which(it)]
 LARGE = 1 << 23
-NAMES = ["x';touch PWN;'", "it's", "'", "a b", "$(touch PWN)", "`touch PWN`", 'a"b', "a\\b", "*", "~", "#a", "!x", "-j", "\u00e9"]
-# Names that no command can have: a newline, an escape sequence, a C1 control character, and a mark that reverses a text.
-UNPRINTED = {"a\nb": "a\\x0ab", "a\x1b[31mb": "a\\x1b[31mb", "a\u0085b": "a\\xc2\\x85b"}
+NAMES = ["x';touch PWN;'", "it's", "'", "a b", "$(touch PWN)", "`touch PWN`", 'a"b', "a\\b", "*", "~", "#a", "!x", "-j",
+         "\u00e9"]
+# Names that no command can have: with a newline, an escape sequence, or a C1 control character.
+UNPRINTED = {"a\u202eb": "a\\xe2\\x80\\xaeb", "a\nb": "a\\x0ab", "a\x1b[31mb": "a\\x1b[31mb", "a\u0085b": "a\\xc2\\x85b"}
 
 
 def taken_back(bench, command):
@@ -35,7 +39,7 @@ def taken_back(bench, command):
 
 
 def quotes_names(start):
-    """The command of --check-journal gives back the journal's name in each shell. A name with a newline has no command."""
+    """The command of --check-journal gives back the journal's name in each shell. A newline allows no command."""
     bench = start()
     whole = reference.journal("TINY64", bytes(65536), (1,))
     for name in NAMES:
@@ -126,7 +130,7 @@ def shows_locks(start):
 
 
 def advises_on_locks(start):
-    """Error 10 doesn't advise --unlock alone if the status is locked. Error 6 names the bits that may protect the chip."""
+    """Error 10 doesn't advise --unlock alone if the status is locked. Error 6 names bits that may protect the chip."""
     old = b"\xff" * LARGE
     for status in b"\x04\0", b"\x84\0", b"\x04\x01", b"\x84\x01":
         bench = start("W25Q64FV", data=old, status=status)
@@ -136,8 +140,8 @@ def advises_on_locks(start):
     bench = start("TINY64", status=b"\x1c\0")
     bench.expect("--wp-status", err=[
         "Error 6: no protection on this chip.",
-        "Status 1 of this chip is 1Ch. On nearly every chip its bits 2 to 6 protect sectors, but this program doesn't know "
-        "what they mean on this chip."])
+        "Status 1 of this chip is 1Ch. On nearly every chip its bits 2 to 6 protect sectors, but this program doesn't "
+        "know what they mean on this chip."])
 
 
 def fits_narrow_terminals(start):
@@ -170,7 +174,7 @@ def says_a_line_a_minute(start):
 
 
 def removes_an_unsealed_journal(start):
-    """A refused session removes the journal that it created, so its command may be repeated. A backup keeps its file."""
+    """A refused session removes the journal that it created, so it may be repeated. A backup keeps its file."""
     old, new = images("removes_an_unsealed_journal")
     wire = session_wire(old, new)
     seal = wire.index(reference.WRITE_ENABLE)
@@ -198,5 +202,49 @@ def removes_an_unsealed_journal(start):
     check("the last line", got.err[-1], reference.used_name("whole"))
 
 
-CASES = [removes_an_unsealed_journal, says_a_line_a_minute, quotes_names, quotes_names_after_error_12, quotes_the_device,
+def keeps_the_log_of_a_session(start):
+    """The log of a restore follows the log that is in its file. Any other run begins its log anew."""
+    old, new = images("keeps_the_log_of_a_session")
+    bench = start(data=old)
+    bench.write("new", new)
+    check("status", bench.run("-w", "new", "--journal", "j", "-o", "log").status, 0)
+    session = bench.path("log").read_bytes()
+    for _ in range(2):
+        before = bench.path("log").read_bytes()
+        check("status", bench.run("--restore", "j", "-o", "log").status, 0)
+        both = bench.path("log").read_bytes()
+        check("the log begins as before, then there is an empty line", both.startswith(before + b"\nLog of "), True)
+    check("the beginning of all", both.startswith(session), True)
+    check("the runs", both.count(b"Log of flashnor-serprog 1.0\n"), 3)
+    check("status", bench.run("--flash-size", "-o", "log").status, 0)
+    check("the runs", bench.path("log").read_bytes().count(b"Log of flashnor-serprog 1.0\n"), 1)
+    for content in b"", None:
+        bench.path("log").unlink()
+        if content is not None:
+            bench.write("log", content)
+        check("status", bench.run("--restore", "j", "-o", "log").status, 0)
+        check("the first bytes", bench.path("log").read_bytes()[:7], b"Log of ")
+
+
+def overwrites_no_file_that_appears_late(start):
+    """A file that appears under the log's name while the layout is read from the chip isn't truncated."""
+    bench = start(data=with_fmap(random_image("late"), 0x100, [(0, 65536, b"all")]), rate=60_000)
+    for content, is_log in (b"other bytes\n" * 9, False), (b"", True), (b"Log of flashnor-serprog 0.9\n", True):
+        bench.path("log").unlink(missing_ok=True)
+        bench.server.begin({})
+        process = bench.start(["-r", "out", "--fmap", "-i", "all", "-o", "log"])
+        while len(bench.server.log) < 6:
+            time.sleep(0.01)
+        check("the log before", bench.path("log").exists(), False)
+        bench.write("log", content)
+        got = bench.finish(process)
+        check("the exit status", got.status, 0 if is_log else 1)
+        if is_log:
+            check("the log", bench.path("log").read_bytes()[:28], b"Log of flashnor-serprog 1.0\n")
+        else:
+            check("the lines", got.err, ["File fault 4: log.", reference.IS_NO_LOG])
+            bench.check_file("log", content)
+
+
+CASES = [keeps_the_log_of_a_session, overwrites_no_file_that_appears_late, removes_an_unsealed_journal, says_a_line_a_minute, quotes_names, quotes_names_after_error_12, quotes_the_device,
          counts_what_it_reads_again, says_how_long_a_change_takes, shows_locks, advises_on_locks, fits_narrow_terminals]

@@ -32,7 +32,8 @@ FILE_HINTS = {
     1: "It is missing or can't be read: correct its name or its permissions.",
     2: "It can't be created, written or locked: correct its name or permissions, or free disk space.",
     4: "It exists already, and is never overwritten: choose a new name.",
-    5: "It has two roles in this run, or another program uses it: give each role its own file, or wait for that program."}
+    5: "It has two roles in this run, or another program uses it: give each role its own file, or wait for that "
+       "program."}
 IS_JOURNAL = "It is a journal, which is never overwritten: choose a new name."
 IS_NO_LOG = "It exists, and is no log, so it isn't overwritten: choose a new name."
 # The lines of a journal that was not sealed.
@@ -45,7 +46,8 @@ NO_CHIP = ["Error 1: no chip.", "Check contacts, supply and wiring, and that cs=
 # The line after error 4 if regions are given.
 WHOLE_IMAGE = "Give an image of the whole chip. -i NAME:FILE gives the bytes of a region."
 # What follows the two unique IDs after error 20.
-OTHER_UNIT = "The journal is another board's, or the chip was replaced: find this board's journal, or see --replaced-chip."
+OTHER_UNIT = "The journal is another board's, or the chip was replaced: find this board's journal, or see " \
+    "--replaced-chip."
 # What follows the line after error 17 if only SRP0 is to be set or cleared, or only SRP1.
 SET_SRP0, CLEAR_SRP0 = (f" {do} SRP0 (--wp-{option}), and restore again."
                         for do, option in (("Set", "enable"), ("Clear", "disable")))
@@ -58,7 +60,8 @@ LOCKED = {
     (True, True): "SRP0 and SRP1 are set: the status may be locked for good."}
 TO_UNLOCK = {
     (False, False): ", or use --unlock.",
-    (True, False): ". SRP0 is set: to lift the protection, clear it while WP# is high (--wp-disable), then use --unlock.",
+    (True, False): ". SRP0 is set: to lift the protection, clear it while WP# is high (--wp-disable), then use "
+                   "--unlock.",
     (False, True): ". SRP1 is set: to lift the protection, disconnect the chip from power, then use --unlock.",
     (True, True): ". SRP0 and SRP1 are set: the protection may be there for good."}
 # The lines after error 6, if no bit of 2 to 6 of status 1 is set.
@@ -70,8 +73,8 @@ LOCK_MEANING = {
     False: ["SRP0 is clear: the status can be changed. The protected range is as before.",
             "To set SRP0 again, also before a restore from a journal that has it set, use --wp-enable."]}
 # The lines if -c names a chip of the table, and the chip is TINY64.
-OTHER_NAME = ["Error 3: another chip than named.", "-c names W25Q64FV. The connected chip has the ID fe1010, and only its "
-              "SFDP is known: its name for -c is SFDP."]
+OTHER_NAME = ["Error 3: another chip than named.", "-c names W25Q64FV. The connected chip has the ID fe1010, and only "
+              "its SFDP is known: its name for -c is SFDP."]
 
 
 def locks_of(status):
@@ -106,7 +109,8 @@ BITS = (((0x80, "SRP0"), (0x40, "SEC"), (0x20, "TB"), (0x10, "BP2"), (0x08, "BP1
 def not_stored_status(sent, found):
     """Returns the beginning of chip fault 3: the status bytes `sent` were written, and `found` read back."""
     names = [name for bits, one, other in zip(BITS, sent, found) for bit, name in bits if (one ^ other) & bit]
-    why = f"the chip did not store a status write; these bits differ: {' '.join(names)}. Check WP#, SRP0 and the supply."
+    why = f"the chip did not store a status write; these bits differ: {' '.join(names)}. Check WP#, SRP0 and the " \
+        "supply."
     if found[0] & ~sent[0] & 0x80:
         why = "SRP0 is still set, because the chip ignored the status write: WP# is probably low. Connect WP# to the " \
             "supply, and repeat the run."
@@ -154,7 +158,7 @@ def is_partial(whole):
 
 
 def used_name(journal="j"):
-    """Returns the last line of a backup that failed, or of a session that failed between its seal and its first change."""
+    """Returns the last line of a failed backup, or of a session that failed between its seal and its first change."""
     return f"This run has created {journal}: repeat the command with a new journal name."
 
 

@@ -483,7 +483,7 @@ def run(words):
 
 
 def used_name(job):
-    """Removes the journal of a session that isn't sealed and changed nothing. Returns the line about one that is left."""
+    """Removes the unsealed journal of a session that changed nothing. Returns the line about one that is left."""
     name = job.given.get("--journal", job.given.get("--backup"))
     if not name or not Path(name).exists() or job.link.has_changed:
         return []

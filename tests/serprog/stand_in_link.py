@@ -219,7 +219,7 @@ class Link:
             last = (last + self.receive(1))[-len(wanted) :]
             if last == wanted:
                 return
-        raise Stopped("the programmer did not reply to SYNCNOP as it must")
+        raise Stopped("the programmer gave a wrong reply to SYNCNOP")
 
     def synchronize(self):
         self.send(b"\0")

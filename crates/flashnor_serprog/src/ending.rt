@@ -46,8 +46,8 @@ pub enum Further {
     Status { bytes: [u8; 2] },
 }
 
-// Returns the line that follows the lines of the answer of a task. `status` are the status bytes that were read last, the
-// first for status 1. An empty range begins at 0, whatever start was given.
+// Returns the line that follows the lines of the answer of a task. `status` are the status bytes that were read last,
+// the first for status 1. An empty range begins at 0, whatever start was given.
 fn further_of(task: &Task<'_>, status: [u8; 2]) -> Further
     ensures { result ≡ further_of task.now status }
 {

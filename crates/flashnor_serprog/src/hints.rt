@@ -143,7 +143,8 @@ fn file_hint(fault: FileFault) -> Option<&'static str> {
             "It exists already, and is never overwritten: choose a new name.",
         ),
         FileFault::Taken => Some(
-            "It has two roles in this run, or another program uses it: give each role its own file, or wait for that program.",
+            "It has two roles in this run, or another program uses it: give each role its own file, or wait for \
+            that program.",
         ),
         _ => None,
     }
@@ -293,8 +294,8 @@ impl fmt::Display for Line<'_> {
             Line::Ranges => f.write_str("--wp-list lists the ranges that this chip can protect."),
             Line::UnknownProtection { status1 } if status1 & PROTECTION != 0 => write!(
                 f,
-                "Status 1 of this chip is {status1:02X}h. On nearly every chip its bits 2 to 6 protect sectors, but this \
-                program doesn't know what they mean on this chip."
+                "Status 1 of this chip is {status1:02X}h. On nearly every chip its bits 2 to 6 protect sectors, but \
+                this program doesn't know what they mean on this chip."
             ),
             Line::UnknownProtection { .. } => {
                 f.write_str("This program doesn't know the protection bits of this chip.")

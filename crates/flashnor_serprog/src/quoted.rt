@@ -4,8 +4,9 @@ use nor_console::Escaped;
 use std::fmt;
 
 /// The name of a file as one argument of a command: every POSIX shell takes it back as it is. A name whose characters
-/// are ASCII letters, digits and those of `./_-+,=` is printed unchanged. Any other name is in single quotes, with `'\''`
-/// for each single quote in it. A name that begins with `-` has `./` before it, since it would be an option otherwise.
+/// are ASCII letters, digits and those of `./_-+,=` is printed unchanged. Any other name is in single quotes, with
+/// `'\''` for each single quote in it. A name that begins with `-` has `./` before it, since it would be an option
+/// otherwise.
 #[derive(Clone, Copy, Drop)]
 pub struct Quoted<'a>(&'a str);
 

@@ -117,8 +117,8 @@ impl fmt::Display for NotStored {
 }
 
 const IGNORED: &str =
-    "Chip fault 3: SRP0 is still set, because the chip ignored the status write: WP# is probably low. Connect WP# to the \
-    supply, and repeat the run.";
+    "Chip fault 3: SRP0 is still set, because the chip ignored the status write: WP# is probably low. Connect WP# to \
+    the supply, and repeat the run.";
 
 // The bits of status 2 that no job of this program changes: all except CMP and SUS.
 const KEPT: u8 = 0x3F;

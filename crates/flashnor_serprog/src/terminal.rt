@@ -12,9 +12,9 @@ use std::os::unix::fs::FileTypeExt;
 use std::time::Instant;
 use std::{env, fmt, fs};
 
-// The greatest length of the line that is rewritten, for terminals with 40 or more columns. A line that is wrapped can't
-// be rewritten, also after the terminal got narrower, and std can't return the number of columns of the terminal. The
-// last column stays free, because some terminals wrap a line that fills it.
+// The greatest length of the line that is rewritten, for terminals with 40 or more columns. A line that is wrapped
+// can't be rewritten, also after the terminal got narrower, and std can't return the number of columns of the terminal.
+// The last column stays free, because some terminals wrap a line that fills it.
 const COLUMNS: usize = 39;
 
 // Erases from the cursor to the end of the line (ECMA-48, EL).
@@ -303,8 +303,8 @@ impl<'a> Terminal<'a> {
     }
 
     /// Writes the line to the log that says that the run waits for its programmer. With `Look::Plain`, also prints it,
-    /// except in a second call in a run, since the programmer replied before. With `Look::Line`, shows it until the next
-    /// output. A read from a port that isn't set up waits without a limit, and std has no call that ends it.
+    /// except in a second call in a run, since the programmer replied before. With `Look::Line`, shows it until the
+    /// next output. A read from a port that isn't set up waits without a limit, and std has no call that ends it.
     pub fn print_waiting(&self) {
         self.log().write_line(&WAITING);
         let known = self.screen.known.get();
@@ -376,8 +376,8 @@ fn fit(text: &str, columns: usize) -> &str {
     }
 }
 
-// Returns the greatest length of the line that is rewritten: `COLUMNS`, or less if the environment says that the terminal
-// has fewer columns.
+// Returns the greatest length of the line that is rewritten: `COLUMNS`, or less if the environment says that the
+// terminal has fewer columns.
 fn columns_of(rt: &HostRuntime) -> usize {
     let Ok(columns) = env::var(rt, "COLUMNS") else {
         return COLUMNS;

@@ -1,4 +1,5 @@
-//! The last lines of a change that the bus of `progress.rt` prints: the final numbers of its steps, and how long it took.
+//! The last lines of a change that the bus of `progress.rt` prints: the final numbers of its steps, and how long it
+//! took.
 
 use super::Shown;
 use crate::estimates::Minutes;
