@@ -21,8 +21,8 @@ lock_words bytes = if slice_index bytes 0 / 128 == 1
     else (if slice_index bytes 1 % 2 == 1 then codes ", SRP1 is set" else codes "")
 
 -- the line with these status bytes
-abbrev pub status_line : (bytes : List ℕ) → List ℕ
-status_line bytes = line (codes "Status: 0x" ∷ hex_digits 2 (slice_index bytes 0) ∷ codes " 0x"
+abbrev pub status_bytes_line : (bytes : List ℕ) → List ℕ
+status_bytes_line bytes = line (codes "Status: 0x" ∷ hex_digits 2 (slice_index bytes 0) ∷ codes " 0x"
     ∷ hex_digits 2 (slice_index bytes 1) ∷ lock_words bytes ∷ [])
 
 -- the bytes of the line that follows, or no bytes if no line does
@@ -30,7 +30,7 @@ abbrev pub further_line : Further → List ℕ
 further_line further.Nothing = []
 further_line further.Unverified = unverified_line
 further_line (further.Protected start len) = protected_line (Some (start, len))
-further_line (further.Status bytes) = status_line bytes
+further_line (further.Status bytes) = status_bytes_line bytes
 
 -- the line after a change: the range that `--wp-range` protects, or that a write or an erase with `-n` wasn't verified
 abbrev pub further_of_change : Wanted → (verify : Bool) → Further

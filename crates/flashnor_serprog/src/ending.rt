@@ -5,7 +5,7 @@ ghost use Rattle.nor_console.specs.AnswerLines.{name_line};
 ghost use Rattle.nor_console.specs.Printing.{Prints};
 ghost use Rattle.nor_console.specs.AnswerLines.{protected_line};
 ghost use Rattle.flashnor_serprog.specs.Run.{AreJobLines, AreLinesBy, AreNameLines};
-ghost use Rattle.flashnor_serprog.specs.Further.{further_line, further_of, lock_words, status_line, unverified_line};
+ghost use Rattle.flashnor_serprog.specs.Further.{further_line, further_of, lock_words, status_bytes_line, unverified_line};
 
 use nor_args::{Change, Operation, Task, Wanted};
 use nor_console::{Answer, Fault, lost_output, print_answer, print_fault};
@@ -161,7 +161,7 @@ fn print_protected<O: Write>(output: &mut O, start: u32, len: u32) -> io::Result
 
 #[tactic(auto, using(nor_request::proofs::Printed::padded_hex), unfolding(nor_console::specs::Lines::line))]
 fn print_status<O: Write>(output: &mut O, bytes: [u8; 2]) -> io::Result<()>
-    ensures { OnOk result (Appends (O.contents output.old) (O.contents output.new) (status_line bytes)) }
+    ensures { OnOk result (Appends (O.contents output.old) (O.contents output.new) (status_bytes_line bytes)) }
 {
     let (one, two) = (bytes[0], bytes[1]);
     let locks = lock_words(bytes);
