@@ -221,10 +221,7 @@ pub fn start_log<'a, R: Store<Log = LogFile<File>>>(
 /// Returns file fault 4 if the file of this name, which was opened for the log, was no log: it appeared after `check_log`.
 pub fn check_started<'a>(log: &RunLog, name: Option<&'a str>) -> Result<(), Fault<'a>> {
     match name {
-        Some(name) if log.is_refused() => {
-            let fault = FileFault::Exists;
-            Err(Fault::File { fault, name })
-        }
+        Some(name) if log.is_refused() => Err(exists(name, Cause::Unknown)),
         _ => Ok(()),
     }
 }
