@@ -75,7 +75,8 @@ def believes_busy(start):
     for byte in 0, 1:
         bench = start("W25Q64FV", data=b"\xff" * LARGE, status=BEFORE)
         bench.server.traits.wrong_bits = {2: (byte, 0)}
-        bench.expect(*PROTECT, out=[FOUND, "Done: touched 0, erases 0, programs 0, transactions 8."])
+        bench.expect(*PROTECT, out=[FOUND, "Done: touched 0, erases 0, programs 0, transactions 8.",
+                                    "Range: 0x000000,0x800000"])
         bench.check_chip(b"\xff" * LARGE, AFTER)
         bench = start("W25Q64FV", data=b"\xff" * LARGE, status=BEFORE, scale=20.0)
         bench.server.traits.wrong_bits = {(1, 1): (byte, 0)}
