@@ -18,6 +18,7 @@ nobody() {
 # may be another of these commands.
 terminal() {
     export top program library
+    # shellcheck disable=SC2016  # the inner shell expands them
     python3 "$top/tests/terminal.py" bash -c '. "$top/tests/steps.sh"; "$@"' bash "$@"
 }
 
