@@ -79,23 +79,30 @@ fn journal_detail<R: Store>(
     let Ok(journal) = Journal::read(&bytes) else {
         return Detail::Unsaid;
     };
-    let Emulated { part, .. } = job.programmer.chip;
     match (refusal, journal.unique()) {
-        (Refusal::OtherChip, _) => Detail::Chip {
-            journal: journal.id(),
-            journal_size: journal.size(),
-            chip: part.id,
-            chip_size: part.size,
-        },
-        (Refusal::StatusDiffers, _) => Detail::Status {
-            journal: journal.status(),
-            chip: bus.status(),
-        },
-        (Refusal::OtherUnit, Some(unique)) => Detail::Unit {
-            journal: u64::from_be_bytes(unique),
-            chip: u64::from_be_bytes(job.programmer.unique.unwrap_or([0; 8])),
-        },
+        (Refusal::OtherChip, _) => chip_detail(&journal, job.programmer.chip),
+        (Refusal::StatusDiffers, _) => {
+            let (journal, chip) = (journal.status(), bus.status());
+            Detail::Status { journal, chip }
+        }
+        (Refusal::OtherUnit, Some(unique)) => {
+            let chip = job.programmer.unique.unwrap_or([0; 8]);
+            Detail::Unit {
+                journal: u64::from_be_bytes(unique),
+                chip: u64::from_be_bytes(chip),
+            }
+        }
         _ => Detail::Unsaid,
+    }
+}
+
+fn chip_detail(saved: &Journal<'_>, chip: Emulated) -> Detail {
+    let (journal, chip_id) = (saved.id(), chip.part.id);
+    Detail::Chip {
+        journal,
+        journal_size: saved.size(),
+        chip: chip_id,
+        chip_size: chip.part.size,
     }
 }
 
