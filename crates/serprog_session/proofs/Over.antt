@@ -1,7 +1,7 @@
 -- Lemmas: what nor_session promises for the chip of a bus over a port holds for the chip of the programmer at this
 -- port.
 use Rattle.std.proofs.Common.{◌≡◌, ◌∙◌, ◌/◌, ℕ, false, List, [], length, refl, sym, ap, subst, arith, inl, inr}
-use Rattle.std.specs.Prelude.{Result, Ok, Err}
+use Rattle.std.specs.Prelude.{Option, Result, Ok, Err}
 use Rattle.std.proofs.lemmas.List.{append-nil}
 use Rattle.std.proofs.lemmas.Bool.{false≢true}
 use Rattle.std.specs.Prelude.{IfErr}
@@ -15,20 +15,22 @@ use Rattle.nor_driver.specs.StatusWrites.{fixed_of}
 use Rattle.nor_journal.specs.Text.{Content, IsContent, text}
 use Rattle.nor_journal.proofs.OneForm.{one_text}
 use Rattle.nor_journal.specs.Vault.{VaultState}
+use Rattle.nor_probe.specs.declared.table.ChipName.{ChipName}
 use Rattle.nor_probe.specs.Known.{IsModelled}
 use Rattle.nor_apply.specs.Within.{WorksIn}
 use Rattle.nor_request.specs.declared.request.Request.{Request}
 use Rattle.nor_request.specs.declared.report.Report.{Report}
 use Rattle.nor_request.specs.declared.refusal.Refusal.{Refusal}
 use Rattle.nor_request.specs.declared.refusal.Refusal.TheVariants.{NoChip, UnknownChip, OtherName, ImageSize, RegionOutside, NoProtection, UndefinedProtection, RangeNotOffered, StatusLocked, Protected, Vault, Stopped, Timeout, Mismatch, BadJournal, OtherChip, StatusDiffers, Memory, Output, OtherUnit}
-use Rattle.nor_session.specs.Bounds.{most_of}
-use Rattle.nor_session.specs.Headline.{CanRestore, KeepsOriginal, RestoresOriginal, open_addresses}
+use Rattle.nor_session.specs.Bounds.{most_of, most_reads}
+use Rattle.nor_session.specs.Headline.{CanRestore, KeepsOriginal, RestoresOriginal, RewritesOriginal, open_addresses}
 use Rattle.nor_session.specs.Session.{HonestErrors, SessionErrors, SessionModelled, SessionAlways}
-use Rattle.nor_session.specs.Restore.{IsCheckedFirst, RestoreAlways, RestoreErrors, RestoreHonest, RestoreModelled}
+use Rattle.nor_session.specs.Restore.{Choice, IsCheckedFirst, AlwaysBy, ErrorsBy, RestoreErrors, RestoreHonest, RestoreModelled, RewriteHonest, RewriteModelled, differing, every_saved}
+use Rattle.nor_session.specs.Backup.{BackupErrors, BackupHonest, BackupModelled}
 use Rattle.nor_session.proofs.InTurn.{lost_can_restore}
 use Rattle.nor_serprog.specs.Device.{PortState}
 use Rattle.nor_serprog.specs.Bus.{over_port}
-use Rattle.serprog_session.specs.Headline.{ReachesGenuine, CanRestoreChip, CanRestoreChipFrom, HadFewCalls, SessionFails, KeepsOriginalChip, SessionResults, RestoreFails, RefusesUnsent, RestoresOriginalChip}
+use Rattle.serprog_session.specs.Headline.{ReachesGenuine, CanRestoreChip, CanRestoreChipFrom, HadFewCalls, SessionFails, KeepsOriginalChip, SessionResults, FailsBy, RefusesUnsent, RestoresOriginalChip, RewritesOriginalChip, BackupFails, SavesChipOver}
 
 -- A bus over a well-behaved port to a genuine chip is modelled.
 pub modelled : (port : PortState) (history : List Exchange) → ReachesGenuine port → IsModelled (over_port port history)
@@ -133,36 +135,36 @@ results request image old new history history' vault vault' (Err refusal) always
 
 -- If a restore on any bus returns an error other than 12, 13 and 14, it checked that error first, so it sent no
 -- modifying command.
-pub refuses : (journal : Content) (old new : BusState) (result : Result Report Refusal)
-    → RestoreAlways journal old new result → IfErr result (RefusesUnsent old.sent new.sent)
-refuses journal old new (Ok report) always = tt
-refuses journal old new (Err NoChip) always = (always.only_reads refl).sent
-refuses journal old new (Err (UnknownChip fault)) always = (always.only_reads refl).sent
-refuses journal old new (Err OtherChip) always = (always.only_reads refl).sent
-refuses journal old new (Err OtherUnit) always = (always.only_reads refl).sent
-refuses journal old new (Err StatusDiffers) always = (always.only_reads refl).sent
-refuses journal old new (Err StatusLocked) always = (always.only_reads refl).sent
-refuses journal old new (Err Stopped) always = tt
-refuses journal old new (Err (Timeout address)) always = tt
-refuses journal old new (Err (Mismatch address)) always = tt
-refuses journal old new (Err OtherName) always = absurd (false≢true always.answers)
-refuses journal old new (Err (ImageSize chip image)) always = absurd (false≢true always.answers)
-refuses journal old new (Err RegionOutside) always = absurd (false≢true always.answers)
-refuses journal old new (Err NoProtection) always = absurd (false≢true always.answers)
-refuses journal old new (Err UndefinedProtection) always = absurd (false≢true always.answers)
-refuses journal old new (Err RangeNotOffered) always = absurd (false≢true always.answers)
-refuses journal old new (Err (Protected address)) always = absurd (false≢true always.answers)
-refuses journal old new (Err Vault) always = absurd (false≢true always.answers)
-refuses journal old new (Err (BadJournal fault)) always = absurd (false≢true always.answers)
-refuses journal old new (Err Memory) always = absurd (false≢true always.answers)
-refuses journal old new (Err (Output written)) always = absurd (false≢true always.answers)
+pub refuses : (choice : Choice) (journal : Content) (old new : BusState) (result : Result Report Refusal)
+    → AlwaysBy choice journal old new result → IfErr result (RefusesUnsent old.sent new.sent)
+refuses choice journal old new (Ok report) always = tt
+refuses choice journal old new (Err NoChip) always = (always.only_reads refl).sent
+refuses choice journal old new (Err (UnknownChip fault)) always = (always.only_reads refl).sent
+refuses choice journal old new (Err OtherChip) always = (always.only_reads refl).sent
+refuses choice journal old new (Err OtherUnit) always = (always.only_reads refl).sent
+refuses choice journal old new (Err StatusDiffers) always = (always.only_reads refl).sent
+refuses choice journal old new (Err StatusLocked) always = (always.only_reads refl).sent
+refuses choice journal old new (Err Stopped) always = tt
+refuses choice journal old new (Err (Timeout address)) always = tt
+refuses choice journal old new (Err (Mismatch address)) always = tt
+refuses choice journal old new (Err OtherName) always = absurd (false≢true always.answers)
+refuses choice journal old new (Err (ImageSize chip image)) always = absurd (false≢true always.answers)
+refuses choice journal old new (Err RegionOutside) always = absurd (false≢true always.answers)
+refuses choice journal old new (Err NoProtection) always = absurd (false≢true always.answers)
+refuses choice journal old new (Err UndefinedProtection) always = absurd (false≢true always.answers)
+refuses choice journal old new (Err RangeNotOffered) always = absurd (false≢true always.answers)
+refuses choice journal old new (Err (Protected address)) always = absurd (false≢true always.answers)
+refuses choice journal old new (Err Vault) always = absurd (false≢true always.answers)
+refuses choice journal old new (Err (BadJournal fault)) always = absurd (false≢true always.answers)
+refuses choice journal old new (Err Memory) always = absurd (false≢true always.answers)
+refuses choice journal old new (Err (Output written)) always = absurd (false≢true always.answers)
 
-restore_fails : (journal : Content) (old new : PortState) (history history' : List Exchange) (refusal : Refusal)
-    → RestoreErrors journal (over_port old history) (over_port new history') refusal
-    → RestoreFails journal old refusal
-restore_fails journal old new history history' Stopped is =
+restore_fails : (choice : Choice) (journal : Content) (old new : PortState) (history history' : List Exchange)
+    (refusal : Refusal) → ErrorsBy choice journal (over_port old history) (over_port new history') refusal
+    → FailsBy choice journal old refusal
+restore_fails choice journal old new history history' Stopped is =
     few_calls (most_of (length journal.saved)) old new history history' is
-restore_fails journal old new history history' _ is = is
+restore_fails choice journal old new history history' _ is = is
 
 same_refused : (most : ℕ) (old new : BusState) (refusal : Refusal) → HonestErrors most IsCheckedFirst old new refusal
     → IsCheckedFirst refusal → IsSame old.chip new.chip
@@ -202,7 +204,75 @@ restores journal old new history history' (Err refusal) back fair made = record 
       (stopped, few_calls (most_of (length journal.saved)) old new history history' ran);
   made = tt;
   kept = tt;
-  errors = restore_fails journal old new history history' refusal made.errors;
+  errors = restore_fails differing journal old new history history' refusal made.errors;
   same = same_refused (most_of (length journal.saved)) (over_port old history) (over_port new history') refusal
       fair.honest_errors;
+}
+
+pub rewrites : (journal : Content) (old new : PortState) (history history' : List Exchange)
+    (result : Result Report Refusal)
+    → RewritesOriginal journal (over_port old history) (over_port new history') result
+    → RewriteHonest journal (over_port old history) (over_port new history') result
+    → RewriteModelled journal (over_port old history) (over_port new history') result
+    → RewritesOriginalChip journal old new result
+rewrites journal old new history history' (Ok report) back fair made = record {
+  within = λ first can.
+      on_every_bus journal first (over_port new history') refl
+      (back.within first (can (over_port old history) refl));
+  back = λ first can. back.back first (can (over_port old history) refl);
+  idle = made.done.made.idle;
+  only_stops = λ first can unlocked. tt;
+  made = made.done.made;
+  kept = made.done.kept;
+  errors = tt;
+  same = tt;
+}
+rewrites journal old new history history' (Err refusal) back fair made = record {
+  within = λ first can.
+      on_every_bus journal first (over_port new history') refl
+      (back.within first (can (over_port old history) refl));
+  back = λ first can. tt;
+  idle = tt;
+  only_stops = λ first can unlocked.
+      let stopped = back.only_stops first (can (over_port old history) refl) unlocked in
+      let P : Refusal → Type 0 =
+      λ r. ErrorsBy every_saved journal (over_port old history) (over_port new history') r in
+      let ran = subst P stopped made.errors in
+      (stopped, few_calls (most_of (length journal.saved)) old new history history' ran);
+  made = tt;
+  kept = tt;
+  errors = restore_fails every_saved journal old new history history' refusal made.errors;
+  same = same_refused (most_of (length journal.saved)) (over_port old history) (over_port new history') refusal
+      fair.honest_errors;
+}
+
+-- ---- a backup
+
+backup_fails : (named : Option ChipName) (old new : PortState) (history history' : List Exchange) (refusal : Refusal)
+    → BackupErrors (most_reads (old.device.chip.config.size / 4096)) named (over_port old history)
+    (over_port new history') refusal → BackupFails named old refusal
+backup_fails named old new history history' Stopped is =
+    few_calls (most_reads (old.device.chip.config.size / 4096)) old new history history' is
+backup_fails named old new history history' _ is = is
+
+pub saves : (named : Option ChipName) (old new : PortState) (history history' : List Exchange) (vault : VaultState)
+    (result : Result Report Refusal) → BackupHonest named (over_port old history) (over_port new history') result
+    → BackupModelled named (over_port old history) (over_port new history') vault result
+    → SavesChipOver named old new vault result
+saves named old new history history' vault (Ok report) fair made = record {
+  errors = tt;
+  same = fair.same;
+  saves = made.saves;
+  restorable = λ telling.
+      let from = made.restorable telling in
+      record {
+        journal = from.journal;
+        back = on_every_bus from.journal.content old.device.chip (over_port new history') refl from.back;
+      };
+}
+saves named old new history history' vault (Err refusal) fair made = record {
+  errors = backup_fails named old new history history' refusal made.errors;
+  same = tt;
+  saves = tt;
+  restorable = tt;
 }

@@ -1,25 +1,29 @@
 -- The main promises over serprog: on a well-behaved port to a genuine chip, the original chip can be restored from the
 -- journal in a sealed faithful vault, wherever the port fails.
-use Rattle.std.specs.Prelude.{◌≡◌, ◌≤◌, ◌<◌, ◌*◌, ◌/◌, ℕ, true, false, List, length, Result, IfErr, OnOk, ⊤}
+use Rattle.std.specs.Prelude.{◌≡◌, ◌≤◌, ◌<◌, ◌*◌, ◌/◌, ℕ, true, false, List, length, Option, Result, Err, IfErr, OnOk, ⊤}
 use Rattle.nor_model.specs.Chip.{Chip, IsSame, kept_in}
 use Rattle.nor_model.specs.Sent.{Sent}
 use Rattle.nor_model.specs.Bus.{BusState}
 use Rattle.nor_driver.specs.StatusWrites.{with_code}
 use Rattle.nor_journal.specs.Text.{Content}
 use Rattle.nor_journal.specs.Vault.{VaultState, CountsRefusal}
-use Rattle.nor_probe.specs.Known.{IsGenuine}
+use Rattle.nor_probe.specs.declared.probes.ProbeFault.TheVariants as Probes
+use Rattle.nor_probe.specs.declared.table.ChipName.{ChipName}
+use Rattle.nor_probe.specs.Found.{HasOtherName}
+use Rattle.nor_probe.specs.Known.{IsGenuine, shown_as}
 use Rattle.nor_request.specs.declared.request.Request.{Request}
 use Rattle.nor_request.specs.declared.report.Report.{Report}
 use Rattle.nor_request.specs.declared.refusal.Refusal.{Refusal}
-use Rattle.nor_request.specs.declared.refusal.Refusal.TheVariants.{Vault, Stopped, Timeout, Mismatch}
+use Rattle.nor_request.specs.declared.refusal.Refusal.TheVariants.{NoChip, UnknownChip, OtherName, Vault, Stopped, Timeout, Mismatch}
 use Rattle.nor_request.specs.Refusal.{refusal_number}
 use Rattle.nor_request.specs.Request.{wanted, IsWantedCode}
 use Rattle.nor_scan.specs.SavedScan.{IsJournal}
 use Rattle.nor_scan.specs.Verdict.{IsAccepted, IsVerdict}
-use Rattle.nor_session.specs.Bounds.{most_of}
+use Rattle.nor_session.specs.Bounds.{most_of, most_reads}
 use Rattle.nor_session.specs.Made.{IsTargetChip}
-use Rattle.nor_session.specs.Headline.{CanRestore}
-use Rattle.nor_session.specs.Restore.{IsCheckedFirst, IsRestoreVerdict, differing, restored}
+use Rattle.nor_session.specs.Backup.{IsBackupOf}
+use Rattle.nor_session.specs.Headline.{CanBeRewritten, CanRestore}
+use Rattle.nor_session.specs.Restore.{IsCheckedFirst, IsRestoreVerdict, Choice, differing, every_saved, restored}
 use Rattle.nor_serprog.specs.Device.{PortState}
 
 -- Holds for a well-behaved port to a programmer whose chip is genuine (`IsGenuine`). If the ID of the chip is in the
@@ -101,12 +105,16 @@ RefusesUnsent sent sent' (Timeout address) = ⊤
 RefusesUnsent sent sent' (Mismatch address) = ⊤
 RefusesUnsent sent sent' refusal = sent' ≡ sent
 
--- Holds if an error of a restore is the verdict on the journal and the chip; or 12, and the port had too few calls left
--- for the restore's bound (`HadFewCalls`). A restore promises this on a well-behaved port to a genuine chip, for every
--- journal.
+-- Holds if an error of a restore with this choice of sectors is the verdict on the journal and the chip; or 12, and the
+-- port had too few calls left for the restore's bound (`HadFewCalls`). A restore promises this on a well-behaved port
+-- to a genuine chip, for every journal.
+abbrev pub FailsBy : Choice → Content → PortState → Refusal → Type 0
+FailsBy choice journal port Stopped = HadFewCalls (most_of (length journal.saved)) port
+FailsBy choice journal port refusal = IsRestoreVerdict choice journal port.device.chip refusal
+
+-- Holds if `restore_over` may return this error.
 abbrev pub RestoreFails : Content → PortState → Refusal → Type 0
-RestoreFails journal port Stopped = HadFewCalls (most_of (length journal.saved)) port
-RestoreFails journal port refusal = IsRestoreVerdict differing journal port.device.chip refusal
+RestoreFails journal port refusal = FailsBy differing journal port refusal
 
 -- The promise of a restore on a well-behaved port to a genuine chip. The fields `within`, `back` and `only_stops` are
 -- about each chip `first` that the journal can restore at the start. The other fields hold for every journal.
@@ -131,3 +139,56 @@ pub record RestoresOriginalChip (journal : Content) (old new : PortState)
   -- after an error that a restore checks first (`IsCheckedFirst`), the contents and the non-volatile status bits of the
   -- programmer's chip are as they were
   pub same : IfErr result (λ refusal. IsCheckedFirst refusal → IsSame old.device.chip new.device.chip)
+
+-- ---- a restore that rewrites every saved sector
+
+-- The promise of a restore that rewrites every saved sector, on a well-behaved port to a genuine chip. The fields
+-- `within`, `back` and `only_stops` are about each chip `first` that the journal can restore at the start. The other
+-- fields hold for every journal.
+pub record RewritesOriginalChip (journal : Content) (old new : PortState)
+    (result : Result Report Refusal) : Type 0 where
+  -- at every exit, wherever the port failed, the journal can still restore `first`
+  pub within : (first : Chip) → CanRestoreChip journal first old.device.chip
+      → CanRestoreChip journal first new.device.chip
+  -- a rewrite that succeeds has restored the contents and the non-volatile status bits of `first`
+  pub back : (first : Chip) → CanRestoreChip journal first old.device.chip
+      → OnOk result (IsSame first new.device.chip)
+  -- after success the programmer's chip is idle
+  pub idle : OnOk result (new.device.chip.busy ≡ 0)
+  -- if no saved sector of `first` is protected by a locked status, the only possible error is a stop: the port failed
+  -- because it had too few calls left for the bound (`HadFewCalls`)
+  pub only_stops : (first : Chip) → CanRestoreChip journal first old.device.chip → CanBeRewritten journal first
+      → IfErr result (λ refusal. (refusal ≡ Stopped) × HadFewCalls (most_of (length journal.saved)) old)
+  -- after success the programmer's chip has the saved bytes, and the non-volatile status bits that the journal saved
+  pub made : OnOk result (IsTargetChip (restored journal old.device.chip.bytes) old.device.chip new.device.chip)
+  pub kept : OnOk result (new.device.chip.kept ≡ kept_in journal.status)
+  -- an error is the verdict on the journal and the chip, or a failure of the port (`FailsBy`)
+  pub errors : IfErr result (FailsBy every_saved journal old)
+  -- after an error that a rewrite checks first (`IsCheckedFirst`), the contents and the non-volatile status bits of the
+  -- programmer's chip are as they were
+  pub same : IfErr result (λ refusal. IsCheckedFirst refusal → IsSame old.device.chip new.device.chip)
+
+-- ---- a backup
+
+-- Holds if an error of a backup says what the chip is, that the vault failed, or that the port had too few calls left
+-- for the backup's bound (`HadFewCalls`).
+abbrev pub BackupFails : Option ChipName → PortState → Refusal → Type 0
+BackupFails named port NoChip = shown_as port.device.chip.config ≡ Err Probes.NoChip
+BackupFails named port (UnknownChip fault) = shown_as port.device.chip.config ≡ Err (Probes.UnknownChip fault)
+BackupFails named port OtherName = HasOtherName named port.device.chip.config
+BackupFails named port Stopped = HadFewCalls (most_reads (port.device.chip.config.size / 4096)) port
+BackupFails named port Vault = ⊤
+BackupFails named port _ = ⊥
+
+-- The result of a backup on a well-behaved port to a genuine chip.
+pub record SavesChipOver (named : Option ChipName) (old new : PortState) (vault : VaultState)
+    (result : Result Report Refusal) : Type 0 where
+  -- an error says what the chip is, or that the vault or the port failed (`BackupFails`)
+  pub errors : IfErr result (BackupFails named old)
+  -- after success the chip's contents and non-volatile status bits are as they were
+  pub same : OnOk result (IsSame old.device.chip new.device.chip)
+  -- after success a faithful vault holds a journal that saves the whole chip
+  pub saves : OnOk result (vault.telling ≡ true → IsBackupOf vault.bytes old.device.chip)
+  -- after success the journal in a faithful vault can restore the chip
+  pub restorable : OnOk result (vault.telling ≡ true
+      → CanRestoreChipFrom vault.bytes old.device.chip new.device.chip)

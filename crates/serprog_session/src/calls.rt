@@ -1,14 +1,19 @@
-//! The calls `session_over` and `restore_over`: a session and a restore of the chip at a programmer.
-ghost use Rattle.std.specs.Prelude.{◌≡◌, true, IfErr};
-ghost use Rattle.nor_journal.specs.Vault.{IsFresh};
+//! The calls `session_over`, `restore_over`, `rewrite_over` and `backup_over`: a session, two kinds of restore, and a
+//! backup of the chip at a programmer.
+ghost use Rattle.std.specs.Prelude.{◌≡◌, true, IfErr, OnOk};
+ghost use Rattle.nor_journal.specs.Saved.{is_saved};
+ghost use Rattle.nor_journal.specs.Vault.{IsFresh, Completed};
+ghost use Rattle.nor_apply.specs.Applying.{ErasesFirst};
+ghost use Rattle.nor_session.specs.Backup.{BackupReturns};
 ghost use Rattle.nor_session.specs.Session.{SendsSaved, SessionReturns, IsSavedCode};
 ghost use Rattle.nor_serprog.specs.Bus.{port_in, sent_of, serprog_state};
 ghost use Rattle.serprog_session.specs.Headline.{ReachesGenuine, KeepsOriginalChip, RefusesUnsent, RestoresOriginalChip};
-ghost use Rattle.serprog_session.specs.Headline.{SessionResults};
+ghost use Rattle.serprog_session.specs.Headline.{SessionResults, RewritesOriginalChip, SavesChipOver};
 
 use nor_journal::{Journal, Vault};
+use nor_probe::ChipName;
 use nor_serprog::{Port, SerprogBus};
-use nor_session::{Refusal, Report, Request, restore, session};
+use nor_session::{Refusal, Report, Request, backup, restore, rewrite, session};
 
 /// Runs `session` of nor_session on the chip at a programmer: saves each sector that it will touch to `vault`, and then
 /// makes the chip what `request` asks for. `vault` must be empty and unsealed; `image` is as for `session`.
@@ -66,4 +71,52 @@ pub fn restore_over<P: Port + Drop>(
     ensures refuses { IfErr result (RefusesUnsent (sent_of bus.old) (sent_of bus.new)) }
 {
     restore(bus, journal)
+}
+
+/// Runs `rewrite` of nor_session on the chip at a programmer: restores as `restore_over` does, but erases and programs
+/// every saved sector, even if the sector has its saved bytes already, and then verifies all of them.
+///
+/// The promises are those of `restore_over`, with two differences:
+///
+/// - On every port, after success each saved sector was the target of an erase, and no erase was sent after the first
+///   page program (`thorough`).
+/// - If the journal can restore an original chip at the start, 12 is the only possible error unless a saved sector of
+///   that chip is protected by a locked status.
+pub fn rewrite_over<P: Port + Drop>(
+    bus: &mut SerprogBus<P>,
+    journal: &Journal<'_>,
+) -> Result<Report, Refusal>
+    ensures restores_original { ReachesGenuine (P.state (port_in bus.old)) → RewritesOriginalChip journal.now
+        (P.state (port_in bus.old)) (P.state (port_in bus.new)) result }
+    ensures sends { SendsSaved (IsSavedCode journal.now) 1 journal.now
+        (serprog_state bus.old) (serprog_state bus.new) }
+    ensures refuses { IfErr result (RefusesUnsent (sent_of bus.old) (sent_of bus.new)) }
+    ensures thorough { OnOk result
+        (ErasesFirst (is_saved journal.now) (serprog_state bus.old) (serprog_state bus.new)) }
+{
+    rewrite(bus, journal)
+}
+
+/// Runs `backup` of nor_session on the chip at a programmer: saves every sector of the chip, its protection bits and
+/// its unique ID to `vault`, and changes nothing. If `named` is given, the chip must have that name. `vault` must be
+/// empty and unsealed.
+///
+/// - On every port, no modifying command is sent, and the vault is sealed if and only if the call succeeds. An error is
+///   1 (no chip), 2 (unknown chip), 3 (other name), 11 (the vault failed), 12 (the port failed) or 13 (the chip stayed
+///   busy).
+/// - On a well-behaved port to a genuine chip, success leaves the chip's contents and non-volatile status bits as they
+///   were, and a `telling` vault holds a journal that saves the whole chip and can restore it. Error 13 does not occur.
+pub fn backup_over<P: Port + Drop, V: Vault>(
+    bus: &mut SerprogBus<P>,
+    vault: &mut V,
+    named: Option<ChipName>,
+) -> Result<Report, Refusal>
+    requires { IsFresh (V.state vault.old) }
+    ensures unsent { sent_of bus.new ≡ sent_of bus.old }
+    ensures results { ReachesGenuine (P.state (port_in bus.old)) → SavesChipOver named
+        (P.state (port_in bus.old)) (P.state (port_in bus.new)) (V.state vault.new) result }
+    ensures sealed { OnOk result (Completed (V.state vault.old) (V.state vault.new)) }
+    ensures answers { IfErr result (BackupReturns (V.state vault.old) (V.state vault.new)) }
+{
+    backup(bus, vault, named)
 }

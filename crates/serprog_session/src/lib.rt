@@ -1,5 +1,6 @@
-//! Sessions and restores of a chip at a serial programmer that speaks serprog. The calls run `session` and `restore` of
-//! nor_session. Their promises are stated for the programmer's chip, and for a port that may fail at any call.
+//! Sessions and restores of a chip at a serial programmer that speaks serprog. The calls run `session`, `restore`,
+//! `rewrite` and `backup` of nor_session. Their promises are stated for the programmer's chip, and for a port that may
+//! fail at any call.
 //!
 //! ```rust
 //! use nor_chip::{Config, Delays, SimBus};
@@ -26,17 +27,17 @@
 //! assert_eq!(rt; bus.port().chip().bytes(), before.as_slice());
 //! ```
 //!
-//! - `calls.rt`: a session and a restore over a `SerprogBus`
+//! - `calls.rt`: a session, a restore, a rewrite and a backup over a `SerprogBus`
 //! - `laws.rt`: laws (theorems) about what happens between a session and its restores
 //! - `sim_port.rt`: a simulated port to a simulated programmer with a simulated chip
 //!
-//! `specs/Headline.antt` has the promises of the two calls.
+//! `specs/Headline.antt` has the promises of these calls.
 #![tactic(auto)]
 
 mod calls;
 mod laws;
 mod sim_port;
 
-pub use calls::{restore_over, session_over};
+pub use calls::{backup_over, restore_over, rewrite_over, session_over};
 pub use laws::{disconnected_restores_chip, read_restores_chip};
 pub use sim_port::{SimFailure, SimPort};

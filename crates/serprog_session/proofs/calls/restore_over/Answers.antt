@@ -8,4 +8,4 @@ returns-clause-restores_original g c = λ reaches.
     (c.restore.ensures.modelled (modelled _ _ reaches))
 
 pub returns-clause-refuses : goal.returns-clause-refuses
-returns-clause-refuses g c = refuses _ _ _ _ c.restore.ensures.always
+returns-clause-refuses g c = refuses _ _ _ _ _ c.restore.ensures.always
