@@ -47,6 +47,7 @@
 //! - `serprog_buses.rt`: transactions over the buses, batches of commands, and faults of the programmer and the port
 //! - `serprog_stops.rt`: sessions and restores over a well-behaved port (of serprog_session), which fails at each of
 //!   its calls in turn
+//! - `serprog_layers.rt`: sessions and restores over all layers of nor_buses, with each failure of the port
 //! - `serprog_wrappers.rt`: paced polls, polls that differ, and reads that are made twice
 //! - `serprog_again.rt`: which sectors of a read are read again
 //! - `serprog_narrow.rt`: reads and programs that are split, because the programmer's limits are too small for them
@@ -111,6 +112,8 @@ mod serprog_buses;
 mod serprog_frames;
 #[cfg(test)]
 mod serprog_handshakes;
+#[cfg(test)]
+mod serprog_layers;
 #[cfg(test)]
 mod serprog_model;
 #[cfg(test)]

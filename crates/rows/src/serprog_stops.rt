@@ -10,7 +10,7 @@ use nor_chip::SimBus;
 use nor_journal::{Journal, MemVault, Vault};
 use nor_serprog::{Link, Port, Programmer, SerprogBus};
 use nor_session::{Refusal, Report};
-use serprog_session::{SimFailure, SimPort, restore_over, session_over};
+use serprog_session::{SimFailure, SimPort, backup_over, restore_over, rewrite_over, session_over};
 use std::alloc::Global;
 use std::process::Abort;
 
@@ -198,6 +198,24 @@ fn a_session_ends_with_its_last_call(rt: HostRuntime) {
         assert_that!(&rt; bus.port().left() == 0);
         assert_that!(&rt; bus.port().chip().bytes() == row.wanted(&rt, alloc).as_slice());
     }
+}
+
+// A backup saves each of the chip's 16 sectors. After a session, a rewrite from the backup writes all of them, and the
+// chip is as before.
+#[test]
+fn a_rewrite_restores_a_backup(rt: HostRuntime) {
+    let alloc = rt.alloc();
+    let row = Row::ABitRises;
+    let mut bus = bus_to(&rt, alloc, row.bus(&rt, alloc, Start::IDLE), AMPLE, 0);
+    let mut backup = MemVault::new(alloc);
+    let saved = backup_over(&mut bus, &mut backup, None).expect(&rt, "a backup");
+    assert_that!(&rt; saved.touched == 0 && backup.is_sealed());
+    let mut vault = MemVault::new(alloc);
+    assert_that!(&rt; change(&rt, alloc, row, &mut bus, &mut vault).is_ok());
+    let journal = Journal::read(backup.bytes()).expect(&rt, "a journal");
+    let rewritten = rewrite_over(&mut bus, &journal).expect(&rt, "a rewrite");
+    assert_that!(&rt; rewritten.touched == 16);
+    Runs::new(&rt, alloc, row, Start::IDLE).assert_as_before(&rt, bus.port().chip());
 }
 
 // A session that is refused seals nothing. Neither this session nor a restore from another chip's journal changes the

@@ -13,12 +13,12 @@ use std::io;
 use std::process::Abort;
 use std::time::{Clock, Duration};
 
-// A clock whose time, in microseconds, advances only if the clock is asked to sleep or a test sets it. If `fails` is
-// true, the clock can't be read.
+/// A clock whose time, in microseconds, advances only if the clock is asked to sleep or a test sets it. If `fails` is
+/// true, the clock can't be read.
 #[derive(Drop)]
-struct Timer<'a> {
-    now: &'a Cell<u64>,
-    fails: bool,
+pub struct Timer<'a> {
+    pub now: &'a Cell<u64>,
+    pub fails: bool,
 }
 
 impl Clock for Timer<'_> {
