@@ -88,14 +88,19 @@ def logs_how_long_a_change_takes(start):
     bench.write("new", new)
     for mode in "auto", "plain", "none":
         for words in ("-w", "new", "--journal", f"j{mode}"), ("--restore", f"j{mode}"):
+            # A restore appends to a log.
+            bench.path("log").unlink(missing_ok=True)
             status, printed, _ = run(bench, *words, "--progress", mode, "-o", "log")
             check("status", status, 0)
             check("lines of the log", times_in(lines_of(bench)), [EXPECTED, TOOK])
             check("lines on the screen", times_in(Screen(printed).lines), [EXPECTED, TOOK] if mode == "auto" else [])
     # Nothing is read before a restore that isn't compared, so no rate is known. A restore that changes nothing takes no
     # time, and a change that fails has no line that says how long it took.
-    bench.expect("--restore", "jauto", "-N", "-o", "log", out=lines_of(bench)[-2:])
+    answer = lines_of(bench)[-2:]
+    bench.path("log").unlink()
+    bench.expect("--restore", "jauto", "-N", "-o", "log", out=answer)
     check("lines of the log", times_in(lines_of(bench)), [EXPECTED, TOOK])
+    bench.path("log").unlink()
     got = bench.run("--restore", "jauto", "--quick", "-o", "log")
     check("status and lines of the log", (got.status, times_in(lines_of(bench))), (0, []))
     programs = [at for at, (out, _) in enumerate(session_wire(old, new), 1) if out[0] == 0x02]

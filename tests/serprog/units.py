@@ -15,8 +15,8 @@ from wire import STOPPED, UNLOCK
 FIRST, OTHER = bytes.fromhex("d1d2d3d4d5d6d7d8"), bytes.fromhex("0123456789abcdef")
 EXCHANGED = f"Cause: the chip is another one than before: its unique ID was {FIRST.hex()}, and is {OTHER.hex()} now. " \
     "Connect the right chip."
-KEPT = "Check WP#, SRP0 and the supply. With another tool, set these bits as they were, because this program never " \
-    "changes them, and a restore would end with error 17 (see Chip fault 3 in the manual page): QE."
+KEPT = "With another tool, set these bits as they were, because this program never changes them, and a restore would " \
+    "end with error 17 (see Chip fault 3 in the manual page): QE."
 
 
 def exchange(bench, words, journal, left):
