@@ -53,7 +53,7 @@ PLANTS = {
     "another text of a programmer fault": (
         "crates/nor_serprog/src/programmer.rt", "types of bus are", "buses are", "sources has 'the programmer"),
     "a text of a programmer fault less": (
-        PAGE, r"T}\n\tT{\nthe programmer did not.*\n", "", "sources has 'the programmer did not reply"),
+        PAGE, r"T}\n\tT{\nthe programmer gave a wrong.*\n", "", "sources has 'the programmer gave"),
     "a usage fault that the program lacks": (PAGE, r"(?m)^10\tout of", "9\tout of", "manual has '9', sources hasn't"),
     "a file fault that the program lacks": (PAGE, r"4\tT\{\nexists", "6\tT{\nexists", "manual has '6', sources hasn't"),
     "a layout fault less": (PAGE, r"(?m)^8\ta name of.*\n", "", "sources has '8', manual hasn't"),
