@@ -171,10 +171,14 @@ def needs_right_replies(start):
 
 def needs_a_port(start):
     """A device that fails, as one that is unplugged does, is programmer fault 10 with the system's text."""
-    bench = start(replies={0x02: None})
-    got = bench.run("-r", "out")
-    check("standard output, lines and exit status", (got.out, len(got.err), got.status), ([], 1, 1))
     begins = "Programmer fault 10: the port failed: "
+    # If the device fails before the program reads, on a busy machine, the read returns no bytes and no error: fault 4.
+    for _ in range(5):
+        bench = start(replies={0x02: None})
+        got = bench.run("-r", "out")
+        if got.err and got.err[0].startswith(begins):
+            break
+    check("standard output, lines and exit status", (got.out, len(got.err), got.status), ([], 1, 1))
     ends = bench.device(f". Connect the programmer again, and set up the port: {STTY}")
     check("the line", (got.err[0][: len(begins)], got.err[0][-len(ends) :]), (begins, ends))
     bench.check_absent("out")
