@@ -1,5 +1,4 @@
 pub mod FaultLines
-pub mod Details
 pub mod Endings
 pub mod Chips
 pub mod Holding
