@@ -10,9 +10,9 @@ use Rattle.nor_buses.specs.ReadsAs.{around}
 abbrev pub takes_blocks : (longest : ℕ) → (inside : BusState) → Bool
 takes_blocks longest inside = inside.honest && (inside.unlimited || nat_le longest 4096)
 
--- The state of a bus with this history that reads blocks of at most `longest` bytes from the bus inside. It is the state
--- of that bus, except that it is well-behaved only if the bus inside takes the blocks. The bus is not punctual, because a read whose bytes
--- are in memory is no transaction of the bus inside.
+-- The state of a bus with this history that reads blocks of at most `longest` bytes from the bus inside. It is the
+-- state of that bus, except that it is well-behaved only if the bus inside takes the blocks. The bus is not punctual,
+-- because a read whose bytes are in memory is no transaction of the bus inside.
 abbrev pub reads_ahead : (longest : ℕ) → (inside : BusState) → (history : List Exchange) → BusState
 reads_ahead longest inside history = record (around inside history) { honest = takes_blocks longest inside }
 

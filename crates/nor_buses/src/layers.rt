@@ -14,9 +14,9 @@ use std::time::Clock;
 /// The layers of this crate around a bus to a programmer, in the order in which `flashnor-serprog` uses them.
 pub type Layered<B, C> = ReadAhead<SameChip<ReadTwice<CheckedStatus<SplittingBus<Paced<B, C>>>>>>;
 
-/// States that the layers are together a well-behaved bus if the bus to the programmer is, whatever the layers were told
-/// (`guarding`, `locking`, `expecting`). The programmer must take a page program and the read of a sector, and no block
-/// may have more than 4,096 bytes. The chip is that of the bus to the programmer.
+/// States that the layers are together a well-behaved bus if the bus to the programmer is, whatever the layers were
+/// told (`guarding`, `locking`, `expecting`). The programmer must take a page program and the read of a sector, and no
+/// block may have more than 4,096 bytes. The chip is that of the bus to the programmer.
 pub fn layers_are_well_behaved<B: Bus + Drop, C: Clock + Drop>(bus: &Layered<B, C>)
     ensures honest { (B.state (paced_of (split_of (bus_of (twice_of (checked_by (ahead_of bus.now))))))).honest ≡ true
         → takes_whole (sends_most (bus_of (twice_of (checked_by (ahead_of bus.now)))))

@@ -183,7 +183,8 @@ fn typical_micros(out: &[u8]) -> Option<u64>
     }
 }
 
-// Returns the pause in microseconds before a poll that follows `busy_polls` polls in a row which showed BUSY. The operation typically takes `typical` microseconds, and its command was sent `elapsed` microseconds ago.
+// Returns the pause in microseconds before a poll that follows `busy_polls` polls in a row which showed BUSY. The
+// operation typically takes `typical` microseconds, and its command was sent `elapsed` microseconds ago.
 fn pause_micros(typical: u64, elapsed: u64, busy_polls: u64) -> u64
     ensures { result ≡ pause_before typical elapsed busy_polls }
 {

@@ -1,5 +1,5 @@
-//! Sessions and restores over all layers of nor_buses around a serprog bus, as `flashnor-serprog` uses them. The port is
-//! well-behaved, and fails at each of its calls in turn.
+//! Sessions and restores over all layers of nor_buses around a serprog bus, as `flashnor-serprog` uses them. The port
+//! is well-behaved, and fails at each of its calls in turn.
 
 use crate::held::{assert_held, assert_that};
 use crate::row::{Row, Start};
