@@ -17,7 +17,7 @@ here=${here%/*}
 program=$here/../libexec/flashnor_serprog
 [ -x "$program" ] || program=$here/flashnor_serprog
 
-# Sets `device` to the device that a value of -p names, if it names one. Commas separate the settings, as in the program.
+# Sets `device` to the device that a value of -p names, if it names one. Commas separate the settings.
 find_device() {
     settings=${1#serprog:},
     while [ -n "$settings" ]; do

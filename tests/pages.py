@@ -2,7 +2,8 @@
 
 A line that begins with `$` is a step, in the order of the page. If it ends with a backslash, the next line belongs to
 it. The lines after a step are what both streams print. chip.bin and new.bin are those of `make files`, as the pages say.
-A file that a page shows by `cat` has the content that the page shows.
+A file that a page shows by `cat` has the content that the page shows. A step after which the page shows a line that
+begins with `error: ` is run at a terminal, since only a terminal gets such lines.
 
 tests/pages.py TEXT: prints the snippet of flashnor(8), an example without `$`, that contains this text. It fails if
 another snippet contains it too.
@@ -59,6 +60,8 @@ def case_of(name, lines):
         elif line and len(case.parts) > 1:
             step = case.parts[-1]
             step.output.append(line)
+            if line.startswith("error: "):
+                step.command = f"terminal {step.command}"
             step.status = int(step.status or FAULT.match(line) is not None)
             if step.command.startswith("cat "):
                 case.parts[-2].text.append(line)

@@ -14,6 +14,14 @@ nobody() {
     fi
 }
 
+# `terminal flashnor ..`: runs the program with its standard error at a terminal (terminal.py). Before `flashnor` there
+# may be another of these commands.
+terminal() {
+    export top program library
+    # shellcheck disable=SC2016  # the inner shell expands them
+    python3 "$top/tests/terminal.py" bash -c '. "$top/tests/steps.sh"; "$@"' bash "$@"
+}
+
 # `closed flashnor ..`: runs the program here, with its three standard streams open. Then it runs the program with each
 # of them closed, alone and together with others, each time in a copy of this directory. Each copy must have the
 # same files afterwards as this directory. A stream that is open must get the same text as here, and standard error

@@ -48,11 +48,12 @@ PLANTS = {
     "an error less": (PAGE, r"(?m)^13\t.*\n", "", "sources has 'Error 13: timeout at _.', manual hasn't"),
     "another text of an error": (PAGE, r"8\trange not", "8\trange never", "manual has 'Error 8: range never offered.'"),
     "another step": (
-        "crates/flashnor_serprog/src/steps.rt", '"scan: sector"', '"seek: sector"', "sources has 'seek', manual hasn't"),
+        "crates/flashnor_serprog/src/steps.rt", 'Step::Scan => "scan"', 'Step::Scan => "seek"',
+        "sources has 'seek', manual hasn't"),
     "another text of a programmer fault": (
         "crates/nor_serprog/src/programmer.rt", "types of bus are", "buses are", "sources has 'the programmer"),
     "a text of a programmer fault less": (
-        PAGE, r"T}\n\tT{\nthe programmer did not.*\n", "", "sources has 'the programmer did not reply"),
+        PAGE, r"T}\n\tT{\nthe programmer gave a wrong.*\n", "", "sources has 'the programmer gave"),
     "a usage fault that the program lacks": (PAGE, r"(?m)^10\tout of", "9\tout of", "manual has '9', sources hasn't"),
     "a file fault that the program lacks": (PAGE, r"4\tT\{\nexists", "6\tT{\nexists", "manual has '6', sources hasn't"),
     "a layout fault less": (PAGE, r"(?m)^8\ta name of.*\n", "", "sources has '8', manual hasn't"),

@@ -44,7 +44,7 @@ AGAIN = 3
 # The states at a crash. Each must occur, and at least this number of crashes in all.
 KINDS = ("without a whole journal", "with one", "done")
 LEAST = 3000
-REFUSAL = re.compile(rb"error: the (?:journal|file) [a-z ,]+\nError 15: journal fault [1-7]\.\n")
+REFUSAL = re.compile(rb"Error 15: journal fault [1-7]\.\n")
 
 
 class Lost(Exception):

@@ -148,7 +148,7 @@ rescue() {
 }
 
 # What a restore prints if its journal was never sealed.
-unsealed=$'error: the journal was never sealed, or was cut off later\nError 15: journal fault 1.'
+unsealed='Error 15: journal fault 1.'
 
 # Succeeds if the rescue restores the chip. Only a session may have left an incomplete journal, or none.
 is_given_back() {

@@ -131,8 +131,7 @@ wrong 'never kept' folders "$lost" "the journal's folder, another than the chip'
 wrong 'never chip' folders "${gone}chip/image isn't there" "the folder of a new image is never synced"
 wrong 'never chip' deleted "$late" "the folder of an image that was deleted is never synced"
 restoring 'exit 0' two_sessions "whole journal; --restore told ''" "a program that restores nothing"
-cut="error: the journal was never sealed, or was cut off later"
-restoring "echo '$cut' >&2; echo 'Error 15: journal fault 1.' >&2; exit 1" two_sessions " a whole journal; .*Error 15" \
+restoring "echo 'Error 15: journal fault 1.' >&2; exit 1" two_sessions " a whole journal; .*Error 15" \
     "one that refuses"
 hasty
 detected 'without ftruncate image' "image isn't truncated after its last write" one_byte 1 before

@@ -35,10 +35,10 @@ def saves_the_chip(start):
 
 def shows_how_much_is_saved(start):
     """On a terminal the scan of a backup has lines with the number of sectors of the chip."""
-    start().expect_at_terminal(*BACKUP, lines=["identify 1", "scan: sector 1 of 16"])
+    start().expect_at_terminal(*BACKUP, lines=["identify", "scan: sector 1 of 16"])
     bench = start("W25Q64FV")
     bench.expect_at_terminal(*BACKUP, lines=[
-        "identify 1", *(f"scan: sector {n} of 2048" for n in range(1, 2048, 256))])
+        "identify", *(f"scan: sector {n} of 2048" for n in range(1, 2048, 256))])
 
 
 def restores_other_sectors(start):
@@ -75,7 +75,7 @@ def restores_a_locked_chip(start):
         # Sector 0 is not in the protected range, which is the end of the chip.
         bench.chip.data[:] = damaged
         if is_protected:
-            bench.expect("--restore", "whole", err=reference.LOCKED)
+            bench.expect("--restore", "whole", err=reference.locked(status))
             check_unchanged(bench, damaged, status)
             check("the quick restore", bench.run("--restore", "whole", "--quick").status, 0)
         else:

@@ -1,6 +1,7 @@
 """A chip at a programmer, the program that is tested, and the checks of what it prints and sends."""
 import copy
 import os
+import re
 import subprocess
 import time
 from concurrent.futures import ThreadPoolExecutor
@@ -18,9 +19,11 @@ STRIDE = int(os.environ.get("STRIDE", "1"))
 # How long a run may take, in seconds. A run that takes longer hangs, even on a busy machine.
 LONGEST = 300
 
-# The line that a terminal shows before the first exchange, with DEV in the place of the device.
-WAITING = ("Waiting for the programmer. If no line follows in 10 seconds, press Ctrl-C, disconnect the programmer from "
-           "power for a second, connect it again, and run: stty -F DEV raw -echo clocal -hupcl min 0 time 50")
+# The line of the progress that a run prints after each minute, if its standard error is no terminal.
+MINUTE = re.compile(r"(?:identify|scan|erase|program|protect|read back|compare): .*, (?:.* left|.* so far|took .*)")
+
+# The line before the first exchange. A terminal shows it until the programmer replies, except with plain progress.
+WAITING = "Waiting for the programmer. No reply in 10 s? Ctrl-C; see flashnor-serprog(8)."
 
 
 class Differs(Exception):
@@ -78,6 +81,8 @@ class Bench:
         self.chip = Chip(part, data, status, unique, scale)
         self.server, self.command, self.words = None, "", []
         self.before, self.image, self.remembers = None, None, True
+        # When the last run began, and the lines that it printed because it took more than a minute.
+        self.began, self.minutes = 0, []
         self.plug(**traits)
 
     def plug(self, **traits):
@@ -107,6 +112,7 @@ class Bench:
     def start_words(self, words, err=subprocess.PIPE, out=subprocess.PIPE):
         self.command, self.words = " ".join(map(str, words[1:])), [str(it) for it in words]
         self.before = copy.deepcopy(self.chip) if self.remembers else None
+        self.began = time.monotonic()
         names = [name for option, name in zip(words, words[1:]) if option in ("-w", "-v") and self.remembers]
         # Data is read once only if the whole chip is compared with the image in the end.
         names = names if not {"-n", "-N", "--noverify-all"} & set(words) else []
@@ -124,8 +130,10 @@ class Bench:
             process.kill()
             process.communicate()
             raise Differs(f"the run did not end in {LONGEST} seconds") from None
-        got = Result(process.returncode, *(it.decode(errors="backslashreplace").splitlines() for it in (out, err)))
-        return self.without_note(got)
+        out, err = (it.decode(errors="backslashreplace").splitlines() for it in (out, err))
+        is_long = time.monotonic() - self.began >= 60
+        self.minutes = [it for it in err if is_long and MINUTE.fullmatch(it)]
+        return self.without_note(Result(process.returncode, out, [it for it in err if it not in self.minutes]))
 
     def note(self):
         """Returns the last line of the last run, if it restored a journal without the file beside it."""
@@ -164,7 +172,7 @@ class Bench:
         with ThreadPoolExecutor(1) as pool:
             shown = pool.submit(read_all, terminal)
             process.communicate(timeout=LONGEST)
-        check("lines at the terminal", shown.result().decode().splitlines(), [self.device(WAITING), *lines, *self.note()])
+        check("lines at the terminal", shown.result().decode().splitlines(), [WAITING, *lines, *self.note()])
         check("exit status", process.returncode, 0)
 
     def expect_to_wait(self, *words):
@@ -174,7 +182,10 @@ class Bench:
         process = self.start(words, err=slave)
         os.close(slave)
         with os.fdopen(terminal, "rb") as source:
-            check("the line at the terminal", source.readline().decode().splitlines(), [self.device(WAITING)])
+            shown = b""
+            while not shown.endswith(b"\x1b[K"):
+                shown += source.read(1)
+            check("the line at the terminal", shown.decode(), f"\r{WAITING}\x1b[K")
             try:
                 process.wait(1)
                 raise Differs("the run ended, and should wait")

@@ -22,7 +22,7 @@ ALL = range(16)
 IDENTIFICATION = 20
 LENGTHS = (1, 2, 3, 5, 9)
 END = 1 << 24
-ADVICE = "h now. Check contacts and supply."
+ADVICE = "h during the run. Check contacts and supply."
 # The line after the cause, by the job, if the change or the restore was completed, and only the comparison after it
 # stopped. It takes the place of the advice.
 COMPLETED = {
@@ -112,7 +112,7 @@ def says_completed(got, work):
 
 def check_cause(got, work, at, seal, byte):
     """Checks the lines of a run whose chip was lost from the transaction `at` on."""
-    cause = f"{LOST}{PARTS[work.part].id.hex().upper()}h before, {3 * f'{byte:02X}'}{ADVICE}"
+    cause = f"{LOST}{PARTS[work.part].id.hex().upper()}h to {3 * f'{byte:02X}'}{ADVICE}"
     if not says_completed(got, work):
         if work.words[0] == "--restore":
             cause += " " + RESTORE

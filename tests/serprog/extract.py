@@ -30,7 +30,7 @@ def extracts_the_image(start):
     bench = start(data=old, unique=UNIQUE)
     check("the backup", bench.run("--backup", "whole").status, 0)
     before = bench.path("whole").read_bytes()
-    lines = ["Journal of SFDP (fe1010), 65536 bytes.", "Unit: unique ID d16288504b2f1a07.",
+    lines = ["Journal of SFDP (fe1010), 65536 bytes.", "Unique ID: d16288504b2f1a07.",
              "Saves 16 of 16 sectors, from 0x000000 to 0x00ffff.", "Status: 00 00.", "Sealed and undamaged.",
              RESTORE[:-1] + "whole", "Wrote the image of this chip, 65536 bytes: image"]
     for present in None, b"", b"other bytes" * SECTOR:

@@ -15,14 +15,14 @@ from options import images
 
 STTY = "stty -F DEV raw -echo clocal -hupcl min 0 time 50"
 FIRMWARE = "Disconnect the programmer from power for a second, connect it again, set up the port, and repeat the " \
-    f"run; install other firmware only if this line comes again. To set up the port: {STTY}"
+    f"run; install other firmware only if the same line appears again. To set up the port: {STTY}"
 # The time-out for tests of silence, in tenths of a second.
 SOON = 10
 UNPLUG = "Disconnect the programmer from power for a second before the next run: it may wait for the rest of a command, " \
     "which the next run would complete."
 RESTORE = "Then restore the chip with --restore j."
 UNCHANGED = "The chip was not changed."
-LOST = "Cause: the chip did not reply its ID any more: "
+LOST = "Cause: the chip's ID changed from "
 DIFFER = "Cause: two reads of the same bytes differ. Lower the clock (spispeed=), shorten the wires, and try again."
 CAUSES = {
     "nak": "the programmer refused command 13h",
@@ -154,7 +154,7 @@ def needs_its_step(start):
     bench.write("new", b"\xff" * 65536)
     got = bench.run("-w", "new", "--journal", "j")
     advice = f"Disconnect the programmer from power, connect it again, and set up the port: {STTY}"
-    text = "the programmer did not reply to SYNCNOP as it must"
+    text = "the programmer gave a wrong reply to SYNCNOP"
     bench.compare(got, [], [bench.device(f"Programmer fault 5: {text}. {advice}")])
     bench.check_unselected()
     bench.check_absent("j")
@@ -234,7 +234,7 @@ def reports_causes(start):
             bench.write("new", new)
             got = bench.run("-w", "new", "--journal", "j", events={at: event})
             after = RESTORE if at > seal else UNCHANGED
-            # At the first of these transactions the journal doesn't exist yet.
+            # At the first of these transactions the journal doesn't exist yet. At the second one it is sealed.
             used = [reference.used_name()] * (at == seal)
             bench.compare(got, [], ["Error 12: stopped.", f"Cause: {text}. {UNPLUG} {after}", *used])
             # A page program after a write enable is on its way already.
@@ -297,12 +297,9 @@ def reads_twice(start):
     for first in reads[0], reads[2], reads[5]:
         bench.server.traits.wrong_bits = {first: (0, 4)}
         got = bench.run("-w", "new", "--journal", f"j{first}")
-        bench.compare(got, [], ["Error 12: stopped.", f"{DIFFER} {UNCHANGED}", reference.used_name(f"j{first}")])
+        bench.compare(got, [], ["Error 12: stopped.", f"{DIFFER} {UNCHANGED}"])
         bench.check_chip(old)
-        journal = bench.path(f"j{first}").read_bytes()
-        whole = reference.journal("TINY64", old, (1, 2, 7, 15))
-        check("the journal is a prefix", journal == whole[: len(journal)] and len(journal) < len(whole), True)
-        bench.expect("--restore", f"j{first}", err=reference.UNSEALED)
+        bench.check_absent(f"j{first}")
     bench.write("same", old)
     wire = reference.carried(reference.probe("TINY64"))
     # The second block, after the first one and the ID.

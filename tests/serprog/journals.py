@@ -31,7 +31,7 @@ def describes_a_journal(start):
     before = bench.path("j").read_bytes()
     bench.compare(describe(bench, "j"), [
         "Journal of SFDP (fe1010), 65536 bytes.",
-        "Unit: unique ID 0000000000000000, so it fits any chip with this ID and size that has no unique ID.",
+        "Unique ID: none (16 zeros). This journal fits any chip with this ID and size that has no unique ID.",
         "Saves 4 of 16 sectors, from 0x001000 to 0x00ffff.", "Status: 00 00.", "Sealed and undamaged.", RESTORE], [])
     bench.check_file("j", before)
     for name, quoted in ("old board", "'old board'"), ("b$x", "'b$x'"), ("a+b_1,2=c-d.j", "a+b_1,2=c-d.j"), ("./-j", "./-j"):
@@ -47,7 +47,7 @@ def describes_status_and_unit(start):
                          (b"\0\0", "00 00")):
         bench.write("j", reference.journal("W25Q64FV", large, (3, 9), status, UNIQUE))
         bench.compare(describe(bench, "j"), [
-            "Journal of W25Q64FV (ef4017), 8388608 bytes.", "Unit: unique ID d16288504b2f1a07.",
+            "Journal of W25Q64FV (ef4017), 8388608 bytes.", "Unique ID: d16288504b2f1a07.",
             "Saves 2 of 2048 sectors, from 0x003000 to 0x009fff.", f"Status: {bits}.", "Sealed and undamaged.",
             RESTORE], [])
 
@@ -59,7 +59,7 @@ def describes_old_and_empty_journals(start):
     bench.write("j", header + hashlib.sha256(header).digest())
     bench.compare(describe(bench, "j"), [
         "Journal of SFDP (fe1010), 65536 bytes.",
-        "Unit: not recorded (format 1), so it fits any chip with this ID and size.", "Saves 0 of 16 sectors.",
+        "Unique ID: not recorded (format 1). This journal fits any chip with this ID and size.", "Saves 0 of 16 sectors.",
         "Status: 00 00.", "Sealed and undamaged.", RESTORE], [])
 
 

@@ -60,11 +60,9 @@ def locks_the_protection(start):
     bench = bench_with(start, b"\x04\0", wp_low=True)
     bench.expect("--wp-enable", out=changed(b"\x04\0", b"\x84\0", SET))
     for _ in range(2):
-        bench.expect("--wp-disable", err=[STOPPED, (
-            "Chip fault 3: the chip did not store a status write: 04h 00h was sent, 84h 00h was read back (these bits "
-            "differ: SRP0). SRP0 is set, so WP# is probably low: connect WP# to the supply." + AGAIN)])
+        bench.expect("--wp-disable", err=[STOPPED, reference.not_stored_status(b"\x04\0", b"\x84\0")])
         check("status bytes", bytes(bench.chip.status), b"\x84\0")
-    bench.expect("--wp-range", "0,0", "--journal", "j", err=[*reference.LOCKED, reference.used_name()])
+    bench.expect("--wp-range", "0,0", "--journal", "j", err=reference.locked(b"\x84\0"))
     bench.chip.wp_low = False
     # A status write that the chip ignored leaves WEL (bit 1) set.
     bench.expect("--wp-disable", out=changed(b"\x86\0", b"\x04\0", CLEAR))
@@ -77,9 +75,8 @@ def reports_a_missed_write(start):
     number = numbers_of(bench, 0x01)[0]
     bench.chip.status[:] = b"\x04\x02"
     bench.server.traits.misses = {number: 0xFF}
-    bench.expect("--wp-enable", err=[STOPPED, (
-        "Chip fault 3: the chip did not store a status write: 84h 02h was sent, 04h 02h was read back (these bits "
-        "differ: SRP0). Check WP#, SRP0 and the supply." + AGAIN)])
+    bench.expect("--wp-enable", err=[
+        STOPPED, reference.not_stored_status(b"\x84\x02", b"\x04\x02") + AGAIN])
     got = bench.run("--wp-enable", events={number: "nak"})
     check("the cause", (got.err[:1], got.err[1].endswith(AGAIN)), ([STOPPED], True))
     got = bench.run("--wp-enable", events={number - 2: "nak"})
@@ -92,11 +89,11 @@ def refuses_to_lock(start):
     for status in b"\0\x01", b"\x80\x01":
         bench = bench_with(start, status)
         for option in "--wp-enable", "--wp-disable":
-            bench.expect(option, err=reference.POWER_LOCKED)
+            bench.expect(option, err=reference.locked(status))
             bench.check_frames(reference.probe(PART) + READ)
     bench = start()
     for option in "--wp-enable", "--wp-disable":
-        bench.expect(option, err=["Error 6: no protection on this chip."])
+        bench.expect(option, err=reference.NO_PROTECTION)
         bench.check_frames(reference.probe("TINY64"))
         bench.expect(option, "-c", PART, err=reference.OTHER_NAME)
     bench_with(start, b"\x80\0").expect("--wp-disable", "-c", PART, out=changed(b"\x80\0", b"\0\0", CLEAR))
@@ -126,7 +123,7 @@ def logs_the_status_write(start):
     got = bench.run("--wp-disable", "-V", "-o", "log")
     check("standard output", got.out, changed(b"\x84\0", b"\x04\0", CLEAR))
     commands = [line.split(" ", 1)[1] for line in got.err]
-    check("lines of -V", commands, ["identify", "write enable", "write status, bytes 2"])
+    check("lines of -V", commands, ["identify", "write enable", "write status, 2 bytes"])
     lines = bench.path("log").read_text().splitlines()
     check("the line before the change", "The chip is changed from here on." in lines, True)
     check("the last lines of the log", lines[-5:], got.out)
@@ -141,7 +138,7 @@ def changes_a_locked_chip(start):
     bench.write("new", new)
     bench.write("layout", b"0:ffff low\n")
     words = "-w", "new", "--unlock", "-N", "-l", "layout", "-i", "low"
-    bench.expect(*words, "--journal", "refused", err=[*reference.LOCKED, reference.used_name("refused")])
+    bench.expect(*words, "--journal", "refused", err=reference.locked(status))
     bench.expect("--wp-disable", out=changed(status, b"\x1c\x02", CLEAR))
     check("the change", bench.run(*words, "--journal", "j").status, 0)
     bench.check_chip(new, b"\x1c\x02")

@@ -42,7 +42,7 @@ def identifies_further_chips(start):
         bench.expect("-c", part, out=[reference.found(part)])
         bench.check_frames(reference.probe(part))
     bench.expect("-c", "W25Q32FV", err=[
-        reference.OTHER_NAME[0], "-c names W25Q32FV. The chip is W25Q128JV-M (ef7018)."])
+        reference.OTHER_NAME[0], "-c names W25Q32FV. The connected chip is W25Q128JV-M (ef7018)."])
     bench.check_frames(reference.probe(part))
 
 
@@ -90,7 +90,8 @@ def names_the_chip(start):
     bench.expect("-c", "SFDP", out=[reference.found("TINY64")])
     bench.expect("-c", "W25Q64FV", err=reference.OTHER_NAME)
     bench.expect("-c", "other", err=[
-        reference.OTHER_NAME[0], "No chip that this program knows has the name of -c. The chip is SFDP (fe1010)."])
+        reference.OTHER_NAME[0], "This program knows no chip with the name of -c. The connected chip has the ID fe1010, "
+        "and only its SFDP is known: its name for -c is SFDP."])
     bench.check_frames(reference.probe("TINY64"))
 
 
@@ -354,11 +355,12 @@ def shows_protection(start):
                                     ("5800", "undefined", "open"), ("1c01", "0x000000,0x800000", "locked"),
                                     ("0000", "0x000000,0x000000", "open"), ("2401", "0x000000,0x020000", "locked")):
         bench.chip.status[:] = bytes.fromhex(status)
-        bench.expect("--wp-status", out=[f"Range: {protected}", f"Mode: {mode}"])
+        bench.expect("--wp-status", out=[f"Range: {protected}", f"Mode: {mode}",
+                                         reference.status_line(bytes.fromhex(status))])
         bench.check_frames(reference.probe("W25Q64FV") + [reference.READ_STATUS_2])
     bench = start("W25Q32FV", status=b"\x04\0")
-    bench.expect("--wp-status", out=["Range: 0x3f0000,0x010000", "Mode: open"])
-    start().expect("--wp-status", err=["Error 6: no protection on this chip."])
+    bench.expect("--wp-status", out=["Range: 0x3f0000,0x010000", "Mode: open", "Status: 0x04 0x00"])
+    start().expect("--wp-status", err=reference.NO_PROTECTION)
 
 
 def offered_ranges(size):
@@ -378,14 +380,15 @@ def lists_ranges(start):
         seen = offered_ranges(size)
         check("ranges", len(seen), 40)
         start(part).expect("--wp-list", out=[f"0x{first:06x},0x{length:06x}" for first, length in seen])
-    start().expect("--wp-list", err=["Error 6: no protection on this chip."])
+    start().expect("--wp-list", err=reference.NO_PROTECTION)
 
 
 def protects(start):
     """--wp-range protects exactly a range, and its journal restores the protection bits."""
     bench = start("W25Q64FV", status=b"\x04\x40")
     bench.expect("--wp-range", "0,0x800000", "--journal", "j", out=[
-        "Found W25Q64FV (ef4017), 8388608 bytes.", "Done: touched 0, erases 0, programs 0, transactions 7."])
+        "Found W25Q64FV (ef4017), 8388608 bytes.", "Done: touched 0, erases 0, programs 0, transactions 7.",
+        "Range: 0x000000,0x800000"])
     check("status bytes", bytes(bench.chip.status), b"\x1c\0")
     bench.check_file("j", reference.journal("W25Q64FV", bytes(1 << 23), [], b"\x04\x40"))
     bench.check_frames(reference.identify("W25Q64FV") + reference.write_status(b"\x1c\0"))
@@ -393,15 +396,21 @@ def protects(start):
         "Found W25Q64FV (ef4017), 8388608 bytes.", "Done: touched 0, erases 0, programs 0, transactions 7."])
     check("status bytes", bytes(bench.chip.status), b"\x04\x40")
     bench.expect("--wp-range", "0x1000,0x1000", "--journal", "k",
-                 err=[*reference.NOT_OFFERED, reference.used_name("k")])
+                 err=reference.NOT_OFFERED)
+    bench.check_absent("k")
 
 
 def last_lines(plan):
     """Returns the last plain lines of the steps of a change with this plan: those whose last number wasn't shown."""
     changes = [out[0] for out, _ in plan[next(at for at, it in enumerate(plan) if it[0][0] in reference.CHANGING) :]]
-    counts = (("erase: erases sent", sum(it in (*ERASES, 0xC7) for it in changes), 16),
-              ("program: pages sent", changes.count(0x02), 256), ("read back: sectors read", changes.count(0x03), 256))
-    return [f"{text} {number}" for text, number, stride in counts if number and number % stride != 1]
+    counts = (("erase", sum(it in (*ERASES, 0xC7) for it in changes), 16, "erase"),
+              ("program", changes.count(0x02), 256, "page"), ("read back", changes.count(0x03), 256, "sector"))
+    return [counted(step, number, noun) for step, number, stride, noun in counts if number and number % stride != 1]
+
+
+def counted(step, number, noun):
+    """Returns the plain line of a step with this number of operations."""
+    return f"{step}: {number} {noun}{'s' * (number != 1)}"
 
 
 def shows_progress(start):
@@ -412,34 +421,34 @@ def shows_progress(start):
     # Sector 1 is blank, so it is programmed without an erase, but read again before. The restore must erase it.
     journal = 25 + 4 * 4100 + 36
     bench.expect_at_terminal("-w", "new", "--journal", "j", lines=[
-        "identify 1", "scan: sector 1 of 16", f"Sectors to change: 4. Erases: 3. Bytes of journal: {journal}.",
-        reference.SEALED, "erase: erases sent 1", "read back: sectors read 1",
-        "program: pages sent 1", *last_lines(reference.session("TINY64", old, new)), "compare: sector 1 of 16"])
-    bench.expect_at_terminal("-v", "new", lines=["identify 1", "scan: sector 1 of 16"])
-    steps = ["Sectors to change: 4. Erases: 4.", "The chip is changed from here on.", "erase: erases sent 1",
-             "program: pages sent 1", "read back: sectors read 1",
+        "identify", "scan: sector 1 of 16", f"Sectors to change: 4. Erases: 3. Bytes of journal: {journal}.",
+        reference.sealed("j"), "erase: 1 erase", "read back: 1 sector",
+        "program: 1 page", *last_lines(reference.session("TINY64", old, new)), "compare: sector 1 of 16"])
+    bench.expect_at_terminal("-v", "new", lines=["identify", "scan: sector 1 of 16"])
+    steps = ["Sectors to change: 4. Erases: 4.", "The chip is changed from here on.", "erase: 1 erase",
+             "program: 1 page", "read back: 1 sector",
              *last_lines(reference.restore("TINY64", old, (1, 2, 7, 15)))]
     bench.expect_at_terminal("--restore", "j", lines=[
-        "identify 1", "scan: sector 1 of 12", *steps, "compare: sector 1 of 12"])
+        "identify", "scan: sector 1 of 12", *steps, "compare: sector 1 of 12"])
     bench.check_chip(old)
-    bench.expect_at_terminal("--restore", "j", "-N", lines=["identify 1", *steps])
+    bench.expect_at_terminal("--restore", "j", "-N", lines=["identify", *steps])
     bench.expect_at_terminal("--restore", "j", "--quick", lines=[
-        "identify 1", "scan: sector 1 of 16", "Sectors to change: 0. Erases: 0.", "compare: sector 1 of 12"])
+        "identify", "scan: sector 1 of 16", "Sectors to change: 0. Erases: 0.", "compare: sector 1 of 12"])
     bench.expect_at_terminal("--restore", "j", "--quick", "-N", lines=[
-        "identify 1", "scan: sector 1 of 4", "Sectors to change: 0. Erases: 0."])
+        "identify", "scan: sector 1 of 4", "Sectors to change: 0. Erases: 0."])
     bench.write("old", old)
     bench.expect_at_terminal("-w", "old", "--journal", "k", lines=[
-        "identify 1", "scan: sector 1 of 16", "Sectors to change: 0. Erases: 0. Bytes of journal: 61.",
+        "identify", "scan: sector 1 of 16", "Sectors to change: 0. Erases: 0. Bytes of journal: 61.",
         "compare: sector 1 of 16"])
     bench.write("layout", b"1800:2fff some\nf000:f000 byte\n")
     for words in (("-r", "out"), ("-v", "old")):
         bench.expect_at_terminal(*words, "-l", "layout", "-i", "some,byte", lines=[
-            "identify 1", "scan: sector 1 of 3"])
+            "identify", "scan: sector 1 of 3"])
     bench.expect_at_terminal("-E", "--journal", "l", "-l", "layout", "-i", "byte", lines=[
-        "identify 1", "scan: sector 1 of 16", "scan: sector 1 of 1",
+        "identify", "scan: sector 1 of 16", "scan: sector 1 of 1",
         "Sectors to change: 1. Erases: 1. Bytes of journal: 4161.",
-        reference.SEALED, "erase: erases sent 1", "program: pages sent 1",
-        "read back: sectors read 1", "program: pages sent 16", "compare: sector 1 of 16"])
+        reference.sealed("l"), "erase: 1 erase", "program: 1 page",
+        "read back: 1 sector", "program: 16 pages", "compare: sector 1 of 16"])
 
 
 def shows_long_progress(start):
@@ -450,15 +459,15 @@ def shows_long_progress(start):
         old[number * SECTOR] = 0xA5
     bench.write("new", bytes(old))
     bench.expect_at_terminal("-w", "new", "--journal", "j", lines=[
-        "identify 1", *(f"scan: sector {n} of 2048" for n in range(1, 2048, 256)),
+        "identify", *(f"scan: sector {n} of 2048" for n in range(1, 2048, 256)),
         f"Sectors to change: 34. Erases: 34. Bytes of journal: {25 + 34 * 4100 + 36}.",
-        reference.SEALED, *(f"erase: erases sent {n}" for n in (1, 17, 33)),
-        *(f"program: pages sent {n}" for n in (1, 257, 513)), "read back: sectors read 1",
-        "erase: erases sent 34", "program: pages sent 544", "read back: sectors read 34",
+        reference.sealed("j"), *(counted("erase", n, "erase") for n in (1, 17, 33)),
+        *(counted("program", n, "page") for n in (1, 257, 513)), "read back: 1 sector",
+        "erase: 34 erases", "program: 544 pages", "read back: 34 sectors",
         *(f"compare: sector {n} of 2048" for n in range(1, 2048, 256))])
     bench.expect_at_terminal("--wp-range", "0,0x800000", "--journal", "k", lines=[
-        "identify 1", "Sectors to change: 0. Erases: 0. Bytes of journal: 61.",
-        reference.SEALED, "protect: status writes sent 1"])
+        "identify", "Sectors to change: 0. Erases: 0. Bytes of journal: 61.",
+        reference.sealed("k"), "protect: 1 status write"])
 
 
 def shows_what_a_power_loss_means(start):
@@ -468,32 +477,32 @@ def shows_what_a_power_loss_means(start):
     old, new = images("shows_what_a_power_loss_means")
     large = b"\xff" * (1 << 23)
     words = "-E", "--journal", "j", "-l", "layout", "-i", "first"
-    sealed = reference.SEALED
+    sealed = reference.sealed("j")
     for status, option, lines in (
             (b"\0\1", (), [srp1]), (b"\x80\1", (), []), (b"\0\2", (), []), (b"\0\2", ("--unlock",), []),
             (b"\x7c\2", ("--unlock",), [quad])):
         bench = start("W25Q64FV", data=old[:4096] + large[4096:], status=status)
         bench.write("layout", b"0:fff first\n")
-        writes = ["protect: status writes sent 1"] * bool(status[0] & 0x7C)
+        writes = ["protect: 1 status write"] * bool(status[0] & 0x7C)
         bench.expect_at_terminal(*words, *option, lines=[
-            "identify 1", *(f"scan: sector {n} of 2048" for n in range(1, 2048, 256)), "scan: sector 1 of 1",
+            "identify", *(f"scan: sector {n} of 2048" for n in range(1, 2048, 256)), "scan: sector 1 of 1",
             "Sectors to change: 1. Erases: 1. Bytes of journal: 4161.", *lines, sealed, *writes,
-            "erase: erases sent 1", "read back: sectors read 1",
+            "erase: 1 erase", "read back: 1 sector",
             *(f"compare: sector {n} of 2048" for n in range(1, 2048, 256))])
     for status, lines in (b"\0\2", [quad]), (b"\0\0", []):
         bench = start("W25Q64FV", data=large, status=status)
         bench.expect_at_terminal("--wp-range", "0,0x800000", "--journal", "k", lines=[
-            "identify 1", "Sectors to change: 0. Erases: 0. Bytes of journal: 61.", *lines,
-            reference.SEALED, "protect: status writes sent 1"])
+            "identify", "Sectors to change: 0. Erases: 0. Bytes of journal: 61.", *lines, reference.sealed("k"),
+            "protect: 1 status write"])
     # A restore that needs no status write has no line on QE.
     for status, after, lines in ((b"\0\2", b"\0\2", []), (b"\x1c\2", b"\0\2", [quad]), (b"\x20\2", b"\0\2", [quad]),
                                  (b"\0\2", b"\x1c\2", [quad])):
         bench = start("W25Q64FV", data=large, status=after)
         bench.write("j", reference.journal("W25Q64FV", large, (3,), status))
         bench.expect_at_terminal("--restore", "j", "-N", lines=[
-            "identify 1", "Sectors to change: 1. Erases: 1.", *lines, "The chip is changed from here on.",
-            *["protect: status writes sent 1"] * bool(after[0]), "erase: erases sent 1",
-            *["protect: status writes sent 1"] * (bool(status[0]) and not after[0]), "read back: sectors read 1"])
+            "identify", "Sectors to change: 1. Erases: 1.", *lines, "The chip is changed from here on.",
+            *["protect: 1 status write"] * bool(after[0]), "erase: 1 erase",
+            *["protect: 1 status write"] * (bool(status[0]) and not after[0]), "read back: 1 sector"])
 
 
 def takes_long_names(start):
@@ -542,7 +551,7 @@ def prints_the_name(start):
         bench.expect("--flash-name", "-c", name, out=[name])
         bench.check_frames(reference.probe(part))
     bench.expect("--flash-name", "-c", "W25Q64FV", err=[
-        reference.OTHER_NAME[0], "-c names W25Q64FV. The chip is W25Q128FV (ef4018)."])
+        reference.OTHER_NAME[0], "-c names W25Q64FV. The connected chip is W25Q128FV (ef4018)."])
     bench.expect("--flash-name", "--flash-size", err=[
         "error: --flash-size and --flash-name cannot be used together", "Usage fault 4."])
 
@@ -554,7 +563,8 @@ def takes_modes_of_progress(start):
         got = bench.run("--progress", mode)
         check("lines", (got.out, got.status), ([reference.found("TINY64")], 0))
     for mode in "", "Auto", "plain ", "all":
-        bench.expect("--progress", mode, err=[f"error: invalid value of --progress: '{mode}'", "Usage fault 5."])
+        bench.expect("--progress", mode, err=[
+            f"error: invalid value of --progress: '{mode}'; give auto, plain or none", "Usage fault 5."])
         bench.check_nothing_sent()
 
 

@@ -214,6 +214,7 @@ def runs_no_program_that_it_finds_by_chance(start):
     bench.check_nothing_sent()
 
 
-CASES = [finds_each_name_of_a_port, runs_no_program_that_it_finds_by_chance, refuses_a_port_that_changes_what_is_sent, notices_a_port_that_changes_what_is_received,
+CASES = [finds_each_name_of_a_port, runs_no_program_that_it_finds_by_chance, refuses_a_port_that_changes_what_is_sent,
+         notices_a_port_that_changes_what_is_received,
          changes_nothing_with_wrong_data, sets_up_the_port, leaves_the_port,
          runs_nothing_if_the_port_stays_as_it_is]

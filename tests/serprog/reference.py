@@ -32,31 +32,40 @@ FILE_HINTS = {
     1: "It is missing or can't be read: correct its name or its permissions.",
     2: "It can't be created, written or locked: correct its name or permissions, or free disk space.",
     4: "It exists already, and is never overwritten: choose a new name.",
-    5: "It has two roles in this run, or another program uses it: give each role its own file."}
+    5: "It has two roles in this run, or another program uses it: give each role its own file, or wait for that "
+       "program."}
 IS_JOURNAL = "It is a journal, which is never overwritten: choose a new name."
 IS_NO_LOG = "It exists, and is no log, so it isn't overwritten: choose a new name."
 # The lines of a journal that was not sealed.
 UNSEALED = [
     "error: the journal was never sealed, or was cut off later", "Error 15: journal fault 1.",
-    "If the terminal showed the progress of its run, but not SEALED, the run never changed the chip. Otherwise the "
-    "file may have lost its end: look for another copy, and don't write or erase anything."]
-# The line before the first change of a session.
-SEALED = "SEALED: the chip is changed from here on. If this run is interrupted, disconnect the programmer from power " \
-    "before the next run."
+    "If the terminal showed the progress of that session, but not SEALED, the chip was not changed. Otherwise look for "
+    "another copy of the journal, and don't write or erase anything."]
 # The lines after errors.
 NO_CHIP = ["Error 1: no chip.", "Check contacts, supply and wiring, and that cs= selects this chip."]
-LOCKED = ["Error 9: status locked.",
-          "SRP0 or SRP1 is set. Clear SRP0 while WP# is high (--wp-disable), or SRP1 by a power cycle."]
 # The line after error 4 if regions are given.
 WHOLE_IMAGE = "Give an image of the whole chip. -i NAME:FILE gives the bytes of a region."
+# What follows the two unique IDs after error 20.
+OTHER_UNIT = "The journal is another board's, or the chip was replaced: find this board's journal, or see " \
+    "--replaced-chip."
 # What follows the line after error 17 if only SRP0 is to be set or cleared, or only SRP1.
 SET_SRP0, CLEAR_SRP0 = (f" {do} SRP0 (--wp-{option}), and restore again."
                         for do, option in (("Set", "enable"), ("Clear", "disable")))
 CLEAR_SRP1 = " A power cycle clears SRP1: disconnect the chip from power, and restore again."
 NOT_OFFERED = ["Error 8: range not offered.", "--wp-list lists the ranges that this chip can protect."]
-POWER_LOCKED = ["Error 9: status locked.",
-                "SRP1 is set, so no status write was sent. A power cycle clears SRP1 if SRP0 is clear; otherwise the "
-                "status may be locked for good."]
+# The line after error 9, and the end of that after error 10, by whether SRP0 and SRP1 are set.
+LOCKED = {
+    (True, False): "SRP0 is set. Clear it while WP# is high (--wp-disable).",
+    (False, True): "SRP1 is set. Clear it by a power cycle: disconnect the chip from power.",
+    (True, True): "SRP0 and SRP1 are set: the status may be locked for good."}
+TO_UNLOCK = {
+    (False, False): ", or use --unlock.",
+    (True, False): ". SRP0 is set: to lift the protection, clear it while WP# is high (--wp-disable), then use "
+                   "--unlock.",
+    (False, True): ". SRP1 is set: to lift the protection, disconnect the chip from power, then use --unlock.",
+    (True, True): ". SRP0 and SRP1 are set: the protection may be there for good."}
+# The lines after error 6, if no bit of 2 to 6 of status 1 is set.
+NO_PROTECTION = ["Error 6: no protection on this chip.", "This program doesn't know the protection bits of this chip."]
 # The lines that say what SRP0 means, by whether it is set.
 LOCK_MEANING = {
     True: ["SRP0 is set: while WP# is low, the status and the protected range can't be changed.",
@@ -64,7 +73,54 @@ LOCK_MEANING = {
     False: ["SRP0 is clear: the status can be changed. The protected range is as before.",
             "To set SRP0 again, also before a restore from a journal that has it set, use --wp-enable."]}
 # The lines if -c names a chip of the table, and the chip is TINY64.
-OTHER_NAME = ["Error 3: another chip than named.", "-c names W25Q64FV. The chip is SFDP (fe1010)."]
+OTHER_NAME = ["Error 3: another chip than named.", "-c names W25Q64FV. The connected chip has the ID fe1010, and only "
+              "its SFDP is known: its name for -c is SFDP."]
+
+
+def locks_of(status):
+    """Returns whether SRP0 and SRP1 are set in these status bytes."""
+    return bool(status[0] & 0x80), bool(status[1] & 0x01)
+
+
+def locked(status):
+    """Returns the lines of error 9 for a chip with these status bytes."""
+    return ["Error 9: status locked.", LOCKED[locks_of(status)]]
+
+
+def protected(address, status):
+    """Returns the lines of error 10 at this address, without --unlock, for a chip with these status bytes."""
+    return [f"Error 10: protected at 0x{address:06x}.",
+            f"Include only regions that aren't protected{TO_UNLOCK[locks_of(status)]}"]
+
+
+def status_line(status):
+    """Returns the last line of --wp-status for a chip with these status bytes."""
+    names = {(False, False): "", (True, False): ", SRP0 is set", (False, True): ", SRP1 is set",
+             (True, True): ", SRP0 and SRP1 are set"}
+    return f"Status: 0x{status[0]:02x} 0x{status[1]:02x}{names[locks_of(status)]}"
+
+
+# The bits of status 1 and of status 2, the highest first, without BUSY, WEL and SUS.
+BITS = (((0x80, "SRP0"), (0x40, "SEC"), (0x20, "TB"), (0x10, "BP2"), (0x08, "BP1"), (0x04, "BP0")),
+        ((0x40, "CMP"), (0x20, "LB3"), (0x10, "LB2"), (0x08, "LB1"), (0x04, "bit 2 of status 2"), (0x02, "QE"),
+         (0x01, "SRP1")))
+
+
+def not_stored_status(sent, found):
+    """Returns the beginning of chip fault 3: the status bytes `sent` were written, and `found` read back."""
+    names = [name for bits, one, other in zip(BITS, sent, found) for bit, name in bits if (one ^ other) & bit]
+    why = f"the chip did not store a status write; these bits differ: {' '.join(names)}. Check WP#, SRP0 and the " \
+        "supply."
+    if found[0] & ~sent[0] & 0x80:
+        why = "SRP0 is still set, because the chip ignored the status write: WP# is probably low. Connect WP# to the " \
+            "supply, and repeat the run."
+    return f"Chip fault 3: {why} (Sent {sent[0]:02X}h {sent[1]:02X}h, read back {found[0]:02X}h {found[1]:02X}h.)"
+
+
+def sealed(name):
+    """Returns the line before the first change of a session whose journal has this name."""
+    return ("SEALED: the chip is changed from here on. If this run is interrupted, disconnect the programmer from power "
+            f"before the next run, and restore with the journal {name}.")
 
 
 def unknown_chip(chip_id):
@@ -102,8 +158,8 @@ def is_partial(whole):
 
 
 def used_name(journal="j"):
-    """Returns the last line of a session or a backup that failed before it changed the chip, and left its journal."""
-    return f"Give the journal a new name: {journal} exists now."
+    """Returns the last line of a failed backup, or of a session that failed between its seal and its first change."""
+    return f"This run has created {journal}: repeat the command with a new journal name."
 
 
 def file_fault(number, name):

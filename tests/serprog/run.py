@@ -3,9 +3,10 @@
 
 The programmer is server.py, and its chip is a model from the datasheets (chip.py). The cases are in options.py,
 journals.py, locks.py, maps.py, chip_maps.py, regions.py, terminal.py, logs.py, backups.py, refusals.py, faults.py,
-wire.py, contact.py, rest.py, sectors.py, narrow.py, extract.py, ports.py and units.py; manual.py and rescue.py play the
-manual page. bits.py tries each single wrong bit of each reply, and misses each single frame. losses.py kills the
-program, and loses replies, at each transaction of a session and of its restores; busy.py does so while the chip is busy.
+wire.py, contact.py, rest.py, sectors.py, narrow.py, extract.py, ports.py, units.py, printed.py and typed.py; manual.py
+and rescue.py play the manual page. bits.py tries each single wrong bit of each reply, and misses each single frame.
+losses.py kills the program, and loses replies, at each transaction of a session and of its restores; busy.py does so
+while the chip is busy.
 What the program must send and print is computed by reference.py, without the program.
 
 A case that failed is printed, with what was wanted and what was got. The last line is `N passed, M failed`, and the
@@ -36,19 +37,21 @@ import maps
 import narrow
 import options
 import ports
+import printed
 import refusals
 import regions
 import rescue
 import rest
 import sectors
 import terminal
+import typed
 import units
 import wire
 from bench import Bench, Differs
 
 MODULES = (
     options, journals, maps, chip_maps, regions, terminal, backups, refusals, faults, wire, contact, rest, sectors, narrow,
-    busy, ports, manual, rescue, logs, locks, units, extract,
+    busy, ports, manual, rescue, logs, locks, units, extract, printed, typed,
 )
 CASES = {case.__name__: case for module in MODULES for case in module.CASES}
 

@@ -206,8 +206,7 @@ class Job:
         self.lifts = False
         hit = protects(status, self.size, saved) if PARTS[self.part].has_row else []
         if hit and "--unlock" not in self.given:
-            raise Fault(f"Error 10: protected at 0x{hit[0] * SECTOR:06x}.",
-                        "Include only regions that aren't protected, or use --unlock.")
+            raise Fault(*reference.protected(hit[0] * SECTOR, status))
         self.lifts = bool(hit)
         if hit:
             self.check_locked(status)
@@ -215,7 +214,7 @@ class Job:
     @staticmethod
     def check_locked(status):
         if status[0] & SRP0 or status[1] & SRP1:
-            raise Fault(*reference.LOCKED)
+            raise Fault(*reference.locked(status))
 
     def put_journal(self, old, saved, status):
         whole = reference.journal(self.part, old, saved, status, self.unique)
@@ -305,7 +304,8 @@ class Job:
         if whole[11:19] != self.unique and MISTAKE != "restores any device":
             saved = whole[11:19].hex()
             raise Fault("Error 20: another unit than the journal's.",
-                        f"Unique ID in the journal: {saved}. Unique ID of the chip: {self.unique.hex()}.")
+                        f"Unique ID in the journal: {saved}. Unique ID of the chip: {self.unique.hex()}. "
+                        + reference.OTHER_UNIT)
         fixed = PROTECTION if PARTS[self.part].has_row else 0
         if any((one ^ other) & ~bits for one, other, bits in zip(whole[19:21], status, fixed.to_bytes(2, "big"))):
             saved, found = status_text(whole[19:21]), status_text(status)
@@ -354,9 +354,9 @@ class Job:
         """--wp-status, --wp-list and --wp-range."""
         line = self.found(self.given.get("-c"))
         if not PARTS[self.part].has_row:
-            raise Fault("Error 6: no protection on this chip.")
+            raise Fault(*reference.NO_PROTECTION)
         if "--wp-range" in self.given:
-            return line, self.protect()
+            return line, *self.protect()
         return self.list_ranges() if "--wp-list" in self.given else self.show_protection()
 
     def show_protection(self):
@@ -366,17 +366,18 @@ class Job:
         text = f"0x{first if after > first else 0:06x},0x{after - first:06x}"
         if status[0] & 0x40 and status[0] >> 2 & 7 == 6:
             text = "undefined"
-        return f"Range: {text}", f"Mode: {'locked' if status[0] & SRP0 or status[1] & SRP1 else 'open'}"
+        mode = "locked" if status[0] & SRP0 or status[1] & SRP1 else "open"
+        return f"Range: {text}", f"Mode: {mode}", reference.status_line(status)
 
     def lock(self):
         """--wp-enable and --wp-disable."""
         wanted, self.link.locks = SRP0 * ("--wp-enable" in self.given), True
         line = self.found(self.given.get("-c"))
         if not PARTS[self.part].has_row:
-            raise Fault("Error 6: no protection on this chip.")
+            raise Fault(*reference.NO_PROTECTION)
         before = self.read_status()
         if before[1] & SRP1:
-            raise Fault(*reference.POWER_LOCKED)
+            raise Fault(*reference.locked(before))
         after = bytes([before[0] & 0x7C | wanted, before[1]])
         if after == before and MISTAKE != "always writes SRP0":
             registers = [f"Status (unchanged): 0x{before[0]:02x} 0x{before[1]:02x}"]
@@ -416,7 +417,7 @@ class Job:
         self.put_journal(b"\xff" * self.size, [], status)
         self.steps = reference.write_status(new) if new != status else []
         self.link.run(self.steps)
-        return self.done([])
+        return self.done([]), f"Range: 0x{first if length else 0:06x},0x{length:06x}"
 
 
 def job_of(given):
@@ -482,9 +483,15 @@ def run(words):
 
 
 def used_name(job):
-    """Returns the line about the journal that a session or a backup left before it changed the chip."""
+    """Removes the unsealed journal of a session that changed nothing. Returns the line about one that is left."""
     name = job.given.get("--journal", job.given.get("--backup"))
-    return [reference.used_name(name)] if name and Path(name).exists() and not job.link.has_changed else []
+    if not name or not Path(name).exists() or job.link.has_changed:
+        return []
+    whole = Path(name).read_bytes()
+    if "--journal" in job.given and hashlib.sha256(whole[:-32]).digest() != whole[-32:]:
+        Path(name).unlink()
+        return []
+    return [reference.used_name(name)]
 
 
 def restores(journal):

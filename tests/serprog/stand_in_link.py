@@ -13,7 +13,7 @@ MISTAKE = os.environ.get("MISTAKE", "")
 STTY = "stty -F {} raw -echo clocal -hupcl min 0 time 50"
 ROW = bytes.fromhex("00000000000000000010100010000010101000")
 FIRMWARE = ". Disconnect the programmer from power for a second, connect it again, set up the port, and repeat the " \
-    f"run; install other firmware only if this line comes again. To set up the port: {STTY}"
+    f"run; install other firmware only if the same line appears again. To set up the port: {STTY}"
 # A chip that sleeps shows BUSY for ever. The mistake that lets it sleep gives up soon, since only its failure counts.
 MOST_POLLS = 50 if MISTAKE == "does not wake" else 65536
 OPERATIONS = ("--flash-size", "--wp-status", "--wp-list", "-r", "-v", "-w", "-E", "--wp-range", "--restore",
@@ -40,11 +40,10 @@ class Stopped(Exception):
 
 
 DIFFER = "two reads of the same bytes differ"
-LOST = "the chip did not reply its ID any more"
+LOST = "the chip's ID changed from"
 OTHER = "the chip is another one than before"
 KEEPS = " With another tool, set these bits as they were, because this program never changes them, and a restore would " \
     "end with error 17 (see Chip fault 3 in the manual page):"
-BITS = ((0x80, "SRP0"), (0x40, "SEC"), (0x20, "TB"), (0x10, "BP2"), (0x08, "BP1"), (0x04, "BP0"))
 
 
 def usage(number, *lines):
@@ -84,7 +83,7 @@ def programmer_keys(text):
     if not text.startswith("serprog:"):
         raise usage(3, "error: the value of -p does not begin with 'serprog:'")
     if text.startswith("serprog:ip="):
-        raise usage(3, "ip= is not supported. Give a device: -p serprog:dev=PATH.")
+        raise usage(3, "error: ip= is not supported; give a device: -p serprog:dev=PATH")
     found, parts = {}, [part.partition("=") for part in text.removeprefix("serprog:").split(",")]
     for key, sign, value in parts:
         flaw = flaw_of(key, value, [part[0] for part in parts].count(key))
@@ -96,7 +95,7 @@ def programmer_keys(text):
     baud = re.search(":([0-9]+)$", found["dev"])
     if baud:
         line = STTY.replace("{}", "{} " + baud[1]).format(found["dev"][: baud.start()])
-        raise usage(3, f"dev= takes no baud rate. Set it with stty: {line}")
+        raise usage(3, f"error: dev= takes no baud rate; set it with stty: {line}")
     return found
 
 
@@ -220,7 +219,7 @@ class Link:
             last = (last + self.receive(1))[-len(wanted) :]
             if last == wanted:
                 return
-        raise Stopped("the programmer did not reply to SYNCNOP as it must")
+        raise Stopped("the programmer gave a wrong reply to SYNCNOP")
 
     def synchronize(self):
         self.send(b"\0")
@@ -379,7 +378,7 @@ class Link:
             self.id = found
         if found == self.id or MISTAKE == "takes FFh for the ID" and found == b"\xff" * 3:
             return
-        raise Stopped(f"{LOST}: {self.id.hex().upper()}h before, {found.hex().upper()}h now")
+        raise Stopped(f"{LOST} {self.id.hex().upper()}h to {found.hex().upper()}h during the run")
 
     def differ(self):
         """Returns the reason for two replies of the status that differ."""
@@ -428,12 +427,7 @@ class Link:
         got = bytes([self.seen[0] & 0xFC, self.read_second() & 0x7F])
         if got == sent or MISTAKE == "does not compare a status write":
             return
-        names = [name for bit, name in BITS if (got[0] ^ sent[0]) & bit] + ["CMP"] * ((got[1] ^ sent[1]) & CMP > 0)
-        advice = "Check WP#, SRP0 and the supply."
-        if got[0] & ~sent[0] & 0x80:
-            advice = "SRP0 is set, so WP# is probably low: connect WP# to the supply."
-        line = f"Chip fault 3: the chip did not store a status write: {sent[0]:02X}h {sent[1]:02X}h was sent, " \
-               f"{got[0]:02X}h {got[1]:02X}h was read back ({', '.join(names)}). " + advice
+        line = reference.not_stored_status(sent, got)
         if got == reference.without_protection(got) and MISTAKE != "does not say what is unprotected":
             line += " The chip is unprotected."
         raise Stopped(line)
@@ -515,6 +509,13 @@ def chip_text(chip_id):
     return f"{names[0] if names else 'SFDP'} ({chip_id.hex()})"
 
 
+def connected(chip_id):
+    """Returns the sentence that says which chip is connected."""
+    if chip_text(chip_id).startswith("SFDP "):
+        return f"The connected chip has the ID {chip_id.hex()}, and only its SFDP is known: its name for -c is SFDP."
+    return f"The connected chip is {chip_text(chip_id)}."
+
+
 def probe(link, name=None):
     """Returns the part that is there. Afterwards `link.status` has the bits of status 1 that are non-volatile."""
     poll = (b"\x05", 1)
@@ -528,5 +529,5 @@ def probe(link, name=None):
         if headers[0][:4] != b"SFDP":
             raise Fault(*reference.unknown_chip(found))
     if name not in (None, part if PARTS[part].has_row else "SFDP"):
-        raise Fault("Error 3: another chip than named.", f"-c names {name}. The chip is {chip_text(found)}.")
+        raise Fault("Error 3: another chip than named.", f"-c names {name}. {connected(found)}")
     return part

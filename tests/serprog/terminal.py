@@ -14,21 +14,29 @@ CLEARED = re.compile(rb"\r\x1b\[K")
 ENDED = re.compile(rb"\r\n")
 WHOLE = re.compile(rb"([ -~]+)\r\n")
 
-# The line of a step. A step whose total is known has a percentage, and says at the end how long it took.
+# The line of a step. While the step lasts, its line fits into 39 columns, and has a percentage if the total is known. A
+# step that is done says how long it took.
+TIME = r"\d+:[0-5]\d"
+RATE = r"(?:, (?:\d\d?\.\d|\d{3,}) KiB/s)?"
+UNIT = "(IDs?|sectors?|erases?|pages?|status writes?)"
 STEP = re.compile(
-    r"(identify|scan|erase|program|protect|read back|compare): (?:(\d+) %, )?(\d+)(?: of (?:at most )?(\d+))? "
-    r"(IDs?|sectors?|erases?|pages?|status writes?)(?:, (?:\d\d?\.\d|\d{3,}) KiB/s)?"
-    r", (?:\d+:[0-5]\d left|\d+:[0-5]\d so far|took \d+:[0-5]\d)")
-
-COLUMNS = 60
+    r"(identify|scan|erase|program|protect|read back|compare): (?:"
+    rf"(?P<share>\d+) %{RATE}, (?:{TIME} left|{TIME} so far)"
+    rf"|(?P<all>100) %, (?P<last>\d+) of (?P<total>\d+) {UNIT}{RATE}, took {TIME}"
+    rf"|(?P<done>\d+) {UNIT}, (?:at most {TIME} left|{TIME} so far)"
+    rf"|(?P<count>\d+) {UNIT}{RATE}, took {TIME})")
+COLUMNS = 39
 
 # The line after 256 polls that show BUSY.
-BUSY_CHIP = "The chip shows BUSY: its contacts or its supply fail, or an earlier operation still runs."
+BUSY_CHIP = "The chip shows BUSY. If no erase is running, it has no contact or no supply: press Ctrl-C, and check both. " \
+    "(The run gives up after 400 seconds.)"
 
 
 def untimed(lines):
-    """Returns the lines with `M:SS` and `R` for times and rates."""
-    return [re.sub(r"\d+(\.\d)? KiB/s", "R", re.sub(r"\d+:[0-5]\d\b", "M:SS", it)) for it in lines]
+    """Returns the lines with `M:SS` and `R` for times and rates, and with `T` for the time that a change takes."""
+    found = [re.sub(r"\d+(\.\d)? KiB/s", "R", re.sub(r"\d+:[0-5]\d\b", "M:SS", it)) for it in lines]
+    return [re.sub("takes (less than a second|about M:SS at the chip's typical times( and R)?)", "takes T", it)
+            for it in found]
 
 
 class Screen:
@@ -37,7 +45,7 @@ class Screen:
     Raises `Differs` if a text is too long, if a line is glued to another, or if an empty line was printed.
     """
 
-    def __init__(self, printed, is_cut=False):
+    def __init__(self, printed, is_cut=False, columns=COLUMNS):
         self.drawn, self.lines, self.rest, at, is_open = [], [], b"", 0, False
         while at < len(printed):
             if found := DRAWN.match(printed, at):
@@ -58,15 +66,20 @@ class Screen:
             raise Differs("this is neither the line nor begins at the start of one:", repr(self.rest[:200]))
         if is_open and not is_cut:
             raise Differs("the line was not ended:", self.drawn[-1])
+        check("the first drawing", self.drawn[:1] in ([], [WAITING]), True)
+        self.drawn = self.drawn[1:]
         for text in self.drawn:
-            check(f"columns of {text!r}", len(text) <= COLUMNS, True)
             found = STEP.fullmatch(text)
             check(f"the form of {text!r}", bool(found), True)
-            check(f"the number of {text!r}", found[5].endswith("s"), int(found[4] or found[3]) != 1)
+            check(f"columns of {text!r}", ", took " in text or len(text) <= columns, True)
+            number = found["total"] or found["done"] or found["count"]
+            noun = re.search(f"{UNIT}(?=, )", text.partition(": ")[2])
+            check(f"the number of {text!r}", noun and noun[1].endswith("s"), number and int(number) != 1)
 
     def shares(self, name):
         """Returns the percentages that were drawn for this step."""
-        return [int(found[2]) for found in map(STEP.fullmatch, self.drawn) if found[1] == name and found[2]]
+        return [int(found["share"] or found["all"]) for found in map(STEP.fullmatch, self.drawn)
+                if found[1] == name and (found["share"] or found["all"])]
 
     def last(self, name):
         """Returns the last line of this step that stays, without rate and time."""
@@ -74,7 +87,7 @@ class Screen:
 
     def check_steps(self, *names):
         """Checks that exactly these steps have percentages, which never fall and end at 100."""
-        known = {found[1] for found in map(STEP.fullmatch, self.drawn) if found[2]}
+        known = {found[1] for found in map(STEP.fullmatch, self.drawn) if found["share"] or found["all"]}
         check("steps with a percentage", sorted(known), sorted(names))
         for name in names:
             shares = self.shares(name)
@@ -104,9 +117,8 @@ def run(bench, *words, events=None, both=False):
 
 def lines_of_a_write(bench, sectors, erases, *rest):
     journal = 25 + sectors * 4100 + 36
-    return [bench.device(WAITING), f"Sectors to change: {sectors}. Erases: {erases}. Bytes of journal: {journal}.",
-            "The change takes about M:SS at the chip's typical times and R.",
-            reference.SEALED, *rest]
+    return [f"Sectors to change: {sectors}. Erases: {erases}. Bytes of journal: {journal}.", "The change takes T.",
+            reference.sealed("j"), *rest]
 
 
 def rewrites_a_line(start):
@@ -119,7 +131,7 @@ def rewrites_a_line(start):
     screen = Screen(printed)
     check("the lines", screen.others(), lines_of_a_write(bench, 4, 3, "The change took M:SS."))
     screen.check_steps("scan", "erase", "compare")
-    check("scans", screen.lines[1].startswith("scan: 100 %, 16 of 16 sectors, "), True)
+    check("scans", screen.lines[0].startswith("scan: 100 %, 16 of 16 sectors, "), True)
     pages = out[-1].split("programs ")[1].partition(",")[0]
     check("last counts", (screen.last("program"), screen.last("read back")),
           (f"program: {pages} pages", "read back: 5 sectors"))
@@ -128,8 +140,7 @@ def rewrites_a_line(start):
     screen = Screen(printed)
     check("status", status, 0)
     check("the lines", screen.others(), [
-        bench.device(WAITING), "Sectors to change: 4. Erases: 4.",
-        "The change takes about M:SS at the chip's typical times and R.", "The chip is changed from here on.",
+        "Sectors to change: 4. Erases: 4.", "The change takes T.", "The chip is changed from here on.",
         "The change took M:SS."])
     screen.check_steps("scan", "erase", "compare")
     bench.check_chip(old)
@@ -138,13 +149,12 @@ def rewrites_a_line(start):
     status, printed, _ = run(bench, "--restore", "j", "-N")
     screen = Screen(printed)
     check("the lines", screen.others(), [
-        bench.device(WAITING), "Sectors to change: 4. Erases: 4.",
-        "The change takes about M:SS at the chip's typical times.", "The chip is changed from here on.",
+        "Sectors to change: 4. Erases: 4.", "The change takes T.", "The chip is changed from here on.",
         "The change took M:SS."])
     screen.check_steps("erase")
     status, printed, _ = run(bench, "--restore", "j", "--quick")
     screen = Screen(printed)
-    check("the lines", screen.others(), [bench.device(WAITING), "Sectors to change: 0. Erases: 0."])
+    check("the lines", screen.others(), ["Sectors to change: 0. Erases: 0."])
     screen.check_steps("scan", "compare")
 
 
@@ -156,7 +166,7 @@ def says_that_the_chip_is_busy(start):
     for last, lines in (256, []), (257, [BUSY_CHIP]), (400, [BUSY_CHIP]):
         bench = start()
         bench.server.traits.lost = (1, last, 0xFF)
-        bench.expect_at_terminal(lines=[*lines, "identify 1"])
+        bench.expect_at_terminal(lines=[*lines, "identify"])
     bench = start()
     bench.server.traits.lost = (1, 300, 0xFF)
     check("the exit status", bench.run("-o", "log").status, 0)
@@ -179,7 +189,7 @@ def rewrites_it_ten_times_a_second(start):
     shares = screen.shares("erase")
     check(f"drawings of the erases: {len(shares)} in {shares}", 8 <= len(shares) <= 40, True)
     check("drawings of the scan", 5 <= len(screen.shares("scan")) <= 400, True)
-    check("programs are drawn", any(it.startswith("program: ") and " of at most 544 pages" in it
+    check("programs are drawn", any(re.fullmatch(rf"program: \d+ pages?, at most {TIME} left", it)
                                     for it in screen.drawn), True)
 
 
@@ -195,9 +205,9 @@ def keeps_messages_apart(start):
     check("the fault", Screen(printed).lines[-1].startswith("Error 14: "), True)
     status, printed, _ = run(bench, "-r", "out", both=True)
     check("the lines", Screen(printed).others(), [
-        bench.device(WAITING), "Found SFDP (fe1010), 65536 bytes.", "Read 65536 bytes."])
+        "Found SFDP (fe1010), 65536 bytes.", "Read 65536 bytes."])
     status, printed, _ = run(bench, "--flash-size", both=True)
-    check("the lines", Screen(printed).others(), [bench.device(WAITING), "65536"])
+    check("the lines", Screen(printed).others(), ["65536"])
     # The programmer refuses a transaction in the scan, and then one after the first erase.
     for number in (12, 20, 30, 40):
         bench.plug()
@@ -221,7 +231,8 @@ def logged(log):
     for out in (it[0] for it in log if it[0][0] in NAMES):
         at = f" at 0x{int.from_bytes(out[1:4], 'big'):06x}" if len(out) >= 4 else ""
         rest = out[1:] if out[0] == 0x01 else out[4:]
-        lines.append(NAMES[out[0]] + at + (f", bytes {len(rest)}" if rest else ""))
+        count = f"{len(rest)} byte{'s' * (len(rest) != 1)}" if rest else ""
+        lines.append(NAMES[out[0]] + (f", {count}" if out[0] == 0x01 else f" {count}{at}" if count else at))
     return lines
 
 
@@ -271,7 +282,7 @@ def shows_nothing_if_asked(start):
     status, printed, _ = run(bench, "-r", "out", "--progress", "plain")
     screen = Screen(printed)
     check("lines that are rewritten", (status, screen.drawn), (0, []))
-    check("plain lines", screen.lines[1:], ["identify 1", "scan: sector 1 of 16"])
+    check("plain lines", screen.lines[1:], ["identify", "scan: sector 1 of 16"])
 
 
 CASES = [rewrites_a_line, says_that_the_chip_is_busy, rewrites_it_ten_times_a_second, keeps_messages_apart,

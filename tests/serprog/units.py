@@ -15,8 +15,8 @@ from wire import STOPPED, UNLOCK
 FIRST, OTHER = bytes.fromhex("d1d2d3d4d5d6d7d8"), bytes.fromhex("0123456789abcdef")
 EXCHANGED = f"Cause: the chip is another one than before: its unique ID was {FIRST.hex()}, and is {OTHER.hex()} now. " \
     "Connect the right chip."
-KEPT = "Check WP#, SRP0 and the supply. With another tool, set these bits as they were, because this program never " \
-    "changes them, and a restore would end with error 17 (see Chip fault 3 in the manual page): QE."
+KEPT = "With another tool, set these bits as they were, because this program never changes them, and a restore would " \
+    "end with error 17 (see Chip fault 3 in the manual page): QE."
 
 
 def exchange(bench, words, journal, left):
@@ -39,7 +39,8 @@ def exchange(bench, words, journal, left):
         bench.server.traits.other = number, other
         # The two replies to one read differ if the board is exchanged between them.
         cause = EXCHANGED if again < number <= seal - 4 else DIFFER
-        bench.expect(*words, err=[STOPPED, f"{cause} {left}", *used])
+        # If the second read of the unique ID shows the exchange, the journal is sealed, and left.
+        bench.expect(*words, err=[STOPPED, f"{cause} {left}", *(used if number > again else [])])
         for chip in bench.chip, other:
             check("the chip is unchanged", (chip.data == before, bytes(chip.status)), (True, status))
         bench.server.chip = bench.chip
@@ -97,8 +98,7 @@ def advises_on_kept_bits(start):
 
     bench.chip.write_status = clear_quad
     bench.expect(*UNLOCK, err=[
-        STOPPED, "Chip fault 3: the chip did not store a status write: 00h 02h was sent, 00h 00h was read back (these "
-        f"bits differ: QE). {KEPT} {RESTORE} Until then it may be unprotected."])
+        STOPPED, f"{reference.not_stored_status(bytes([0, 2]), bytes(2))} {KEPT} {RESTORE} Until then it may be unprotected."])
     bench.chip.write_status = write
     check("the restore", bench.run("--restore", "j", "-N").err[:1], ["Error 17: status differs from the journal's."])
     bench.chip.status[1] |= 0x02

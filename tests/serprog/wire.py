@@ -75,7 +75,8 @@ def believes_busy(start):
     for byte in 0, 1:
         bench = start("W25Q64FV", data=b"\xff" * LARGE, status=BEFORE)
         bench.server.traits.wrong_bits = {2: (byte, 0)}
-        bench.expect(*PROTECT, out=[FOUND, "Done: touched 0, erases 0, programs 0, transactions 8."])
+        bench.expect(*PROTECT, out=[FOUND, "Done: touched 0, erases 0, programs 0, transactions 8.",
+                                    "Range: 0x000000,0x800000"])
         bench.check_chip(b"\xff" * LARGE, AFTER)
         bench = start("W25Q64FV", data=b"\xff" * LARGE, status=BEFORE, scale=20.0)
         bench.server.traits.wrong_bits = {(1, 1): (byte, 0)}
@@ -87,8 +88,7 @@ def believes_busy(start):
 
 def not_stored(sent, found):
     """Returns the beginning of the line of a status write that the chip didn't store."""
-    return "Chip fault 3: the chip did not store a status write: " \
-        f"{sent[0]:02X}h {sent[1]:02X}h was sent, {found[0]:02X}h {found[1]:02X}h was read back"
+    return reference.not_stored_status(sent, found)
 
 
 def reads_status_writes_back(start):

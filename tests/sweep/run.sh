@@ -145,7 +145,7 @@ check_left() {
     elif [[ -e journal ]]; then
         file=$(stat -c %s journal)
         { [[ -e saved ]] && cmp -s -n "$file" journal saved; } || differs "its journal is no prefix of the right one"
-        restores 1 $'error: the journal was never sealed, or was cut off later\nError 15: journal fault 1.'
+        restores 1 'Error 15: journal fault 1.'
     fi
 }
 

@@ -17,9 +17,12 @@ use Rattle.flashnor.specs.Run.{EndsChipJob, FailsJob, FailsToStart, AnswersArgum
 use Rattle.flashnor.specs.Run.{IsPrintedAt, IsStatus, KeepsFiles}
 use Rattle.nor_console.specs.Messages.{IsReportedAs}
 use Rattle.nor_console.specs.declared.answers.Answer.{Answer}
+use Rattle.flashnor.specs.declared.details.Detail.{Detail}
+use Rattle.flashnor.specs.declared.details.Detail.TheVariants.{Unsaid}
 use Rattle.flashnor.specs.declared.holding.Unwritten.{Unwritten}
 use Rattle.nor_console.specs.declared.messages.Fault.{Fault}
 use Rattle.nor_console.specs.declared.messages.Fault.TheVariants as end
+use Rattle.nor_console.specs.declared.messages.Wording.{Wording}
 use Rattle.flashnor.specs.declared.printing.Ending.{Ending}
 use Rattle.flashnor.specs.declared.run.Work.{Work}
 use Rattle.flashnor.specs.Streams.{IsReportedTo}
@@ -73,7 +76,8 @@ module _ (files after : FilesState) (on_chip : ChipJob) (unwritten : Unwritten) 
   fails_ends (end.Layout fault) fails = fails
   fails_ends (end.Map fault) fails = fails
   fails_ends (end.NoRegion name) fails = fails
-  fails_ends (end.File fault name) fails = fails
+  fails_ends (end.File fault name cause) fails = fails
+  fails_ends end.NoJournal fails = fails
 
   pub failed_ends : (fault : Fault) (returned : Result Answer Fault) → returned ≡ Err fault
       → FailsJob files.view on_chip fault → EndsChipJob files after on_chip unwritten returned
@@ -126,16 +130,18 @@ holds_readonly on_chip result old new not_written_back = grind arith
 
 -- ---- how a run ends
 
-module _ (files after : FilesState) (words : List Text) where
+module _ (files after : FilesState) (words : List Text) (wording : Wording) (detail : Detail) where
   module _ (outcome : Result Answer Fault) (unwritten : Unwritten) (to : Reports) (out out' err err' : Option (List ℕ))
       (ending : Ending) (answers : AnswersArguments files after words outcome unwritten)
       (printed_at : IsPrintedAt files.view.nature outcome to)
-      (prints : HasPrinted outcome unwritten to out out' err err' ending) where
-    pub is_status : IsStatus files after words out out' err err' ending
+      (prints : HasPrinted wording detail outcome unwritten to out out' err err' ending) where
+    pub is_status : IsStatus files after words wording out out' err err' ending
     is_status = grind arith
 
 -- If memory ran out for a run's arguments, and the run changed no file and printed this fault, `IsStatus` holds.
-pub is_without_memory : (files : FilesState) (words : List Text) (out out' err err' : Option (List ℕ)) (ending : Ending)
-    → HasPrinted (Err (end.Usage usage.Memory because.Unsaid)) all_written at.Errors out out' err err' ending
-    → IsStatus files files words out out' err err' ending
-is_without_memory files words out out' err err' ending prints = grind arith
+pub is_without_memory : (files : FilesState) (words : List Text) (wording : Wording)
+    (out out' err err' : Option (List ℕ)) (ending : Ending)
+    → HasPrinted wording Unsaid (Err (end.Usage usage.Memory because.Unsaid)) all_written at.Errors
+    out out' err err' ending
+    → IsStatus files files words wording out out' err err' ending
+is_without_memory files words wording out out' err err' ending prints = grind arith

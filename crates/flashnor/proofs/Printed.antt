@@ -10,10 +10,13 @@ use Rattle.nor_console.specs.FaultLines.{line_of}
 use Rattle.nor_console.specs.Messages.{IsLostOutput}
 use Rattle.nor_console.specs.Printing.{IsAnswered, PrintsAnswer}
 use Rattle.nor_console.specs.declared.answers.Answer.{Answer}
+use Rattle.flashnor.specs.declared.details.Detail.{Detail}
 use Rattle.flashnor.specs.declared.holding.Unwritten.{Unwritten}
 use Rattle.nor_console.specs.declared.messages.Fault.{Fault}
 use Rattle.nor_console.specs.declared.messages.Fault.TheVariants as end
 use Rattle.nor_console.specs.declared.messages.FileFault.TheVariants as file
+use Rattle.nor_console.specs.declared.messages.Wording.{Wording}
+use Rattle.nor_console.specs.declared.messages.Wording.TheVariants as worded
 use Rattle.flashnor.specs.declared.printing.Ending.{Ending}
 use Rattle.flashnor.specs.declared.streams.Reports.{Reports}
 use Rattle.flashnor.specs.declared.streams.Reports.TheVariants as at
@@ -24,33 +27,44 @@ pub appends_both : (line : Option (List ℕ)) (a b c : Option (List ℕ)) (other
     → IfSome (option_append line (Some others)) (Appends a c)
 appends_both line a b c others one two = grind (arith, appends_then)
 
+-- If a print appends `first`, and the later ones append `rest`, then together they append `first` and `rest`. If `rest`
+-- is not known, nothing is claimed.
+pub appends_detail : (first : List ℕ) (rest : Option (List ℕ)) (a b c : Option (List ℕ)) → Appends a b first
+    → IfSome rest (Appends b c) → IfSome (option_append (Some first) rest) (Appends a c)
+appends_detail first rest a b c one two = grind (arith, appends_then)
+
 -- `HasPrinted` holds after a run with an answer or the help.
-pub printed_well : (outcome : Result Answer Fault) (unwritten : Unwritten) (to : Reports)
+pub printed_well : (wording : Wording) (detail : Detail) (outcome : Result Answer Fault) (unwritten : Unwritten)
+    (to : Reports)
     (out out' err err' : Option (List ℕ)) (ending : Ending) (is_printed : Bool)
     → IsAnswered outcome → (is_printed ≡ true → PrintsAnswer outcome out out')
-    → EndsWell is_printed unwritten err err' ending → HasPrinted outcome unwritten to out out' err err' ending
-printed_well outcome unwritten to out out' err err' ending is_printed answered prints ends = grind arith
+    → EndsWell is_printed unwritten err err' ending
+    → HasPrinted wording detail outcome unwritten to out out' err err' ending
+printed_well wording detail outcome unwritten to out out' err err' ending is_printed answered prints ends = grind arith
 
 -- `HasPrinted` holds after a run with a fault that is not the help, if the fault was printed to standard error.
-pub printed_badly : (fault : Fault) (unwritten : Unwritten) (out err err' : Option (List ℕ)) (ending : Ending)
-    → (IsAnswered (Err fault) → ⊥) → EndsBadly fault unwritten err err' ending
-    → HasPrinted (Err fault) unwritten at.Errors out out err err' ending
-printed_badly fault unwritten out err err' ending never ends = grind arith
+pub printed_badly : (wording : Wording) (detail : Detail) (fault : Fault) (unwritten : Unwritten)
+    (out err err' : Option (List ℕ)) (ending : Ending)
+    → (IsAnswered (Err fault) → ⊥) → EndsBadly wording detail fault unwritten err err' ending
+    → HasPrinted wording detail (Err fault) unwritten at.Errors out out err err' ending
+printed_badly wording detail fault unwritten out err err' ending never ends = grind arith
 
 -- `HasPrinted` holds after a run with a fault that is not the help, if the fault was printed to standard output.
-pub printed_aside : (fault : Fault) (unwritten : Unwritten) (out out' err : Option (List ℕ)) (ending : Ending)
-    → (IsAnswered (Err fault) → ⊥) → EndsBadly fault unwritten out out' ending
-    → HasPrinted (Err fault) unwritten at.Output out out' err err ending
-printed_aside fault unwritten out out' err ending never ends = grind arith
+pub printed_aside : (wording : Wording) (detail : Detail) (fault : Fault) (unwritten : Unwritten)
+    (out out' err : Option (List ℕ)) (ending : Ending)
+    → (IsAnswered (Err fault) → ⊥) → EndsBadly wording detail fault unwritten out out' ending
+    → HasPrinted wording detail (Err fault) unwritten at.Output out out' err err ending
+printed_aside wording detail fault unwritten out out' err ending never ends = grind arith
 
 -- `HasPrinted` holds after a run with a fault that is not the help, if nothing was printed.
-pub printed_nowhere : (fault : Fault) (unwritten : Unwritten) (out err : Option (List ℕ)) (ending : Ending)
+pub printed_nowhere : (wording : Wording) (detail : Detail) (fault : Fault) (unwritten : Unwritten)
+    (out err : Option (List ℕ)) (ending : Ending)
     → (IsAnswered (Err fault) → ⊥) → ending ≡ record { status = 1; printed = false; reported = false }
-    → HasPrinted (Err fault) unwritten at.Nowhere out out err err ending
-printed_nowhere fault unwritten out err ending never ends = grind arith
+    → HasPrinted wording detail (Err fault) unwritten at.Nowhere out out err err ending
+printed_nowhere wording detail fault unwritten out err ending never ends = grind arith
 
 -- ---- the message that standard output could not be written
 
-pub output_line : (fault : Fault) → IsLostOutput fault → line_of fault ≡ Some line_of_output
-output_line (end.File file.Write of) is = grind arith
+pub output_line : (fault : Fault) → IsLostOutput fault → line_of worded.Numbered fault ≡ Some line_of_output
+output_line (end.File file.Write of cause) is = grind arith
 output_line _ is = absurd is

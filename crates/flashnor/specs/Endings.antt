@@ -9,13 +9,18 @@ use Rattle.nor_args.specs.Text.{Text}
 use Rattle.nor_console.specs.FaultLines.{line_of}
 use Rattle.nor_console.specs.Messages.{IsOfArguments}
 use Rattle.nor_console.specs.Printing.{IsAnswered, PrintsAnswer}
+use Rattle.flashnor.specs.Details.{detail_in}
 use Rattle.flashnor.specs.FaultLines.{line_if_lost, lines_of_unwritten}
 use Rattle.flashnor.specs.Streams.{AppendsTo}
 use Rattle.nor_console.specs.declared.answers.Answer.{Answer}
+use Rattle.flashnor.specs.declared.details.Detail.{Detail}
+use Rattle.flashnor.specs.declared.details.Detail.TheVariants.{Unsaid}
 use Rattle.flashnor.specs.declared.holding.Unwritten.{Unwritten}
+use Rattle.nor_console.specs.declared.causes.Cause.TheVariants as because
 use Rattle.nor_console.specs.declared.messages.Fault.{Fault}
 use Rattle.nor_console.specs.declared.messages.Fault.TheVariants as end
 use Rattle.nor_console.specs.declared.messages.FileFault.TheVariants as file
+use Rattle.nor_console.specs.declared.messages.Wording.{Wording}
 use Rattle.flashnor.specs.declared.printing.Ending.{Ending}
 use Rattle.flashnor.specs.declared.streams.Reports.{Reports}
 use Rattle.flashnor.specs.declared.streams.Reports.TheVariants as at
@@ -29,11 +34,14 @@ all_written = record { image = None; status = None; trace = None; journal = None
 abbrev pub lines_after : (is_printed : Bool) → Unwritten → List ℕ
 lines_after is_printed unwritten = line_if_lost is_printed ++ lines_of_unwritten unwritten
 
--- The lines that report the faults of a run. For a run with a fault these are the fault's line and the lines of files
--- that could not be written, or `None` if the fault's line isn't known. For any other run see `lines_after`.
-abbrev pub lines_printed : Result Answer Fault → (is_printed : Bool) → Unwritten → Option (List ℕ)
-lines_printed (Ok found) is_printed unwritten = Some (lines_after is_printed unwritten)
-lines_printed (Err fault) is_printed unwritten = option_append (line_of fault) (Some (lines_of_unwritten unwritten))
+-- The lines that report the faults of a run. For a run with a fault these are the line with what an error compared
+-- (`detail_in`), the fault's lines in this wording and the lines of files that could not be written, or `None` if the
+-- fault's lines aren't known. For any other run see `lines_after`.
+abbrev pub lines_printed : Wording → Detail → Result Answer Fault → (is_printed : Bool) → Unwritten → Option (List ℕ)
+lines_printed wording detail (Ok found) is_printed unwritten = Some (lines_after is_printed unwritten)
+lines_printed wording detail (Err fault) is_printed unwritten =
+    option_append (Some (detail_in wording detail))
+    (option_append (line_of wording fault) (Some (lines_of_unwritten unwritten)))
 
 -- Where the lines of a run's faults are printed: if the run has a fault, where `to` says, and otherwise to standard
 -- error.
@@ -52,28 +60,29 @@ pub record EndsWell (is_printed : Bool) (unwritten : Unwritten) (err err' : Opti
   pub reported : ending.reported ≡ true → Appends err err' (lines_after is_printed unwritten)
   pub silent : is_printed ≡ true → unwritten ≡ all_written → err' ≡ err
 
--- Holds for the end of a run with a fault. The status is 1, and no answer or help was printed. If the line of the fault
+-- Holds for the end of a run with a fault. The status is 1, and no answer or help was printed. If the lines of the fault
 -- and those of files that could not be written were printed (`reported`), they were appended to the stream whose
--- contents are `err` before and `err'` after. Nothing is claimed about these lines if the fault's line isn't known
+-- contents are `err` before and `err'` after. Nothing is claimed about these lines if the fault's lines aren't known
 -- (`line_of`).
-pub record EndsBadly (fault : Fault) (unwritten : Unwritten) (err err' : Option (List ℕ))
-    (ending : Ending) : Type 0 where
+pub record EndsBadly (wording : Wording) (detail : Detail) (fault : Fault) (unwritten : Unwritten)
+    (err err' : Option (List ℕ)) (ending : Ending) : Type 0 where
   pub status : ending.status ≡ 1
   pub printed : ending.printed ≡ false
-  pub reported : ending.reported ≡ true → IfSome (lines_printed (Err fault) false unwritten) (Appends err err')
+  pub reported : ending.reported ≡ true → IfSome (lines_printed wording detail (Err fault) false unwritten)
+      (Appends err err')
 
--- Holds for what a run with this result prints to standard output and standard error, and for its exit status. `to`
--- says where a fault is printed.
-pub record HasPrinted (outcome : Result Answer Fault) (unwritten : Unwritten) (to : Reports)
-    (out out' err err' : Option (List ℕ)) (ending : Ending) : Type 0 where
+-- Holds for what a run with this result prints to standard output and standard error, and for its exit status. A fault
+-- is printed in this wording, where `to` says. `detail` is what an error compared.
+pub record HasPrinted (wording : Wording) (detail : Detail) (outcome : Result Answer Fault) (unwritten : Unwritten)
+    (to : Reports) (out out' err err' : Option (List ℕ)) (ending : Ending) : Type 0 where
   -- the status is 0 or 1, and 0 if and only if the answer or the help was printed and every file was written
   pub few : ending.status ≤ 1
   pub exact : (ending.status ≡ 0) ↔ ((ending.printed ≡ true) × (unwritten ≡ all_written))
   -- If an answer was printed, its lines were appended to standard output; the text of help isn't known. If the lines of
   -- faults (`lines_printed`) were printed, they were appended to their stream (`stream_for`). Nothing is claimed about
-  -- these lines if the fault's line isn't known (`line_of`).
+  -- these lines if the fault's lines aren't known (`line_of`).
   pub printed : ending.printed ≡ true → PrintsAnswer outcome out out'
-  pub reported : ending.reported ≡ true → IfSome (lines_printed outcome ending.printed unwritten)
+  pub reported : ending.reported ≡ true → IfSome (lines_printed wording detail outcome ending.printed unwritten)
       (AppendsTo (stream_for outcome to) out out' err err')
   -- A run without an answer or help prints only to the stream that `to` selects, or nothing if `to` is `Nowhere`. A run
   -- that printed an answer or help and wrote every file prints nothing to standard error.
@@ -86,14 +95,16 @@ abbrev pub EndsWith : (Ending → Type 0) → ℕ → Type 0
 EndsWith IsEnding status = (ending : Ending) × IsEnding ending × (status ≡ ending.status)
 
 -- Holds for the end of a run to which the system could not provide the arguments.
-pub record IsUnread (error : Error) (out out' err err' : Option (List ℕ)) (ending : Ending) : Type 0 where
+pub record IsUnread (error : Error) (wording : Wording) (out out' err err' : Option (List ℕ))
+    (ending : Ending) : Type 0 where
   pub fault : Fault
   pub of_words : IsOfArguments error fault
-  pub prints : HasPrinted (Err fault) all_written at.Errors out out' err err' ending
+  pub prints : HasPrinted wording Unsaid (Err fault) all_written at.Errors out out' err err' ending
 
 -- Holds for the end of a run that could not open a directory to occupy the descriptors of closed standard streams. The
 -- run has file fault 1 (a file can't be read), and its status is 1.
-pub record IsWithoutStreams (out out' err err' : Option (List ℕ)) (ending : Ending) : Type 0 where
+pub record IsWithoutStreams (wording : Wording) (out out' err err' : Option (List ℕ)) (ending : Ending) : Type 0 where
   pub name : Bor Text
-  pub prints : HasPrinted (Err (end.File file.Read name)) all_written at.Errors out out' err err' ending
+  pub prints : HasPrinted wording Unsaid (Err (end.File file.Read name because.Unknown)) all_written at.Errors
+      out out' err err' ending
   pub status : ending.status ≡ 1

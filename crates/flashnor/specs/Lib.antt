@@ -1,4 +1,5 @@
 pub mod FaultLines
+pub mod Details
 pub mod Endings
 pub mod Chips
 pub mod Holding

@@ -100,7 +100,7 @@ IsPrintedName nature job name = (role : Role) × IsSomeAnd (file_with_role job r
 
 -- Holds for file fault 5 with the name of a file of the job, if `nature` allows that the program prints to that file.
 abbrev pub IsStream : Nature → ChipJob → Fault → Type 0
-IsStream nature job (end.File file.Taken of) = IsPrintedName nature job of.now
+IsStream nature job (end.File file.Taken of cause) = IsPrintedName nature job of.now
 IsStream nature job _ = ⊥
 
 -- True if the job may change or create a file: a file of the chip, a change's journal, the trace, or the output of a

@@ -51,9 +51,11 @@ use Rattle.nor_jobs.specs.Sources.{IsAskedOf, IsInvalid}
 use Rattle.nor_console.specs.declared.answers.Answer.{Answer}
 use Rattle.nor_console.specs.declared.answers.Answer.TheVariants as answer
 use Rattle.flashnor.specs.declared.chips.Content.{Content}
+use Rattle.flashnor.specs.declared.details.Detail.{Detail}
 use Rattle.flashnor.specs.declared.holding.Unwritten.{Unwritten}
 use Rattle.nor_console.specs.declared.messages.Fault.{Fault}
 use Rattle.nor_console.specs.declared.messages.Fault.TheVariants as end
+use Rattle.nor_console.specs.declared.messages.Wording.{Wording}
 use Rattle.flashnor.specs.declared.printing.Ending.{Ending}
 use Rattle.flashnor.specs.declared.streams.Reports.{Reports}
 use Rattle.flashnor.specs.declared.streams.Reports.TheVariants as at
@@ -339,19 +341,21 @@ abbrev pub IsPrintedAt : Nature → Result Answer Fault → Reports → Type 0
 IsPrintedAt nature (Ok found) to = to ≡ at.Errors
 IsPrintedAt nature (Err fault) to = IsReportedTo nature fault to
 
--- Holds for the end of a run, with the contents of standard output and standard error before and after it, as far as
--- they are known. The status is 0 or 1. It is 1 if the arguments ask neither for a job nor for help, and 0 only if the
--- run succeeds (`RunSucceeds`).
-pub record IsStatus (files after : FilesState) (words : List Text) (out out' err err' : Option (List ℕ))
-    (ending : Ending) : Type 0 where
+-- Holds for the end of a run that prints its faults in this wording, with the contents of standard output and standard
+-- error before and after it, as far as they are known. The status is 0 or 1. It is 1 if the arguments ask neither for a
+-- job nor for help, and 0 only if the run succeeds (`RunSucceeds`).
+pub record IsStatus (files after : FilesState) (words : List Text) (wording : Wording)
+    (out out' err err' : Option (List ℕ)) (ending : Ending) : Type 0 where
   pub few : ending.status ≤ 1
   pub refused : IsRefusedArguments words → ending.status ≡ 1
   pub succeeds : ending.status ≡ 0 → RunSucceeds files after words out out'
   -- `outcome` is the result of the run, and `unwritten` names the files that could not be written. A fault is printed
-  -- where `to` says. `prints` states what was printed, and how the status depends on it.
+  -- where `to` says. `detail` is what an error compared. `prints` states what was printed, and how the status depends
+  -- on it.
   pub outcome : Result Answer Fault
   pub unwritten : Unwritten
   pub answers : AnswersArguments files after words outcome unwritten
   pub to : Reports
   pub is_printed_at : IsPrintedAt files.view.nature outcome to
-  pub prints : HasPrinted outcome unwritten to out out' err err' ending
+  pub detail : Detail
+  pub prints : HasPrinted wording detail outcome unwritten to out out' err err' ending

@@ -14,7 +14,7 @@ use Rattle.flashnor.specs.declared.streams.Reports.TheVariants as to
 -- file that the fault names.
 abbrev pub IsReportedTo : Nature → Fault → Reports → Type 0
 IsReportedTo nature fault to.Errors = ⊤
-IsReportedTo nature (end.File file.Taken of) where_to = nature.fails (Printed of.now) ≡ true
+IsReportedTo nature (end.File file.Taken of cause) where_to = nature.fails (Printed of.now) ≡ true
 IsReportedTo nature fault where_to = ⊥
 
 -- Holds if `text` was appended to the stream that the first argument selects. Standard output changed from `out` to

@@ -9,7 +9,7 @@ ghost use Rattle.flashnor.specs.Found.{emulated_part};
 
 use nor_args::Programmer;
 use nor_chip::{Bus, Config, Delays, Meter, SimBus};
-use nor_console::{Fault, FileFault, erased, reading, unread};
+use nor_console::{Cause, Fault, FileFault, erased, reading, unread_by};
 use nor_files::Store;
 use std::alloc::{AllocError, Global};
 
@@ -85,7 +85,7 @@ pub fn read_chip_file<'a, R: Store>(
         return Ok(None);
     };
     if rt.is_waiting(name) {
-        return Err(unread(name));
+        return Err(unread_by(name, Cause::Endless));
     }
     let bytes = match rt.read_named(name, u64::from(len) + 1) {
         Ok(Some(bytes)) => bytes,
@@ -93,10 +93,19 @@ pub fn read_chip_file<'a, R: Store>(
         Err(error) => return Err(reading(error, name)),
     };
     if bytes.len() != len as usize {
-        let fault = FileFault::Length;
-        return Err(Fault::File { fault, name });
+        let (fault, cause) = (FileFault::Length, cause_of_length(len, bytes.len()));
+        return Err(Fault::File { fault, name, cause });
     }
     Ok(Some(bytes))
+}
+
+// Returns the cause of file fault 3 if a file must have `wanted` bytes, and at most one byte more was read (`found`).
+fn cause_of_length(wanted: u32, found: usize) -> Cause {
+    if found > wanted as usize {
+        Cause::TooLong(wanted)
+    } else {
+        Cause::Length { wanted, found }
+    }
 }
 
 /// Returns a bus to the emulated chip, which is idle and has the given contents. `content` must have as many bytes as

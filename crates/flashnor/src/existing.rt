@@ -13,7 +13,7 @@ use crate::chips::read_content;
 use crate::roles::has_own_trace;
 use crate::tasks::journal_by;
 use nor_args::{ChipJob, Task};
-use nor_console::{Fault, FileFault, create_log};
+use nor_console::{Cause, Fault, create_log, exists};
 use nor_files::Store;
 use nor_jobs::read_sources;
 use std::io::BufWriter;
@@ -49,10 +49,7 @@ pub fn fault_before<'a, R: Store>(rt: &mut R, job: &ChipJob<'a>, journal: &'a st
         Err(fault) => return fault,
     }
     match read_all(rt, job) {
-        Ok(()) => {
-            let (fault, name) = (FileFault::Exists, journal);
-            Fault::File { fault, name }
-        }
+        Ok(()) => exists(journal, Cause::Exists),
         Err(fault) => fault,
     }
 }

@@ -12,12 +12,13 @@ ghost use Rattle.flashnor.specs.Holding.{AreAmid, AreHeld, AreReady, IsHeld, IsR
 ghost use Rattle.flashnor.specs.Holding.{LeavesAmid, LeavesFileAmid, MakesDurable, FillsMissing};
 ghost use Rattle.nor_console.specs.Stored.{AreTwo, Happens, IsFileFound, IsNot, IsRead, IsReportedOf};
 ghost use Rattle.flashnor.specs.Tasks.{journal_by};
+ghost use Rattle.nor_console.specs.Files.{IsUnmadeFault};
 
 use crate::chips::{Content, content_of, read_chip_file};
 use crate::tasks::journal_by;
 use nor_args::{Programmer, Task};
 use nor_chip::{Bus, SimBus};
-use nor_console::{Fault, FileFault, reading, taken, unheld, unmade, unread};
+use nor_console::{Cause, Fault, SystemReason, unheld, unmade_by, unread_by};
 use nor_files::{LockFault, Store};
 use std::io;
 
@@ -96,7 +97,7 @@ fn hold_whole<'a, R: Store>(
         Ok(true) => Ok(Some(read_held(rt, name, len)?)),
         Ok(false) => match rt.sync_folder(name) {
             Ok(()) => Ok(None),
-            Err(_) => Err(unmade(name)),
+            Err(error) => Err(unsynced(&error, name)),
         },
         Err(fault) => Err(unheld(fault, name)),
     }
@@ -115,16 +116,23 @@ fn read_held<'a, R: Store>(rt: &mut R, name: &'a str, len: u32) -> Result<Vec<u8
     ensures err { IfErr result (IsLockingFault (R.state rt.old).view name.now len) }
 {
     let Some(bytes) = read_chip_file(rt, Some(name), len)? else {
-        return Err(unread(name));
+        return Err(unread_by(name, Cause::System(SystemReason::Missing)));
     };
     match rt.sync(name) {
         Ok(()) => {}
-        Err(_) => return Err(unmade(name)),
+        Err(error) => return Err(unsynced(&error, name)),
     }
     match rt.sync_folder(name) {
         Ok(()) => Ok(bytes),
-        Err(_) => Err(unmade(name)),
+        Err(error) => Err(unsynced(&error, name)),
     }
+}
+
+// Returns file fault 2: the file or its directory can't be synced.
+fn unsynced<'a>(error: &io::Error, name: &'a str) -> Fault<'a>
+    ensures { IsUnmadeFault name.now result }
+{
+    unmade_by(name, Cause::System(SystemReason::of_making(error)))
 }
 
 /// The names of files that were not written or were lost in a run. The image and the status file are named if they

@@ -15,6 +15,7 @@
 //! - `chips.rt`: reads the chip's files, and makes the simulated bus
 //! - `changes.rt`: the jobs that change a chip, and rehearsals; `nor_jobs` and `nor_console` have the other jobs
 //! - `laws.rt`: a theorem about a change and the restores that follow it
+//! - `details.rt`: what an error compared, such as the name of `-c` with that of the chip
 //! - `printing.rt`: prints the end of a run, and chooses the exit status
 //!
 //! The crates `nor_jobs` and `nor_console` have the code that this program shares with `flashnor_serprog`: the jobs
@@ -23,6 +24,7 @@
 
 mod changes;
 mod chips;
+mod details;
 mod existing;
 mod holding;
 mod jobs;
@@ -33,18 +35,32 @@ mod run;
 mod streams;
 mod tasks;
 
-use nor_console::{by_line, keep_streams};
+use nor_console::{Wording, by_line, keep_streams};
+use printing::ErrorStream;
 use run::{end_without_streams, run_words};
 use std::env;
+use std::io::IsTerminal;
 use std::process::ExitCode;
 
 fn main(rt: HostRuntime) -> ExitCode {
     let streams = keep_streams(&rt);
     let mut output = by_line(rt.alloc(), rt.stdout());
-    let mut errors = by_line(rt.alloc(), rt.stderr());
+    let mut errors = ErrorStream {
+        wording: wording_for(&rt),
+        writer: by_line(rt.alloc(), rt.stderr()),
+    };
     let status = match &streams {
         Ok(_) => run_words(&rt, env::args(&rt), &mut output, &mut errors),
         Err(_) => end_without_streams(&mut output, &mut errors),
     };
     ExitCode::from(status)
+}
+
+// Returns how faults are worded: a script that reads standard error expects only the lines with the faults' numbers.
+fn wording_for(rt: &HostRuntime) -> Wording {
+    if rt.stderr().is_terminal() {
+        Wording::Explained
+    } else {
+        Wording::Numbered
+    }
 }

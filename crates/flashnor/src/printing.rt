@@ -1,15 +1,24 @@
 //! Prints the result and the faults of a run, and chooses the exit status.
 ghost use Rattle.std.specs.Prelude.{◌≡◌, ◌↔◌, IsTrue, None, true};
 ghost use Rattle.std.specs.Io.KnownBytes.{Appends};
+ghost use Rattle.flashnor.specs.Details.{detail_in};
 ghost use Rattle.flashnor.specs.Endings.{EndsBadly, EndsWell, HasPrinted, all_written};
 ghost use Rattle.flashnor.specs.FaultLines.{line_if_lost, line_of_unwritten, lines_of_unwritten};
 
+use crate::details::{Detail, DetailLine};
 use crate::holding::Unwritten;
 use crate::streams::Reports;
 use nor_console::{
-    Answer, Fault, help_of, lost_output, print_answer, print_fault, print_help, unmade,
+    Answer, Fault, Wording, help_of, lost_output, print_answer, print_help, print_worded, unmade,
 };
 use std::io::Write;
+
+/// The writer for standard error, and the wording in which a run prints its faults.
+#[derive(Drop)]
+pub struct ErrorStream<E> {
+    pub writer: E,
+    pub wording: Wording,
+}
 
 /// How a run ended, and what it could print.
 #[derive(Clone, Copy)]
@@ -24,21 +33,25 @@ pub struct Ending {
 }
 
 /// Prints the result of a run. An answer or the help is printed to `output`, and a message for each file that could not
-/// be written to `errors`. A fault, with the messages of such files, is printed where `to` says.
+/// be written to `errors`. A fault, with the messages of such files, is printed where `to` says, in the wording of
+/// `errors`. `detail` is what an error compared.
 ///
 /// If the answer or the help can't be printed, prints file fault 2 with the name of standard output to `errors`, and
 /// the status is 1. Any other message that can't be printed is lost.
 #[tactic(auto, using(crate::proofs::Printed::printed_well, crate::proofs::Printed::printed_badly))]
 pub fn print_end<O: Write, E: Write>(
     output: &mut O,
-    errors: &mut E,
+    errors: &mut ErrorStream<E>,
     answer: Result<Answer, Fault<'_>>,
     unwritten: Unwritten<'_>,
     to: Reports,
+    detail: Detail,
 ) -> Ending
-    ensures { HasPrinted answer.entry unwritten.entry to (O.contents output.old) (O.contents output.new)
-        (E.contents errors.old) (E.contents errors.new) result }
+    ensures { HasPrinted errors.old.wording detail answer.entry unwritten.entry to (O.contents output.old)
+        (O.contents output.new) (E.contents errors.old.writer) (E.contents errors.new.writer) result }
 {
+    let wording = errors.wording;
+    let errors = &mut errors.writer;
     match answer {
         Ok(answer) => {
             let printed = print_answer(output, answer).is_ok();
@@ -50,8 +63,8 @@ pub fn print_end<O: Write, E: Write>(
                 end_after_answer(errors, printed, unwritten)
             }
             None => match to {
-                Reports::Errors => end_after_fault(errors, &fault, unwritten),
-                Reports::Output => end_after_fault(output, &fault, unwritten),
+                Reports::Errors => end_after_fault(errors, &fault, unwritten, wording, detail),
+                Reports::Output => end_after_fault(output, &fault, unwritten, wording, detail),
                 Reports::Nowhere => Ending {
                     status: 1,
                     printed: false,
@@ -62,17 +75,36 @@ pub fn print_end<O: Write, E: Write>(
     }
 }
 
-// Prints the message of the run's fault, and a message for each file that could not be written. The status is 1.
-#[tactic(auto, using(crate::proofs::Printed::appends_both))]
-fn end_after_fault<W: Write>(errors: &mut W, fault: &Fault<'_>, unwritten: Unwritten<'_>) -> Ending
-    ensures { EndsBadly fault.now unwritten.entry (W.contents errors.old) (W.contents errors.new) result }
+// Prints the message of the run's fault in this wording, and a message for each file that could not be written. The
+// status is 1.
+#[tactic(auto, using(crate::proofs::Printed::appends_both, crate::proofs::Printed::appends_detail))]
+fn end_after_fault<W: Write>(
+    errors: &mut W,
+    fault: &Fault<'_>,
+    unwritten: Unwritten<'_>,
+    wording: Wording,
+    detail: Detail,
+) -> Ending
+    ensures { EndsBadly wording detail fault.now unwritten.entry
+        (W.contents errors.old) (W.contents errors.new) result }
 {
-    let first = print_fault(errors, fault);
+    let compared = print_detail(errors, wording, detail);
+    let first = print_worded(errors, fault, wording);
     let others = print_unwritten(errors, unwritten);
     Ending {
         status: 1,
         printed: false,
-        reported: first && others,
+        reported: compared && first && others,
+    }
+}
+
+// Prints what an error compared, in this wording. Returns false if this could not be printed.
+fn print_detail<W: Write>(errors: &mut W, wording: Wording, detail: Detail) -> bool
+    ensures { IsTrue result → Appends (W.contents errors.old) (W.contents errors.new) (detail_in wording detail) }
+{
+    match wording {
+        Wording::Numbered => true,
+        Wording::Explained => write!(errors, "{}", DetailLine(detail)).is_ok(),
     }
 }
 
@@ -108,7 +140,7 @@ fn print_lost<W: Write>(errors: &mut W, printed: bool) -> bool
     if printed {
         return true;
     }
-    print_fault(errors, &lost_output())
+    print_worded(errors, &lost_output(), Wording::Numbered)
 }
 
 // Prints a message for each file that could not be written. Returns true if all these messages were printed.
@@ -134,7 +166,7 @@ fn print_unwritten_file<W: Write>(errors: &mut W, name: Option<&str>) -> bool
     let Some(name) = name else {
         return true;
     };
-    print_fault(errors, &unmade(name))
+    print_worded(errors, &unmade(name), Wording::Numbered)
 }
 
 // True if every file was written.

@@ -7,7 +7,7 @@ ghost use Rattle.nor_request.specs.declared.refusal.Refusal.TheVariants as Refus
 
 use crate::tasks::writes_back;
 use nor_args::ChipJob;
-use nor_console::{Fault, Named, apart, look_ahead, named_by};
+use nor_console::{Cause, Fault, Named, apart_as, look_ahead, named_by};
 use nor_files::Store;
 
 /// The purpose for which a job uses a file. If two roles share a file although they need different files, the fault
@@ -21,6 +21,21 @@ pub enum Role {
     Wanted,
     Output,
     Journal,
+}
+
+impl Role {
+    // Returns what the file is used as, in words that complete `it is already used as ..`.
+    fn as_str(self) -> &'static str {
+        match self {
+            Role::Image => "image=",
+            Role::Status => "status=",
+            Role::Trace => "trace=",
+            Role::Layout => "the layout of -l",
+            Role::Wanted => "the image of -w or -v",
+            Role::Output => "the file of -r",
+            Role::Journal => "the journal",
+        }
+    }
 }
 
 /// Checks that the trace's file is none of the other files of a session: image, status file, layout, image to write and
@@ -117,5 +132,11 @@ fn check_pair<'a, R: Store>(
         (AreTwo (R.state rt.now).view.nature (file_with_role job.now earlier) (file_with_role job.now later)) }
     ensures err { IfErr result (FailsFileRoles (R.state rt.now).view.nature job.now) }
 {
-    apart(rt, file_with_role(job, earlier), file_with_role(job, later))
+    let cause = Cause::Role(earlier.as_str());
+    apart_as(
+        rt,
+        file_with_role(job, earlier),
+        file_with_role(job, later),
+        cause,
+    )
 }

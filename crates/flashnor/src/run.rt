@@ -9,14 +9,16 @@ ghost use Rattle.flashnor.specs.Roles.{FilesHaveOneRole};
 ghost use Rattle.flashnor.specs.Run.{AnswersArguments, EndsChipJob, FailsJob, HoldsResult, IsPrintedAt, IsStatus};
 ghost use Rattle.flashnor.specs.Run.{KeepsFiles, StayBut};
 ghost use Rattle.flashnor.specs.Tasks.{writes_back};
+ghost use Rattle.flashnor.specs.declared.details.Detail.TheVariants.{Unsaid};
 ghost use Rattle.flashnor.specs.declared.streams.Reports.TheVariants as to;
 
 use crate::chips::read_content;
+use crate::details::{Detail, detail_of};
 use crate::existing::{existing_journal, fault_before};
 use crate::holding::{Held, Unwritten, hold_content, lost_journal, write_back};
 use crate::jobs::{Called, call_on};
 use crate::laws::runs_restore_original;
-use crate::printing::{Ending, print_end};
+use crate::printing::{Ending, ErrorStream, print_end};
 use crate::roles::{files_have_one_role, look_at_sources};
 use crate::streams::{Reports, StreamFault, are_unprinted};
 use crate::tasks::writes_back;
@@ -29,8 +31,9 @@ use std::io;
 use std::io::Write;
 use std::rt::Files;
 
-/// Performs the job given by the program's arguments, or prints the help. Prints results and the help to `output` and
-/// faults to `errors`. Returns the exit status: 0, or 1 after any fault or if not all results could be printed.
+/// Performs the job given by the program's arguments, or prints the help. Prints results and the help to `output`, and
+/// faults to `errors` in the wording that it has. Returns the exit status: 0, or 1 after any fault or if not all
+/// results could be printed.
 ///
 /// If standard error prints to a file of the job, the fault that reports this is printed to `output`. If standard
 /// output prints to a file of the job too, that fault isn't printed.
@@ -41,14 +44,16 @@ pub fn run_words<R: Files + AllocGlobal, O: Write, E: Write>(
     rt: &R,
     given: io::Result<Args>,
     output: &mut O,
-    errors: &mut E,
+    errors: &mut ErrorStream<E>,
 ) -> u8
 where
     R::File: LockFile,
-    ensures words { IfOk given (λ args. EndsWith (IsStatus unknown unknown (arguments_of args)
-        (O.contents output.old) (O.contents output.new) (E.contents errors.old) (E.contents errors.new)) result) }
-    ensures unread { IfErr given (λ error. EndsWith (IsUnread error
-        (O.contents output.old) (O.contents output.new) (E.contents errors.old) (E.contents errors.new)) result) }
+    ensures words { IfOk given (λ args. EndsWith (IsStatus unknown unknown (arguments_of args) errors.old.wording
+        (O.contents output.old) (O.contents output.new)
+        (E.contents errors.old.writer) (E.contents errors.new.writer)) result) }
+    ensures unread { IfErr given (λ error. EndsWith (IsUnread error errors.old.wording
+        (O.contents output.old) (O.contents output.new)
+        (E.contents errors.old.writer) (E.contents errors.new.writer)) result) }
 {
     let ending = match given {
         Ok(args) => run_given(&mut Disk::new(rt), args, output, errors),
@@ -60,9 +65,9 @@ where
 /// Ends a run that could not open a directory to occupy the descriptors of closed standard streams (`keep_streams`). If
 /// the run continued, a file that it opens could get such a descriptor. Opens no file, prints file fault 1 with the
 /// name of the directory, and returns the exit status, which is 1.
-pub fn end_without_streams<O: Write, E: Write>(output: &mut O, errors: &mut E) -> u8
-    ensures { EndsWith (IsWithoutStreams (O.contents output.old) (O.contents output.new)
-        (E.contents errors.old) (E.contents errors.new)) result }
+pub fn end_without_streams<O: Write, E: Write>(output: &mut O, errors: &mut ErrorStream<E>) -> u8
+    ensures { EndsWith (IsWithoutStreams errors.old.wording (O.contents output.old) (O.contents output.new)
+        (E.contents errors.old.writer) (E.contents errors.new.writer)) result }
 {
     let ending = end_before(unread(DIRECTORY), output, errors);
     ending.status
@@ -74,10 +79,11 @@ fn run_given<R: Store, O: Write, E: Write>(
     rt: &mut R,
     args: Args,
     output: &mut O,
-    errors: &mut E,
+    errors: &mut ErrorStream<E>,
 ) -> Ending
-    ensures { IsStatus (R.state rt.old) (R.state rt.new) (arguments_of args)
-        (O.contents output.old) (O.contents output.new) (E.contents errors.old) (E.contents errors.new) result }
+    ensures { IsStatus (R.state rt.old) (R.state rt.new) (arguments_of args) errors.old.wording
+        (O.contents output.old) (O.contents output.new)
+        (E.contents errors.old.writer) (E.contents errors.new.writer) result }
 {
     match arguments_after_name(rt.alloc(), args) {
         Ok(words) => run_over(rt, words.as_slice(), output, errors),
@@ -86,12 +92,21 @@ fn run_given<R: Store, O: Write, E: Write>(
 }
 
 // Ends a run that made no call to the engine, the crates that read or change a chip: prints `fault`.
-fn end_before<O: Write, E: Write>(fault: Fault<'_>, output: &mut O, errors: &mut E) -> Ending
-    ensures { HasPrinted (Err fault.entry) all_written to.Errors (O.contents output.old) (O.contents output.new)
-        (E.contents errors.old) (E.contents errors.new) result }
+fn end_before<O: Write, E: Write>(
+    fault: Fault<'_>,
+    output: &mut O,
+    errors: &mut ErrorStream<E>,
+) -> Ending
+    ensures { HasPrinted errors.old.wording Unsaid (Err fault.entry) all_written to.Errors
+        (O.contents output.old) (O.contents output.new)
+        (E.contents errors.old.writer) (E.contents errors.new.writer) result }
 {
-    let Work { answer, unwritten } = Work::before(Err(fault));
-    print_end(output, errors, answer, unwritten, Reports::Errors)
+    let Work {
+        answer,
+        unwritten,
+        detail,
+    } = Work::before(Err(fault));
+    print_end(output, errors, answer, unwritten, Reports::Errors, detail)
 }
 
 /// Performs the job given by `words`, the arguments without the program's name, over any store of files. Prints the
@@ -101,24 +116,30 @@ pub fn run_over<R: Store, O: Write, E: Write>(
     rt: &mut R,
     words: &[String],
     output: &mut O,
-    errors: &mut E,
+    errors: &mut ErrorStream<E>,
 ) -> Ending
-    ensures { IsStatus (R.state rt.old) (R.state rt.new) (map string_bytes words.now)
-        (O.contents output.old) (O.contents output.new) (E.contents errors.old) (E.contents errors.new) result }
+    ensures { IsStatus (R.state rt.old) (R.state rt.new) (map string_bytes words.now) errors.old.wording
+        (O.contents output.old) (O.contents output.new)
+        (E.contents errors.old.writer) (E.contents errors.new.writer) result }
 {
     // `runs_restore_original` is a theorem: a function with only a contract, which does nothing at run time. The prover
     // checks its contract only in a program that calls it.
     runs_restore_original::<R>();
     let (work, to) = run(rt, words);
-    let Work { answer, unwritten } = work;
-    print_end(output, errors, answer, unwritten, to)
+    let Work {
+        answer,
+        unwritten,
+        detail,
+    } = work;
+    print_end(output, errors, answer, unwritten, to, detail)
 }
 
-// The result of a run's work, and the names of the files that were not written or were lost.
+// The result of a run's work, the names of the files that were not written or were lost, and what an error compared.
 #[derive(Drop)]
 struct Work<'a> {
     answer: Result<Answer, Fault<'a>>,
     unwritten: Unwritten<'a>,
+    detail: Detail,
 }
 
 impl<'a> Work<'a> {
@@ -126,6 +147,7 @@ impl<'a> Work<'a> {
     fn before(answer: Result<Answer, Fault<'a>>) -> Work<'a>
         ensures answer { result.answer ≡ answer.entry }
         ensures none { result.unwritten ≡ all_written }
+        ensures unsaid { result.detail ≡ Unsaid }
     {
         let unwritten = Unwritten {
             image: None,
@@ -133,7 +155,11 @@ impl<'a> Work<'a> {
             trace: None,
             journal: None,
         };
-        Work { answer, unwritten }
+        Work {
+            answer,
+            unwritten,
+            detail: Detail::Unsaid,
+        }
     }
 }
 
@@ -210,7 +236,8 @@ fn look_at_files<'a, R: Store>(rt: &mut R, job: &ChipJob<'a>) -> Result<Work<'a>
 {
     let content = read_content(rt, &job.programmer)?;
     let called = call_on(rt, content, job)?;
-    let Called { outcome, lost, .. } = called;
+    let Called { bus, outcome, lost } = called;
+    let detail = detail_of(rt, job, &outcome, &bus);
     let unwritten = Unwritten {
         image: None,
         status: None,
@@ -218,7 +245,11 @@ fn look_at_files<'a, R: Store>(rt: &mut R, job: &ChipJob<'a>) -> Result<Work<'a>
         journal: None,
     };
     let answer = or_fault(outcome);
-    Ok(Work { answer, unwritten })
+    Ok(Work {
+        answer,
+        unwritten,
+        detail,
+    })
 }
 
 // Locks and reads the chip's files, performs a task that changes the chip, and writes the chip back to its files.
@@ -241,6 +272,7 @@ fn change_files<'a, R: Store>(rt: &mut R, job: &ChipJob<'a>) -> Result<Work<'a>,
     } = held;
     let called = call_on(rt, content, job)?;
     let Called { bus, outcome, lost } = called;
+    let detail = detail_of(rt, job, &outcome, &bus);
     let (image, status) = write_back(rt, &job.programmer, image_there, status_there, &bus);
     let unwritten = Unwritten {
         image,
@@ -249,5 +281,9 @@ fn change_files<'a, R: Store>(rt: &mut R, job: &ChipJob<'a>) -> Result<Work<'a>,
         journal: lost_journal(rt, &job.task),
     };
     let answer = or_fault(outcome);
-    Ok(Work { answer, unwritten })
+    Ok(Work {
+        answer,
+        unwritten,
+        detail,
+    })
 }

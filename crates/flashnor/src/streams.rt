@@ -7,7 +7,7 @@ ghost use Rattle.flashnor.specs.Streams.{IsReportedTo};
 use crate::roles::{Role, file_with_role};
 use crate::tasks::writes_back;
 use nor_args::ChipJob;
-use nor_console::{Fault, found_streams, is_printed, taken};
+use nor_console::{Cause, Fault, found_streams, is_printed, taken_by};
 use nor_files::{Store, Stream};
 
 /// Where the message of a fault is printed.
@@ -64,7 +64,7 @@ pub fn are_unprinted<'a, R: Store>(rt: &R, job: &ChipJob<'a>) -> Result<(), Stre
         (None, None) => return Ok(()),
     };
     Err(StreamFault {
-        fault: taken(name),
+        fault: taken_by(name, Cause::Printed),
         to,
     })
 }

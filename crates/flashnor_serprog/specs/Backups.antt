@@ -11,6 +11,6 @@ use Rattle.nor_console.specs.declared.messages.FileFault.TheVariants as file
 
 -- Holds if the operation is a backup, and the fault is file fault 4 with the name of its file, which may exist already.
 abbrev pub IsExistingBackup : View → Operation → Fault → Type 0
-IsExistingBackup view operation (end.File file.Exists of) = (operation.is_backup ≡ true)
+IsExistingBackup view operation (end.File file.Exists of cause) = (operation.is_backup ≡ true)
     × ((made_by operation.task ≡ Some of) × Happens view (There of.now))
 IsExistingBackup view operation _ = ⊥

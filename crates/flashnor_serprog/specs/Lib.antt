@@ -13,6 +13,7 @@ pub mod RegionRoles
 pub mod RegionCopies
 pub mod Journals
 pub mod Images
+pub mod Further
 pub mod Run
 pub mod StatusLocks
 pub mod ChipLayouts

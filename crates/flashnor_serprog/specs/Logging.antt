@@ -8,6 +8,7 @@ use Rattle.nor_console.specs.Roles.{FailsApart, FailsUnprinted}
 use Rattle.nor_console.specs.Stored.{AreTwo, IsRead}
 use Rattle.nor_console.specs.Tasks.{named_by}
 use Rattle.nor_console.specs.declared.messages.Fault.{Fault}
+use Rattle.nor_console.specs.declared.causes.Cause.TheVariants as causes
 use Rattle.nor_console.specs.declared.messages.Fault.TheVariants as end
 use Rattle.nor_console.specs.declared.messages.FileFault.TheVariants as file
 
@@ -39,7 +40,7 @@ pub record IsExistingLog (view : View) (name : Bor Text) (fault : Fault) : Type 
   pub start : List ℕ
   pub read : IsRead view name.now 23 start
   pub begins : BeginsNoLog start
-  pub is : fault ≡ end.File file.Exists name
+  pub is : fault ≡ end.File file.Exists name causes.Unknown
 
 -- Holds if the file of the log, if a name is given, may have been created, truncated or lent between these two states,
 -- and no other file was touched. Without a name, each file is as it was.

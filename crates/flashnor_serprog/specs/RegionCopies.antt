@@ -13,6 +13,7 @@ use Rattle.nor_console.specs.Files.{IsMaking, IsReadingFault}
 use Rattle.nor_console.specs.Roles.{FailsApart}
 use Rattle.nor_console.specs.Stored.{IsRead}
 use Rattle.nor_console.specs.declared.messages.Fault.{Fault}
+use Rattle.nor_console.specs.declared.causes.Cause.TheVariants as causes
 use Rattle.nor_console.specs.declared.messages.Fault.TheVariants as end
 use Rattle.nor_console.specs.declared.messages.FileFault.TheVariants as file
 use Rattle.flashnor_serprog.specs.RegionRoles.{FailsDistinct}
@@ -66,7 +67,7 @@ part_if_inside span bytes = if nat_le span.first (span.last + 1) && nat_le (span
 -- Holds for file fault 2 of a file that was created or truncated, and then could not be written. If the files obey
 -- their contract, the file has a prefix of the `bytes` that it should get.
 pub record IsWrittenPartly (name : Bor Text) (bytes : List ℕ) (after : View) (fault : Fault) : Type 0 where
-  pub is : fault ≡ end.File file.Write name
+  pub is : fault ≡ end.File file.Write name causes.Unknown
   pub has : is_lawful after ≡ true → (kept : ℕ) × (after.seen name.now ≡ Some (take kept bytes))
 
 -- Holds if writing these bytes into the file of a region failed with this fault: creating or truncating the file may
@@ -76,7 +77,7 @@ FailsToWrite name bytes before after fault = IsMaking before name.now fault ⊎ 
 
 -- Holds for file fault 1 of the file `out`, if its bytes are `bytes` and end before the end of the region.
 pub record EndsInRegion (out : Bor Text) (region : RegionFile) (bytes : List ℕ) (fault : Fault) : Type 0 where
-  pub is : fault ≡ end.File file.Read out
+  pub is : fault ≡ end.File file.Read out causes.Unknown
   pub ends : region.span.first ≤ region.span.last + 1 → length bytes < region.span.last + 1
 
 -- Holds if copying a region of the file `out`, whose bytes are `bytes`, into the region's file failed with this fault:

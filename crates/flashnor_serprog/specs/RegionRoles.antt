@@ -138,7 +138,7 @@ is_magic start = bytes_eq start (magic (Some [])) || bytes_eq start (magic None)
 
 -- Holds for file fault 4 of this file, whose first eight bytes are those of a journal.
 abbrev pub IsOldJournal : View → Bor Text → Fault → Type 0
-IsOldJournal view name (end.File file.Exists of) = (of ≡ name)
+IsOldJournal view name (end.File file.Exists of cause) = (of ≡ name)
     × ((start : List ℕ) × IsRead view name.now 8 start × (is_magic start ≡ true))
 IsOldJournal view name fault = ⊥
 

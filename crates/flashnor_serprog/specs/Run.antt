@@ -1,6 +1,6 @@
 -- A run of flashnor-serprog: what its arguments ask for, how its job ends, what it prints, and its exit status.
-use Rattle.std.specs.Prelude.{◌≡◌, ◌≤◌, ◌⊎◌, ◌&&◌, ◌++◌, ℕ, Bool, true, false, List, [], ◌∷◌, IsSomeAnd, Option, None, Some, Result, Ok, Err}
-use Rattle.std.specs.Prelude.{codes, not}
+use Rattle.std.specs.Prelude.{◌≡◌, ◌≤◌, ◌⊎◌, ◌++◌, ℕ, Bool, true, false, List, [], ◌∷◌, IsSomeAnd, Option, None, Some, Result, Ok, Err}
+use Rattle.std.specs.Prelude.{codes}
 use Rattle.std.specs.Borrow.{Bor}
 use Rattle.clap.specs.Words.{IsAmong}
 use Rattle.clap.specs.declared.error.kind.ErrorKind.TheVariants as kind
@@ -14,16 +14,17 @@ use Rattle.nor_args.specs.declared.job.Operation.{Operation}
 use Rattle.nor_args.specs.declared.job.Task.{Task}
 use Rattle.nor_args.specs.declared.job.Task.TheVariants as task
 use Rattle.nor_console.specs.AnswerLines.{AreLines, name_line}
-use Rattle.nor_console.specs.Lines.{line}
 use Rattle.nor_console.specs.Printing.{AsksForVersion, IsAnswered, Prints}
 use Rattle.nor_console.specs.declared.answers.Answer.{Answer}
 use Rattle.nor_console.specs.declared.answers.Answer.TheVariants as answer
 use Rattle.nor_console.specs.declared.messages.Fault.TheVariants as end
 use Rattle.nor_request.specs.declared.refusal.Refusal.{Refusal}
 use Rattle.flashnor_serprog.specs.ChipLayouts.{IsShown, form_on_chip}
+use Rattle.flashnor_serprog.specs.Further.{further_line, further_of}
+use Rattle.flashnor_serprog.specs.declared.ending.Further.{Further}
 use Rattle.flashnor_serprog.specs.Connected.{MayExpectImage, IsUnused, device_of, expected_by}
 use Rattle.flashnor_serprog.specs.Images.{HasDescribed}
-use Rattle.flashnor_serprog.specs.Jobs.{DoesTask, FailsPerform, changes_bytes}
+use Rattle.flashnor_serprog.specs.Jobs.{DoesTask, FailsPerform}
 use Rattle.flashnor_serprog.specs.Logging.{HasOwnLog, StayButLog}
 use Rattle.flashnor_serprog.specs.Sends.{KeepsSent, SendsOnly}
 use Rattle.flashnor_serprog.specs.StatusLocks.{HasRunLock}
@@ -90,15 +91,6 @@ abbrev pub IsEndedAs : Result Answer Refusal → Result Answer JobFault → Type
 IsEndedAs (Ok found) result = result ≡ Ok found
 IsEndedAs (Err refusal) result = result ≡ Err (ended.Fault (end.Refused refusal))
 
--- true for a write or an erase with `-n`, after which nothing is verified
-abbrev pub is_unverified : Task → Bool
-is_unverified (task.Change change) = changes_bytes change.wanted && not change.verify
-is_unverified _ = false
-
--- the line that is printed after the lines of a change if nothing was verified
-abbrev pub unverified_line : List ℕ
-unverified_line = line (codes "Nothing was verified (-n)." ∷ [])
-
 -- Holds if `text` is what `--flash-name` prints: the line with the chip's name if the answer is an identified chip, and
 -- the lines of the answer otherwise.
 abbrev pub AreNameLines : Answer → List ℕ → Type 0
@@ -106,16 +98,16 @@ AreNameLines (answer.Found found) text = text ≡ name_line found.name
 AreNameLines found text = AreLines found text
 
 -- Holds if `text` consists of the lines that are printed for this answer. If `named` is true (`--flash-name`), only the
--- chip's name is printed (`AreNameLines`). Otherwise, if `unverified` is true, the answer's lines are followed by
--- `unverified_line`.
-abbrev pub AreLinesBy : (named unverified : Bool) → Answer → List ℕ → Type 0
-AreLinesBy true unverified found text = AreNameLines found text
-AreLinesBy false false found text = AreLines found text
-AreLinesBy false true found text = (lines : List ℕ) × AreLines found lines × (text ≡ lines ++ unverified_line)
+-- chip's name is printed (`AreNameLines`). Otherwise the answer's lines are followed by the line `further`.
+abbrev pub AreLinesBy : (named : Bool) → Further → Answer → List ℕ → Type 0
+AreLinesBy true further found text = AreNameLines found text
+AreLinesBy false further found text = (lines : List ℕ) × AreLines found lines × (text ≡ lines ++ further_line further)
 
--- Holds if `text` consists of the lines that are printed for this answer of this operation (`AreLinesBy`).
+-- Holds if `text` consists of the lines that are printed for this answer of this operation (`AreLinesBy`), for some
+-- status bytes.
 abbrev pub AreJobLines : Operation → Answer → List ℕ → Type 0
-AreJobLines operation found text = AreLinesBy operation.is_flash_name (is_unverified operation.task) found text
+AreJobLines operation found text =
+    (status : List ℕ) × AreLinesBy operation.is_flash_name (further_of operation.task status) found text
 
 -- Holds if the job ended with an answer, and the answer's lines were printed.
 abbrev pub HasPrintedAnswer : Operation → Result Answer JobFault → (out out' : Option (List ℕ)) → Type 0

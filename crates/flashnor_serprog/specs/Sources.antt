@@ -64,7 +64,7 @@ FailsRoles nature device job fault = FailsDevice nature device job fault
 
 -- Holds if the fault is file fault 4 with the name of a change's journal, which may exist already.
 abbrev pub IsThere : View → JournalUse → Fault → Type 0
-IsThere view (uses.Journal name) (end.File file.Exists of) = (of.now ≡ name.now) × Happens view (There name.now)
+IsThere view (uses.Journal name) (end.File file.Exists of cause) = (of.now ≡ name.now) × Happens view (There name.now)
 IsThere view _ fault = ⊥
 
 -- Holds if the check that follows the reading of a job's files may fail with this fault: the journal of a change exists

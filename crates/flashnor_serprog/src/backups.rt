@@ -6,7 +6,7 @@ ghost use Rattle.flashnor_serprog.specs.Jobs.{FailsToRead, HasBackedUpChip};
 
 use crate::progress::Progress;
 use nor_args::{Operation, Task};
-use nor_console::{Fault, FileFault, Outcome, backup_in_file};
+use nor_console::{Cause, Fault, Outcome, backup_in_file, exists};
 use nor_files::Store;
 use nor_geometry::SECTOR_LEN;
 use nor_jobs::find_first;
@@ -20,8 +20,7 @@ pub fn check_new<'a, R: Store>(rt: &R, operation: &Operation<'a>) -> Result<(), 
 {
     match &operation.task {
         Task::Read { file, .. } if operation.is_backup && rt.is_there(*file) => {
-            let (fault, name) = (FileFault::Exists, *file);
-            Err(Fault::File { fault, name })
+            Err(exists(*file, Cause::Exists))
         }
         _ => Ok(()),
     }

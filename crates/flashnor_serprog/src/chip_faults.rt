@@ -176,5 +176,5 @@ const DIFFERS: &str = "The sectors of this change were verified, so this address
     with --restore and the journal, then compare it with a backup.";
 
 const REST_DIFFERS: &str = "The journal doesn't save this sector, which a disturbed address on the \
-    wire has probably erased or programmed. Restore it from a backup: to another restore from this \
-    journal it looks as it is now.";
+    wire has probably erased or programmed. Restore this sector from a backup. Repeating this restore \
+    won't report it again, because the next run compares with what the sector holds now.";

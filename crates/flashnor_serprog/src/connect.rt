@@ -71,10 +71,13 @@ pub fn connect_by<'a, 'b>(
         checks,
     ) {
         Ok(connected) => Ok(connected),
-        Err(fault) => Err(Trouble::Programmer {
-            fault,
-            device: setting.device,
-        }),
+        Err(fault) => {
+            terminal.end_line();
+            Err(Trouble::Programmer {
+                fault,
+                device: setting.device,
+            })
+        }
     }
 }
 
@@ -116,7 +119,7 @@ fn connect<'a>(
     ensures expects { IfOk result (λ connected. expected_by connected ≡ option_map (λ image. image.items) image) }
 {
     let file = open_device(rt, device.as_str())?;
-    terminal.print_waiting(device.as_str());
+    terminal.print_waiting();
     let mut link = Link::new(DevicePort::new(file));
     let programmer = AnyProgrammer::identify(&mut link, hertz).map_err(ProgrammerFault::Handshake)?;
     if let Some(chip_select) = chip_select {

@@ -1,12 +1,13 @@
 //! The end of a run: prints an answer or a fault, and returns the exit status.
-ghost use Rattle.std.specs.Prelude.{◌≡◌, ◌≤◌, IsOk, OnOk, false};
+ghost use Rattle.std.specs.Prelude.{◌≡◌, ◌≤◌, IsOk, OnOk, Some, false};
 ghost use Rattle.std.specs.Io.KnownBytes.{Appends};
 ghost use Rattle.nor_console.specs.AnswerLines.{name_line};
 ghost use Rattle.nor_console.specs.Printing.{Prints};
-ghost use Rattle.flashnor_serprog.specs.Run.{AreJobLines, AreLinesBy, AreNameLines, is_unverified, unverified_line};
+ghost use Rattle.nor_console.specs.AnswerLines.{protected_line};
+ghost use Rattle.flashnor_serprog.specs.Run.{AreJobLines, AreLinesBy, AreNameLines};
+ghost use Rattle.flashnor_serprog.specs.Further.{further_line, further_of, lock_words, status_bytes_line, unverified_line};
 
-use crate::jobs::changes_bytes;
-use nor_args::{Operation, Task};
+use nor_args::{Change, Operation, Task, Wanted};
 use nor_console::{Answer, Fault, lost_output, print_answer, print_fault};
 use nor_probe::ChipName;
 use std::io;
@@ -33,18 +34,54 @@ pub fn status_of<E: Write>(printed: io::Result<()>, errors: &mut E) -> u8
     }
 }
 
-/// Prints an answer, and returns the exit status, which is 0 only if all lines were printed.
+/// A line that follows the lines of an answer.
+#[derive(Clone, Copy, Drop)]
+pub enum Further {
+    Nothing,
+    /// After a write or an erase with `-n`: nothing was verified.
+    Unverified,
+    /// After `--wp-range`: the range that is protected now.
+    Protected { start: u32, len: u32 },
+    /// After `--wp-status`: status 1 and status 2, and which of their bits is set that lock the status.
+    Status { bytes: [u8; 2] },
+}
+
+// Returns the line that follows the lines of the answer of a task. `status` are the status bytes that were read last,
+// the first for status 1. An empty range begins at 0, whatever start was given.
+fn further_of(task: &Task<'_>, status: [u8; 2]) -> Further
+    ensures { result ≡ further_of task.now status }
+{
+    match task {
+        Task::Change(
+            Change {
+                wanted: Wanted::Range { start, len },
+                ..
+            },
+        ) => Further::Protected {
+            start: if *len == 0 { 0 } else { *start },
+            len: *len,
+        },
+        Task::Change(Change { verify: false, .. }) => Further::Unverified,
+        Task::WpStatus => Further::Status { bytes: status },
+        _ => Further::Nothing,
+    }
+}
+
+/// Prints an answer, and returns the exit status, which is 0 only if all lines were printed. `status` are the status
+/// bytes that were read last, the first for status 1.
+#[tactic(auto, using(crate::proofs::Named::job_lines_printed))]
 pub fn end_well<O: Write, E: Write>(
     output: &mut O,
     errors: &mut E,
     answer: Answer,
     operation: &Operation<'_>,
+    status: [u8; 2],
 ) -> u8
     ensures few { result ≤ 1 }
     ensures printed { result ≡ 0
         → Prints (AreJobLines operation.now answer) (O.contents output.old) (O.contents output.new) }
 {
-    status_of(print_lines(output, answer, operation), errors)
+    status_of(print_lines(output, answer, operation, status), errors)
 }
 
 // Prints the lines of an answer, or only the chip's name with `--flash-name`.
@@ -52,27 +89,36 @@ fn print_lines<O: Write>(
     output: &mut O,
     answer: Answer,
     operation: &Operation<'_>,
+    status: [u8; 2],
 ) -> io::Result<()>
     ensures { OnOk result
-        (Prints (AreJobLines operation.now answer) (O.contents output.old) (O.contents output.new)) }
+        (Prints (AreLinesBy operation.now.is_flash_name (further_of operation.now.task status) answer)
+        (O.contents output.old) (O.contents output.new)) }
 {
     if operation.is_flash_name {
         print_name(output, answer)
     } else {
-        print_verdict(output, answer, is_unverified(&operation.task))
+        print_followed(output, answer, further_of(&operation.task, status))
     }
 }
 
-// Prints the lines of an answer. If `unverified` is true, also prints the line that nothing was verified.
-fn print_verdict<O: Write>(output: &mut O, answer: Answer, unverified: bool) -> io::Result<()>
+// Prints the lines of an answer, and the line that follows them.
+fn print_followed<O: Write>(output: &mut O, answer: Answer, further: Further) -> io::Result<()>
     ensures { OnOk result
-        (Prints (AreLinesBy false unverified answer) (O.contents output.old) (O.contents output.new)) }
+        (Prints (AreLinesBy false further answer) (O.contents output.old) (O.contents output.new)) }
 {
-    if unverified {
-        print_answer(output, answer)?;
-        print_unverified(output)
-    } else {
-        print_answer(output, answer)
+    print_answer(output, answer)?;
+    print_further(output, further)
+}
+
+fn print_further<O: Write>(output: &mut O, further: Further) -> io::Result<()>
+    ensures { OnOk result (Appends (O.contents output.old) (O.contents output.new) (further_line further)) }
+{
+    match further {
+        Further::Nothing => Ok(()),
+        Further::Unverified => print_unverified(output),
+        Further::Protected { start, len } => print_protected(output, start, len),
+        Further::Status { bytes } => print_status(output, bytes),
     }
 }
 
@@ -104,12 +150,33 @@ fn print_unverified<O: Write>(output: &mut O) -> io::Result<()>
     output.flush()
 }
 
-// True for a write or an erase with `-n`, after which nothing was verified.
-fn is_unverified(task: &Task<'_>) -> bool
-    ensures { result ≡ is_unverified task.now }
+#[tactic(auto, using(nor_request::proofs::Printed::padded_hex), unfolding(nor_console::specs::Lines::line))]
+fn print_protected<O: Write>(output: &mut O, start: u32, len: u32) -> io::Result<()>
+    ensures { OnOk result
+        (Appends (O.contents output.old) (O.contents output.new) (protected_line (Some (start, len)))) }
 {
-    match task {
-        Task::Change(change) => changes_bytes(change.wanted) && !change.verify,
-        _ => false,
+    writeln!(output, "Range: 0x{start:06x},0x{len:06x}")?;
+    output.flush()
+}
+
+#[tactic(auto, using(nor_request::proofs::Printed::padded_hex), unfolding(nor_console::specs::Lines::line))]
+fn print_status<O: Write>(output: &mut O, bytes: [u8; 2]) -> io::Result<()>
+    ensures { OnOk result (Appends (O.contents output.old) (O.contents output.new) (status_bytes_line bytes)) }
+{
+    let (one, two) = (bytes[0], bytes[1]);
+    let locks = lock_words(bytes);
+    writeln!(output, "Status: 0x{one:02x} 0x{two:02x}{locks}")?;
+    output.flush()
+}
+
+// Returns which of the bits is set that lock the status, after a comma.
+fn lock_words(bytes: [u8; 2]) -> &'static str
+    ensures { result.now ≡ lock_words bytes }
+{
+    match (bytes[0] / 128 == 1, bytes[1] % 2 == 1) {
+        (false, false) => "",
+        (true, false) => ", SRP0 is set",
+        (false, true) => ", SRP1 is set",
+        (true, true) => ", SRP0 and SRP1 are set",
     }
 }

@@ -63,7 +63,7 @@ Usage fault 1: an argument is not an option, or an option lacks its value
 Usage fault 2: there is no -p, which all but --check-journal need
 Usage fault 3: -p isn't serprog: with dev= and only known keys with valid values
 Usage fault 4: there is more than one operation
-Usage fault 5: --wp-range needs two numbers, --progress one of its words
+Usage fault 5: a wrong value of --wp-range or --progress, or the file name -
 Usage fault 6: -w, -E, --wp-range need --journal, and nothing else takes it
 Usage fault 7: -i and one layout need each other, and one of -r, -w, -v, -E
 Usage fault 8: -n, -N, --unlock, --quick, --replaced-chip or --extract-image

@@ -1,10 +1,12 @@
 //! The line that follows the line of a fault: it says what to do, what was found and what was expected, or where the
 //! regions are.
 
+use crate::chip_names::{ChipText, Connected, Hex};
 use crate::journals::{StatusBits, advice};
+use crate::lock_bits::{Lock, SRP0, SRP1};
 use crate::region_files::regions_of;
 use crate::replies::Replies;
-use crate::trouble::Left;
+use crate::stop_line::Left;
 use nor_args::{Change, Operation, Regions, Task};
 use nor_console::{Escaped, Fault, FileFault};
 use nor_journal::Journal;
@@ -81,6 +83,7 @@ pub fn print_operation_hint<E: Write>(
         Fault::File {
             fault: FileFault::Exists,
             name,
+            ..
         } if operation.log == Some(*name) => {
             let _ = writeln!(errors, "{IS_NO_LOG}");
         }
@@ -140,7 +143,8 @@ fn file_hint(fault: FileFault) -> Option<&'static str> {
             "It exists already, and is never overwritten: choose a new name.",
         ),
         FileFault::Taken => Some(
-            "It has two roles in this run, or another program uses it: give each role its own file.",
+            "It has two roles in this run, or another program uses it: give each role its own file, or wait for \
+            that program.",
         ),
         _ => None,
     }
@@ -166,8 +170,10 @@ fn found_and_expected<'a>(
         Refusal::UnknownChip(_) => Some(Line::Unknown { id: replies.id? }),
         Refusal::ImageSize { .. } if regions_of(&operation.task).is_some() => Some(Line::Image),
         Refusal::RangeNotOffered => Some(Line::Ranges),
-        Refusal::StatusLocked if operation.srp0.is_some() => Some(Line::PowerLocked),
-        Refusal::StatusLocked => Some(Line::Locked),
+        Refusal::NoProtection => Some(Line::UnknownProtection {
+            status1: replies.status[0],
+        }),
+        Refusal::StatusLocked => Some(Line::Locked(Lock::of(replies.status))),
         Refusal::Timeout { .. } => Some(Line::Busy { left }),
         Refusal::Mismatch { .. } => match left {
             Left::Changed { .. } => Some(Line::NotStored { left }),
@@ -177,7 +183,9 @@ fn found_and_expected<'a>(
             named: operation.named?,
             id: replies.id?,
         }),
-        Refusal::Protected { .. } if !unlocks(&operation.task) => Some(Line::Unlock),
+        Refusal::Protected { .. } if !unlocks(&operation.task) => {
+            Some(Line::Protected(Lock::of(replies.status)))
+        }
         Refusal::OtherChip => Some(Line::Chip {
             saved: saved?,
             id: replies.id?,
@@ -199,10 +207,8 @@ fn found_and_expected<'a>(
     }
 }
 
-// SRP0 in status 1, and SRP1 in status 2 (W25Q64FV datasheet, Status Register Protect).
-const SRP0: u8 = 0x80;
-
-const SRP1: u8 = 0x01;
+// Bits 2 to 6 of status 1, which protect sectors on nearly every chip.
+const PROTECTION: u8 = 0x7C;
 
 // Returns what to do before another restore, if outside the protection bits the journal and the chip, whose status is
 // `found`, differ only in SRP0, or only in SRP1, which a power cycle clears if SRP0 is clear. A restore writes the
@@ -238,8 +244,12 @@ enum Line<'a> {
     },
     Image,
     Ranges,
-    Locked,
-    PowerLocked,
+    UnknownProtection {
+        status1: u8,
+    },
+    Locked(Lock),
+    // The change includes a protected address.
+    Protected(Lock),
     Busy {
         left: Left<'a>,
     },
@@ -250,7 +260,6 @@ enum Line<'a> {
         named: ChipName,
         id: [u8; 3],
     },
-    Unlock,
     Chip {
         saved: Saved,
         id: [u8; 3],
@@ -283,12 +292,19 @@ impl fmt::Display for Line<'_> {
                 "Give an image of the whole chip. -i NAME:FILE gives the bytes of a region.",
             ),
             Line::Ranges => f.write_str("--wp-list lists the ranges that this chip can protect."),
-            Line::Locked => f.write_str(
-                "SRP0 or SRP1 is set. Clear SRP0 while WP# is high (--wp-disable), or SRP1 by a power cycle.",
+            Line::UnknownProtection { status1 } if status1 & PROTECTION != 0 => write!(
+                f,
+                "Status 1 of this chip is {status1:02X}h. On nearly every chip its bits 2 to 6 protect sectors, but \
+                this program doesn't know what they mean on this chip."
             ),
-            Line::PowerLocked => f.write_str(
-                "SRP1 is set, so no status write was sent. A power cycle clears SRP1 if SRP0 is clear; otherwise the \
-                status may be locked for good.",
+            Line::UnknownProtection { .. } => {
+                f.write_str("This program doesn't know the protection bits of this chip.")
+            }
+            Line::Locked(lock) => f.write_str(lock.advice()),
+            Line::Protected(lock) => write!(
+                f,
+                "Include only regions that aren't protected{}",
+                lock.advice_to_unlock()
             ),
             Line::Busy { left } => write!(
                 f,
@@ -303,16 +319,13 @@ impl fmt::Display for Line<'_> {
                 id,
             } => write!(
                 f,
-                "No chip that this program knows has the name of -c. The chip is {}.",
-                ChipText(id)
+                "This program knows no chip with the name of -c. {}",
+                Connected(id)
             ),
             Line::Name { named, id } => {
                 let named = named.as_str();
-                write!(f, "-c names {named}. The chip is {}.", ChipText(id))
+                write!(f, "-c names {named}. {}", Connected(id))
             }
-            Line::Unlock => f.write_str(
-                "Include only regions that aren't protected, or use --unlock.",
-            ),
             Line::Chip { saved, id, size } => {
                 let (journal, chip) = (ChipText(saved.id), ChipText(id));
                 let bytes = saved.size;
@@ -339,34 +352,10 @@ impl fmt::Display for Line<'_> {
                 let (saved, found) = (u64::from_be_bytes(saved), u64::from_be_bytes(found));
                 write!(
                     f,
-                    "Unique ID in the journal: {saved:016x}. Unique ID of the chip: {found:016x}."
+                    "Unique ID in the journal: {saved:016x}. Unique ID of the chip: {found:016x}. The journal is \
+                    another board's, or the chip was replaced: find this board's journal, or see --replaced-chip."
                 )
             }
         }
-    }
-}
-
-// The name in the row for this ID, a row of the table or a further row, or `SFDP` without a row. Then the ID.
-#[derive(Clone, Copy, Drop)]
-struct ChipText([u8; 3]);
-
-impl fmt::Display for ChipText {
-    fn fmt<W: fmt::Write>(&self, f: &mut fmt::Formatter<W>) -> fmt::Result {
-        let name = match part_for(true, self.0) {
-            Some(part) => part.name.as_str(),
-            None => ChipName::Sfdp.as_str(),
-        };
-        write!(f, "{name} ({})", Hex(self.0))
-    }
-}
-
-// An ID as six hexadecimal digits.
-#[derive(Clone, Copy, Drop)]
-struct Hex([u8; 3]);
-
-impl fmt::Display for Hex {
-    fn fmt<W: fmt::Write>(&self, f: &mut fmt::Formatter<W>) -> fmt::Result {
-        let [maker, kind, capacity] = self.0;
-        write!(f, "{maker:02x}{kind:02x}{capacity:02x}")
     }
 }

@@ -11,7 +11,8 @@ ghost use Rattle.flashnor_serprog.specs.Jobs.{changes_bytes, is_compared, may_be
 use crate::backups::backup_chip;
 use crate::chip_faults::JobFault;
 use crate::following::{complete, follow, ranges_if, sectors_before_change, sectors_to_read};
-use crate::progress::{Progress, Terminal};
+use crate::hints::Saved;
+use crate::progress::{Progress, StatusWrite, Terminal};
 use crate::restoring::restore_chip;
 use nor_args::{Change, JournalUse, Operation, Reason, Task, UsageFault, Wanted};
 use nor_chip::Bus;
@@ -166,6 +167,7 @@ fn change_chip<'a, R: Store, B: Progress>(
     let outcome = session_in_file(rt, bus, *file, &mut image, &request, |announcement| {
         terminal.print_session(announcement)
     })?;
+    terminal.record_journal();
     follow(bus, outcome, compared, named, &target)
 }
 
@@ -186,6 +188,32 @@ pub fn is_compared(operation: &Operation<'_>, change: &Change<'_>) -> bool
 /// True for a session: a write, an erase or a change of protection.
 pub fn is_session(task: &Task<'_>) -> bool {
     matches!(task, Task::Change(_))
+}
+
+/// Returns the name of the journal's file if the task is a session, whose journal is written to a file.
+pub fn journal_of<'a>(task: &Task<'a>) -> Option<&'a str> {
+    match task {
+        Task::Change(
+            Change {
+                journal_use: JournalUse::Journal { file },
+                ..
+            },
+        ) => Some(*file),
+        _ => None,
+    }
+}
+
+/// Returns whether a task may write the status. `saved` is what the journal of a restore says.
+pub fn status_write_of(task: &Task<'_>, saved: Option<Saved>) -> StatusWrite {
+    match task {
+        Task::Change(change) if !changes_bytes(change.wanted) => StatusWrite::OnAnyChip,
+        Task::Change(change) if change.unlock => StatusWrite::IfProtected,
+        Task::Restore { .. } => match saved {
+            Some(saved) => StatusWrite::Restoring(saved.status),
+            None => StatusWrite::IfProtected,
+        },
+        _ => StatusWrite::Never,
+    }
 }
 
 /// True for a write and an erase.

@@ -8,7 +8,7 @@ ghost use Rattle.flashnor_serprog.specs.Journals.{are_blank, is_blank};
 use crate::ending::status_of;
 use crate::hints::print_hint;
 use crate::quoted::Quoted;
-use nor_console::{Fault, print_fault, read_journal};
+use nor_console::{Escaped, Fault, print_fault, read_journal};
 use nor_files::Store;
 use nor_geometry::SECTOR_LEN;
 use nor_journal::{Journal, JournalFault};
@@ -136,8 +136,8 @@ fn is_blank(bytes: &[u8]) -> bool
 pub fn advice(fault: JournalFault) -> &'static str {
     match fault {
         JournalFault::Short => {
-            "If the terminal showed the progress of its run, but not SEALED, the run never changed the chip. \
-             Otherwise the file may have lost its end: look for another copy, and don't write or erase anything."
+            "If the terminal showed the progress of that session, but not SEALED, the chip was not changed. \
+             Otherwise look for another copy of the journal, and don't write or erase anything."
         }
         JournalFault::Magic => "Is this the right file? If it is, look for another copy.",
         _ => "Bytes of it have changed since it was sealed. Look for another copy.",
@@ -179,7 +179,7 @@ impl fmt::Display for Lines<'_> {
             f,
             "Journal of {chip} ({maker:02x}{kind:02x}{capacity:02x}), {size} bytes."
         )?;
-        writeln!(f, "{}", Unit(*unique))?;
+        writeln!(f, "{}", UniqueId(*unique))?;
         match ends {
             Some((first, last)) => writeln!(
                 f,
@@ -196,11 +196,17 @@ impl fmt::Display for Lines<'_> {
                  lost while it was saved: compare with another journal or image of the board."
             )?;
         }
-        let name = Quoted(self.name);
-        writeln!(
-            f,
-            "To restore: flashnor-serprog -p serprog:dev=PATH --restore {name}"
-        )
+        match Quoted::new(self.name) {
+            Some(name) => writeln!(
+                f,
+                "To restore: flashnor-serprog -p serprog:dev=PATH --restore {name}"
+            ),
+            None => writeln!(
+                f,
+                "To restore, rename the file, whose name can't be copied: {}",
+                Escaped(self.name)
+            ),
+        }
     }
 }
 
@@ -212,24 +218,21 @@ fn name_of(id: [u8; 3], size: u32) -> &'static str {
     }
 }
 
-// The line that begins with `Unit:`, about the device from which the journal was saved. It has the device's unique ID,
-// if the journal contains it.
+// The line with the unique ID of the device from which the journal was saved, if the journal contains it.
 #[derive(Drop)]
-struct Unit(Option<[u8; 8]>);
+struct UniqueId(Option<[u8; 8]>);
 
-impl fmt::Display for Unit {
+impl fmt::Display for UniqueId {
     fn fmt<W: fmt::Write>(&self, f: &mut fmt::Formatter<W>) -> fmt::Result {
-        let Some(unique) = self.0 else {
-            return f.write_str(
-                "Unit: not recorded (format 1), so it fits any chip with this ID and size.",
-            );
-        };
-        let id = u64::from_be_bytes(unique);
-        write!(f, "Unit: unique ID {id:016x}")?;
-        if id == 0 {
-            f.write_str(", so it fits any chip with this ID and size that has no unique ID")?;
+        match self.0.map(|unique| u64::from_be_bytes(unique)) {
+            None => f.write_str(
+                "Unique ID: not recorded (format 1). This journal fits any chip with this ID and size.",
+            ),
+            Some(0) => f.write_str(
+                "Unique ID: none (16 zeros). This journal fits any chip with this ID and size that has no unique ID.",
+            ),
+            Some(id) => write!(f, "Unique ID: {id:016x}."),
         }
-        f.write_str(".")
     }
 }
 

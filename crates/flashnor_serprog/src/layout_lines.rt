@@ -61,7 +61,7 @@ impl fmt::Display for MapLines {
             MapFault::Outside { record } => {
                 writeln!(
                     f,
-                    "error: region {record} of the {table} does not lie {place}"
+                    "error: region {record} of the {table} {place} ends above 4 GiB"
                 )?
             }
             MapFault::Region {

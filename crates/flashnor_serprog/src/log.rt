@@ -45,11 +45,22 @@ impl fmt::Display for CommandText<'_> {
     fn fmt<W: fmt::Write>(&self, f: &mut fmt::Formatter<W>) -> fmt::Result {
         write!(f, "{} {}", Seconds(self.micros), self.name)?;
         match (self.out, address_and_len(self.out)) {
-            ([0x01, data @ ..], _) => write!(f, ", bytes {}", data.len()),
+            ([0x01, data @ ..], _) => write!(f, ", {}", Bytes(data.len())),
             (_, Some((address, 0))) => write!(f, " at 0x{address:06x}"),
-            (_, Some((address, len))) => write!(f, " at 0x{address:06x}, bytes {len}"),
+            (_, Some((address, len))) => write!(f, " {} at 0x{address:06x}", Bytes(len)),
             _ => Ok(()),
         }
+    }
+}
+
+// A number of bytes, with its noun.
+#[derive(Clone, Copy, Drop)]
+struct Bytes(usize);
+
+impl fmt::Display for Bytes {
+    fn fmt<W: fmt::Write>(&self, f: &mut fmt::Formatter<W>) -> fmt::Result {
+        let noun = if self.0 == 1 { "byte" } else { "bytes" };
+        write!(f, "{} {noun}", self.0)
     }
 }
 

@@ -11,6 +11,7 @@
 //! - `help.rt`: the text of the help that `-h` prints
 //! - `layout_lines.rt`: the lines of a fault of a layout
 //! - `hints.rt`: the line after that of a fault, for example with what to do, or what was found and expected
+//! - `chip_names.rt`: how a chip is named in a line
 //! - `quoted.rt`: names of files in commands that you may copy
 //! - `replies.rt`: what the chip replied before the first modifying command
 //! - `setting.rt`: the value of `-p`
@@ -23,7 +24,8 @@
 //! - `sources.rt`: reads the files that a job needs, before the programmer is used
 //! - `port.rt`: a port over the device of the programmer
 //! - `progress.rt`: a bus that shows the progress of a job on standard error
-//! - `terminal.rt`: standard error: the line that is rewritten, and the lines with what a change will do
+//! - `terminal.rt`: standard error: the line that is rewritten, and the other lines of the progress
+//! - `change_lines.rt`: the lines with what a change will do, and how long it takes
 //! - `steps.rt`: the steps of a job, and the line that shows one
 //! - `step_lines.rt`: the lines of the steps if they are shown below each other, and how long a change took
 //! - `gauge.rt`: counts and times the operations of a job
@@ -44,17 +46,21 @@
 //! - `sums_file.rt`: the file with these sums, beside a session's journal
 //! - `strays.rt`: the sectors that a run changed by accident, which these sums show
 //! - `status_lock.rt`: sets and clears SRP0, for `--wp-enable` and `--wp-disable`
+//! - `lock_bits.rt`: which of the bits is set that lock the status, and what to do
 //! - `lock_job.rt`: a run of `--wp-enable` or `--wp-disable`, and what it prints
 //! - `following.rt`: the target of a change, and the comparison of the whole chip with it
 //! - `status_line.rt`: the lines for replies that differ, for a lost chip, for a status write that was refused or not
 //!   stored, and for a port that changes bytes
 //! - `chip_faults.rt`: the faults with which a job ends, and the lines of those that `flashnor` lacks
-//! - `trouble.rt`: the reasons why a run ends early, their printed lines, and the line after error 12
+//! - `trouble.rt`: the reasons why a run ends early, and their printed lines
+//! - `stop_line.rt`: the line after error 12, with its cause and what the job left
 #![tactic(auto)]
 
 mod backups;
+mod change_lines;
 mod chip_faults;
 mod chip_layouts;
+mod chip_names;
 mod connect;
 mod ending;
 mod estimates;
@@ -68,6 +74,7 @@ mod included;
 mod jobs;
 mod journals;
 mod layout_lines;
+mod lock_bits;
 mod lock_job;
 mod log;
 mod notes;
@@ -93,6 +100,7 @@ mod status_line;
 mod status_lock;
 mod step_lines;
 mod steps;
+mod stop_line;
 mod strays;
 mod sums_file;
 mod terminal;

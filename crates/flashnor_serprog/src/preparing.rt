@@ -18,7 +18,7 @@ use crate::region_files::{RegionFile, find_region_files, named_regions};
 use crate::region_roles::check_region_files;
 use crate::replacing::print_replaced;
 use crate::roles::{has_own_log, have_one_role};
-use crate::run_log::{check_log, start_log};
+use crate::run_log::{check_log, check_started, start_log};
 use crate::setting::Setting;
 use crate::sources::{image_of, prepare_sources};
 use crate::terminal::{Screen, Terminal};
@@ -85,7 +85,8 @@ pub fn prepare<'a, 'b, R: Store<Log = LogFile<File>>, E: Write>(
     let replaced = operation.is_replaced_chip;
     let sources = prepare_sources(files, &operation.task, replaced, included, &regions)?;
     let image = image_of(&sources, operation);
-    start_log(files, screen.log(), operation.log)?;
+    start_log(files, screen.log(), operation.log, keeps_log(operation))?;
+    check_started(screen.log(), operation.log)?;
     print_replaced(errors, operation);
     let connected = connect_by(rt, terminal, setting, image, checks_for(operation))?;
     Ok(Prepared {
@@ -104,6 +105,11 @@ fn checks_for(operation: &Operation<'_>) -> Checks {
     } else {
         Checks::Protection
     }
+}
+
+// True if a log in the file of `-o` is kept: that of the session which a restore restores may be needed.
+fn keeps_log(operation: &Operation<'_>) -> bool {
+    matches!(operation.task, Task::Restore { .. })
 }
 
 // If the layout of the task is on the chip, reads and checks the task's image or journal, and returns a fault of it

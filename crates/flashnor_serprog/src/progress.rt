@@ -1,48 +1,44 @@
 //! A bus that shows the progress of a job on standard error: its steps, and lines before the first modifying command.
 ghost use Rattle.std.specs.Prelude.{◌≡◌};
 
+mod durations;
 mod expecting;
+mod minutes;
 mod noting;
 
-use crate::estimates::Minutes;
-use crate::gauge::{Gauge, micros_between};
+use crate::change_lines::SealedLine;
+use crate::gauge::Gauge;
+use crate::lock_bits::Lock;
 use crate::notes::Notes;
 use crate::replies::Replies;
 use crate::status_line::{are_equally_protected, protects};
-use crate::step_lines::{Counts, StepCount, StepOf, Took};
+use crate::step_lines::{Counts, PlainLine};
 use crate::steps::{Phase, Step, Total, step_of};
 use crate::terminal::Look;
 pub use crate::terminal::Terminal;
 use nor_chip::{Bus, Stopped, is_changing};
 use std::time::Instant;
 
-// Two bits of status 1, and two of status 2 (W25Q64FV datasheet, Status Registers).
+// A bit of status 1, and one of status 2 (W25Q64FV datasheet, Status Registers).
 const BUSY: u8 = 0x01;
-
-const SRP0: u8 = 0x80;
-
-const SRP1: u8 = 0x01;
 
 const QE: u8 = 0x02;
 
-// The line before the first modifying command of a session. The line of a restore is `CHANGED`.
-const SEALED: &str =
-    "SEALED: the chip is changed from here on. If this run is interrupted, disconnect the programmer \
-    from power before the next run.";
-
+// The line before the first modifying command of a restore. The line of a session is `SealedLine`.
 const CHANGED: &str = "The chip is changed from here on.";
 
-// The line before `SEALED` or `CHANGED` if SRP1 is set without SRP0 (W25Q64FV datasheet, Status Register Protect).
+// The line before `SealedLine` or `CHANGED` if SRP1 is set without SRP0 (W25Q64FV datasheet, Status Register Protect).
 const POWER_LOCKED: &str =
     "Keep its power on: a loss of power clears SRP1, and a restore then ends with error 17.";
 
-// The line before `SEALED` or `CHANGED` if QE is set and the job may write the status.
+// The line before `SealedLine` or `CHANGED` if QE is set and the job may write the status.
 const QUAD: &str =
     "Keep its power on: a status write that is cut off may clear QE, and a restore then ends with error 17.";
 
 // The line at poll number `POLLS_UNTIL_LINE` that shows BUSY before the ID is read.
 const BUSY_CHIP: &str =
-    "The chip shows BUSY: its contacts or its supply fail, or an earlier operation still runs.";
+    "The chip shows BUSY. If no erase is running, it has no contact or no supply: press Ctrl-C, and check both. \
+    (The run gives up after 400 seconds.)";
 
 // 256 polls take about a second (`Paced`), or longer over a slow wire. If the chip has no contact, all replies are FFh,
 // which shows BUSY, and the wait ends only after 400 seconds.
@@ -76,7 +72,8 @@ pub trait Progress: Bus {
 /// (`StepLine::is_complete`). It is ended or cleared before any other line is printed.
 ///
 /// With `Look::Plain` there is a line for the first transaction of each step, and then one after each `Step::stride`
-/// further transactions of that step. With `Look::Hidden` nothing is shown, except the lines of `-V`. The log (`-o`)
+/// further transactions of that step. With `Look::Minutes` the line of the step is printed if nothing was printed for a
+/// minute. With `Look::Hidden` nothing is shown, except the lines of `-V`. The log (`-o`)
 /// receives the lines of `Look::Plain`, the lines of `-V`, and those that say how long the change takes and took, with
 /// any look.
 ///
@@ -90,6 +87,8 @@ pub struct Shown<'a, B> {
     bus: B,
     terminal: Terminal<'a>,
     in_session: bool,
+    // the name of the journal's file, if the job is a session and memory for the name was left
+    journal: Option<String>,
     phase: Phase,
     // the number of sectors that the present scan reads (a job may have two), or the comparison after a change, if that
     // number is known
@@ -104,6 +103,8 @@ pub struct Shown<'a, B> {
     replies: Replies,
     // how many polls showed BUSY before the ID was read
     busy_polls: u32,
+    // when the last line was printed with `Look::Minutes`, or when the run began
+    said: Option<Instant>,
     // the sums of the sectors that were read, if the job notes them
     notes: Option<Notes>,
 }
@@ -130,6 +131,7 @@ impl<'a, B: Bus + Drop> Shown<'a, B> {
             bus,
             terminal,
             in_session: false,
+            journal: None,
             phase: Phase::Before,
             expected: None,
             counts: Counts::default(),
@@ -138,6 +140,7 @@ impl<'a, B: Bus + Drop> Shown<'a, B> {
             status_write,
             replies: Replies::default(),
             busy_polls: 0,
+            said: terminal.started(),
             notes: None,
         }
     }
@@ -158,11 +161,17 @@ impl<'a, B: Bus + Drop> Shown<'a, B> {
     }
 
     /// Records whether the transactions from now on are those of a session, whose journal is sealed before the first
-    /// change, and whether the job may write the status.
-    pub fn begin_job(&mut self, in_session: bool, status_write: StatusWrite)
+    /// change, the name of the journal's file, and whether the job may write the status.
+    pub fn begin_job(
+        &mut self,
+        in_session: bool,
+        journal: Option<String>,
+        status_write: StatusWrite,
+    )
         ensures { self.new.bus ≡ self.old.bus }
     {
         self.in_session = in_session;
+        self.journal = journal;
         self.status_write = status_write;
     }
 
@@ -187,7 +196,7 @@ impl<B> Shown<'_, B> {
         if is_changing(out) && self.phase == Phase::Before {
             self.begin_change();
         }
-        let Some(step) = step_of(out, self.phase) else {
+        let Some(step) = self.step_of(out) else {
             return;
         };
         let count = self.counts.count(step);
@@ -213,14 +222,16 @@ impl<B> Shown<'_, B> {
             self.terminal.print(&QUAD);
         }
         self.write_notes();
-        let what = if self.in_session { SEALED } else { CHANGED };
-        self.terminal.print(&what);
+        if self.in_session {
+            self.terminal.print(&SealedLine(self.journal.as_deref()));
+        } else {
+            self.terminal.print(&CHANGED);
+        }
     }
 
     // True if SRP1 was set without SRP0 before the first modifying command.
     fn has_power_lock(&self) -> bool {
-        let [one, two] = self.replies.status;
-        two & SRP1 != 0 && one & SRP0 == 0
+        Lock::of(self.replies.status) == Lock::Power
     }
 
     // True if QE was set before the first modifying command, and the job may write the status.
@@ -260,36 +271,50 @@ impl<B> Shown<'_, B> {
         if self.busy_polls == POLLS_UNTIL_LINE {
             self.terminal.print(&BUSY_CHIP);
         }
+        self.print_each_minute(&BUSY_CHIP);
     }
 
     // Prints and logs the plain line of a step. `count` is the number of its transactions so far.
     fn show_step(&self, step: Step, count: u64) {
-        let text = step.plain_text();
-        match (step, self.expected) {
-            (Step::Scan | Step::Compare, Some(expected)) => self.terminal.print_plain(&StepOf {
-                text,
-                count,
-                expected,
-            }),
-            _ => self.terminal.print_plain(&StepCount { text, count }),
+        let expected = match step {
+            Step::Scan | Step::Compare => self.expected.map(|sectors| sectors as u64),
+            _ => None,
+        };
+        self.terminal.print_plain(&PlainLine {
+            step,
+            count,
+            expected,
+        });
+    }
+
+    // Returns the step that a transaction belongs to. If the job announced what it will change, its scan is done: a
+    // sector that is programmed without an erase is read again, maybe before the first modifying command.
+    fn step_of(&self, out: &[u8]) -> Option<Step> {
+        match step_of(out, self.phase) {
+            Some(Step::Scan) if self.terminal.announced().is_some() => Some(Step::ReadBack),
+            step => step,
         }
     }
 
-    // Counts and times a transaction that was carried out, if there is a log or the look is `Look::Line`. Then draws
-    // the line of its step (`draw`).
+    // Counts and times a transaction that was carried out, if there is a log or the look is `Look::Line` or
+    // `Look::Minutes`. Then draws or prints the line of its step (`draw`, `print_each_minute`).
     fn measure(&mut self, out: &[u8], reply: &[u8])
         ensures { self.new.bus ≡ self.old.bus }
     {
-        if self.terminal.look() != Look::Line && !self.terminal.log().is_open() {
+        let is_timed = matches!(self.terminal.look(), Look::Line | Look::Minutes);
+        if !is_timed && !self.terminal.log().is_open() {
             return;
         }
         let now = self.terminal.now();
-        let step = step_of(out, self.phase);
+        let step = self.step_of(out);
         let Some(step) = self.gauge.record(step, out, reply, now) else {
             return;
         };
         self.terminal.record_reads(self.gauge.scanned());
         self.draw(step, now);
+        let total = self.total_of(step);
+        let line = self.gauge.line(step, total, now);
+        self.print_each_minute(&line);
     }
 
     // With `Look::Line`, draws the line of a step if the last drawing is a tenth of a second old, or if the step is
@@ -303,8 +328,7 @@ impl<B> Shown<'_, B> {
         let total = self.total_of(step);
         let line = self.gauge.line(step, total, now);
         if line.is_complete() {
-            self.terminal.draw(&line);
-            self.terminal.end_line();
+            self.terminal.draw_last(&line);
         } else if self.gauge.is_due(now) {
             self.terminal.draw(&line);
             self.gauge.record_drawing(now);
@@ -318,43 +342,6 @@ impl<B> Shown<'_, B> {
             (Step::Erase, _, Some(announced)) => Total::Exactly(u64::from(announced.erases)),
             (Step::Program, _, Some(announced)) => Total::AtMost(16 * u64::from(announced.touched)),
             _ => Total::Unknown,
-        }
-    }
-
-    // If a change began and its comparison did not, shows how many pages were programmed and how many sectors were read
-    // back; with `Look::Plain` and in the log also how many erases were sent, with `Look::Line` and in the log also how
-    // long the change took.
-    fn show_duration(&self) {
-        if self.phase != Phase::Changing {
-            return;
-        }
-        self.show_last(Step::Erase, self.counts.erase);
-        self.show_last(Step::Program, self.counts.program);
-        self.show_last(Step::ReadBack, self.counts.read_back);
-        let now = self.terminal.now();
-        if self.terminal.look() == Look::Line {
-            self.terminal.clear_line();
-            self.draw_last(Step::Program, now);
-            self.draw_last(Step::ReadBack, now);
-        }
-        self.terminal
-            .print_time(&Took(Minutes(micros_between(self.changed, now))));
-    }
-
-    // Prints and logs the last plain line of a step with `count` transactions, unless there are none, or a line with
-    // this number was printed before.
-    fn show_last(&self, step: Step, count: u64) {
-        if count > 0 && count % step.stride() != 1 {
-            self.show_step(step, count);
-        }
-    }
-
-    // Prints the last line of a step, if at least one of its operations is done.
-    fn draw_last(&self, step: Step, now: Option<Instant>) {
-        let line = self.gauge.line(step, Total::Done, now);
-        if line.tally.done > 0 {
-            self.terminal.draw(&line);
-            self.terminal.end_line();
         }
     }
 }

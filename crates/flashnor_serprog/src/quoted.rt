@@ -1,27 +1,71 @@
 //! Names of files in commands that you may copy.
+use crate::trouble::MODES;
 use nor_console::Escaped;
 use std::fmt;
 
-/// The name of a file as an argument in a shell: in single quotes, unless all its characters are ASCII letters, digits
-/// and those of `./_-+,=`. A name that begins with `-` has `./` before it, since it would be an option otherwise. A
-/// name with a single quote, or with characters that are printed escaped, can't be copied.
+/// The name of a file as one argument of a command: every POSIX shell takes it back as it is. A name whose characters
+/// are ASCII letters, digits and those of `./_-+,=` is printed unchanged. Any other name is in single quotes, with
+/// `'\''` for each single quote in it. A name that begins with `-` has `./` before it, since it would be an option
+/// otherwise.
 #[derive(Clone, Copy, Drop)]
-pub struct Quoted<'a>(pub &'a str);
+pub struct Quoted<'a>(&'a str);
+
+impl<'a> Quoted<'a> {
+    /// Returns the name as an argument. Returns `None` for a name with characters that aren't printed as they are, or
+    /// that change the order in which a terminal shows the others: a command with such a name can't be copied.
+    pub fn new(name: &'a str) -> Option<Quoted<'a>> {
+        if name.chars().all(|character| is_printed(character)) {
+            Some(Quoted(name))
+        } else {
+            None
+        }
+    }
+}
 
 impl fmt::Display for Quoted<'_> {
     fn fmt<W: fmt::Write>(&self, f: &mut fmt::Formatter<W>) -> fmt::Result {
-        let name = Escaped(self.0);
         if self.0.starts_with('-') {
             f.write_str("./")?;
         }
-        if self.0.bytes().all(|byte| is_plain(byte)) {
-            write!(f, "{name}")
-        } else {
-            write!(f, "'{name}'")
+        if !self.0.is_empty() && self.0.bytes().all(|byte| is_plain(byte)) {
+            return f.write_str(self.0);
         }
+        f.write_str("'")?;
+        for character in self.0.chars() {
+            match character {
+                '\'' => f.write_str("'\\''")?,
+                _ => f.write_char(character)?,
+            }
+        }
+        f.write_str("'")
     }
 }
 
 fn is_plain(byte: u8) -> bool {
     byte.is_ascii_alphanumeric() || matches!(byte, b'.' | b'/' | b'_' | b'-' | b'+' | b',' | b'=')
+}
+
+// False for control characters, and for those that embed, override or isolate a direction of writing (Unicode Standard
+// Annex 9, Explicit Directional Embeddings, Overrides and Isolates).
+fn is_printed(character: char) -> bool {
+    let is_directional = matches!(character, '\u{202a}'..='\u{202e}' | '\u{2066}'..='\u{2069}');
+    !character.is_control() && !is_directional
+}
+
+/// The command that sets up this device as a serial port, or a text without a command if the device's name can't be
+/// copied.
+#[derive(Clone, Copy, Drop)]
+pub struct SetUp<'a>(pub &'a str);
+
+impl fmt::Display for SetUp<'_> {
+    fn fmt<W: fmt::Write>(&self, f: &mut fmt::Formatter<W>) -> fmt::Result {
+        match Quoted::new(self.0) {
+            Some(device) => write!(f, "stty -F {device} {MODES}"),
+            None => write!(
+                f,
+                "rename {}, whose name no command can have",
+                Escaped(self.0)
+            ),
+        }
+    }
 }

@@ -14,7 +14,7 @@ use crate::region_faults::RegionFault;
 use crate::region_files::RegionFile;
 use crate::trouble::Trouble;
 use nor_args::{Change, Operation, Task, Wanted};
-use nor_console::{Fault, FileFault, Named, apart, named_by, reading, unprinted};
+use nor_console::{Cause, Fault, Named, apart, exists, named_by, reading, unprinted};
 use nor_files::Store;
 use nor_journal::{FIRST_MAGIC, MAGIC};
 
@@ -189,10 +189,7 @@ fn is_no_journal<'a, R: Store>(rt: &R, name: &'a str) -> Result<(), Fault<'a>>
         return Ok(());
     }
     match rt.read_named(name, MAGIC.len() as u64) {
-        Ok(Some(start)) if is_magic(&start) => {
-            let fault = FileFault::Exists;
-            Err(Fault::File { fault, name })
-        }
+        Ok(Some(start)) if is_magic(&start) => { Err(exists(name, Cause::Journal)) }
         Ok(_) => Ok(()),
         Err(error) => Err(reading(error, name)),
     }

@@ -1,17 +1,21 @@
 //! What a run prints after an operation failed: the line of the fault, its hint, the cause of error 12, the line for a
 //! port that changes bytes, and a note.
 ghost use Rattle.std.specs.Prelude.{◌≡◌, ◌≤◌, true};
-ghost use Rattle.flashnor_serprog.specs.declared.trouble.Left.TheVariants.{Unchanged};
+ghost use Rattle.flashnor_serprog.specs.declared.stop_line.Left.TheVariants.{Unchanged};
 
 use crate::chip_faults::JobFault;
 use crate::connect::ChipBus;
 use crate::hints::{Known, Saved, print_operation_hint, unlocks};
 use crate::layout_lines::MapLines;
+use crate::progress::Terminal;
 use crate::status_line::{ChangedLine, protects};
-use crate::trouble::{Left, StopLine, Trouble};
+use crate::stop_line::{Left, StopLine};
+use crate::trouble::Trouble;
 use nor_args::{Operation, Task};
 use nor_console::{Escaped, Fault, named_by};
 use nor_files::Store;
+use nor_journal::Journal;
+use std::fs;
 use std::io::Write;
 
 /// Prints the lines of a fault that ended a run before its job began, if they weren't printed already.
@@ -58,9 +62,9 @@ pub fn print_job_fault<E: Write>(
     }
 }
 
-/// If a session or a backup that changed nothing ended with an error, and left its journal, prints that the next run
-/// needs another name for the journal. The journal is created after the chip is identified, except for `--wp-range`.
-pub fn print_used_name<R: Store, E: Write>(
+/// If a session or a backup that changed nothing ended with an error, removes the journal that the session created and
+/// did not seal. If a journal is left, prints that the next run needs another name for it.
+pub fn clear_journal<R: Store, E: Write>(
     errors: &mut E,
     files: &R,
     fault: &JobFault<'_>,
@@ -73,14 +77,35 @@ pub fn print_used_name<R: Store, E: Write>(
     if let Left::Changed { .. } = left_after(fault, bus, operation) {
         return;
     }
-    match new_journal_of(operation) {
-        Some(name) if files.is_there(name) => {
-            let name = Escaped(name);
-            let _ = writeln!(errors, "Give the journal a new name: {name} exists now.");
+    let Some(name) = new_journal_of(operation) else {
+        return;
+    };
+    if has_removed(files, bus.terminal(), name) || !files.is_there(name) {
+        return;
+    }
+    let name = Escaped(name);
+    let _ = writeln!(
+        errors,
+        "This run has created {name}: repeat the command with a new journal name."
+    );
+}
+
+// Removes the journal of this name if this run created it for a session, and it isn't sealed. Returns whether it was
+// removed. A `Store` can't remove a file, so the system is asked.
+fn has_removed<R: Store>(files: &R, terminal: Terminal<'_>, name: &str) -> bool {
+    if !terminal.has_journal() {
+        return false;
+    }
+    match files.read_named(name, LONGEST_JOURNAL) {
+        Ok(Some(bytes)) if Journal::read(&bytes).is_err() => {
+            fs::remove_file(terminal.rt(), name).is_ok()
         }
-        _ => {}
+        _ => false,
     }
 }
+
+// More bytes than the longest journal has.
+const LONGEST_JOURNAL: u64 = 1 << 25;
 
 // Returns the name of the journal that a session or a backup creates. `prepare` checked that there was no such file.
 fn new_journal_of<'a>(operation: &Operation<'a>) -> Option<&'a str> {

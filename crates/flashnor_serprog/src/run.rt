@@ -17,14 +17,14 @@ use crate::ending::{end_badly, end_well, status_of};
 use crate::extracting::extract_image;
 use crate::help::HELP;
 use crate::hints::Saved;
-use crate::jobs::{changes_bytes, is_session, perform};
+use crate::jobs::{is_session, journal_of, perform, status_write_of};
 use crate::journals::check_journal;
 use crate::lock_job::run_lock;
 use crate::preparing::{Prepared, prepare};
-use crate::progress::{Progress, StatusWrite, Terminal};
+use crate::progress::{Progress, Terminal};
 use crate::region_copies::{reads_out, write_region_files};
 use crate::region_files::{RegionFile, plain_names};
-use crate::reports::{print_job_fault, print_trouble, print_used_name, report_changed_byte};
+use crate::reports::{clear_journal, print_job_fault, print_trouble, report_changed_byte};
 use crate::run_log::end_log;
 use crate::setting::Setting;
 use crate::strays::{begin_notes, end_compared, report_strays};
@@ -275,14 +275,15 @@ fn run_job<'b, R: Store, O: Write, E: Write>(
         (O.contents output.old) (O.contents output.new) result }
 {
     let saved = saved_by(&operation.task, &sources);
-    mark_job(bus, &operation.task, saved);
+    mark_job(bus, &operation.task, saved, files.alloc());
     begin_notes(errors, bus, operation, files.alloc());
     let before = read_before(files, operation, &sources.bytes);
     let terminal = bus.terminal();
     match end_job(files, bus, terminal, operation, sources) {
         Ok(answer) if reads_out(operation) => {
             bus.end_progress(true);
-            let printed = end_with_files(files, operation, regions, answer, output, errors);
+            let status = bus.replies().status;
+            let printed = end_with_files(files, operation, regions, answer, status, output, errors);
             end_run(errors, bus, operation, printed)
         }
         Ok(answer) => {
@@ -294,7 +295,7 @@ fn run_job<'b, R: Store, O: Write, E: Write>(
             bus.end_progress(false);
             print_job_fault(errors, &fault, bus, operation, saved);
             report_strays(errors, bus, &fault, operation);
-            print_used_name(errors, &*files, &fault, bus, operation);
+            clear_journal(errors, &*files, &fault, bus, operation);
             end_log(errors, terminal.log(), operation.log, 1)
         }
     }
@@ -322,6 +323,7 @@ fn end_with_files<R: Store, O: Write, E: Write>(
     operation: &Operation<'_>,
     regions: &[RegionFile<'_>],
     answer: Answer,
+    status: [u8; 2],
     output: &mut O,
     errors: &mut E,
 ) -> u8
@@ -333,7 +335,7 @@ fn end_with_files<R: Store, O: Write, E: Write>(
     ensures copied { result ≡ 0 → AreCopied operation.now regions.now (R.state files.new).view }
 {
     match write_region_files(files, operation, regions) {
-        Ok(()) => end_well(output, errors, answer, operation),
+        Ok(()) => end_well(output, errors, answer, operation, status),
         Err(fault) => {
             print_trouble(errors, &Trouble::Fault(fault), operation);
             1
@@ -351,24 +353,12 @@ fn saved_by(task: &Task<'_>, sources: &Sources) -> Option<Saved> {
 }
 
 // Records in the bus, for its progress lines, whether the task is a session, whose journal is sealed before the first
-// change, and whether the task may write the status.
-fn mark_job<'b>(bus: &mut ChipBus<'b>, task: &Task<'_>, saved: Option<Saved>)
+// change, the name of the journal's file, and whether the task may write the status.
+fn mark_job<'b>(bus: &mut ChipBus<'b>, task: &Task<'_>, saved: Option<Saved>, alloc: Global)
     ensures { ⟦<ChipBus<'b> as Bus>⟧.state bus.new ≡ ⟦<ChipBus<'b> as Bus>⟧.state bus.old }
 {
-    bus.begin_job(is_session(task), status_write_of(task, saved));
-}
-
-// Returns whether a task may write the status. `saved` is what the journal of a restore says.
-fn status_write_of(task: &Task<'_>, saved: Option<Saved>) -> StatusWrite {
-    match task {
-        Task::Change(change) if !changes_bytes(change.wanted) => StatusWrite::OnAnyChip,
-        Task::Change(change) if change.unlock => StatusWrite::IfProtected,
-        Task::Restore { .. } => match saved {
-            Some(saved) => StatusWrite::Restoring(saved.status),
-            None => StatusWrite::IfProtected,
-        },
-        _ => StatusWrite::Never,
-    }
+    let journal = journal_of(task).and_then(|file| String::from_str(alloc, file).ok());
+    bus.begin_job(is_session(task), journal, status_write_of(task, saved));
 }
 
 // Performs a job, and returns its answer or its fault.

@@ -4,7 +4,7 @@ ghost use Rattle.nor_console.specs.Files.{IsMaking};
 ghost use Rattle.flashnor_serprog.specs.Logging.{BeginsNoLog, CreatesLog, IsExistingLog};
 
 use crate::help::HELP;
-use nor_console::{Fault, FileFault, create_log, print_fault, unmade};
+use nor_console::{Cause, Fault, create_log, exists, print_fault, unmade};
 use nor_files::{LogFile, Store};
 use std::cell::{Cell, RefCell};
 use std::fs::File;
@@ -28,6 +28,8 @@ pub type LogWriter = BufWriter<LogFile<File>>;
 pub struct RunLog {
     file: RefCell<Option<LogWriter>>,
     has_lost_line: Cell<bool>,
+    // whether the file that was opened for the log is another one
+    is_refused: Cell<bool>,
 }
 
 impl RunLog {
@@ -36,15 +38,31 @@ impl RunLog {
         RunLog {
             file: RefCell::new(None),
             has_lost_line: Cell::new(false),
+            is_refused: Cell::new(false),
         }
     }
 
-    /// Truncates the file, writes its first line, and then writes each further line to it.
-    pub fn start(&self, file: LogWriter) {
+    /// Writes the first line of the log to the file, and then each further line. A log that is in the file is truncated
+    /// before; or, if `appends` is true, it is kept, and an empty line follows it. Any other file stays as it is
+    /// (`is_refused`).
+    pub fn start(&self, file: LogWriter, appends: bool) {
         let mut file = file;
-        let begun = write_first(&mut file);
+        match file.get_mut().is_empty_or_begins(FIRST.as_bytes()) {
+            Ok(true) => {}
+            _ => {
+                self.is_refused.set(true);
+                let _ = file.get_mut().append();
+                return;
+            }
+        }
+        let begun = begin(&mut file, appends);
         let _ = self.file.try_replace(Some(file));
         self.end_if_failed(begun);
+    }
+
+    /// Returns whether the file that was opened for the log has bytes, and is no log. It was then left as it is.
+    pub fn is_refused(&self) -> bool {
+        self.is_refused.get()
     }
 
     /// Returns whether there is a file to which lines are written.
@@ -100,7 +118,12 @@ impl RunLog {
     }
 }
 
-fn write_first(file: &mut LogWriter) -> io::Result<()> {
+// Writes the first line of a log. If `appends` is true, and the file has bytes, these are kept, and an empty line follows
+// them.
+fn begin(file: &mut LogWriter, appends: bool) -> io::Result<()> {
+    if appends && file.get_mut().append()? {
+        writeln!(file)?;
+    }
     writeln!(file, "{FIRST} {}", HELP.version)?;
     file.flush()
 }
@@ -156,10 +179,7 @@ pub fn check_log<'a, R: Store>(rt: &R, name: Option<&'a str>) -> Result<(), Faul
         return Ok(());
     }
     match rt.read_named(name, FIRST.len() as u64) {
-        Ok(Some(start)) if !may_begin_log(&start) => {
-            let fault = FileFault::Exists;
-            Err(Fault::File { fault, name })
-        }
+        Ok(Some(start)) if !may_begin_log(&start) => { Err(exists(name, Cause::Unknown)) }
         _ => Ok(()),
     }
 }
@@ -171,7 +191,8 @@ fn may_begin_log(start: &[u8]) -> bool
     start.is_empty() || start == FIRST.as_bytes()
 }
 
-/// If `name` is given, creates or truncates this file, and starts the log in it.
+/// If `name` is given, creates this file, or truncates the log in it, and starts the log of the run. If `appends` is
+/// true, the log in it is kept. If the file is another one, it stays as it is, and `check_started` returns the fault.
 ///
 /// Returns the faults of `create_log`: file fault 4 if the file is a journal, file fault 5 if another run has locked
 /// it, file fault 2 if it can't be created or truncated for another reason, or error 18 if memory runs out.
@@ -179,6 +200,7 @@ pub fn start_log<'a, R: Store<Log = LogFile<File>>>(
     files: &mut R,
     log: &RunLog,
     name: Option<&'a str>,
+    appends: bool,
 ) -> Result<(), Fault<'a>>
     ensures creates { CreatesLog name.entry (R.state files.old) (R.state files.new) }
     ensures err { IfErr result (λ fault.
@@ -189,10 +211,18 @@ pub fn start_log<'a, R: Store<Log = LogFile<File>>>(
     };
     match create_log(files, name) {
         Ok(file) => {
-            log.start(file);
+            log.start(file, appends);
             Ok(())
         }
         Err(fault) => Err(fault),
+    }
+}
+
+/// Returns file fault 4 if the file of this name, which was opened for the log, was no log: it appeared after `check_log`.
+pub fn check_started<'a>(log: &RunLog, name: Option<&'a str>) -> Result<(), Fault<'a>> {
+    match name {
+        Some(name) if log.is_refused() => Err(exists(name, Cause::Unknown)),
+        _ => Ok(()),
     }
 }
 

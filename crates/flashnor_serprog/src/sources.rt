@@ -10,7 +10,7 @@ use crate::replacing::adapted;
 use crate::trouble::Trouble;
 use nor_args::{Operation, Task, Wanted};
 use nor_console::{
-    Fault, FileFault, MOST_JOURNAL_BYTES, journal_of, named_by, read_file, read_journal,
+    Cause, Fault, MOST_JOURNAL_BYTES, exists, journal_of, named_by, read_file, read_journal,
 };
 use nor_files::Store;
 use nor_jobs::{Sources, journal_in, read_image};
@@ -96,10 +96,7 @@ fn check<'a, R: Store>(rt: &R, task: &Task<'a>, bytes: &[u8]) -> Result<(), Faul
 {
     match task {
         Task::Change(change) => match journal_of(change) {
-            Some(name) if rt.is_there(name) => {
-                let fault = FileFault::Exists;
-                Err(Fault::File { fault, name })
-            }
+            Some(name) if rt.is_there(name) => { Err(exists(name, Cause::Exists)) }
             _ => Ok(()),
         },
         Task::Restore { .. } => {

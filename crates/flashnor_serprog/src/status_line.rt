@@ -17,8 +17,7 @@ impl fmt::Display for StatusLine {
             CheckFault::NotStored { sent, found } => write!(f, "{}", NotStored { sent, found }),
             CheckFault::Lost { id, found } => write!(
                 f,
-                "Cause: the chip did not reply its ID any more: {}h before, {}h now. \
-                Check contacts and supply.",
+                "Cause: the chip's ID changed from {}h to {}h during the run. Check contacts and supply.",
                 Hex(id),
                 Hex(found)
             ),
@@ -88,34 +87,38 @@ struct NotStored {
 
 impl fmt::Display for NotStored {
     fn fmt<W: fmt::Write>(&self, f: &mut fmt::Formatter<W>) -> fmt::Result {
-        let [one, two] = self.sent;
-        write!(
-            f,
-            "Chip fault 3: the chip did not store a status write: {one:02X}h {two:02X}h was sent, "
-        )?;
+        let NotStored { sent, found } = *self;
         // BUSY, WEL and SUS are left out: a status write that the chip missed leaves WEL set.
-        let [one, two] = [self.found[0] & 0xFC, self.found[1] & 0x7F];
-        let differing = Differing([self.sent[0] ^ one, self.sent[1] ^ two]);
+        let [one, two] = [found[0] & 0xFC, found[1] & 0x7F];
+        if keeps_srp0(sent, found) {
+            f.write_str(IGNORED)?;
+        } else {
+            let differing = Differing([sent[0] ^ one, sent[1] ^ two]);
+            write!(
+                f,
+                "Chip fault 3: the chip did not store a status write; these bits differ:{differing}. Check WP#, SRP0 \
+                and the supply."
+            )?;
+        }
         write!(
             f,
-            "{one:02X}h {two:02X}h was read back (these bits differ:{differing}). "
+            " (Sent {:02X}h {:02X}h, read back {one:02X}h {two:02X}h.)",
+            sent[0], sent[1]
         )?;
-        let advice = if keeps_srp0(self.sent, self.found) {
-            "SRP0 is set, so WP# is probably low: connect WP# to the supply."
-        } else {
-            "Check WP#, SRP0 and the supply."
-        };
-        f.write_str(advice)?;
-        let kept = (self.sent[1] ^ two) & KEPT;
+        let kept = (sent[1] ^ two) & KEPT;
         if kept != 0 {
             write!(f, " {KEEPS}{}.", Differing([0, kept]))?;
         }
-        if protects(self.sent) && !protects(self.found) {
+        if protects(sent) && !protects(found) {
             f.write_str(" The chip is unprotected.")?;
         }
         Ok(())
     }
 }
+
+const IGNORED: &str =
+    "Chip fault 3: SRP0 is still set, because the chip ignored the status write: WP# is probably low. Connect WP# to \
+    the supply, and repeat the run.";
 
 // The bits of status 2 that no job of this program changes: all except CMP and SUS.
 const KEPT: u8 = 0x3F;
@@ -124,8 +127,8 @@ const KEEPS: &str =
     "With another tool, set these bits as they were, because this program never changes them, and a \
     restore would end with error 17 (see Chip fault 3 in the manual page):";
 
-// True if a status write was to clear SRP0, and SRP0 is still set.
-fn keeps_srp0(sent: [u8; 2], found: [u8; 2]) -> bool {
+/// True if a status write was to clear SRP0, and SRP0 is still set.
+pub fn keeps_srp0(sent: [u8; 2], found: [u8; 2]) -> bool {
     sent[0] & 0x80 == 0 && found[0] & 0x80 != 0
 }
 

@@ -33,30 +33,27 @@ impl Counts {
     }
 }
 
-/// The line of a scan or a comparison with `Look::Plain`, if the number of its sectors is known.
+/// The line of a step with `Look::Plain`.
 #[derive(Clone, Copy, Drop)]
-pub struct StepOf {
-    pub text: &'static str,
+pub struct PlainLine {
+    pub step: Step,
+    /// How many of its transactions the bus was asked to carry out so far.
     pub count: u64,
-    pub expected: usize,
+    /// How many sectors a scan or a comparison reads, if that is known.
+    pub expected: Option<u64>,
 }
 
-impl fmt::Display for StepOf {
+impl fmt::Display for PlainLine {
     fn fmt<W: fmt::Write>(&self, f: &mut fmt::Formatter<W>) -> fmt::Result {
-        write!(f, "{} {} of {}", self.text, self.count, self.expected)
-    }
-}
-
-/// The line of any other step with `Look::Plain`, without a total number of transactions.
-#[derive(Clone, Copy, Drop)]
-pub struct StepCount {
-    pub text: &'static str,
-    pub count: u64,
-}
-
-impl fmt::Display for StepCount {
-    fn fmt<W: fmt::Write>(&self, f: &mut fmt::Formatter<W>) -> fmt::Result {
-        write!(f, "{} {}", self.text, self.count)
+        let PlainLine { step, count, .. } = *self;
+        let name = step.name();
+        match (step, self.expected) {
+            (Step::Identify, _) => f.write_str(name),
+            (_, Some(expected)) if count <= expected => {
+                write!(f, "{name}: sector {count} of {expected}")
+            }
+            _ => write!(f, "{name}: {count} {}", step.unit(count)),
+        }
     }
 }
 

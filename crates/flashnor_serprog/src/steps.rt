@@ -47,20 +47,6 @@ pub fn step_of(out: &[u8], phase: Phase) -> Option<Step> {
 }
 
 impl Step {
-    /// Returns the text of the step's lines if lines are shown below each other (`Look::Plain`). In a line, the number
-    /// of the step's transactions follows.
-    pub fn plain_text(self) -> &'static str {
-        match self {
-            Step::Identify => "identify",
-            Step::Scan => "scan: sector",
-            Step::Erase => "erase: erases sent",
-            Step::Program => "program: pages sent",
-            Step::Protect => "protect: status writes sent",
-            Step::ReadBack => "read back: sectors read",
-            Step::Compare => "compare: sector",
-        }
-    }
-
     /// Returns after how many transactions of this step its next line is printed if lines are shown below each other
     /// (`Look::Plain`). Erases have a line more often than other steps, because one erase can take seconds (64 KiB: up
     /// to 2 seconds, W25Q64FV datasheet).
@@ -75,19 +61,25 @@ impl Step {
 
     /// Returns the step's name.
     pub fn name(self) -> &'static str {
-        self.names().0
+        match self {
+            Step::Identify => "identify",
+            Step::Scan => "scan",
+            Step::Erase => "erase",
+            Step::Program => "program",
+            Step::Protect => "protect",
+            Step::ReadBack => "read back",
+            Step::Compare => "compare",
+        }
     }
 
-    // Returns the step's name, and the nouns for one and for several of what it counts.
-    fn names(self) -> (&'static str, &'static str, &'static str) {
+    // Returns the nouns for one and for several of what the step counts.
+    fn nouns(self) -> (&'static str, &'static str) {
         match self {
-            Step::Identify => ("identify", "ID", "IDs"),
-            Step::Scan => ("scan", "sector", "sectors"),
-            Step::Erase => ("erase", "erase", "erases"),
-            Step::Program => ("program", "page", "pages"),
-            Step::Protect => ("protect", "status write", "status writes"),
-            Step::ReadBack => ("read back", "sector", "sectors"),
-            Step::Compare => ("compare", "sector", "sectors"),
+            Step::Identify => ("ID", "IDs"),
+            Step::Erase => ("erase", "erases"),
+            Step::Program => ("page", "pages"),
+            Step::Protect => ("status write", "status writes"),
+            Step::Scan | Step::ReadBack | Step::Compare => ("sector", "sectors"),
         }
     }
 
@@ -96,9 +88,9 @@ impl Step {
         !matches!(self, Step::Erase | Step::Program | Step::Protect)
     }
 
-    // Returns the noun for this number of what the step counts.
-    fn unit(self, number: u64) -> &'static str {
-        let (_, one, several) = self.names();
+    /// Returns the noun for this number of what the step counts.
+    pub fn unit(self, number: u64) -> &'static str {
+        let (one, several) = self.nouns();
         if number == 1 { one } else { several }
     }
 }
@@ -140,7 +132,9 @@ impl Total {
     }
 }
 
-/// The line that shows a step.
+/// The line that shows a step. While its operations are performed the line is so short that it fits into a row: with
+/// the percentage, the rate and the time left if the total is known, otherwise with the number of operations, and the
+/// time that is left at most or has passed. When they are done, it has the number, the rate and the time that they took.
 #[derive(Clone, Copy, Drop)]
 pub struct StepLine {
     pub step: Step,
@@ -158,67 +152,55 @@ impl StepLine {
 impl fmt::Display for StepLine {
     fn fmt<W: fmt::Write>(&self, f: &mut fmt::Formatter<W>) -> fmt::Result {
         let name = self.step.name();
-        let Tally {
-            done,
-            bytes,
-            micros,
-        } = self.tally;
-        let total = self.total.unless_exceeded(done);
-        match total {
-            Total::Unknown | Total::Done => {
-                write!(f, "{name}: {done} {}", self.step.unit(done))?;
-            }
-            Total::AtMost(most) => {
-                let unit = self.step.unit(most);
-                write!(f, "{name}: {done} of at most {most} {unit}")?;
-            }
+        let Tally { done, micros, .. } = self.tally;
+        let so_far = Minutes(micros);
+        match self.total.unless_exceeded(done) {
+            Total::Exactly(all) if all == done => write!(
+                f,
+                "{name}: 100 %, {done} of {all} {}{}, took {so_far}",
+                self.step.unit(all),
+                RateOf(self.tally)
+            ),
             Total::Exactly(all) => {
                 let share = percent(done, all).unwrap_or(100);
-                let unit = self.step.unit(all);
-                write!(f, "{name}: {share} %, {done} of {all} {unit}")?;
+                write!(f, "{name}: {share} %{}", RateOf(self.tally))?;
+                match time_for(all.saturating_sub(done), done, micros) {
+                    Some(left) => write!(f, ", {} left", Minutes(left)),
+                    None => write!(f, ", {so_far} so far"),
+                }
             }
-        }
-        if let Some(tenths) = tenths_of_kib(bytes, micros)
-            && bytes > 0
-        {
-            write!(f, ", {}", Rate(tenths))?;
-        }
-        write!(
-            f,
-            "{}",
-            TimeText {
-                done,
-                micros,
-                total
+            Total::AtMost(most) => {
+                write!(f, "{name}: {done} {}", self.step.unit(done))?;
+                match time_for(most.saturating_sub(done), done, micros) {
+                    Some(left) => write!(f, ", at most {} left", Minutes(left)),
+                    None => write!(f, ", {so_far} so far"),
+                }
             }
-        )
+            Total::Done => write!(
+                f,
+                "{name}: {done} {}{}, took {so_far}",
+                self.step.unit(done),
+                RateOf(self.tally)
+            ),
+            Total::Unknown => write!(
+                f,
+                "{name}: {done} {}, {so_far} so far",
+                self.step.unit(done)
+            ),
+        }
     }
 }
 
-// The end of the line of a step: the time that is left (at most, if the total is `AtMost`); or the time that passed, if
-// the step is complete or the time that is left isn't known.
+// The rate at which data bytes were transferred, after a comma; or nothing, if none were.
 #[derive(Clone, Copy, Drop)]
-struct TimeText {
-    done: u64,
-    micros: u64,
-    total: Total,
-}
+struct RateOf(Tally);
 
-impl fmt::Display for TimeText {
+impl fmt::Display for RateOf {
     fn fmt<W: fmt::Write>(&self, f: &mut fmt::Formatter<W>) -> fmt::Result {
-        let left = match self.total {
-            Total::Unknown | Total::Done => None,
-            Total::AtMost(total) | Total::Exactly(total) => Some(total.saturating_sub(self.done)),
-        };
-        let time = left.and_then(|left| time_for(left, self.done, self.micros));
-        match (self.total, time) {
-            (Total::Exactly(_), Some(_)) if left == Some(0) => {
-                write!(f, ", took {}", Minutes(self.micros))
-            }
-            (Total::Exactly(_), Some(time)) => write!(f, ", {} left", Minutes(time)),
-            (Total::AtMost(_), Some(time)) => write!(f, ", {} left", Minutes(time)),
-            (Total::Done, _) => write!(f, ", took {}", Minutes(self.micros)),
-            _ => write!(f, ", {} so far", Minutes(self.micros)),
+        let Tally { bytes, micros, .. } = self.0;
+        match tenths_of_kib(bytes, micros) {
+            Some(tenths) if bytes > 0 => write!(f, ", {}", Rate(tenths)),
+            _ => Ok(()),
         }
     }
 }

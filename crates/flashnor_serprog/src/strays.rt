@@ -180,7 +180,7 @@ pub fn end_compared<'b, O: Write, E: Write>(
         let _ = writeln!(errors, "{}", ChangedText(changed));
         return 1;
     }
-    let status = end_well(output, errors, answer, operation);
+    let status = end_well(output, errors, answer, operation, bus.replies().status);
     report_unknown(errors, before, operation);
     status
 }

@@ -5,7 +5,7 @@
 use crate::hints::print_hint;
 use crate::jobs::changes_bytes;
 use nor_args::{Change, JournalUse, Operation, Task};
-use nor_console::{Escaped, Fault, FileFault};
+use nor_console::{Cause, Escaped, exists};
 use nor_files::Store;
 use nor_journal::{Journal, Vault};
 use nor_sums::{SHEET_LEN, Sheet, Sums, decode};
@@ -50,10 +50,7 @@ pub fn is_new<R: Store, E: Write>(files: &R, operation: &Operation<'_>, errors: 
     if files.is_there(journal) || !files.is_there(name.as_str()) {
         return true;
     }
-    let fault = Fault::File {
-        fault: FileFault::Exists,
-        name: name.as_str(),
-    };
+    let fault = exists(name.as_str(), Cause::Exists);
     let _ = writeln!(errors, "{fault}");
     print_hint(errors, &fault);
     false

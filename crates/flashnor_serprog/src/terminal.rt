@@ -1,31 +1,28 @@
 //! Standard error, on which the progress of a job is shown, and the log of the run.
 
-use crate::estimates::{Minutes, Rate, change_micros, tenths_of_kib, time_for};
+use crate::change_lines::{ExpectedTime, RestoreText, SessionText};
 use crate::gauge::micros_between;
 use crate::log::{CommandText, EventText, command_name};
 use crate::run_log::RunLog;
-use crate::trouble::MODES;
 use nor_args::ProgressMode;
-use nor_console::Escaped;
-use nor_journal::journal_len;
 use nor_session::Announcement;
 use std::cell::Cell;
 use std::io::IsTerminal;
 use std::os::unix::fs::FileTypeExt;
 use std::time::Instant;
-use std::{fmt, fs};
+use std::{env, fmt, fs};
 
-// The greatest number of columns of the line that is rewritten. A line that is wrapped can't be rewritten, and std
-// can't return the number of columns of the terminal.
-const COLUMNS: usize = 60;
+// The greatest length of the line that is rewritten, for terminals with 40 or more columns. A line that is wrapped
+// can't be rewritten, also after the terminal got narrower, and std can't return the number of columns of the terminal.
+// The last column stays free, because some terminals wrap a line that fills it.
+const COLUMNS: usize = 39;
 
 // Erases from the cursor to the end of the line (ECMA-48, EL).
 const ERASE_TO_END: &str = "\x1b[K";
 
-// The line before the first exchange, without the command that sets up the port.
+// The line before the first exchange.
 const WAITING: &str =
-    "Waiting for the programmer. If no line follows in 10 seconds, press Ctrl-C, disconnect the programmer \
-    from power for a second, connect it again, and run:";
+    "Waiting for the programmer. No reply in 10 s? Ctrl-C; see flashnor-serprog(8).";
 
 /// What all copies of a `Terminal` know: whether the run waited for its programmer before, whether a line that may be
 /// rewritten is on the screen, what was announced, and how fast data was read. Also the log of the run, which they
@@ -40,9 +37,21 @@ pub struct Screen {
 struct Known {
     // whether `print_waiting` was called before
     has_waited: bool,
-    is_line_open: bool,
+    row: Row,
+    // whether the run created the journal of a session
+    has_journal: bool,
     announced: Option<Announcement>,
     read: Transfer,
+}
+
+// The row of the screen that the cursor is in.
+#[derive(Clone, Copy, PartialEq)]
+enum Row {
+    Empty,
+    // the line that says that the run waits for its programmer, which disappears before the next output
+    Waiting,
+    // the progress line
+    Progress,
 }
 
 /// A number of bytes, and the time in microseconds in which they were transferred.
@@ -58,7 +67,8 @@ impl Screen {
         Screen {
             known: Cell::new(Known {
                 has_waited: false,
-                is_line_open: false,
+                row: Row::Empty,
+                has_journal: false,
                 announced: None,
                 read: Transfer::default(),
             }),
@@ -81,6 +91,8 @@ pub enum Look {
     Plain,
     /// One line, which is rewritten.
     Line,
+    /// A line if nothing was shown for a minute.
+    Minutes,
 }
 
 /// Standard error, with how the progress of a job is shown on it (`Look`), and the log of the run. The log receives
@@ -90,6 +102,8 @@ pub struct Terminal<'a> {
     rt: &'a HostRuntime,
     screen: &'a Screen,
     look: Look,
+    // the greatest length of the line that is rewritten
+    columns: usize,
     // true if the lines of `-V` are printed
     is_verbose: bool,
     // when the terminal was made
@@ -98,7 +112,8 @@ pub struct Terminal<'a> {
 
 impl<'a> Terminal<'a> {
     /// Returns the terminal at standard error. With `Auto`, the progress is one line that is rewritten, if standard
-    /// error is a terminal; if it is another character device, there are lines below each other, and otherwise nothing.
+    /// error is a terminal; if it is another character device, there are lines below each other, and otherwise at most
+    /// one line a minute.
     /// With `Plain` there are lines below each other in any case, and with `Hidden` nothing is shown. With
     /// `is_verbose`, the lines of `-V` (log.rt) are printed in any case.
     pub fn new(
@@ -112,12 +127,13 @@ impl<'a> Terminal<'a> {
             ProgressMode::Plain => Look::Plain,
             ProgressMode::Auto if rt.stderr().is_terminal() => Look::Line,
             ProgressMode::Auto if is_device(rt) => Look::Plain,
-            ProgressMode::Auto => Look::Hidden,
+            ProgressMode::Auto => Look::Minutes,
         };
         Terminal {
             rt,
             screen,
             look,
+            columns: columns_of(rt),
             is_verbose,
             started: Instant::now(rt).ok(),
         }
@@ -138,6 +154,11 @@ impl<'a> Terminal<'a> {
         self.look
     }
 
+    /// Returns when the terminal was made, or `None` if the clock failed.
+    pub fn started(&self) -> Option<Instant> {
+        self.started
+    }
+
     /// Returns the time, or `None` if the clock fails.
     pub fn now(&self) -> Option<Instant> {
         Instant::now(self.rt).ok()
@@ -148,28 +169,52 @@ impl<'a> Terminal<'a> {
         self.screen.known.get().announced
     }
 
+    /// Records that this run created the journal of a session.
+    pub fn record_journal(&self) {
+        let known = self.screen.known.get();
+        self.screen.known.set(Known {
+            has_journal: true,
+            ..known
+        });
+    }
+
+    /// Returns whether this run created the journal of a session.
+    pub fn has_journal(&self) -> bool {
+        self.screen.known.get().has_journal
+    }
+
     /// Records how fast data was read so far.
     pub fn record_reads(&self, read: Transfer) {
         let known = self.screen.known.get();
         self.screen.known.set(Known { read, ..known });
     }
 
-    /// Rewrites the line, with this text, of which at most 60 bytes are shown. Shows nothing if memory runs out. The
-    /// text must be ASCII.
+    /// Rewrites the line, with as much of this text as fits into a row. Shows nothing if memory runs out. The text must
+    /// be ASCII.
     pub fn draw<T: fmt::Display>(&self, text: &T) {
         let Ok(text) = format!(in self.rt.alloc(); "{text}") else {
             return;
         };
-        let line = fit(text.as_str());
+        let line = fit(text.as_str(), self.columns);
         let _ = eprint!(self.rt; "\r{line}{ERASE_TO_END}");
-        self.set_open(true);
+        self.set_row(Row::Progress);
+    }
+
+    /// Rewrites the line for the last time, with this text, and ends it.
+    pub fn draw_last<T: fmt::Display>(&self, text: &T) {
+        let _ = eprintln!(self.rt; "\r{text}{ERASE_TO_END}");
+        self.set_row(Row::Empty);
     }
 
     /// Ends the line that may be rewritten, if there is one, so that the next output begins on a new line.
     pub fn end_line(&self) {
-        if self.screen.known.get().is_line_open {
-            let _ = eprintln!(self.rt);
-            self.set_open(false);
+        match self.screen.known.get().row {
+            Row::Empty => {}
+            Row::Waiting => self.clear_line(),
+            Row::Progress => {
+                let _ = eprintln!(self.rt);
+                self.set_row(Row::Empty);
+            }
         }
     }
 
@@ -223,27 +268,30 @@ impl<'a> Terminal<'a> {
 
     /// Clears the line that may be rewritten, if there is one, so that the next output takes its place.
     pub fn clear_line(&self) {
-        if self.screen.known.get().is_line_open {
+        if self.screen.known.get().row != Row::Empty {
             let _ = eprint!(self.rt; "\r{ERASE_TO_END}");
-            self.set_open(false);
+            self.set_row(Row::Empty);
         }
     }
 
-    fn set_open(&self, is_line_open: bool) {
+    fn set_row(&self, row: Row) {
         let known = self.screen.known.get();
-        self.screen.known.set(Known {
-            is_line_open,
-            ..known
-        });
+        self.screen.known.set(Known { row, ..known });
     }
 
     /// Writes a line to the log. If progress is shown, also prints it, after the line that may be rewritten is ended.
     pub fn print<T: fmt::Display>(&self, text: &T) {
-        if self.look != Look::Hidden {
+        if matches!(self.look, Look::Plain | Look::Line) {
             self.end_line();
             let _ = eprintln!(self.rt; "{text}");
         }
         self.log().write_line(text);
+    }
+
+    /// Prints a line that isn't logged, with any look.
+    pub fn print_shown<T: fmt::Display>(&self, text: &T) {
+        self.end_line();
+        let _ = eprintln!(self.rt; "{text}");
     }
 
     /// Writes a line to the log. With `Look::Plain`, also prints it.
@@ -254,21 +302,30 @@ impl<'a> Terminal<'a> {
         self.log().write_line(text);
     }
 
-    /// Prints what to do if the programmer at this device never replies (`print`). A second call in a run only writes
-    /// the line to the log, since the programmer replied before. A read from a port that isn't set up waits without a
-    /// limit, and std has no call that ends it.
-    pub fn print_waiting(&self, device: &str) {
-        let text = WaitingText { device };
+    /// Writes the line to the log that says that the run waits for its programmer. With `Look::Plain`, also prints it,
+    /// except in a second call in a run, since the programmer replied before. With `Look::Line`, shows it until the
+    /// next output. A read from a port that isn't set up waits without a limit, and std has no call that ends it.
+    pub fn print_waiting(&self) {
+        self.log().write_line(&WAITING);
         let known = self.screen.known.get();
         if known.has_waited {
-            self.log().write_line(&text);
             return;
         }
         self.screen.known.set(Known {
             has_waited: true,
             ..known
         });
-        self.print(&text);
+        match self.look {
+            Look::Plain => {
+                let _ = eprintln!(self.rt; "{WAITING}");
+            }
+            Look::Line => {
+                self.end_line();
+                let _ = eprint!(self.rt; "\r{WAITING}{ERASE_TO_END}");
+                self.set_row(Row::Waiting);
+            }
+            Look::Hidden | Look::Minutes => {}
+        }
     }
 
     /// Writes a line to the log that says how long the change takes or took. With `Look::Line`, also prints it, after
@@ -311,11 +368,23 @@ impl<'a> Terminal<'a> {
     }
 }
 
-// Returns the text, or its first 60 bytes if it is longer.
-fn fit(text: &str) -> &str {
-    match text.get(..COLUMNS) {
+// Returns the text, or as many of its first bytes as there are columns.
+fn fit(text: &str, columns: usize) -> &str {
+    match text.get(..columns) {
         Some(head) => head,
         None => text,
+    }
+}
+
+// Returns the greatest length of the line that is rewritten: `COLUMNS`, or less if the environment says that the
+// terminal has fewer columns.
+fn columns_of(rt: &HostRuntime) -> usize {
+    let Ok(columns) = env::var(rt, "COLUMNS") else {
+        return COLUMNS;
+    };
+    match columns.as_str().parse::<usize>() {
+        Ok(columns) if columns > 1 => COLUMNS.min(columns - 1),
+        _ => COLUMNS,
     }
 }
 
@@ -324,72 +393,5 @@ fn is_device(rt: &HostRuntime) -> bool {
     match fs::metadata(rt, "/proc/self/fd/2") {
         Ok(metadata) => metadata.file_type().is_char_device(),
         Err(_) => false,
-    }
-}
-
-// The line before the first exchange with the programmer at this device.
-#[derive(Clone, Copy, Drop)]
-struct WaitingText<'a> {
-    device: &'a str,
-}
-
-impl fmt::Display for WaitingText<'_> {
-    fn fmt<W: fmt::Write>(&self, f: &mut fmt::Formatter<W>) -> fmt::Result {
-        write!(f, "{WAITING} stty -F {} {MODES}", Escaped(self.device))
-    }
-}
-
-// The line with what a session will change.
-#[derive(Clone, Copy, Drop)]
-struct SessionText(Announcement);
-
-impl fmt::Display for SessionText {
-    fn fmt<W: fmt::Write>(&self, f: &mut fmt::Formatter<W>) -> fmt::Result {
-        let Announcement { touched, erases } = self.0;
-        let len = journal_len(touched);
-        write!(
-            f,
-            "Sectors to change: {touched}. Erases: {erases}. Bytes of journal: {len}."
-        )
-    }
-}
-
-// The line with what a restore will change.
-#[derive(Clone, Copy, Drop)]
-struct RestoreText(Announcement);
-
-impl fmt::Display for RestoreText {
-    fn fmt<W: fmt::Write>(&self, f: &mut fmt::Formatter<W>) -> fmt::Result {
-        let Announcement { touched, erases } = self.0;
-        write!(f, "Sectors to change: {touched}. Erases: {erases}.")
-    }
-}
-
-// The line with about how long a change takes: the typical time of its erases and programs and, if data was read, the
-// time in which the touched sectors are sent and read back at the rate of those reads.
-#[derive(Clone, Copy, Drop)]
-struct ExpectedTime {
-    announcement: Announcement,
-    read: Transfer,
-}
-
-// The bytes that are transferred for a touched sector: those programmed, and those read back.
-const SECTOR_TRANSFER: u64 = 2 * 4096;
-
-impl fmt::Display for ExpectedTime {
-    fn fmt<W: fmt::Write>(&self, f: &mut fmt::Formatter<W>) -> fmt::Result {
-        let Announcement { touched, erases } = self.announcement;
-        let Transfer { bytes, micros } = self.read;
-        let chip = change_micros(touched, erases);
-        let wire = time_for(u64::from(touched) * SECTOR_TRANSFER, bytes, micros);
-        let all = Minutes(chip.saturating_add(wire.unwrap_or(0)));
-        write!(
-            f,
-            "The change takes about {all} at the chip's typical times"
-        )?;
-        match tenths_of_kib(bytes, micros) {
-            Some(tenths) if bytes > 0 => write!(f, " and {}.", Rate(tenths)),
-            _ => f.write_str("."),
-        }
     }
 }

@@ -1,16 +1,13 @@
-//! The reasons why a run ends early, the advice for each programmer fault, the cause of error 12, what a job that
-//! failed left, and the lines that are printed for all of these.
+//! The reasons why a run ends early, the advice for each programmer fault, and the lines that are printed for these.
 ghost use Rattle.std.specs.Prelude.{◌≡◌};
 
 use crate::images::NotWhole;
 use crate::layout_lines::NamesLine;
 use crate::port::PortFault;
-use crate::quoted::Quoted;
+use crate::quoted::{Quoted, SetUp};
 use crate::region_faults::RegionFault;
 use crate::setting::WrongSetting;
-use crate::status_line::{DIFFERED, OtherLine, StatusLine};
 use nor_args::{Flaw, Reason, WrongArguments};
-use nor_buses::{CheckFault, OtherChip};
 use nor_console::{Escaped, Fault, text_of_flaw};
 use nor_serprog::{Failure, HandshakeFault};
 use std::fmt;
@@ -137,13 +134,15 @@ impl fmt::Display for WrongSetting<'_> {
     fn fmt<W: fmt::Write>(&self, f: &mut fmt::Formatter<W>) -> fmt::Result {
         match self {
             WrongSetting::Network => {
-                f.write_str("ip= is not supported. Give a device: -p serprog:dev=PATH.\n")
+                f.write_str("error: ip= is not supported; give a device: -p serprog:dev=PATH\n")
             }
-            WrongSetting::BaudRate { device, rate } => writeln!(
-                f,
-                "dev= takes no baud rate. Set it with stty: stty -F {} {rate} {MODES}",
-                Escaped(device)
-            ),
+            WrongSetting::BaudRate { device, rate } => match Quoted::new(device) {
+                Some(device) => writeln!(
+                    f,
+                    "error: dev= takes no baud rate; set it with stty: stty -F {device} {rate} {MODES}"
+                ),
+                None => f.write_str("error: dev= takes no baud rate; set it with stty\n"),
+            },
             WrongSetting::NoPrefix => {
                 f.write_str("error: the value of -p does not begin with 'serprog:'\n")
             }
@@ -276,7 +275,7 @@ fn help_for(fault: &HandshakeFault<PortFault>) -> Remedy {
 // because the port echoed them, or that still waits for the rest of a command, may send such replies, too.
 const AGAIN: &str =
     "Disconnect the programmer from power for a second, connect it again, set up the port, and repeat the run; \
-    install other firmware only if this line comes again. To set up the port:";
+    install other firmware only if the same line appears again. To set up the port:";
 
 // The advice for a fault of the programmer at this device, as printed.
 #[derive(Drop)]
@@ -289,16 +288,14 @@ impl fmt::Display for Advice<'_> {
     fn fmt<W: fmt::Write>(&self, f: &mut fmt::Formatter<W>) -> fmt::Result {
         match self.help {
             Remedy::Do(what) => f.write_str(what),
-            Remedy::DoAndSetUp(what) => {
-                write!(f, "{what} stty -F {} {MODES}", Escaped(self.device))
-            }
+            Remedy::DoAndSetUp(what) => { write!(f, "{what} {}", SetUp(self.device)) }
         }
     }
 }
 
-// The printed text of a failed exchange. For a silent programmer this text replaces that of nor_serprog.
+/// The printed text of a failed exchange. For a silent programmer this text replaces that of nor_serprog.
 #[derive(Drop)]
-struct FailureText<'a>(&'a Failure<PortFault>);
+pub struct FailureText<'a>(pub &'a Failure<PortFault>);
 
 impl fmt::Display for FailureText<'_> {
     fn fmt<W: fmt::Write>(&self, f: &mut fmt::Formatter<W>) -> fmt::Result {
@@ -308,86 +305,3 @@ impl fmt::Display for FailureText<'_> {
         }
     }
 }
-
-/// The line that follows the line of error 12. It has the reason why the bus stopped, advice, and what the job left.
-#[derive(Drop)]
-pub struct StopLine<'a> {
-    /// The two unique IDs, if the chip was another one before the first modifying command.
-    pub other: Option<OtherChip>,
-    /// The reason why a transaction failed, if one did.
-    pub failure: Option<&'a Failure<PortFault>>,
-    /// Why the replies of the chip are not believed, or what was wrong with a status write, if something was.
-    pub status: Option<CheckFault>,
-    /// True if two reads of the same bytes differed.
-    pub differed: bool,
-    /// What the job left.
-    pub left: Left<'a>,
-}
-
-/// What a job that failed left, displayed as one or two sentences, each after a space, or as nothing.
-#[derive(Clone, Copy, Drop)]
-pub enum Left<'a> {
-    /// The job changes no chip.
-    Reading,
-    /// A session that sent no modifying command.
-    Unchanged,
-    /// A session that may have sent a modifying command, or a restore: the chip may be changed, and can be restored
-    /// from this journal.
-    Changed {
-        journal: Option<&'a str>,
-        /// True for a session with `--unlock` if the status of the chip may have protected an address. The session then
-        /// may have lifted the protection.
-        may_be_unprotected: bool,
-    },
-    /// A session or a restore that was completed. Only the comparison after it failed, which another line says.
-    Completed,
-    /// A change of SRP0 that may have sent its status write: SRP0 may have either value.
-    EitherLock,
-}
-
-impl fmt::Display for Left<'_> {
-    fn fmt<W: fmt::Write>(&self, f: &mut fmt::Formatter<W>) -> fmt::Result {
-        let Left::Changed {
-            journal,
-            may_be_unprotected,
-        } = *self
-        else {
-            return match self {
-                Left::Unchanged => f.write_str(" The chip was not changed."),
-                Left::EitherLock => {
-                    f.write_str(
-                        " Then repeat the run: until it succeeds, SRP0 may have either value.",
-                    )
-                }
-                _ => Ok(()),
-            };
-        };
-        match journal {
-            Some(name) => write!(f, " Then restore the chip with --restore {}.", Quoted(name))?,
-            None => f.write_str(" Then restore the chip with --restore and the journal.")?,
-        }
-        if may_be_unprotected {
-            f.write_str(" Until then it may be unprotected.")?;
-        }
-        Ok(())
-    }
-}
-
-impl fmt::Display for StopLine<'_> {
-    fn fmt<W: fmt::Write>(&self, f: &mut fmt::Formatter<W>) -> fmt::Result {
-        if let Some(other) = self.other {
-            return write!(f, "{}{}", OtherLine(other), self.left);
-        }
-        match (self.failure, self.status) {
-            (Some(failure), _) => write!(f, "Cause: {}. {UNPLUG}", FailureText(failure))?,
-            (None, Some(fault)) => write!(f, "{}", StatusLine(fault))?,
-            (None, None) if self.differed => f.write_str(DIFFERED)?,
-            (None, None) => f.write_str("Cause: unknown.")?,
-        }
-        write!(f, "{}", self.left)
-    }
-}
-
-const UNPLUG: &str =
-    "Disconnect the programmer from power for a second before the next run: it may wait for the rest of \
-    a command, which the next run would complete.";

@@ -3,13 +3,13 @@ use Rattle.std.proofs.Common.{◌≡◌, ◌∙◌, List, ap, cond, map, sym}
 use Rattle.std.specs.Prelude.{fold}
 use Rattle.std.proofs.lemmas.List.Folds.{fold-map}
 use Rattle.clap.specs.Words.{App, Rule, with_rule}
-use Rattle.nor_args.specs.Options.{by_name, chosen, for_hardware, is_for_hardware, most_rules, own_rules}
+use Rattle.nor_args.specs.Options.{hardware_form, chosen, for_hardware, is_for_hardware, most_rules, own_rules}
 use Rattle.nor_args.specs.Options.{with_hardware_choice, with_rules}
 use Rattle.nor_args.specs.declared.options.Choice.{Choice}
 
--- the command with the option `rule` and its long name appended, if a program for hardware has this option
+-- the command with the option `rule` in its form for hardware appended, if a program for hardware has this option
 abbrev with_hardware_rule : App → Rule → App
-with_hardware_rule app rule = cond (is_for_hardware rule.id) (with_rule app (by_name rule)) app
+with_hardware_rule app rule = cond (is_for_hardware rule.id) (with_rule app (hardware_form rule)) app
 
 from_rows : (app : App) (choices : List Choice) (rules : List Rule) → map chosen choices ≡ rules
     → fold with_hardware_choice app choices ≡ fold with_hardware_rule app rules

@@ -1,14 +1,18 @@
 -- The usage faults: which of the faults 2 to 9 the options have, provided that `clap` accepts the arguments, and the
 -- number and the message of each fault.
 use Rattle.std.specs.Prelude.{◌&&◌, ◌||◌, ◌++◌, ℕ, Bool, false, Option, Some, None, List, [], ◌∷◌, codes, decimal}
-use Rattle.std.specs.Prelude.{drop, is_some, nat_eq, nat_lt, not, if◌then◌else◌}
+use Rattle.std.specs.Prelude.{drop, find, is_some, nat_eq, nat_lt, not, option_map, if◌then◌else◌}
+use Rattle.std.specs.List.{list_any}
 use Rattle.std.specs.Option.{option_map_or}
-use Rattle.nor_args.specs.Text.{Text, reads}
+use Rattle.std.specs.Str.{bytes_eq}
+use Rattle.nor_args.specs.Text.{Text, after_colon, pieces_of, reads}
 use Rattle.nor_args.specs.Given.{Texts, asks_change, gives_layout, has_two_layouts, how_many, is_new_content}
 use Rattle.nor_args.specs.Given.{operations, progress_of, takes_regions}
 use Rattle.nor_args.specs.Numbers.{range_of}
 use Rattle.nor_args.specs.Programmer.{has_stop, is_programmer_text}
 use Rattle.nor_args.specs.Stops.{stops_of}
+use Rattle.nor_args.specs.declared.reasons.OptionName.{OptionName}
+use Rattle.nor_args.specs.declared.reasons.OptionName.TheVariants as option
 use Rattle.nor_args.specs.declared.words.UsageFault.{UsageFault}
 use Rattle.nor_args.specs.declared.words.UsageFault.TheVariants as why
 
@@ -30,10 +34,47 @@ abbrev pub has_wrong_journal : Texts → Bool
 has_wrong_journal given =
     not (nat_eq (how_many (is_some given.journal ∷ is_some given.rehearse ∷ [])) (if asks_change given then 1 else 0))
 
--- fault 5: true if the value of `--wp-range` isn't a start and a length, or the value of `--progress` isn't a mode;
--- flashnor lacks `--progress`
+-- whether an option is given, and this option
+abbrev pub Choosing : Type 0
+Choosing = Bool × OptionName
+
+-- the first option in the list that is given, or `None` if none is given
+abbrev pub first_given : List Choosing → Option OptionName
+first_given choices =
+    option_map (λ (choosing : Choosing). choosing.1) (find (λ (choosing : Choosing). choosing.0) choices)
+
+-- true if the option has the value `-`
+abbrev pub is_dash : Option Text → Bool
+is_dash = passes_test (λ text. bytes_eq text (codes "-"))
+
+-- true if a part of the value of `-i` names the file `-` for its region
+abbrev pub has_dash : Text → Bool
+has_dash piece = bytes_eq (after_colon piece) (codes "-")
+
+-- true if a value of `-i` names the file `-` for a region
+abbrev pub lists_dash : Text → Bool
+lists_dash text = list_any has_dash (pieces_of text)
+
+-- each option that names a file, with whether the file is `-`
+abbrev pub file_choices : Texts → List Choosing
+file_choices given =
+    (is_dash given.read, option.Read) ∷ (is_dash given.verify, option.Verify) ∷ (is_dash given.write, option.Write)
+    ∷ (is_dash given.restore, option.Restore) ∷ (is_dash given.backup, option.Backup)
+    ∷ (is_dash given.check_journal, option.CheckJournal) ∷ (is_dash given.extract_image, option.ExtractImage)
+    ∷ (is_dash given.journal, option.Journal) ∷ (is_dash given.layout, option.Layout)
+    ∷ (passes_test lists_dash given.names, option.Include) ∷ (is_dash given.fmap_file, option.FmapFile)
+    ∷ (is_dash given.ifd_file, option.IfdFile) ∷ (is_dash given.log, option.Output) ∷ []
+
+-- in a program for hardware, the first option that names the file `-`, or `None` if none does; for flashnor `-` is the
+-- name of a file like any other
+abbrev pub dashed : Texts → Option OptionName
+dashed given = if given.hardware then first_given (file_choices given) else None
+
+-- fault 5: true if the value of `--wp-range` isn't a start and a length, the value of `--progress` isn't a mode, or an
+-- option of a program for hardware names the file `-`; flashnor lacks `--progress`
 abbrev pub has_wrong_value : Texts → Bool
-has_wrong_value given = is_no (reads range_of) given.wp_range || is_no (reads progress_of) given.progress
+has_wrong_value given =
+    (is_no (reads range_of) given.wp_range || is_no (reads progress_of) given.progress) || is_some (dashed given)
 
 -- fault 7: true if a layout (`-l`, `--fmap-file`, `--ifd-file`, `--fmap` or `--ifd`) is given without `-i`, or `-i`
 -- without a layout; if both are given without any of `-r`, `-v`, `-w` and `-E`; or if more than one layout is given.

@@ -4,7 +4,7 @@ use Rattle.std.specs.Prelude.{nat_lt, option_and_then, option_map, unwrap_or, if
 use Rattle.std.specs.List.{count_by}
 use Rattle.std.specs.Option.{option_map_or, option_or}
 use Rattle.std.specs.Str.{bytes_eq}
-use Rattle.clap.specs.Words.{Row, first_of, matches_of}
+use Rattle.clap.specs.Words.{Row, count_of, first_of, matches_of}
 use Rattle.nor_args.specs.Text.{Text}
 use Rattle.nor_args.specs.Options.{hardware_options, options}
 use Rattle.nor_args.specs.declared.given.Given.{Given}
@@ -63,6 +63,8 @@ pub record Texts : Type 0 where
   pub verbose : Bool
   -- The value of `-o FILE`.
   pub log : Option Text
+  -- Whether the program is one for hardware, which takes no file with the name `-`.
+  pub hardware : Bool
 
 -- true if the value is the text `true`, which `clap` gives a flag that is set
 abbrev pub is_flag_set : Option Text → Bool
@@ -113,6 +115,7 @@ given_in rows = record {
   progress = None;
   verbose = false;
   log = None;
+  hardware = false;
 }
 
 -- the options that flashnor's arguments contain, as `clap` parses them
@@ -139,8 +142,9 @@ hardware_given_in rows = record (given_in rows) {
   ifd = is_set_in rows (codes "ifd");
   no_verify_all = is_set_in rows (codes "noverify-all");
   progress = text_in rows (codes "progress");
-  verbose = is_set_in rows (codes "verbose");
+  verbose = nat_lt 0 (count_of (codes "verbose") rows);
   log = text_in rows (codes "output");
+  hardware = true;
 }
 
 -- the options that the arguments of a program for hardware contain, as `clap` parses them; `program` is the program's
@@ -185,6 +189,7 @@ texts_of given = record {
   progress = option_map (λ text. text.now) given.progress;
   verbose = given.verbose;
   log = option_map (λ text. text.now) given.log;
+  hardware = given.is_hardware;
 }
 
 -- the number of elements of the list that are true

@@ -5,7 +5,8 @@ use Rattle.std.specs.List.{filter}
 use Rattle.std.specs.Str.{bytes_eq}
 use Rattle.clap.specs.Words.{App, Rule, new_app, new_rule, rule_of, with_rule}
 use Rattle.clap.specs.declared.builder.arg.Arg.{Arg}
-use Rattle.clap.specs.declared.builder.action.ArgAction.TheVariants.{Set, SetTrue, HelpShort, Version}
+use Rattle.clap.specs.declared.builder.action.ArgAction.TheVariants.{Count, Set, SetTrue, HelpShort, Version}
+use Rattle.clap.specs.declared.builder.range.ValueRange.{ValueRange}
 use Rattle.nor_args.specs.declared.options.Choice.{Choice}
 use Rattle.nor_args.specs.Text.{Text}
 
@@ -130,9 +131,24 @@ abbrev pub no_hardware_options_of : (program : Text) → App
 no_hardware_options_of program = let app = no_options_of program in
     record app { top = record app.top { has_version = true; disable_version_flag = true } }
 
--- the options of the list that a program for hardware has, all with a long name
+-- from none to one value
+abbrev pub at_most_one : ValueRange
+at_most_one = record { start_inclusive = 0; end_inclusive = 1 }
+
+-- the option `rule` with a long name; `--progress` without a mode means `auto`
+abbrev pub long_form : Rule → Rule
+long_form rule =
+    if bytes_eq rule.id (codes "progress")
+    then record (by_name rule) { range = Some at_most_one; missing = codes "auto" ∷ [] } else by_name rule
+
+-- the form that the option `rule` has in a program for hardware; `-V` may be repeated
+abbrev pub hardware_form : Rule → Rule
+hardware_form rule =
+    if bytes_eq rule.id (codes "verbose") then record (by_name rule) { action = Some Count } else long_form rule
+
+-- the options of the list that a program for hardware has, in their form there
 abbrev pub for_hardware : List Rule → List Rule
-for_hardware rules = map by_name (filter (λ rule. is_for_hardware rule.id) rules)
+for_hardware rules = map hardware_form (filter (λ rule. is_for_hardware rule.id) rules)
 
 -- `-R` or `--version`, which prints the version of a program for hardware
 abbrev pub version_rule : Rule
@@ -172,8 +188,8 @@ chosen choice = record (named choice) {
 abbrev pub with_choice : App → Choice → App
 with_choice app choice = with_rule app (chosen choice)
 
--- the command with the option of this row and its long name appended, or the command itself if a program for hardware
--- lacks this option
+-- the command with the option of this row appended, in its form for hardware, or the command itself if a program for
+-- hardware lacks this option
 abbrev pub with_hardware_choice : App → Choice → App
 with_hardware_choice app choice =
-    if is_for_hardware choice.name.now then with_rule app (by_name (chosen choice)) else app
+    if is_for_hardware choice.name.now then with_rule app (hardware_form (chosen choice)) else app

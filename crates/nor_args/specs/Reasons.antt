@@ -5,7 +5,8 @@ use Rattle.std.specs.Prelude.{find, is_some, nat_eq, not, option_map, reverse, i
 use Rattle.std.specs.List.{list_any, starts_with}
 use Rattle.nor_args.specs.Text.{Text, pieces_of, reads}
 use Rattle.nor_args.specs.Given.{Texts, asks_change, has_two_layouts, is_new_content, progress_of}
-use Rattle.nor_args.specs.Faults.{is_no, lacks_check}
+use Rattle.nor_args.specs.Faults.{Choosing, dashed, first_given, is_no, lacks_check}
+use Rattle.nor_args.specs.Numbers.{range_of}
 use Rattle.nor_args.specs.Numbers.{decimal_number}
 use Rattle.nor_args.specs.Programmer.{has_key, is_setting, is_alone_in, keys, settings_of}
 use Rattle.nor_args.specs.Stops.{stops_of}
@@ -34,11 +35,13 @@ option_text option.WpRange = codes "--wp-range"
 option_text option.Restore = codes "--restore"
 option_text option.Backup = codes "--backup"
 option_text option.CheckJournal = codes "--check-journal"
+option_text option.ExtractImage = codes "--extract-image"
 option_text option.WpEnable = codes "--wp-enable"
 option_text option.WpDisable = codes "--wp-disable"
 option_text option.Journal = codes "--journal"
 option_text option.Rehearse = codes "--rehearse"
 option_text option.Layout = codes "-l"
+option_text option.Include = codes "-i"
 option_text option.FmapFile = codes "--fmap-file"
 option_text option.IfdFile = codes "--ifd-file"
 option_text option.Fmap = codes "--fmap"
@@ -47,6 +50,7 @@ option_text option.Quick = codes "--quick"
 option_text option.ReplacedChip = codes "--replaced-chip"
 option_text option.NoVerify = codes "-n"
 option_text option.Unlock = codes "--unlock"
+option_text option.Output = codes "-o"
 
 -- ---- fault 3
 
@@ -83,10 +87,6 @@ IsWrongProgrammer text _ = ⊥
 
 -- ---- fault 4
 
--- whether an option is given, and this option
-abbrev pub Choosing : Type 0
-Choosing = Bool × OptionName
-
 -- each operation with whether it is given, in the order of the help except that `--flash-name` follows `--flash-size`
 abbrev pub operation_choices : Texts → List Choosing
 operation_choices given =
@@ -97,11 +97,6 @@ operation_choices given =
     ∷ (is_some given.wp_range, option.WpRange) ∷ (is_some given.restore, option.Restore)
     ∷ (is_some given.backup, option.Backup) ∷ (is_some given.check_journal, option.CheckJournal)
     ∷ (given.wp_enable, option.WpEnable) ∷ (given.wp_disable, option.WpDisable) ∷ []
-
--- the first option in the list that is given, or `None` if none is given
-abbrev pub first_given : List Choosing → Option OptionName
-first_given choices =
-    option_map (λ (choosing : Choosing). choosing.1) (find (λ (choosing : Choosing). choosing.0) choices)
 
 -- the reason that names `first` and `last`, the first and the last of the options that are given
 abbrev pub operations_reason : (first last : Option OptionName) → Reason
@@ -122,11 +117,17 @@ IsWrongMode (Some value) (because.Progress text) = text.now ≡ value
 IsWrongMode None because.Unsaid = ⊤
 IsWrongMode value _ = ⊥
 
+-- the reason of fault 5 that names an option with the file `-`
+abbrev pub dash_reason : Option OptionName → Reason
+dash_reason (Some option) = because.Dash option
+dash_reason None = because.Unsaid
+
 -- Holds if this is the reason of fault 5: the value of `--progress` if `wrong_mode` is true, otherwise the value of
--- `--wp-range`.
-abbrev pub IsWrongValue : (wrong_mode : Bool) → Texts → Reason → Type 0
-IsWrongValue true given reason = IsWrongMode given.progress reason
-IsWrongValue false given reason = IsWrongRange given.wp_range reason
+-- `--wp-range` if `wrong_range` is true, otherwise the first option that names the file `-`.
+abbrev pub IsWrongValue : (wrong_mode wrong_range : Bool) → Texts → Reason → Type 0
+IsWrongValue true wrong_range given reason = IsWrongMode given.progress reason
+IsWrongValue false true given reason = IsWrongRange given.wp_range reason
+IsWrongValue false false given reason = reason ≡ dash_reason (dashed given)
 
 -- the first of `-w`, `-E` and `--wp-range` that is given; `--wp-range` also if none of them is given
 abbrev pub change_option : Texts → OptionName
@@ -204,7 +205,8 @@ IsReason given why.NoProgrammer reason = reason ≡ because.NoProgrammer
 IsReason given why.Programmer reason = IsProgrammerReason given.programmer reason
 IsReason given why.TwoOperations reason = reason
     ≡ operations_reason (first_given (operation_choices given)) (first_given (reverse (operation_choices given)))
-IsReason given why.Range reason = IsWrongValue (is_no (reads progress_of) given.progress) given reason
+IsReason given why.Range reason =
+    IsWrongValue (is_no (reads progress_of) given.progress) (is_no (reads range_of) given.wp_range) given reason
 IsReason given why.Journal reason = reason ≡ journal_reason given
 IsReason given why.Layout reason = reason ≡ regions_reason given
 IsReason given why.Unneeded reason = reason ≡ unneeded_reason given

@@ -1,10 +1,17 @@
 -- Texts as lists of bytes, and how commas and `=` divide them.
-use Rattle.std.specs.Prelude.{◌==◌, ℕ, Bool, List, Option, is_some}
+use Rattle.std.specs.Prelude.{◌==◌, ◌||◌, ◌&&◌, ℕ, Bool, List, Option, is_some, nat_le}
+use Rattle.std.specs.Char.{is_control}
 use Rattle.std.specs.List.{slice_split, before_first, after_first}
 
 -- a text, as its bytes
 abbrev pub Text : Type 0
 Text = List ℕ
+
+-- true for a character that a terminal doesn't show as itself: a control character (U+0000 to U+001F or U+007F to
+-- U+009F), or one that changes the direction of the text after it (U+202A to U+202E or U+2066 to U+2069)
+abbrev pub is_hidden : (character : ℕ) → Bool
+is_hidden character = is_control character
+    || ((nat_le 0x202A character && nat_le character 0x202E) || (nat_le 0x2066 character && nat_le character 0x2069))
 
 -- the parts of the text between its commas
 abbrev pub pieces_of : Text → List Text
@@ -25,6 +32,10 @@ key_of = before_first (λ byte. byte == 61)
 -- the bytes that follow the first `=`, or no bytes if the text has no `=`
 abbrev pub value_of : Text → Text
 value_of = after_first (λ byte. byte == 61)
+
+-- the bytes that follow the first `:`, or no bytes if the text has no `:`
+abbrev pub after_colon : Text → Text
+after_colon = after_first (λ byte. byte == 58)
 
 -- true if the parser `reading` returns a value for the text
 abbrev pub reads : {T : Type 0} → (Text → Option T) → Text → Bool

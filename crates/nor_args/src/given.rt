@@ -30,6 +30,7 @@ use arrayvec::ArrayVec;
 use clap::ArgMatches;
 use nor_probe::ChipName;
 
+mod dashes;
 mod faults;
 mod flags;
 mod layouts;
@@ -77,6 +78,8 @@ pub struct Given<'a> {
     progress: Option<&'a str>,
     verbose: bool,
     log: Option<&'a str>,
+    // True in a program for hardware, which takes no file with the name `-`.
+    is_hardware: bool,
 }
 
 impl<'a> Given<'a> {
@@ -122,6 +125,7 @@ impl<'a> Given<'a> {
             progress: None,
             verbose: false,
             log: None,
+            is_hardware: false,
         }
     }
 
@@ -147,8 +151,9 @@ impl<'a> Given<'a> {
             ifd: is_set(matches, "ifd"),
             no_verify_all: is_set(matches, "noverify-all"),
             progress: matches.get_str("progress"),
-            verbose: is_set(matches, "verbose"),
+            verbose: matches.get_count("verbose") > 0,
             log: matches.get_str("output"),
+            is_hardware: true,
             ..Given::of(matches)
         }
     }
@@ -175,7 +180,8 @@ impl<'a> Given<'a> {
     }
 
     /// Returns the job of a program for hardware. With `--check-journal` the job has the file name of the journal, and
-    /// with `--extract-image` also that of the image. Otherwise it has the value of `-p`, and the operation or the first of the faults 4 to 9 that the options have.
+    /// with `--extract-image` also that of the image. Otherwise it has the value of `-p`, and the operation or the first
+    /// of the faults 4 to 9 that the options have.
     ///
     /// With `--check-journal`, returns the first of the faults 4 to 9 if the options have one. Returns fault 2 if both
     /// `-p` and `--check-journal` are missing. The options must not include `-L`.

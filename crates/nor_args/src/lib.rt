@@ -15,11 +15,14 @@
 //! - `options.rt`: the options, as `clap` parses them and as the help shows them
 //! - `options/hardware.rt`: the options that only programs for hardware have
 //! - `given.rt`: the values of the options, and the job that they ask for
+//! - `given/dashes.rt`: files with the name `-`, which only flashnor takes
 //! - `given/faults.rt`: the faults that the options have
 //! - `given/flags.rt`: whether a flag is set
 //! - `given/layouts.rt`: the layout that the options give
 //! - `given/reasons.rt`: the reason of each fault that the options have
 //! - `reasons.rt`: the types of reasons
+//! - `escapes.rt`: the characters that are escaped when they are printed
+//! - `tips.rt`: the texts of `clap`'s errors that contain an argument
 //! - `flaws.rt`: the reason why the value of `-p` is wrong
 //! - `job.rt`: the types of a job
 //! - `programmer.rt`: the value of `-p`, and the chips that can be emulated
@@ -31,6 +34,7 @@
 //! faults, `specs/Reasons.antt` their reasons.
 #![tactic(auto)]
 
+mod escapes;
 mod flaws;
 mod given;
 mod job;
@@ -40,8 +44,10 @@ mod programmer;
 mod reasons;
 mod settings;
 mod stops;
+mod tips;
 mod words;
 
+pub use escapes::is_hidden;
 pub use job::{
     Change, ChipJob, HardwareJob, Job, JournalUse, LayoutForm, Operation, ProgrammerJob,
     ProgressMode, Regions, Task, Wanted,

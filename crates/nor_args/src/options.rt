@@ -3,7 +3,8 @@ ghost use Rattle.std.specs.Prelude.{◌≡◌, IfOk, fold, map};
 ghost use Rattle.clap.specs.Words.{app_of};
 ghost use Rattle.nor_args.specs.Options.{options, no_options_of, help_rule, most_rules, IsOption};
 ghost use Rattle.nor_args.specs.Options.{hardware_help_rule, hardware_options, no_hardware_options_of, version_rule};
-ghost use Rattle.nor_args.specs.Options.{is_for_hardware, named, chosen, with_choice, with_hardware_choice};
+ghost use Rattle.nor_args.specs.Options.{chosen, is_for_hardware, named};
+ghost use Rattle.nor_args.specs.Options.{with_choice, with_hardware_choice};
 
 use crate::options::hardware::hardware_choices;
 use clap::{Arg, ArgAction, Command};
@@ -245,7 +246,7 @@ pub fn make_hardware_options<'a>(alloc: Global, help: Help) -> Result<Command<'a
 }
 
 // Adds the option of each row of `choices` to `command`, in the order of the table, except the options that a program
-// for hardware lacks. Each added option has a long name.
+// for hardware lacks. Each added option has its form for hardware (`hardware_option`).
 fn add_hardware_choices<'a>(
     alloc: Global,
     command: Command<'a>,
@@ -256,8 +257,7 @@ fn add_hardware_choices<'a>(
     let mut longer = command;
     for choice in choices {
         if is_for_hardware(choice.name) {
-            let option = choice.option(alloc).long(choice.name);
-            longer = longer.arg(option.help(choice.hardware_help()))?;
+            longer = longer.arg(choice.hardware_option(alloc))?;
         }
     }
     Ok(longer)
@@ -314,15 +314,6 @@ fn add_choices<'a>(
 }
 
 impl Choice {
-    // Returns the help of this option in a program for hardware, which has more layouts than flashnor.
-    fn hardware_help(&self) -> &'static str {
-        if self.name == "include" {
-            "The regions to include, separated by commas; with a layout"
-        } else {
-            self.help
-        }
-    }
-
     // Returns the option that this row describes: an option that takes a value, or a flag.
     fn option<'a>(&self, alloc: Global) -> Arg<'a>
         ensures { IsOption (chosen self.now) result }

@@ -21,11 +21,13 @@ pub enum OptionName {
     Restore,
     Backup,
     CheckJournal,
+    ExtractImage,
     WpEnable,
     WpDisable,
     Journal,
     Rehearse,
     Layout,
+    Include,
     FmapFile,
     IfdFile,
     Fmap,
@@ -34,6 +36,7 @@ pub enum OptionName {
     ReplacedChip,
     NoVerify,
     Unlock,
+    Output,
 }
 
 impl OptionName {
@@ -57,11 +60,13 @@ impl OptionName {
             OptionName::Restore => "--restore",
             OptionName::Backup => "--backup",
             OptionName::CheckJournal => "--check-journal",
+            OptionName::ExtractImage => "--extract-image",
             OptionName::WpEnable => "--wp-enable",
             OptionName::WpDisable => "--wp-disable",
             OptionName::Journal => "--journal",
             OptionName::Rehearse => "--rehearse",
             OptionName::Layout => "-l",
+            OptionName::Include => "-i",
             OptionName::FmapFile => "--fmap-file",
             OptionName::IfdFile => "--ifd-file",
             OptionName::Fmap => "--fmap",
@@ -70,6 +75,7 @@ impl OptionName {
             OptionName::ReplacedChip => "--replaced-chip",
             OptionName::NoVerify => "-n",
             OptionName::Unlock => "--unlock",
+            OptionName::Output => "-o",
         }
     }
 }
@@ -123,6 +129,8 @@ pub enum Reason<'a> {
     Range(&'a str),
     /// 5: this value of `--progress` isn't a mode.
     Progress(&'a str),
+    /// 5: this option of a program for hardware names the file `-`.
+    Dash(OptionName),
     /// 6: this option asks for a change, but neither `--journal` nor `--rehearse` is given.
     NoJournal(OptionName),
     /// 6: both `--journal` and `--rehearse` are given.

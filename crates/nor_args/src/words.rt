@@ -1,13 +1,14 @@
 //! Turns arguments into jobs (`request_of`, and `operation_of` for programs for hardware), and defines the usage
 //! faults.
 ghost use Rattle.std.specs.Prelude.{◌≡◌, IfOk, MatchResult, map, string_bytes, true};
-ghost use Rattle.clap.specs.Words.{FailsBy, HasMatchesOf, app_of, fault_of, is_simple_and_free, kind_of};
+ghost use Rattle.clap.specs.Words.{FailsBy, HasMatchesOf, app_of, fault_of, is_simple_and_free};
 ghost use Rattle.nor_args.specs.Words.{AreWrong, AreWrongForHardware, IsFault, IsHardwareJob, IsJob};
 
 use crate::given::Given;
 use crate::job::{HardwareJob, Job};
 use crate::options::{Help, make_hardware_options, make_options};
 use crate::reasons::WrongArguments;
+use crate::tips::{Program, reword};
 use clap::error::ErrorKind;
 use clap::{ArgMatches, Command, Error as WordsError};
 use std::alloc::{AllocError, Global};
@@ -29,7 +30,7 @@ pub enum UsageFault {
     /// 4: more than one operation is given.
     TwoOperations,
     /// 5: the value of `--wp-range` isn't a start and a length. For a program for hardware also: the value of
-    /// `--progress` isn't a mode.
+    /// `--progress` isn't a mode, or an option names the file `-`.
     Range,
     /// 6: a change (`-w`, `-E` or `--wp-range`) is given, but not exactly one of `--journal` and `--rehearse`. Also:
     /// `--journal` or `--rehearse` is given, but no change.
@@ -127,7 +128,7 @@ pub fn explained_request_of<'a>(
 ) -> Result<Job<'a>, WrongArguments<'a>>
     ensures { MatchResult result (IsJob (map string_bytes words.now)) (AreWrong (map string_bytes words.now)) }
 {
-    let matches = parse_words(alloc, make_options(alloc)?, words)?;
+    let matches = parse_words(alloc, Program::Flashnor, make_options(alloc)?, words)?;
     let given = Given::of(&matches);
     match given.job() {
         Ok(job) => Ok(job),
@@ -154,14 +155,19 @@ pub fn operation_of<'a>(
     ensures { MatchResult result (IsHardwareJob help.program.now (map string_bytes words.now))
         (AreWrongForHardware help.program.now (map string_bytes words.now)) }
 {
-    let matches = parse_words(alloc, make_hardware_options(alloc, help)?, words)?;
+    let matches = parse_words(
+        alloc,
+        Program::Hardware,
+        make_hardware_options(alloc, help)?,
+        words,
+    )?;
     Given::of_hardware(&matches).hardware_job()
 }
 
-// Parses the arguments. If an argument is unknown, the tip of `clap` is removed from the error's text. The tip would
-// name an option that is spelled alike but may do something else, such as `--rehearse` for `--read`.
+// Parses the arguments. The text of an error has each argument escaped (`reword`).
 fn parse_words<'a>(
     alloc: Global,
+    program: Program,
     mut options: Command<'a>,
     words: &'a [String],
 ) -> Result<ArgMatches<'a>, WordsError>
@@ -171,24 +177,6 @@ fn parse_words<'a>(
 {
     match options.try_get_matches_from_mut(words) {
         Ok(matches) => Ok(matches),
-        Err(error) if error.kind() == ErrorKind::UnknownArgument => {
-            Err(without_tip(alloc, &mut options, &error)?)
-        }
-        Err(error) => Err(error),
+        Err(error) => Err(reword(alloc, program, &mut options, error)?),
     }
-}
-
-// Returns an error of the same kind as `error`. Its text is the first paragraph of the text of `error`, followed by the
-// usage of the program.
-fn without_tip(
-    alloc: Global,
-    options: &mut Command<'_>,
-    error: &WordsError,
-) -> Result<WordsError, AllocError>
-    ensures { IfOk result (λ shorter. kind_of shorter ≡ kind_of error.now) }
-{
-    let text = format!(in alloc; "{error}")?;
-    let said = text.split("\n\n").next().unwrap_or_default();
-    let message = said.strip_prefix("error: ").unwrap_or(said);
-    options.error(error.kind(), message)
 }

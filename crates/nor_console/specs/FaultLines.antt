@@ -8,12 +8,15 @@ use Rattle.nor_request.specs.Refusal.{refusal_number}
 use Rattle.nor_request.specs.Texts.{refusal_text}
 use Rattle.nor_args.specs.Faults.{usage_fault_text as usage_text}
 use Rattle.nor_args.specs.Text.{Text}
+use Rattle.nor_console.specs.Causes.{cause_line}
 use Rattle.nor_console.specs.Escapes.{escaped}
 use Rattle.nor_console.specs.Messages.{file_number}
 use Rattle.nor_console.specs.ReasonLines.{journal_line, layout_line, reason_line}
 use Rattle.nor_console.specs.declared.messages.Fault.{Fault}
 use Rattle.nor_console.specs.declared.messages.Fault.TheVariants as end
 use Rattle.nor_console.specs.declared.messages.FileFault.{FileFault}
+use Rattle.nor_console.specs.declared.messages.Wording.{Wording}
+use Rattle.nor_console.specs.declared.messages.Wording.TheVariants as wording
 
 -- the part of a message that names the line of a layout, or no bytes if the fault isn't in a single line
 abbrev pub place : Option ℕ → List ℕ
@@ -25,23 +28,46 @@ abbrev pub file_text : FileFault → Text → List ℕ
 file_text fault name =
     concat (codes "File fault " ∷ decimal (file_number fault) ∷ codes ": " ∷ escaped name ∷ codes "." ∷ [])
 
--- The text of a fault: the line that says what is wrong, if there is such a line, and then the numbered text. The
--- result is `None` for an error, a help or a version of the argument parser, because nothing is stated about the
--- parser's texts.
-abbrev pub text_of : Fault → Option (List ℕ)
-text_of (end.Usage fault reason) = option_append (Some (reason_line reason)) (usage_text fault)
-text_of end.NoText = Some (codes "error: invalid UTF-8 was detected in one or more arguments\n\nUsage fault 1.")
-text_of (end.Layout fault) =
-    Some (concat (layout_line fault ∷ codes "Layout fault " ∷ decimal (layout_number fault)
+-- the line that says what is wrong, with its line feed, or no bytes if there is no such line
+abbrev pub explanation_of : Fault → List ℕ
+explanation_of (end.Usage fault reason) = reason_line reason
+explanation_of (end.Layout fault) = layout_line fault
+explanation_of (end.NoRegion name) =
+    concat (codes "error: the layout has no region '" ∷ escaped name.now ∷ codes "'\n" ∷ [])
+explanation_of end.NoJournal = codes "error: the file is no journal, or is damaged\n"
+explanation_of (end.Refused refusal) = journal_line refusal
+explanation_of _ = []
+
+-- The line with the number of a fault, without its line feed. The result is `None` for an error, a help or a version of
+-- the argument parser, because nothing is stated about the parser's texts.
+abbrev pub numbered_line : Fault → Option (List ℕ)
+numbered_line (end.Usage fault reason) = usage_text fault
+numbered_line end.NoText = Some (codes "error: invalid UTF-8 was detected in one or more arguments\n\nUsage fault 1.")
+numbered_line (end.Layout fault) = Some (concat (codes "Layout fault " ∷ decimal (layout_number fault)
     ∷ place (line_of_fault fault) ∷ codes "." ∷ []))
-text_of (end.Map fault) = Some (concat (codes "Map fault " ∷ decimal (map_fault_number fault) ∷ codes "." ∷ []))
-text_of (end.NoRegion name) =
-    Some (concat (codes "error: the layout has no region '" ∷ escaped name.now ∷ codes "'\nLayout fault 8." ∷ []))
-text_of (end.File fault name) = Some (file_text fault name.now)
-text_of (end.Refused refusal) =
-    Some (concat (journal_line refusal ∷ codes "Error " ∷ decimal (refusal_number refusal) ∷ codes ": "
+numbered_line (end.Map fault) = Some (concat (codes "Map fault " ∷ decimal (map_fault_number fault) ∷ codes "." ∷ []))
+numbered_line (end.NoRegion name) = Some (codes "Layout fault 8.")
+numbered_line (end.File fault name cause) = Some (file_text fault name.now)
+numbered_line end.NoJournal = Some (codes "Error 15: journal fault 1.")
+numbered_line (end.Refused refusal) = Some (concat (codes "Error " ∷ decimal (refusal_number refusal) ∷ codes ": "
     ∷ refusal_text refusal ∷ codes "." ∷ []))
 
--- the lines that are printed for a fault: its text and a line feed, or `None` if `text_of` is `None`
-abbrev pub line_of : Fault → Option (List ℕ)
-line_of fault = with_newline (text_of fault)
+-- The text of a fault: the line that says what is wrong, if there is such a line, and then the numbered line. The
+-- result is `None` if `numbered_line` is `None`.
+abbrev pub text_of : Fault → Option (List ℕ)
+text_of fault = option_append (Some (explanation_of fault)) (numbered_line fault)
+
+-- the line with the cause of a file fault, with its line feed, or no bytes for any other fault
+abbrev pub cause_of : Fault → List ℕ
+cause_of (end.File fault name cause) = cause_line fault name.now cause
+cause_of _ = []
+
+-- The text of a fault in this wording: its numbered line alone, or all lines that say what is wrong and then the
+-- numbered line. The result is `None` if `numbered_line` is `None`.
+abbrev pub worded : Wording → Fault → Option (List ℕ)
+worded wording.Numbered fault = numbered_line fault
+worded wording.Explained fault = option_append (Some (cause_of fault)) (text_of fault)
+
+-- the lines that are printed for a fault in this wording: its text and a line feed, or `None` if `worded` is `None`
+abbrev pub line_of : Wording → Fault → Option (List ℕ)
+line_of wording fault = with_newline (worded wording fault)

@@ -17,16 +17,21 @@ use Rattle.nor_console.specs.declared.messages.FileFault.TheVariants as file
 -- Holds if the fault is error 18 (out of memory), or file fault 1 with this name.
 abbrev pub IsUnreadFault : Text → Fault → Type 0
 IsUnreadFault name (end.Refused refusal) = refusal ≡ Memory
-IsUnreadFault name (end.File file.Read of) = of.now ≡ name
+IsUnreadFault name (end.File file.Read of cause) = of.now ≡ name
 IsUnreadFault name _ = ⊥
+
+-- Holds for file fault 2 with this name.
+abbrev pub IsUnmadeFault : Text → Fault → Type 0
+IsUnmadeFault name (end.File file.Write of cause) = of.now ≡ name
+IsUnmadeFault name _ = ⊥
 
 -- Holds if the program reports this `LockFault` of a file of this name as `fault`: `Unread` (the file can't be opened
 -- or read) as error 18 or file fault 1, `Unheld` (it can't be overwritten or locked) as file fault 2, and `Busy`
 -- (another process has locked it) as file fault 5.
 abbrev pub IsNotLocked : LockFault → Text → Fault → Type 0
 IsNotLocked (why.Unread error) name fault = IsUnreadFault name fault
-IsNotLocked why.Unheld name (end.File file.Write of) = of.now ≡ name
-IsNotLocked why.Busy name (end.File file.Taken of) = of.now ≡ name
+IsNotLocked why.Unheld name (end.File file.Write of cause) = of.now ≡ name
+IsNotLocked why.Busy name (end.File file.Taken of cause) = of.now ≡ name
 IsNotLocked _ name _ = ⊥
 
 -- Holds if reading at most `most` bytes of the named file may fail with this fault: error 18 (out of memory), or file
@@ -34,13 +39,13 @@ IsNotLocked _ name _ = ⊥
 -- isn't known (`IsKnownFile`).
 abbrev pub IsReadingFault : View → Text → ℕ → Fault → Type 0
 IsReadingFault view name most (end.Refused refusal) = refusal ≡ Memory
-IsReadingFault view name most (end.File file.Read of) =
+IsReadingFault view name most (end.File file.Read of cause) =
     (of.now ≡ name) × (ReadsFile name most None view ⊎ Happens view (Unread name))
 IsReadingFault view name most _ = ⊥
 
 -- Holds for file fault 1 with this name, if the file has more than `most` bytes or isn't known (`IsKnownFile`).
 abbrev pub IsTooLong : View → Text → ℕ → Fault → Type 0
-IsTooLong view name most (end.File file.Read of) =
+IsTooLong view name most (end.File file.Read of cause) =
     (of.now ≡ name) × ((bytes : List ℕ) × IsRead view name (most + 1) bytes × (most < length bytes))
 IsTooLong view name most _ = ⊥
 
@@ -51,8 +56,8 @@ IsTooLong view name most _ = ⊥
 -- - file fault 3 with this name, if the file has another length or isn't known (`IsKnownFile`)
 abbrev pub IsOpeningFault : View → Text → ℕ → Fault → Type 0
 IsOpeningFault view name len (end.Refused refusal) = refusal ≡ Memory
-IsOpeningFault view name len (end.File file.Read of) = (of.now ≡ name) × Happens view (Unread name)
-IsOpeningFault view name len (end.File file.Length of) =
+IsOpeningFault view name len (end.File file.Read of cause) = (of.now ≡ name) × Happens view (Unread name)
+IsOpeningFault view name len (end.File file.Length of cause) =
     (of.now ≡ name) × ((bytes : List ℕ) × IsRead view name (len + 1) bytes × (length bytes ≢ len))
 IsOpeningFault view name len _ = ⊥
 
@@ -64,11 +69,11 @@ IsOpeningFault view name len _ = ⊥
 --   fail to be synced
 -- - file fault 5 if another process may have locked the file
 abbrev pub IsLockingFault : View → Text → ℕ → Fault → Type 0
-IsLockingFault view name len (end.File file.Read of) =
+IsLockingFault view name len (end.File file.Read of cause) =
     (of.now ≡ name) × (ReadsFile name (len + 1) None view ⊎ Happens view (Unread name))
-IsLockingFault view name len (end.File file.Write of) =
+IsLockingFault view name len (end.File file.Write of cause) =
     (of.now ≡ name) × (Happens view (Unheld name) ⊎ Happens view (Unwritten name))
-IsLockingFault view name len (end.File file.Taken of) = (of.now ≡ name) × Happens view (Busy name)
+IsLockingFault view name len (end.File file.Taken of cause) = (of.now ≡ name) × Happens view (Busy name)
 IsLockingFault view name len fault = IsOpeningFault view name len fault
 
 -- Holds if locking a journal and reading at most `most` bytes of it may fail with this fault. It is a fault of
@@ -77,8 +82,8 @@ IsLockingFault view name len fault = IsOpeningFault view name len fault
 -- - file fault 2 if the file may fail to be opened for overwriting or to be locked
 -- - file fault 5 if another process may have locked the file
 abbrev pub IsSharingFault : View → Text → ℕ → Fault → Type 0
-IsSharingFault view name most (end.File file.Write of) = (of.now ≡ name) × Happens view (Unheld name)
-IsSharingFault view name most (end.File file.Taken of) = (of.now ≡ name) × Happens view (Busy name)
+IsSharingFault view name most (end.File file.Write of cause) = (of.now ≡ name) × Happens view (Unheld name)
+IsSharingFault view name most (end.File file.Taken of cause) = (of.now ≡ name) × Happens view (Busy name)
 IsSharingFault view name most fault = IsReadingFault view name most fault
 
 -- Holds if creating or truncating the file of this name may fail with this fault:
@@ -89,7 +94,7 @@ IsSharingFault view name most fault = IsReadingFault view name most fault
 -- - file fault 5 if another process may have locked the file
 abbrev pub IsMaking : View → Text → Fault → Type 0
 IsMaking view name (end.Refused refusal) = refusal ≡ Memory
-IsMaking view name (end.File file.Write of) = (of.now ≡ name) × Happens view (Unmade name)
-IsMaking view name (end.File file.Exists of) = (of.now ≡ name) × Happens view (There name)
-IsMaking view name (end.File file.Taken of) = (of.now ≡ name) × Happens view (Busy name)
+IsMaking view name (end.File file.Write of cause) = (of.now ≡ name) × Happens view (Unmade name)
+IsMaking view name (end.File file.Exists of cause) = (of.now ≡ name) × Happens view (There name)
+IsMaking view name (end.File file.Taken of cause) = (of.now ≡ name) × Happens view (Busy name)
 IsMaking view name _ = ⊥

@@ -3,6 +3,7 @@ pub mod Lines
 pub mod AnswerLines
 pub mod Escapes
 pub mod ReasonLines
+pub mod Causes
 pub mod FaultLines
 pub mod Printing
 pub mod Stored

@@ -10,6 +10,7 @@ use Rattle.nor_console.specs.declared.messages.Fault.{Fault}
 use Rattle.nor_console.specs.declared.messages.Fault.TheVariants as end
 use Rattle.nor_console.specs.declared.messages.FileFault.{FileFault}
 use Rattle.nor_console.specs.declared.messages.FileFault.TheVariants as file
+use Rattle.nor_console.specs.declared.causes.Cause.TheVariants as causes
 
 -- the number of each file fault
 abbrev pub file_number : FileFault → ℕ
@@ -36,5 +37,5 @@ output_name = codes "standard output"
 
 -- Holds if the fault is file fault 2 with the name of standard output.
 abbrev pub IsLostOutput : Fault → Type 0
-IsLostOutput (end.File file.Write of) = of.now ≡ output_name
+IsLostOutput (end.File file.Write of cause) = (of.now ≡ output_name) × (cause ≡ causes.Unknown)
 IsLostOutput fault = ⊥

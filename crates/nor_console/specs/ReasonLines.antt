@@ -34,7 +34,10 @@ reason_line (because.Operations first last) = concat (codes "error: " ∷ option
 reason_line (because.Range value) =
     concat (codes "error: invalid value of --wp-range: '" ∷ escaped value.now ∷ codes "'\n" ∷ [])
 reason_line (because.Progress value) =
-    concat (codes "error: invalid value of --progress: '" ∷ escaped value.now ∷ codes "'\n" ∷ [])
+    concat (codes "error: invalid value of --progress: '" ∷ escaped value.now
+    ∷ codes "'; give auto, plain or none\n" ∷ [])
+reason_line (because.Dash option) = concat (codes "error: '-' is no file for " ∷ option_text option
+    ∷ codes "; for a file with this name give ./-\n" ∷ [])
 reason_line (because.NoJournal option) = concat (codes "error: " ∷ option_text option ∷ codes " needs --journal\n" ∷ [])
 reason_line because.JournalAndRehearse = codes "error: --journal and --rehearse cannot be used together\n"
 reason_line (because.NoChange option) =

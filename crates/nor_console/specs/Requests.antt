@@ -47,12 +47,17 @@ request_for change named ranges = record {
   verify = change.verify;
 }
 
+-- the size of chip for which a flash descriptor or an FMAP is read: larger than any chip, so that a region outside the
+-- chip is refused only if it is included
+abbrev pub any_size : ℕ
+any_size = 4294967295
+
 -- Holds if the text is a layout of the given form with these regions. `Lines`: a text of lines. `Fmap` and
--- `Descriptor`: an image with an FMAP or a flash descriptor, for a chip that is as large as the image is long.
+-- `Descriptor`: an image with an FMAP or a flash descriptor, whose regions may lie outside the image and the chip.
 abbrev pub HasLayout : LayoutForm → (text : List ℕ) → List Region → Type 0
 HasLayout form.Lines text regions = IsLayout text regions
-HasLayout form.Fmap text regions = fmap_says (length text) text ≡ Ok regions
-HasLayout form.Descriptor text regions = descriptor_says (length text) text ≡ Ok regions
+HasLayout form.Fmap text regions = fmap_says any_size text ≡ Ok regions
+HasLayout form.Descriptor text regions = descriptor_says any_size text ≡ Ok regions
 
 -- Holds if the text is a layout of the given form, and each of the comma-separated `names` is the name of one of its
 -- regions. `ranges` must contain exactly the addresses of the named regions.
@@ -113,9 +118,9 @@ IsUnparsed text fault = IsNoLayout text fault
 abbrev pub LacksLayout : LayoutForm → (text : List ℕ) → Fault → Type 0
 LacksLayout form.Lines text (end.Layout fault) = IsUnparsed text fault
 LacksLayout form.Fmap text (end.Map fault) =
-    ReadsTable (fmap_says (length text) text) (AsksInFmap (length text) text) (Err fault)
+    ReadsTable (fmap_says any_size text) (AsksInFmap any_size text) (Err fault)
 LacksLayout form.Descriptor text (end.Map fault) =
-    ReadsTable (descriptor_says (length text) text) (AsksInDescriptor (length text) text) (Err fault)
+    ReadsTable (descriptor_says any_size text) (AsksInDescriptor any_size text) (Err fault)
 LacksLayout form text fault = ⊥
 
 -- Holds if parsing the text of the layout failed with this fault.

@@ -11,19 +11,19 @@ use Rattle.nor_console.specs.declared.messages.FileFault.TheVariants as file
 
 -- Holds for file fault 5 with the name `later`, if both names are given and may refer to one file.
 abbrev pub IsShared : Nature → (earlier later : Option (Bor Text)) → Fault → Type 0
-IsShared nature earlier later (end.File file.Taken of) = IsSomeAnd earlier (λ one. IsSomeAnd later (λ other.
+IsShared nature earlier later (end.File file.Taken of cause) = IsSomeAnd earlier (λ one. IsSomeAnd later (λ other.
     (of.now ≡ other.now) × (nature.fails (Shared one.now other.now) ≡ true)))
 IsShared nature earlier later _ = ⊥
 
 -- Holds for file fault 5 with this name, if the name is given and the program may print to this file.
 abbrev pub IsPrintedTo : Nature → Option (Bor Text) → Fault → Type 0
-IsPrintedTo nature named (end.File file.Taken of) = IsSomeAnd named (λ name.
+IsPrintedTo nature named (end.File file.Taken of cause) = IsSomeAnd named (λ name.
     (of.now ≡ name.now) × (nature.fails (Printed name.now) ≡ true))
 IsPrintedTo nature named _ = ⊥
 
 -- Holds for file fault 1 with this name, if the name is given and looking it up may fail.
 abbrev pub IsUnseenFile : Nature → Option (Bor Text) → Fault → Type 0
-IsUnseenFile nature named (end.File file.Read of) = IsSomeAnd named (λ name.
+IsUnseenFile nature named (end.File file.Read of cause) = IsSomeAnd named (λ name.
     (of.now ≡ name.now) × (nature.fails (Unread of.now) ≡ true))
 IsUnseenFile nature named _ = ⊥
 
@@ -41,5 +41,5 @@ FailsUnprinted nature name fault = IsPrintedTo nature name fault ⊎ IsUnseenFil
 -- Holds for file fault 1 with the name of standard output or standard error in `/dev/fd`, if looking up this name may
 -- fail.
 abbrev pub IsUnseenStream : Nature → Fault → Type 0
-IsUnseenStream nature (end.File file.Read of) = IsStreamName of.now × (nature.fails (Unread of.now) ≡ true)
+IsUnseenStream nature (end.File file.Read of cause) = IsStreamName of.now × (nature.fails (Unread of.now) ≡ true)
 IsUnseenStream nature _ = ⊥

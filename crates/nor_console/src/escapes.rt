@@ -1,12 +1,13 @@
-//! Names in messages, with their control characters escaped.
+//! Names in messages, with the characters escaped that a terminal doesn't show as themselves.
 
+use nor_args::is_hidden;
 use std::fmt;
 
-/// A name that is printed with its control characters escaped.
+/// A name that is printed with its control characters and its marks of text direction escaped (`is_hidden`).
 ///
-/// The control characters are U+0000 to U+001F and U+007F to U+009F. Each byte of their UTF-8 is printed as `\xNN`,
-/// with two lower-case hexadecimal digits. All other characters are printed unchanged, including the backslash. The
-/// printed name therefore contains neither a line feed nor an escape sequence for a terminal.
+/// Each byte of their UTF-8 is printed as `\xNN`, with two lower-case hexadecimal digits. All other characters are
+/// printed unchanged, including the backslash. The printed name therefore contains neither a line feed nor an escape
+/// sequence for a terminal, and is shown in the order of its characters.
 #[derive(Drop)]
 pub struct Escaped<'a>(pub &'a str);
 
@@ -24,7 +25,7 @@ impl fmt::Display for Escaped<'_> {
     }
 }
 
-// One character of a name, escaped if it is a control character.
+// One character of a name, escaped if a terminal doesn't show it as itself.
 #[derive(Drop)]
 struct EscapedCharacter(char);
 
@@ -35,7 +36,7 @@ impl fmt::Display for EscapedCharacter {
     ghost output = { λ shown. Some (escaped_character shown.0) };
 
     fn fmt<W: fmt::Write>(&self, f: &mut fmt::Formatter<W>) -> fmt::Result {
-        if !self.0.is_control() {
+        if !is_hidden(self.0) {
             return f.write_char(self.0);
         }
         let mut buffer = [0; 4];

@@ -9,10 +9,12 @@ ghost use Rattle.nor_journal.specs.Vault.{IsFresh};
 ghost use Rattle.nor_console.specs.Stored.{IsRead};
 ghost use Rattle.nor_console.specs.Files.{IsReadingFault, IsMaking, IsSharingFault, IsNotLocked, IsUnreadFault};
 ghost use Rattle.nor_console.specs.Messages.{IsLostOutput};
+ghost use Rattle.nor_console.specs.declared.causes.Cause.TheVariants as Causes;
 ghost use Rattle.nor_console.specs.declared.messages.Fault.TheVariants as Faults;
 ghost use Rattle.nor_console.specs.declared.messages.FileFault.TheVariants as FileFaults;
 ghost use Rattle.nor_request.specs.declared.refusal.Refusal.TheVariants as Refusals;
 
+use crate::causes::{Cause, SystemReason};
 use crate::messages::{Fault, FileFault};
 use nor_files::{CreateFault, LockFault, Store};
 use nor_session::Refusal;
@@ -40,7 +42,7 @@ pub fn read_file<'a, R: Store>(rt: &R, name: &'a str, most: u64) -> Result<Vec<u
 {
     match rt.read_named(name, most) {
         Ok(Some(bytes)) => Ok(bytes),
-        Ok(None) => Err(unread(name)),
+        Ok(None) => Err(unread_by(name, Cause::System(SystemReason::Missing))),
         Err(error) => Err(reading(error, name)),
     }
 }
@@ -52,16 +54,23 @@ pub fn reading(error: io::Error, name: &str) -> Fault<'_>
 {
     match error.kind() {
         ErrorKind::OutOfMemory => Fault::Refused(Refusal::Memory),
-        _ => unread(name),
+        _ => unread_by(name, Cause::System(SystemReason::of_reading(&error))),
     }
 }
 
-/// Returns file fault 1 with this name. `FileFault::Read` lists the reasons.
+/// Returns file fault 1 with this name, of which the cause isn't known. `FileFault::Read` lists the reasons.
 pub fn unread(name: &str) -> Fault<'_>
-    ensures { result ≡ Faults.File FileFaults.Read name.entry }
+    ensures { result ≡ Faults.File FileFaults.Read name.entry Causes.Unknown }
+{
+    unread_by(name, Cause::Unknown)
+}
+
+/// Returns file fault 1 with this name and this cause.
+pub fn unread_by(name: &str, cause: Cause) -> Fault<'_>
+    ensures { result ≡ Faults.File FileFaults.Read name.entry cause }
 {
     let fault = FileFault::Read;
-    Fault::File { fault, name }
+    Fault::File { fault, name, cause }
 }
 
 /// Creates the file `name` or truncates it, and returns a vault that writes to it. If `rt` is a `Disk` (the real files)
@@ -77,7 +86,7 @@ pub fn empty<'a, R: Store>(rt: &mut R, name: &'a str) -> Result<R::Filed, Fault<
 {
     match rt.vault_in(name) {
         Ok(vault) => Ok(vault),
-        Err(fault) => Err(making(fault, name)),
+        Err(fault) => Err(making(fault, name, Cause::Journal)),
     }
 }
 
@@ -98,7 +107,7 @@ pub fn make<'a, R: Store>(rt: &mut R, name: &'a str) -> Result<R::Filed, Fault<'
 {
     match rt.vault_in_new(name) {
         Ok(vault) => Ok(vault),
-        Err(fault) => Err(making(fault, name)),
+        Err(fault) => Err(making(fault, name, Cause::Exists)),
     }
 }
 
@@ -113,46 +122,62 @@ pub fn create_log<'a, R: Store>(rt: &mut R, name: &'a str) -> Result<BufWriter<R
 {
     let file = match rt.log_in(name) {
         Ok(file) => file,
-        Err(fault) => return Err(making(fault, name)),
+        Err(fault) => return Err(making(fault, name, Cause::Journal)),
     };
     BufWriter::new(rt.alloc(), file).map_err(|_| Fault::Refused(Refusal::Memory))
 }
 
 /// Returns the fault of a file that can't be created or truncated:
 ///
-/// - file fault 4 if the file exists and must be new, or if it is a journal, which the store `Disk` never truncates
+/// - file fault 4 if the file exists and must be new, or if it is a journal, which the store `Disk` never truncates;
+///   `there` is its cause
 /// - file fault 5 if another process has locked the file
 /// - error 18 if memory ran out (`CreateFault::Memory`)
 /// - file fault 2 for any other reason
-pub fn making(fault: CreateFault, name: &str) -> Fault<'_>
+pub fn making(fault: CreateFault, name: &str, there: Cause) -> Fault<'_>
     ensures { (view : View) → IsCreateFault view.nature name.now fault → IsMaking view name.now result }
 {
     match fault {
-        CreateFault::There => {
-            let fault = FileFault::Exists;
-            Fault::File { fault, name }
-        }
-        CreateFault::Busy => taken(name),
-        CreateFault::Unmade(_) => unmade(name),
+        CreateFault::There => exists(name, there),
+        CreateFault::Busy => taken_by(name, Cause::Locked),
+        CreateFault::Unmade(error) => unmade_by(
+            name,
+            Cause::System(SystemReason::of_making(&error)),
+        ),
         CreateFault::Memory => Fault::Refused(Refusal::Memory),
     }
 }
 
-/// Returns file fault 5: the file is in use, because it has another role in the run, another run has locked it, or the
-/// program prints to it.
-pub fn taken(name: &str) -> Fault<'_>
-    ensures { result ≡ Faults.File FileFaults.Taken name.entry }
+/// Returns file fault 4 with this name and this cause.
+pub fn exists(name: &str, cause: Cause) -> Fault<'_>
+    ensures { result ≡ Faults.File FileFaults.Exists name.entry cause }
 {
-    let fault = FileFault::Taken;
-    Fault::File { fault, name }
+    let fault = FileFault::Exists;
+    Fault::File { fault, name, cause }
 }
 
-/// Returns file fault 2 with this name. `FileFault::Write` lists the reasons.
+/// Returns file fault 5 with this name and this cause: the file is in use, because it has another role in the run,
+/// another run has locked it, or the program prints to it.
+pub fn taken_by(name: &str, cause: Cause) -> Fault<'_>
+    ensures { result ≡ Faults.File FileFaults.Taken name.entry cause }
+{
+    let fault = FileFault::Taken;
+    Fault::File { fault, name, cause }
+}
+
+/// Returns file fault 2 with this name, of which the cause isn't known. `FileFault::Write` lists the reasons.
 pub fn unmade(name: &str) -> Fault<'_>
-    ensures { result ≡ Faults.File FileFaults.Write name.entry }
+    ensures { result ≡ Faults.File FileFaults.Write name.entry Causes.Unknown }
+{
+    unmade_by(name, Cause::Unknown)
+}
+
+/// Returns file fault 2 with this name and this cause.
+pub fn unmade_by(name: &str, cause: Cause) -> Fault<'_>
+    ensures { result ≡ Faults.File FileFaults.Write name.entry cause }
 {
     let fault = FileFault::Write;
-    Fault::File { fault, name }
+    Fault::File { fault, name, cause }
 }
 
 /// Returns the fault of a failed write to standard output: file fault 2 with the name `standard output`.
@@ -198,7 +223,7 @@ pub fn unheld(fault: LockFault, name: &str) -> Fault<'_>
 {
     match fault {
         LockFault::Unread(error) => reading(error, name),
-        LockFault::Unheld => unmade(name),
-        LockFault::Busy => taken(name),
+        LockFault::Unheld => unmade_by(name, Cause::Unwritable),
+        LockFault::Busy => taken_by(name, Cause::Locked),
     }
 }

@@ -6,8 +6,9 @@
 //! - `answers.rt`: the result of a job
 //! - `calls.rt`: calls to the engine, with the files that they write (only flashnor-serprog makes backups)
 //! - `messages.rt`: the faults that end a run with exit status 1, and their texts
-//! - `reasons.rt`: the lines that precede the numbered line of a fault, and say what is wrong
-//! - `escapes.rt`: file names with their control characters escaped
+//! - `reasons.rt`: the lines that say what is wrong, and may precede the numbered line of a fault
+//! - `causes.rt`: why a file fault occurred, and the line that says so
+//! - `escapes.rt`: file names with the characters escaped that a terminal doesn't show as themselves
 //! - `printing.rt`: prints answers, help and faults
 //! - `files.rt`: reads, locks and creates the files of a job, and makes the faults of files
 //! - `requests.rt`: the request of a change, and its included addresses
@@ -21,6 +22,7 @@
 
 mod answers;
 mod calls;
+mod causes;
 mod escapes;
 mod files;
 mod messages;
@@ -35,16 +37,19 @@ pub use calls::{
     backup_in_file, erased, list_ranges, read_to_file, report_protection, session_in_file,
     verify_image,
 };
+pub use causes::{Cause, SystemReason};
 pub use escapes::Escaped;
 pub use files::{
-    MOST_IMAGE_BYTES, MOST_JOURNAL_BYTES, create_log, empty, lost_output, make, read_file,
-    read_journal, reading, taken, unheld, unmade, unread,
+    MOST_IMAGE_BYTES, MOST_JOURNAL_BYTES, create_log, empty, exists, lost_output, make, read_file,
+    read_journal, reading, taken_by, unheld, unmade, unmade_by, unread, unread_by,
 };
-pub use messages::{Fault, FileFault, or_fault};
-pub use printing::{help_of, print_answer, print_fault, print_help, version_of};
+pub use messages::{Fault, FileFault, Wording, or_fault};
+pub use printing::{
+    Digits, help_of, print_answer, print_fault, print_help, print_worded, version_of,
+};
 pub use reasons::text_of_flaw;
 pub use requests::{include_regions, read_included, read_layout, request_for};
 pub use roles::{
-    Named, apart, found_streams, is_printed, journal_of, look_ahead, named_by, unprinted,
+    Named, apart, apart_as, found_streams, is_printed, journal_of, look_ahead, named_by, unprinted,
 };
 pub use streams::{DIRECTORY, Streams, by_line, keep_streams};

@@ -2,8 +2,9 @@
 ghost use Rattle.std.specs.Prelude.{◌≡◌, Some};
 ghost use Rattle.nor_console.specs.Messages.{IsReportedAs};
 
+use crate::causes::{Cause, CauseLine};
 use crate::escapes::Escaped;
-use crate::reasons::{JournalLine, LayoutLine, ReasonLine};
+use crate::reasons::{JournalLine, LayoutLine, NO_JOURNAL, ReasonLine};
 use nor_args::{Reason, UsageFault};
 use nor_layout::LayoutFault;
 use nor_maps::MapFault;
@@ -67,7 +68,11 @@ pub enum Fault<'a> {
     File {
         fault: FileFault,
         name: &'a str,
+        cause: Cause,
     },
+    /// Error 15 for a file that is shorter than a journal, and doesn't begin as one. Its number is that of an
+    /// incomplete journal, journal fault 1.
+    NoJournal,
     /// An error with a number of the engine. A call to the engine returned it, or the program itself detected it, such
     /// as error 15 for an invalid journal or error 18 if memory ran out.
     Refused(Refusal),
@@ -122,37 +127,98 @@ impl From<AllocError> for Fault<'_> {
     }
 }
 
-// This `Display` is written by hand, because a derived one has no contract.
+/// What is printed for a fault.
+#[derive(Clone, Copy)]
+pub enum Wording {
+    /// The line with the fault's number. Scripts rely on it, so nothing else is printed.
+    Numbered,
+    /// First a line for the user that says what is wrong or, for a file fault, what its cause is, if there is such a
+    /// line.
+    Explained,
+}
+
 impl fmt::Display for Fault<'_> {
     ghost use Rattle.nor_console.specs.FaultLines.{text_of};
 
     ghost output = { text_of };
 
     fn fmt<W: fmt::Write>(&self, f: &mut fmt::Formatter<W>) -> fmt::Result {
-        match self {
-            Fault::Usage { fault, reason } => write!(f, "{}{fault}", ReasonLine(*reason)),
+        write!(f, "{}{}", Explanation(self), NumberedLine(self))
+    }
+}
+
+/// The line that says what is wrong, with its line feed, or no text if there is no such line.
+#[derive(Drop)]
+pub struct Explanation<'a>(pub &'a Fault<'a>);
+
+impl fmt::Display for Explanation<'_> {
+    ghost use Rattle.nor_console.specs.FaultLines.{explanation_of};
+
+    ghost output = { λ shown. Some (explanation_of shown.0.now) };
+
+    fn fmt<W: fmt::Write>(&self, f: &mut fmt::Formatter<W>) -> fmt::Result {
+        match self.0 {
+            Fault::Usage { reason, .. } => write!(f, "{}", ReasonLine(*reason)),
+            Fault::Layout(fault) => write!(f, "{}", LayoutLine(*fault)),
+            Fault::NoRegion { name } => {
+                let name = Escaped(name);
+                writeln!(f, "error: the layout has no region '{name}'")
+            }
+            Fault::NoJournal => f.write_str(NO_JOURNAL),
+            Fault::Refused(refusal) => write!(f, "{}", JournalLine(refusal)),
+            _ => Ok(()),
+        }
+    }
+}
+
+/// The line with the cause of a file fault, with its line feed, or no text for any other fault.
+#[derive(Drop)]
+pub struct FaultCause<'a>(pub &'a Fault<'a>);
+
+impl fmt::Display for FaultCause<'_> {
+    ghost use Rattle.nor_console.specs.FaultLines.{cause_of};
+
+    ghost output = { λ shown. Some (cause_of shown.0.now) };
+
+    fn fmt<W: fmt::Write>(&self, f: &mut fmt::Formatter<W>) -> fmt::Result {
+        let Fault::File { fault, name, cause } = self.0 else {
+            return Ok(());
+        };
+        let (fault, name, cause) = (*fault, *name, *cause);
+        write!(f, "{}", CauseLine { fault, name, cause })
+    }
+}
+
+/// The line with the number of a fault, without its line feed. For usage fault 1 the text of the argument parser
+/// precedes it.
+#[derive(Drop)]
+pub struct NumberedLine<'a>(pub &'a Fault<'a>);
+
+impl fmt::Display for NumberedLine<'_> {
+    ghost use Rattle.nor_console.specs.FaultLines.{numbered_line};
+
+    ghost output = { λ shown. numbered_line shown.0.now };
+
+    fn fmt<W: fmt::Write>(&self, f: &mut fmt::Formatter<W>) -> fmt::Result {
+        match self.0 {
+            Fault::Usage { fault, .. } => write!(f, "{fault}"),
             Fault::NoText => f.write_str(
                 "error: invalid UTF-8 was detected in one or more arguments\n\nUsage fault 1.",
             ),
             Fault::Layout(fault) => {
                 let (number, place) = (fault.number(), Place(fault.line()));
-                write!(f, "{}Layout fault {number}{place}.", LayoutLine(*fault))
+                write!(f, "Layout fault {number}{place}.")
             }
             Fault::Map(fault) => write!(f, "Map fault {}.", fault.number()),
-            Fault::NoRegion { name } => {
-                let name = Escaped(name);
-                write!(
-                    f,
-                    "error: the layout has no region '{name}'\nLayout fault 8."
-                )
-            }
-            Fault::File { fault, name } => {
+            Fault::NoRegion { .. } => f.write_str("Layout fault 8."),
+            Fault::File { fault, name, .. } => {
                 let name = Escaped(name);
                 write!(f, "File fault {}: {name}.", fault.number())
             }
+            Fault::NoJournal => f.write_str("Error 15: journal fault 1."),
             Fault::Refused(refusal) => {
                 let number = refusal.number();
-                write!(f, "{}Error {number}: {refusal}.", JournalLine(refusal))
+                write!(f, "Error {number}: {refusal}.")
             }
         }
     }

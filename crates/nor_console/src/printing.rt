@@ -1,13 +1,14 @@
 //! Prints the lines of a run's answer, the help, or the fault that ended the run.
 ghost use Rattle.std.specs.Prelude.{◌≡◌, IsTrue, IsSome, IsNone, OnOk, IfSome, Err, flat_map};
+ghost use Rattle.std.specs.Fmt.{with_newline};
 ghost use Rattle.std.specs.Io.KnownBytes.{Appends};
 ghost use Rattle.nor_probe.specs.Table.{chips};
 ghost use Rattle.nor_console.specs.AnswerLines.{AreLines, AreRangeLines, chip_line, chip_lines, counts_line, done_lines, found_line, restored_line, how_it_went, name_line, protected_line, protection_lines, range_line, read_lines, rehearsal_lines, restores_line, size_line, stop_line, verified_lines};
-ghost use Rattle.nor_console.specs.FaultLines.{line_of};
+ghost use Rattle.nor_console.specs.FaultLines.{line_of, text_of};
 ghost use Rattle.nor_console.specs.Printing.{AsksForVersion, IsAnswered, Prints};
 
 use crate::answers::Answer;
-use crate::messages::Fault;
+use crate::messages::{Fault, FaultCause, NumberedLine, Wording};
 use clap::Error as WordsError;
 use clap::error::ErrorKind;
 use nor_args::UsageFault;
@@ -236,9 +237,9 @@ fn print_protected<W: Write>(output: &mut W, range: (u32, u32)) -> io::Result<()
     writeln!(output, "0x{start:06x},0x{len:06x}")
 }
 
-// An ID that is printed as six hexadecimal digits.
+/// An ID that is printed as six hexadecimal digits.
 #[derive(Drop)]
-struct Digits([u8; 3]);
+pub struct Digits(pub [u8; 3]);
 
 impl fmt::Display for Digits {
     ghost use Rattle.std.specs.Prelude.{Some};
@@ -253,9 +254,22 @@ impl fmt::Display for Digits {
     }
 }
 
-/// Prints the text of a fault and a line feed. Returns true if no write to `errors` failed.
+/// Prints the text of a fault and a line feed. If there is a line that says what is wrong, it comes first. Returns true
+/// if no write to `errors` failed.
 pub fn print_fault<W: Write>(errors: &mut W, fault: &Fault<'_>) -> bool
-    ensures { IsTrue result → IfSome (line_of fault.now) (Appends (W.contents errors.old) (W.contents errors.new)) }
+    ensures { IsTrue result → IfSome (with_newline (text_of fault.now))
+        (Appends (W.contents errors.old) (W.contents errors.new)) }
 {
     writeln!(errors, "{fault}").is_ok()
+}
+
+/// Prints the text of a fault in this wording and a line feed. Returns true if no write to `errors` failed.
+pub fn print_worded<W: Write>(errors: &mut W, fault: &Fault<'_>, wording: Wording) -> bool
+    ensures { IsTrue result
+        → IfSome (line_of wording fault.now) (Appends (W.contents errors.old) (W.contents errors.new)) }
+{
+    match wording {
+        Wording::Numbered => writeln!(errors, "{}", NumberedLine(&*fault)).is_ok(),
+        Wording::Explained => writeln!(errors, "{}{fault}", FaultCause(&*fault)).is_ok(),
+    }
 }

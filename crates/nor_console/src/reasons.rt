@@ -1,4 +1,4 @@
-//! The lines that say what is wrong, such as `error: the option -p is missing`. Each of these lines is printed before
+//! The lines that say what is wrong, such as `error: the option -p is missing`. If such a line is printed, it precedes
 //! the numbered line of its fault.
 ghost use Rattle.std.specs.Prelude.{◌≡◌, Some};
 ghost use Rattle.nor_console.specs.ReasonLines.{flaw_text, line_fault_text};
@@ -41,7 +41,17 @@ impl fmt::Display for ReasonLine<'_> {
             }
             Reason::Progress(value) => {
                 let value = Escaped(value);
-                writeln!(f, "error: invalid value of --progress: '{value}'")
+                writeln!(
+                    f,
+                    "error: invalid value of --progress: '{value}'; give auto, plain or none"
+                )
+            }
+            Reason::Dash(option) => {
+                let option = option.as_str();
+                writeln!(
+                    f,
+                    "error: '-' is no file for {option}; for a file with this name give ./-"
+                )
             }
             Reason::NoJournal(option) => {
                 writeln!(f, "error: {} needs --journal", option.as_str())
@@ -116,6 +126,9 @@ fn text_of_line(fault: LineFault) -> &'static str
     }
 }
 
+/// The line for a file that doesn't begin as a journal.
+pub const NO_JOURNAL: &str = "error: the file is no journal, or is damaged\n";
+
 /// The line that says what may be wrong with an invalid journal (never sealed, cut off, damaged, or no journal), or no
 /// text for any other error.
 #[derive(Drop)]
@@ -131,9 +144,7 @@ impl fmt::Display for JournalLine<'_> {
             Refusal::BadJournal(JournalFault::Short) => {
                 f.write_str("error: the journal was never sealed, or was cut off later\n")
             }
-            Refusal::BadJournal(JournalFault::Magic) => {
-                f.write_str("error: the file is no journal, or is damaged\n")
-            }
+            Refusal::BadJournal(JournalFault::Magic) => f.write_str(NO_JOURNAL),
             Refusal::BadJournal(_) => f.write_str("error: the journal is damaged\n"),
             _ => Ok(()),
         }

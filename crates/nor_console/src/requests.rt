@@ -10,7 +10,8 @@ ghost use Rattle.nor_console.specs.Requests.{IsLayoutText, LacksLayout, LacksSho
 ghost use Rattle.nor_console.specs.Requests.{request_for, what_of};
 ghost use Rattle.nor_console.specs.declared.messages.Fault.TheVariants as Faults;
 
-use crate::files::{MOST_LAYOUT_BYTES, read_file, unread};
+use crate::causes::Cause;
+use crate::files::{MOST_LAYOUT_BYTES, read_file, unread_by};
 use crate::messages::Fault;
 use nor_args::{Change, LayoutForm, Reason, Regions, UsageFault, Wanted};
 use nor_files::Store;
@@ -45,8 +46,8 @@ pub fn read_included<'a, R: Store>(
 }
 
 /// Reads the layout of these regions from its file. If it has no file, reads it from `shown`, the bytes that the chip
-/// returned. If the layout is an FMAP or a flash descriptor, the length of the file or of `shown` is taken as the size
-/// of the chip.
+/// returned. The regions of an FMAP or of a flash descriptor may lie outside the file and the chip: a region outside
+/// the chip is refused only if it is included.
 ///
 /// Returns one of these faults:
 ///
@@ -81,7 +82,7 @@ fn read_layout_file<'a, R: Store>(rt: &R, name: &'a str) -> Result<Vec<u8>, Faul
 {
     let text = read_file(rt, name, MOST_LAYOUT_BYTES + 1)?;
     if text.len() as u64 > MOST_LAYOUT_BYTES {
-        return Err(unread(name));
+        return Err(unread_by(name, Cause::LongLayout));
     }
     Ok(text)
 }
@@ -103,24 +104,26 @@ fn shown_layout<'b>(shown: Option<&'b [u8]>) -> Result<&'b [u8], Fault<'static>>
     }
 }
 
+// The size of chip for which a flash descriptor or an FMAP is read. It is larger than that of any chip, because boards
+// with two chips have a table with the regions of both.
+const ANY_SIZE: u32 = u32::MAX;
+
 // Parses `text` as a layout of the given form.
 #[tactic(auto, using(crate::proofs::Included::is_unparsed))]
 fn parse_layout<'a>(alloc: Global, form: LayoutForm, text: &[u8]) -> Result<Layout, Fault<'a>>
-    requires { length text.now ≤ 16777216 }
     ensures ok { IfOk result (λ layout. HasLayout form text.now layout) }
     ensures err { IfErr result (LacksLayout form text.now) }
 {
-    let size = text.len() as u32;
     match form {
         LayoutForm::Lines => match Layout::read(alloc, text) {
             Ok(layout) => Ok(layout),
             Err(fault) => Err(Fault::Layout(fault)),
         },
-        LayoutForm::Fmap => match read_fmap(alloc, text, size) {
+        LayoutForm::Fmap => match read_fmap(alloc, text, ANY_SIZE) {
             Ok(layout) => Ok(layout),
             Err(fault) => Err(Fault::Map(fault)),
         },
-        LayoutForm::Descriptor => match read_descriptor(alloc, text, size) {
+        LayoutForm::Descriptor => match read_descriptor(alloc, text, ANY_SIZE) {
             Ok(layout) => Ok(layout),
             Err(fault) => Err(Fault::Map(fault)),
         },

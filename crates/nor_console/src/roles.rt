@@ -8,7 +8,8 @@ ghost use Rattle.nor_console.specs.Stored.{AreTwo};
 ghost use Rattle.nor_console.specs.declared.messages.Fault.TheVariants as Faults;
 ghost use Rattle.nor_request.specs.declared.refusal.Refusal.TheVariants as Refusals;
 
-use crate::files::{taken, unread};
+use crate::causes::Cause;
+use crate::files::{taken_by, unread};
 use crate::messages::Fault;
 use nor_args::{Change, JournalUse, Regions, Task, Wanted};
 use nor_files::{Store, Stream};
@@ -102,12 +103,25 @@ pub fn apart<'a, R: Store>(
     ensures ok { OnOk result (AreTwo (R.state rt.now).view.nature earlier.entry later.entry) }
     ensures err { IfErr result (FailsApart (R.state rt.now).view.nature earlier.entry later.entry) }
 {
+    apart_as(rt, earlier, later, Cause::Unknown)
+}
+
+/// Checks the two names as `apart` does. File fault 5 has this cause.
+pub fn apart_as<'a, R: Store>(
+    rt: &R,
+    earlier: Option<&'a str>,
+    later: Option<&'a str>,
+    cause: Cause,
+) -> Result<(), Fault<'a>>
+    ensures ok { OnOk result (AreTwo (R.state rt.now).view.nature earlier.entry later.entry) }
+    ensures err { IfErr result (FailsApart (R.state rt.now).view.nature earlier.entry later.entry) }
+{
     let (Some(one), Some(other)) = (earlier, later) else {
         return Ok(());
     };
     match rt.is_one_file(one, other) {
         Ok(false) => Ok(()),
-        Ok(true) => Err(taken(other)),
+        Ok(true) => Err(taken_by(other, cause)),
         Err(name) => Err(unread(name)),
     }
 }
@@ -122,7 +136,7 @@ pub fn unprinted<'a, R: Store>(rt: &R, name: Option<&'a str>) -> Result<(), Faul
         return Ok(());
     };
     if is_printed(rt, Stream::Output, name)? || is_printed(rt, Stream::Errors, name)? {
-        return Err(taken(named));
+        return Err(taken_by(named, Cause::Printed));
     }
     Ok(())
 }

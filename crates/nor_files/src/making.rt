@@ -6,7 +6,7 @@ use crate::locks::LockFile;
 use crate::store::CreateFault;
 use nor_journal::{FIRST_MAGIC, MAGIC};
 use std::fs::{Metadata, OpenFile, OpenOptions};
-use std::io::{ErrorKind, Read, Seek, Write};
+use std::io::{ErrorKind, Read, Seek, SeekFrom, Write};
 use std::os::unix::fs::OpenOptionsExt;
 use std::rt::Files;
 use std::{fs, io};
@@ -123,6 +123,38 @@ impl<F: OpenFile> LogFile<F> {
             self.is_old = false;
         }
         Ok(())
+    }
+}
+
+impl<F: OpenFile + Read + Seek> LogFile<F> {
+    /// Returns whether the file is empty, or begins with these bytes. A FIFO, a device or a terminal isn't read, and the
+    /// result is true. The file is read through the descriptor that is written later, so no other file is judged.
+    pub fn is_empty_or_begins(&mut self, start: &[u8]) -> io::Result<bool> {
+        if !self.is_old {
+            return Ok(true);
+        }
+        self.file.rewind()?;
+        for (at, byte) in start.iter().enumerate() {
+            let mut found = [0];
+            match self.file.read_exact(&mut found) {
+                Ok(()) if found == [*byte] => {}
+                Ok(()) => return Ok(false),
+                Err(error) if error.kind() == ErrorKind::UnexpectedEof => return Ok(at == 0),
+                Err(error) => return Err(error),
+            }
+        }
+        self.file.rewind()?;
+        Ok(true)
+    }
+
+    /// Keeps the bytes of the file: it isn't truncated, and what is written follows them. Returns whether it has any.
+    pub fn append(&mut self) -> io::Result<bool> {
+        if !self.is_old {
+            return Ok(false);
+        }
+        self.is_old = false;
+        let length = self.file.seek(SeekFrom::End(0))?;
+        Ok(length > 0)
     }
 }
 

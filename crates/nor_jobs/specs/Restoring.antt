@@ -3,6 +3,7 @@ use Rattle.std.specs.Prelude.{◌≡◌, ◌⊎◌, ℕ, Bool, true, false, List
 use Rattle.nor_model.specs.Bus.{BusState}
 use Rattle.nor_apply.specs.Applying.{ErasesFirst}
 use Rattle.nor_journal.specs.Fault.{HasFault}
+use Rattle.nor_journal.specs.declared.fault.JournalFault.TheVariants.{Short}
 use Rattle.nor_journal.specs.Saved.{is_saved}
 use Rattle.nor_journal.specs.Text.{Content as Journal}
 use Rattle.nor_probe.specs.Known.{IsModelled}
@@ -19,8 +20,10 @@ use Rattle.nor_console.specs.declared.messages.Fault.{Fault}
 use Rattle.nor_console.specs.declared.messages.Fault.TheVariants as end
 use Rattle.nor_jobs.specs.Finding.{FailsToName, IsNamedFirst}
 
--- Holds if `bytes` are no journal and the fault is error 15, which contains the first fault of the bytes.
+-- Holds if `bytes` are no journal and the fault is error 15, which contains the first fault of the bytes. `NoJournal`
+-- contains journal fault 1.
 abbrev pub IsNoJournal : (bytes : List ℕ) → Fault → Type 0
+IsNoJournal bytes end.NoJournal = HasFault bytes Short
 IsNoJournal bytes (end.Refused (BadJournal why)) = HasFault bytes why
 IsNoJournal bytes _ = ⊥
 

@@ -5,20 +5,31 @@ ghost use Rattle.nor_jobs.specs.Restoring.{HasRestoredNamed, HasRunRestore, IsNo
 
 use crate::finding::check_name;
 use nor_console::{Answer, Fault, Outcome};
-use nor_journal::Journal;
+use nor_journal::{FIRST_MAGIC, Journal, JournalFault, MAGIC};
 use nor_model::Bus;
 use nor_probe::ChipName;
 use nor_session::{Announcement, Refusal, restore_announced, rewrite_announced};
 
-/// Returns the journal that `bytes` encode, or error 15 with the first fault of the bytes.
+/// Returns the journal that `bytes` encode, or error 15 with the first fault of the bytes. If they are too short, and
+/// don't begin as a journal, the fault is `NoJournal`.
 pub fn journal_in<'a, 'b>(bytes: &'b [u8]) -> Result<Journal<'b>, Fault<'a>>
     ensures ok { IfOk result (λ journal. IsContent journal × (bytes.now ≡ text journal)) }
     ensures err { IfErr result (IsNoJournal bytes.now) }
 {
     match Journal::read(bytes) {
         Ok(journal) => Ok(journal),
+        Err(JournalFault::Short) if !begins_as_journal(bytes) => Err(Fault::NoJournal),
         Err(fault) => Err(Fault::Refused(Refusal::BadJournal(fault))),
     }
+}
+
+// True if the first eight bytes are those of a journal, or if there are fewer and a journal begins with them.
+fn begins_as_journal(bytes: &[u8]) -> bool {
+    let start = match bytes.get(..MAGIC.len()) {
+        Some(start) => start,
+        None => bytes,
+    };
+    MAGIC.starts_with(start) || FIRST_MAGIC.starts_with(start)
 }
 
 /// Restores the chip from a journal. If `quick` is true, reads the saved sectors and writes only those that differ

@@ -38,7 +38,7 @@ pub enum Failure<C> {
     CutFrame,
     /// 65,536 bytes were received without the expected reply: the reply to the first NOP, or the replies to the
     /// sequence of NOP and SYNCNOP that follows.
-    #[error("the programmer did not reply to SYNCNOP as it must")]
+    #[error("the programmer gave a wrong reply to SYNCNOP")]
     NoSync,
 }
 

@@ -3,7 +3,8 @@ ghost use Rattle.std.specs.Prelude.{◌≡◌, ◌&&◌, ◌||◌, is_some, not}
 ghost use Rattle.nor_args.specs.Given.{asks_change, gives_layout, has_two_layouts, how_many, is_new_content};
 ghost use Rattle.nor_args.specs.Given.{layouts_given, operations, progress_of, takes_regions};
 ghost use Rattle.nor_args.specs.Faults.{first_fault, has_unneeded, has_unneeded_for_journal, has_wrong_journal};
-ghost use Rattle.nor_args.specs.Faults.{has_wrong_regions, is_no, lacks_check, passes_test, usage_faults};
+ghost use Rattle.nor_args.specs.Faults.{has_wrong_regions, has_wrong_value, is_no, lacks_check, passes_test};
+ghost use Rattle.nor_args.specs.Faults.{usage_faults};
 ghost use Rattle.nor_args.specs.Numbers.{range_of};
 ghost use Rattle.nor_args.specs.Programmer.{has_stop, is_programmer_text};
 ghost use Rattle.nor_args.specs.Stops.{stops_of};
@@ -26,7 +27,7 @@ impl Given<'_> {
             Some(UsageFault::Programmer)
         } else if self.operations() > 1 {
             Some(UsageFault::TwoOperations)
-        } else if self.has_wrong_range() || self.has_wrong_progress() {
+        } else if self.has_wrong_value() {
             Some(UsageFault::Range)
         } else if self.has_wrong_journal() {
             Some(UsageFault::Journal)
@@ -55,8 +56,15 @@ impl Given<'_> {
         self.programmer.is_some() && self.parsed_programmer().is_none()
     }
 
+    // Fault 5: true if `has_wrong_range`, `has_wrong_progress` or `dashed` finds a value that its option can't have.
+    fn has_wrong_value(&self) -> bool
+        ensures { result ≡ has_wrong_value (texts_of self.now) }
+    {
+        self.has_wrong_range() || self.has_wrong_progress() || self.dashed().is_some()
+    }
+
     // Fault 5: true if the value of `--wp-range` isn't a start and a length.
-    fn has_wrong_range(&self) -> bool
+    pub(super) fn has_wrong_range(&self) -> bool
         ensures { result ≡ is_no (reads range_of) (texts_of self.now).wp_range }
     {
         self.wp_range.is_some() && self.parsed_range().is_none()

@@ -2,7 +2,8 @@
 ghost use Rattle.std.specs.Prelude.{◌≡◌, reverse};
 ghost use Rattle.nor_args.specs.Given.{texts_of};
 ghost use Rattle.nor_args.specs.Reasons.{IsProgrammerReason, IsReason, IsWrongMode, IsWrongRange, IsWrongStops};
-ghost use Rattle.nor_args.specs.Reasons.{change_option, first_given, layout_choices};
+ghost use Rattle.nor_args.specs.Faults.{dashed, first_given};
+ghost use Rattle.nor_args.specs.Reasons.{change_option, dash_reason, layout_choices};
 ghost use Rattle.nor_args.specs.declared.words.UsageFault.TheVariants.{Range};
 ghost use Rattle.nor_args.specs.Reasons.{journal_reason, operation_choices, operations_reason, regions_reason};
 ghost use Rattle.nor_args.specs.Reasons.{journal_option_reason, unneeded_reason};
@@ -114,8 +115,19 @@ impl<'a> Given<'a> {
     {
         if self.has_wrong_progress() {
             self.progress_reason()
-        } else {
+        } else if self.has_wrong_range() {
             self.range_reason()
+        } else {
+            self.dash_reason()
+        }
+    }
+
+    fn dash_reason(&self) -> Reason<'a>
+        ensures { result ≡ dash_reason (dashed (texts_of self.now)) }
+    {
+        match self.dashed() {
+            Some(option) => Reason::Dash(option),
+            None => Reason::Unsaid,
         }
     }
 

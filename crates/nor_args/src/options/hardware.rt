@@ -1,8 +1,10 @@
 //! The options that only programs for hardware have, such as flashnor-serprog.
 ghost use Rattle.std.specs.Prelude.{◌≡◌, map};
-ghost use Rattle.nor_args.specs.Options.{chosen, own_rules};
+ghost use Rattle.nor_args.specs.Options.{IsOption, by_name, chosen, hardware_form, long_form, own_rules};
 
 use crate::options::Choice;
+use clap::{Arg, ArgAction};
+use std::alloc::Global;
 
 // The options that only programs for hardware have, except `-R`, in the order of the help. The help prints them after
 // the options of `CHOICES`, and before `-R` and `-h`.
@@ -89,7 +91,7 @@ static HARDWARE_CHOICES: [Choice; 16] = [
         letter: None,
         name: "progress",
         value: Some("MODE"),
-        help: "How to show progress: auto, plain or none",
+        help: "How to show progress: auto (default), plain, none",
     },
     Choice {
         letter: Some('V'),
@@ -110,4 +112,47 @@ pub(super) fn hardware_choices() -> &'static [Choice; 16]
     ensures { map chosen result.now ≡ own_rules }
 {
     &HARDWARE_CHOICES
+}
+
+impl Choice {
+    // Returns the help of this option in a program for hardware, which has more layouts than flashnor.
+    fn hardware_help(&self) -> &'static str {
+        if self.name == "include" {
+            "The regions to include, separated by commas; with a layout"
+        } else {
+            self.help
+        }
+    }
+
+    // Returns the option that this row describes in a program for hardware. `-V` may be repeated, as in flashrom.
+    pub(super) fn hardware_option<'a>(&self, alloc: Global) -> Arg<'a>
+        ensures { IsOption (hardware_form (chosen self.now)) result }
+    {
+        if self.name == "verbose" {
+            self.named_in_full(alloc).action(ArgAction::Count)
+        } else {
+            self.long_option(alloc)
+        }
+    }
+
+    // Returns the option that this row describes, with a long name. `--progress` without a mode means `auto`.
+    fn long_option<'a>(&self, alloc: Global) -> Arg<'a>
+        ensures { IsOption (long_form (chosen self.now)) result }
+    {
+        let option = self.named_in_full(alloc);
+        if self.name == "progress" {
+            option.num_args(0..=1).default_missing_value("auto")
+        } else {
+            option
+        }
+    }
+
+    // Returns the option that this row describes, with a long name and the help for a program for hardware.
+    fn named_in_full<'a>(&self, alloc: Global) -> Arg<'a>
+        ensures { IsOption (by_name (chosen self.now)) result }
+    {
+        self.option(alloc)
+            .long(self.name)
+            .help(self.hardware_help())
+    }
 }

@@ -1,0 +1,46 @@
+//! How a chip is named in a line: by its name and its ID.
+
+use nor_probe::{ChipName, part_for};
+use std::fmt;
+
+/// The name in the row for this ID, a row of the table or a further row, or `SFDP` without a row. Then the ID.
+#[derive(Clone, Copy, Drop)]
+pub struct ChipText(pub [u8; 3]);
+
+impl fmt::Display for ChipText {
+    fn fmt<W: fmt::Write>(&self, f: &mut fmt::Formatter<W>) -> fmt::Result {
+        let name = match part_for(true, self.0) {
+            Some(part) => part.name.as_str(),
+            None => ChipName::Sfdp.as_str(),
+        };
+        write!(f, "{name} ({})", Hex(self.0))
+    }
+}
+
+/// The sentence that says which chip is connected, and how to name it.
+#[derive(Clone, Copy, Drop)]
+pub struct Connected(pub [u8; 3]);
+
+impl fmt::Display for Connected {
+    fn fmt<W: fmt::Write>(&self, f: &mut fmt::Formatter<W>) -> fmt::Result {
+        match part_for(true, self.0) {
+            Some(_) => write!(f, "The connected chip is {}.", ChipText(self.0)),
+            None => write!(
+                f,
+                "The connected chip has the ID {}, and only its SFDP is known: its name for -c is SFDP.",
+                Hex(self.0)
+            ),
+        }
+    }
+}
+
+/// An ID as six hexadecimal digits.
+#[derive(Clone, Copy, Drop)]
+pub struct Hex(pub [u8; 3]);
+
+impl fmt::Display for Hex {
+    fn fmt<W: fmt::Write>(&self, f: &mut fmt::Formatter<W>) -> fmt::Result {
+        let [maker, kind, capacity] = self.0;
+        write!(f, "{maker:02x}{kind:02x}{capacity:02x}")
+    }
+}

@@ -1,0 +1,56 @@
+//! The two bits that lock a chip's status: which of them is set, and what to do.
+
+/// SRP0 in status 1 (W25Q64FV datasheet, Status Register Protect).
+pub const SRP0: u8 = 0x80;
+
+/// SRP1 in status 2.
+pub const SRP1: u8 = 0x01;
+
+/// Which of the bits are set that lock the status.
+#[derive(Clone, Copy, PartialEq)]
+pub enum Lock {
+    Open,
+    /// SRP0 only: the status is locked while WP# is low.
+    Pin,
+    /// SRP1 only: the status is locked until the chip loses its power.
+    Power,
+    /// Both: on some chips the status is locked for good.
+    Both,
+}
+
+impl Lock {
+    /// Returns which bits are set in these status bytes, status 1 first.
+    pub fn of(status: [u8; 2]) -> Lock {
+        match (status[0] & SRP0 != 0, status[1] & SRP1 != 0) {
+            (false, false) => Lock::Open,
+            (true, false) => Lock::Pin,
+            (false, true) => Lock::Power,
+            (true, true) => Lock::Both,
+        }
+    }
+
+    /// Returns the line after that of error 9: which bit is set, and what to do.
+    pub fn advice(self) -> &'static str {
+        match self {
+            Lock::Open => "Neither SRP0 nor SRP1 is set now: repeat the run.",
+            Lock::Pin => "SRP0 is set. Clear it while WP# is high (--wp-disable).",
+            Lock::Power =>
+                "SRP1 is set. Clear it by a power cycle: disconnect the chip from power.",
+            Lock::Both => "SRP0 and SRP1 are set: the status may be locked for good.",
+        }
+    }
+
+    /// Returns the end of the line after that of error 10, which says how to lift the protection.
+    pub fn advice_to_unlock(self) -> &'static str {
+        match self {
+            Lock::Open => ", or use --unlock.",
+            Lock::Pin => {
+                ". SRP0 is set: to lift the protection, clear it while WP# is high (--wp-disable), then use --unlock."
+            }
+            Lock::Power => {
+                ". SRP1 is set: to lift the protection, disconnect the chip from power, then use --unlock."
+            }
+            Lock::Both => { ". SRP0 and SRP1 are set: the protection may be there for good." }
+        }
+    }
+}

@@ -1,0 +1,26 @@
+//! The lines that the bus of `progress.rt` prints if nothing is printed for a minute.
+ghost use Rattle.std.specs.Prelude.{◌≡◌};
+
+use super::Shown;
+use crate::gauge::micros_between;
+use crate::terminal::Look;
+use std::fmt;
+
+// In microseconds.
+const MINUTE: u64 = 60_000_000;
+
+impl<B> Shown<'_, B> {
+    // With `Look::Minutes`, prints this line if nothing was printed for a minute.
+    pub(super) fn print_each_minute<T: fmt::Display>(&mut self, line: &T)
+        ensures { self.new.bus ≡ self.old.bus }
+    {
+        if self.terminal.look() != Look::Minutes {
+            return;
+        }
+        let now = self.terminal.now();
+        if micros_between(self.said, now) >= MINUTE {
+            self.said = now;
+            self.terminal.print_shown(line);
+        }
+    }
+}

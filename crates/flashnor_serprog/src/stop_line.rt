@@ -1,0 +1,127 @@
+//! The line that follows the line of error 12: the cause, what to do, and what a job that failed left.
+
+use crate::port::PortFault;
+use crate::quoted::Quoted;
+use crate::status_line::{DIFFERED, OtherLine, StatusLine, keeps_srp0};
+use crate::trouble::FailureText;
+use nor_buses::{CheckFault, OtherChip};
+use nor_console::Escaped;
+use nor_serprog::Failure;
+use std::fmt;
+
+/// The line that follows the line of error 12. It has the reason why the bus stopped, advice, and what the job left.
+#[derive(Drop)]
+pub struct StopLine<'a> {
+    /// The two unique IDs, if the chip was another one before the first modifying command.
+    pub other: Option<OtherChip>,
+    /// The reason why a transaction failed, if one did.
+    pub failure: Option<&'a Failure<PortFault>>,
+    /// Why the replies of the chip are not believed, or what was wrong with a status write, if something was.
+    pub status: Option<CheckFault>,
+    /// True if two reads of the same bytes differed.
+    pub differed: bool,
+    /// What the job left.
+    pub left: Left<'a>,
+}
+
+/// What a job that failed left, displayed as one or two sentences, each after a space, or as nothing.
+#[derive(Clone, Copy, Drop)]
+pub enum Left<'a> {
+    /// The job changes no chip.
+    Reading,
+    /// A session that sent no modifying command.
+    Unchanged,
+    /// A session that may have sent a modifying command, or a restore: the chip may be changed, and can be restored
+    /// from this journal.
+    Changed {
+        journal: Option<&'a str>,
+        /// True for a session with `--unlock` if the status of the chip may have protected an address. The session then
+        /// may have lifted the protection.
+        may_be_unprotected: bool,
+    },
+    /// A session or a restore that was completed. Only the comparison after it failed, which another line says.
+    Completed,
+    /// A change of SRP0 that may have sent its status write: SRP0 may have either value.
+    EitherLock,
+}
+
+impl fmt::Display for Left<'_> {
+    fn fmt<W: fmt::Write>(&self, f: &mut fmt::Formatter<W>) -> fmt::Result {
+        let Left::Changed {
+            journal,
+            may_be_unprotected,
+        } = *self
+        else {
+            return match self {
+                Left::Unchanged => f.write_str(" The chip was not changed."),
+                Left::EitherLock => {
+                    f.write_str(
+                        " Then repeat the run: until it succeeds, SRP0 may have either value.",
+                    )
+                }
+                _ => Ok(()),
+            };
+        };
+        match journal {
+            Some(name) => write!(
+                f,
+                " Then restore the chip with --restore {}.",
+                JournalName(name)
+            )?,
+            None => f.write_str(" Then restore the chip with --restore and the journal.")?,
+        }
+        if may_be_unprotected {
+            f.write_str(" Until then it may be unprotected.")?;
+        }
+        Ok(())
+    }
+}
+
+// The name of a journal after `--restore`: as an argument to copy or, if it can't be copied, as a text.
+#[derive(Clone, Copy, Drop)]
+struct JournalName<'a>(&'a str);
+
+impl fmt::Display for JournalName<'_> {
+    fn fmt<W: fmt::Write>(&self, f: &mut fmt::Formatter<W>) -> fmt::Result {
+        match Quoted::new(self.0) {
+            Some(name) => write!(f, "{name}"),
+            None => write!(
+                f,
+                "and the journal, whose name can't be copied: {}",
+                Escaped(self.0)
+            ),
+        }
+    }
+}
+
+impl fmt::Display for StopLine<'_> {
+    fn fmt<W: fmt::Write>(&self, f: &mut fmt::Formatter<W>) -> fmt::Result {
+        if let Some(other) = self.other {
+            return write!(f, "{}{}", OtherLine(other), self.left);
+        }
+        match (self.failure, self.status) {
+            (Some(failure), _) => write!(f, "Cause: {}. {UNPLUG}", FailureText(failure))?,
+            (None, Some(fault)) => {
+                write!(f, "{}", StatusLine(fault))?;
+                if is_ignored(fault) && matches!(self.left, Left::EitherLock) {
+                    return Ok(());
+                }
+            }
+            (None, None) if self.differed => f.write_str(DIFFERED)?,
+            (None, None) => f.write_str("Cause: unknown.")?,
+        }
+        write!(f, "{}", self.left)
+    }
+}
+
+// True if the chip ignored a status write that was to clear SRP0, so that SRP0 is known to be set.
+fn is_ignored(fault: CheckFault) -> bool {
+    match fault {
+        CheckFault::NotStored { sent, found } => keeps_srp0(sent, found),
+        _ => false,
+    }
+}
+
+const UNPLUG: &str =
+    "Disconnect the programmer from power for a second before the next run: it may wait for the rest of \
+    a command, which the next run would complete.";

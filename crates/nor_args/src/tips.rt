@@ -1,0 +1,169 @@
+//! The texts of `clap`'s errors that contain an argument: with the argument escaped, and with a tip.
+ghost use Rattle.std.specs.Prelude.{◌≡◌, IfOk};
+ghost use Rattle.clap.specs.Words.{kind_of};
+
+use crate::escapes::is_hidden;
+use clap::error::ErrorKind;
+use clap::{Command, Error as WordsError};
+use std::alloc::{AllocError, Global};
+
+// What surrounds an unknown argument in the text of `clap`'s error.
+const BEFORE_UNKNOWN: &str = "error: unexpected argument '";
+
+const AFTER_UNKNOWN: &str = "' found\n\n";
+
+// The beginning of the usage, which follows the message in the text of `clap`'s error.
+const USAGE: &str = "\n\nUsage: ";
+
+// The chips that a program for hardware knows, as `-c` takes them.
+const KNOWN_CHIPS: &str =
+    "the known chips are W25Q32FV, W25Q64FV, W25Q128FV, W25Q32FW, W25Q64FW, W25Q128FW, \
+    W25Q32JV-M, W25Q64JV-M and W25Q128JV-M; others are found by SFDP";
+
+/// Whose options are parsed.
+#[derive(Clone, Copy)]
+pub enum Program {
+    Flashnor,
+    /// A program for hardware.
+    Hardware,
+}
+
+/// Returns an error of the same kind as `error`, whose text has each argument escaped. If an argument is unknown, the
+/// text has a tip of this crate, or none, in place of the tip of `clap`. That tip would name an option that is spelled
+/// alike but may do something else, such as `--rehearse` for `--read`.
+pub fn reword(
+    alloc: Global,
+    program: Program,
+    options: &mut Command<'_>,
+    error: WordsError,
+) -> Result<WordsError, AllocError>
+    ensures { IfOk result (λ other. kind_of other ≡ kind_of error) }
+{
+    let text = format!(in alloc; "{error}")?;
+    match error.kind() {
+        ErrorKind::UnknownArgument => {
+            let message = message_of_unknown(alloc, program, &text)?;
+            options.error(error.kind(), &message)
+        }
+        ErrorKind::ArgumentConflict => match message_of_repeat(alloc, program, &text)? {
+            Some(message) => options.error(error.kind(), &message),
+            None => Ok(error),
+        },
+        ErrorKind::TooManyValues => match message_of_value(alloc, &text)? {
+            Some(message) => options.error(error.kind(), &message),
+            None => Ok(error),
+        },
+        _ => Ok(error),
+    }
+}
+
+// Returns the message for the unknown argument in the text of `clap`'s error, with a tip if there is one.
+fn message_of_unknown(alloc: Global, program: Program, text: &str) -> Result<String, AllocError> {
+    let argument = unknown_in(text);
+    let mut message = String::from_str(alloc, "unexpected argument '")?;
+    push_escaped(&mut message, argument)?;
+    message.push_str("' found")?;
+    if let Some(tip) = tip_for(program, argument) {
+        message.push_str("\n\n  tip: ")?;
+        message.push_str(tip)?;
+    }
+    Ok(message)
+}
+
+// Returns the argument in the text of `clap`'s error for an unknown argument. Nothing that follows the argument there
+// contains it, so it ends before the last `AFTER_UNKNOWN`.
+fn unknown_in(text: &str) -> &str {
+    let rest = text.strip_prefix(BEFORE_UNKNOWN).unwrap_or(text);
+    match rest.rsplit_once(AFTER_UNKNOWN) {
+        Some((argument, _)) => argument,
+        None => rest,
+    }
+}
+
+// Returns the message of `clap`'s error for an unneeded value, with the value escaped. Returns `None` if nothing in the
+// message must be escaped.
+fn message_of_value(alloc: Global, text: &str) -> Result<Option<String>, AllocError> {
+    let said = match text.rsplit_once(USAGE) {
+        Some((said, _)) => said,
+        None => text,
+    };
+    if !said.chars().any(is_hidden) {
+        return Ok(None);
+    }
+    let mut message = String::new(alloc);
+    push_escaped(&mut message, said.strip_prefix("error: ").unwrap_or(said))?;
+    Ok(Some(message))
+}
+
+// Returns the message of `clap`'s error for a repeated option, with a tip. Returns `None` if there is no tip for it.
+fn message_of_repeat(
+    alloc: Global,
+    program: Program,
+    text: &str,
+) -> Result<Option<String>, AllocError> {
+    let (Program::Hardware, Some((said, _))) = (program, text.rsplit_once(USAGE)) else {
+        return Ok(None);
+    };
+    if !said.contains("--include ") {
+        return Ok(None);
+    }
+    let said = said.strip_prefix("error: ").unwrap_or(said);
+    let message = format!(in alloc;
+        "{said}\n\n  tip: one -i takes several regions, with commas between them"
+    )?;
+    Ok(Some(message))
+}
+
+// Appends `said` to `text`. Each byte of a character that a terminal doesn't show as itself is written as `\xNN`.
+fn push_escaped(text: &mut String, said: &str) -> Result<(), AllocError> {
+    for character in said.chars() {
+        if is_hidden(character) {
+            let mut buffer = [0; 4];
+            for byte in character.encode_utf8(&mut buffer).as_bytes() {
+                write!(text, "\\x{byte:02x}")?;
+            }
+        } else {
+            text.push(character)?;
+        }
+    }
+    Ok(())
+}
+
+// Returns the tip for an unknown argument, if there is one.
+fn tip_for(program: Program, argument: &str) -> Option<&'static str> {
+    match program {
+        Program::Flashnor => flashnor_tip(argument),
+        Program::Hardware => hardware_tip(argument),
+    }
+}
+
+fn flashnor_tip(argument: &str) -> Option<&'static str> {
+    match argument {
+        "--help" => Some("-h prints the help"),
+        _ => None,
+    }
+}
+
+// Returns the tip for an option that flashrom or flashnor has, and a program for hardware lacks.
+fn hardware_tip(argument: &str) -> Option<&'static str> {
+    match argument {
+        "-x" | "--extract" => Some(
+            "-r FILE with -i NAME:FILE reads regions into files of their own",
+        ),
+        "-f" | "--force" => Some(
+            "no check can be left out; --unlock lifts protection, -n and -N skip comparisons",
+        ),
+        "-A" => Some(
+            "-h lists all options; -N is the one that leaves out the comparison of the whole chip",
+        ),
+        "-L" | "--list-supported" => Some(KNOWN_CHIPS),
+        "--image" => Some("-i takes the names of regions"),
+        "--wp-region" => Some("--wp-range START,LENGTH takes the addresses of the region"),
+        "--flash-contents" => Some(
+            "leave this option out: the chip itself is read before it is written",
+        ),
+        "--get-size" => Some("--flash-size prints the size of the chip"),
+        "--rehearse" => Some("only flashnor can rehearse, on an emulated chip"),
+        _ => None,
+    }
+}

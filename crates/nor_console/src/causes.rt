@@ -1,0 +1,157 @@
+//! Why a file fault occurred, in words for the user.
+ghost use Rattle.std.specs.Prelude.{◌≡◌, Some};
+ghost use Rattle.nor_console.specs.Causes.{system_text, verb_of};
+
+use crate::escapes::Escaped;
+use crate::messages::FileFault;
+use std::io::ErrorKind;
+use std::{fmt, io};
+
+/// The system's reason why a call on a file failed.
+#[derive(Clone, Copy)]
+pub enum SystemReason {
+    /// There is no file of this name.
+    Missing,
+    /// The file's directory is missing, or is no directory.
+    NoDirectory,
+    /// The file is a directory.
+    Directory,
+    /// The permissions don't allow the call.
+    Denied,
+    /// The file system is read-only.
+    ReadOnly,
+    /// The disk is full, or the user's share of it is used up.
+    Full,
+    /// Any other reason.
+    Other,
+}
+
+impl SystemReason {
+    /// Returns the reason of this error of a call that reads a file.
+    pub fn of_reading(error: &io::Error) -> SystemReason {
+        match error.kind() {
+            ErrorKind::NotFound => SystemReason::Missing,
+            ErrorKind::NotADirectory => SystemReason::NoDirectory,
+            ErrorKind::IsADirectory => SystemReason::Directory,
+            ErrorKind::PermissionDenied => SystemReason::Denied,
+            ErrorKind::ReadOnlyFilesystem => SystemReason::ReadOnly,
+            ErrorKind::StorageFull | ErrorKind::QuotaExceeded => SystemReason::Full,
+            _ => SystemReason::Other,
+        }
+    }
+
+    /// Returns the reason of this error of a call that creates or writes a file. Such a call needs the directory, but
+    /// no file.
+    pub fn of_making(error: &io::Error) -> SystemReason {
+        match SystemReason::of_reading(error) {
+            SystemReason::Missing => SystemReason::NoDirectory,
+            reason => reason,
+        }
+    }
+
+    /// Returns the reason in words that complete `the file can't be read: ..`.
+    pub fn as_str(self) -> &'static str
+        ensures { result.now ≡ system_text self }
+    {
+        match self {
+            SystemReason::Missing => "there is no such file",
+            SystemReason::NoDirectory => "there is no such directory",
+            SystemReason::Directory => "it is a directory",
+            SystemReason::Denied => "permission denied",
+            SystemReason::ReadOnly => "the file system is read-only",
+            SystemReason::Full => "no space is left on the disk",
+            SystemReason::Other => "input/output error",
+        }
+    }
+}
+
+/// Why a file fault occurred, as far as the program knows. Contracts claim nothing about it.
+#[derive(Clone, Copy)]
+pub enum Cause {
+    /// Nothing more is known than the fault says.
+    Unknown,
+    /// A call of the system failed.
+    System(SystemReason),
+    /// The file exists, but can't be opened for writing, or can't be locked.
+    Unwritable,
+    /// A read of the file might never end, because it is a FIFO or a terminal, for example.
+    Endless,
+    /// The file is a layout of more than 16 MiB.
+    LongLayout,
+    /// The file has another number of bytes than the number that is needed.
+    Length { wanted: u32, found: usize },
+    /// The file has more bytes than this number, which is needed.
+    TooLong(u32),
+    /// The file of a new journal exists already.
+    Exists,
+    /// The file is a journal, and would have been truncated.
+    Journal,
+    /// The file is already used as this, for example as `image=`.
+    Role(&'static str),
+    /// Another process has locked the file.
+    Locked,
+    /// The program prints to the file.
+    Printed,
+}
+
+/// The line with the cause of a file fault, with its line feed, or no text if nothing is known but the fault.
+#[derive(Drop)]
+pub struct CauseLine<'a> {
+    pub fault: FileFault,
+    pub name: &'a str,
+    pub cause: Cause,
+}
+
+impl fmt::Display for CauseLine<'_> {
+    ghost use Rattle.nor_console.specs.Causes.{cause_line};
+
+    ghost output = { λ shown. Some (cause_line shown.fault shown.name.now shown.cause) };
+
+    fn fmt<W: fmt::Write>(&self, f: &mut fmt::Formatter<W>) -> fmt::Result {
+        let name = Escaped(self.name);
+        match self.cause {
+            Cause::Unknown => Ok(()),
+            Cause::System(SystemReason::Missing) => writeln!(f, "error: there is no file '{name}'"),
+            Cause::System(SystemReason::Directory) => writeln!(f, "error: '{name}' is a directory"),
+            Cause::System(reason) => {
+                let (verb, why) = (verb_of(self.fault), reason.as_str());
+                writeln!(f, "error: '{name}' can't be {verb}: {why}")
+            }
+            Cause::Unwritable => writeln!(
+                f,
+                "error: '{name}' can't be overwritten: it is read-only, no regular file, or can't be locked"
+            ),
+            Cause::Endless => writeln!(f, "error: a read of '{name}' might never end"),
+            Cause::LongLayout => writeln!(f, "error: the layout '{name}' has more than 16 MiB"),
+            Cause::Length { wanted, found } => {
+                writeln!(f, "error: '{name}' has {found} bytes instead of {wanted}")
+            }
+            Cause::TooLong(wanted) => {
+                writeln!(
+                    f,
+                    "error: '{name}' has more than the {wanted} bytes that it must have"
+                )
+            }
+            Cause::Exists => writeln!(
+                f,
+                "error: '{name}' exists already, and a journal never overwrites a file"
+            ),
+            Cause::Journal => writeln!(
+                f,
+                "error: '{name}' is a journal, which is never overwritten"
+            ),
+            Cause::Role(role) => writeln!(f, "error: '{name}' is already used as {role}"),
+            Cause::Locked => writeln!(f, "error: another process has locked '{name}'"),
+            Cause::Printed => writeln!(f, "error: the program prints to '{name}'"),
+        }
+    }
+}
+
+fn verb_of(fault: FileFault) -> &'static str
+    ensures { result.now ≡ verb_of fault }
+{
+    match fault {
+        FileFault::Read => "read",
+        _ => "written",
+    }
+}

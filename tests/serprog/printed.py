@@ -1,0 +1,250 @@
+"""Cases of printed lines: commands that may be copied, the words of the progress, and what is known of locks.
+
+A command that the program prints is given to each shell that the machine has, and must give back the name of the file.
+"""
+import os
+import re
+import shutil
+import subprocess
+import time
+
+import reference
+import terminal
+from bench import WAITING, Differs, check
+from chip import SECTOR
+from journals import RESTORE, describe
+from losses import session_wire
+from maps import with_fmap
+from options import images
+from regions import random_image
+
+SHELLS = [it for it in ("sh", "dash", "bash", "busybox") if shutil.which(it)]
+LARGE = 1 << 23
+NAMES = ["x';touch PWN;'", "it's", "'", "a b", "$(touch PWN)", "`touch PWN`", 'a"b', "a\\b", "*", "~", "#a", "!x", "-j",
+         "\u00e9"]
+# Names that no command can have: with a newline, an escape sequence, or a C1 control character.
+UNPRINTED = {"a\u202eb": "a\\xe2\\x80\\xaeb", "a\nb": "a\\x0ab", "a\x1b[31mb": "a\\x1b[31mb", "a\u0085b": "a\\xc2\\x85b"}
+
+
+def taken_back(bench, command):
+    """Returns the last argument of a command, as each shell takes it, and checks that nothing was run by it."""
+    found = set()
+    for shell in SHELLS:
+        script = f"last() {{ shift $(($# - 1)); printf %s \"$1\"; }}\nlast {command}"
+        words = ["busybox", "sh"] if shell == "busybox" else [shell]
+        found.add(subprocess.run([*words, "-c", script], cwd=bench.folder, capture_output=True, check=True).stdout)
+    bench.check_absent("PWN")
+    check("names that the shells took", len(found), 1)
+    return found.pop().decode()
+
+
+def quotes_names(start):
+    """The command of --check-journal gives back the journal's name in each shell. A newline allows no command."""
+    bench = start()
+    whole = reference.journal("TINY64", bytes(65536), (1,))
+    for name in NAMES:
+        bench.write(name, whole)
+        line = describe(bench, f"./{name}" if name[0] == "-" else name).out[-1]
+        check("the command", line.startswith(RESTORE[:-1]), True)
+        back = taken_back(bench, line.partition(": ")[2])
+        check("the name", back, f"./{name}" if name[0] == "-" else name)
+    for name, text in UNPRINTED.items():
+        bench.write(name, whole)
+        line = describe(bench, name).out[-1]
+        check("the line", line, f"To restore, rename the file, whose name can't be copied: {text}")
+
+
+def quotes_names_after_error_12(start):
+    """The advice after error 12 gives back the journal's name in each shell."""
+    old, new = images("quotes_names_after_error_12")
+    at = next(at for at, (out, _) in enumerate(session_wire(old, new), 1) if out[0] == 0x02)
+    for name in NAMES[:3]:
+        bench = start(data=old)
+        bench.write("new", new)
+        got = bench.run("-w", "new", f"--journal={name}", events={at: "nak"})
+        check("error 12", got.err[0], "Error 12: stopped.")
+        text = got.err[1].partition(" Then restore the chip with ")[2]
+        check("the name", taken_back(bench, text.removesuffix(".")), name)
+    bench = start(data=old)
+    bench.write("new", new)
+    got = bench.run("-w", "new", "--journal=a\nb", events={at: "nak"})
+    check("the advice", got.err[1].endswith(
+        "--restore and the journal, whose name can't be copied: a\\x0ab."), True)
+    check("the number of lines", len(got.err), 2)
+
+
+def quotes_the_device(start):
+    """The command that sets up the port gives back the name of the device."""
+    bench = start()
+    device = bench.path("it's")
+    os.symlink("/dev/null", device)
+    for rate in ":9600", "":
+        got = bench.finish(bench.start_words([bench.program, "-p", f"serprog:dev={device}{rate}"]))
+        found = re.search("stty -F (.*?) (?:9600 )?raw -echo", " ".join(got.err))
+        check("the device", taken_back(bench, found[1]), str(device))
+
+
+def counts_what_it_reads_again(start):
+    """A sector that is read again before its first program is read back: it is no sector of the scan, which is done."""
+    old = b"\xff" * LARGE
+    bench = start("W25Q64FV", data=old)
+    bench.write("new", b"\0" + old[1:])
+    scan = [f"scan: sector {n} of 2048" for n in range(1, 2048, 256)]
+    bench.expect_at_terminal("-w", "new", "--journal", "j", lines=[
+        "identify", *scan, "Sectors to change: 1. Erases: 0. Bytes of journal: 4161.", "read back: 1 sector",
+        reference.sealed("j"), "program: 1 page", "read back: 2 sectors",
+        *(it.replace("scan", "compare") for it in scan)])
+
+
+def says_how_long_a_change_takes(start):
+    """A change of less than a second has no 0:00. A longer one has its minutes and seconds."""
+    old = b"\x5a" * LARGE
+    for number, text in (1, "The change takes less than a second."), (40, "The change takes about M:SS at the chip's "
+                                                                         "typical times and R."):
+        bench = start("W25Q64FV", data=old)
+        new = bytearray(old)
+        for sector in range(0, 32 * number, 32):
+            new[SECTOR * sector] = 0xA5
+        bench.write("new", bytes(new))
+        status, printed, _ = terminal.run(bench, "-w", "new", "--journal", "j", "-N")
+        check("status", status, 0)
+        lines = [re.sub(r"\d+(\.\d)? KiB/s", "R", re.sub(r"\d+:[0-5]\d", "M:SS", it))
+                 for it in terminal.Screen(printed).lines]
+        check("the line", [it for it in lines if it.startswith("The change takes")], [text])
+
+
+def shows_locks(start):
+    """--wp-status names the bits that lock the status, and --wp-range prints the range that is protected now."""
+    bench = start("W25Q64FV")
+    for status, last in ((b"\0\0", "0x00 0x00"), (b"\x84\x02", "0x84 0x02, SRP0 is set"),
+                         (b"\x1c\x01", "0x1c 0x01, SRP1 is set"), (b"\x80\x01", "0x80 0x01, SRP0 and SRP1 are set")):
+        bench.chip.status[:] = status
+        got = bench.run("--wp-status")
+        check("the last line", (got.status, len(got.out), got.out[-1]), (0, 3, f"Status: {last}"))
+    for number, (asked, shown) in enumerate((("0x7e0000,0x20000", "0x7e0000,0x020000"), ("0,0", "0x000000,0x000000"),
+                                             ("4096,0", "0x000000,0x000000"), ("0,8388608", "0x000000,0x800000"))):
+        bench = start("W25Q64FV")
+        got = bench.run("--wp-range", asked, "--journal", "j")
+        check(f"the last line {number}", (got.status, len(got.out), got.out[-1]), (0, 3, f"Range: {shown}"))
+        check("what is protected", bench.run("--wp-status").out[0], got.out[-1])
+
+
+def advises_on_locks(start):
+    """Error 10 doesn't advise --unlock alone if the status is locked. Error 6 names bits that may protect the chip."""
+    old = b"\xff" * LARGE
+    for status in b"\x04\0", b"\x84\0", b"\x04\x01", b"\x84\x01":
+        bench = start("W25Q64FV", data=old, status=status)
+        bench.write("new", old[:-1] + b"\0")
+        got = bench.run("-w", "new", "--journal", "j", "-N")
+        check("the lines", got.err[:2], reference.protected(LARGE - 4096, status))
+    bench = start("TINY64", status=b"\x1c\0")
+    bench.expect("--wp-status", err=[
+        "Error 6: no protection on this chip.",
+        "Status 1 of this chip is 1Ch. On nearly every chip its bits 2 to 6 protect sectors, but this program doesn't "
+        "know what they mean on this chip."])
+
+
+def fits_narrow_terminals(start):
+    """The line that is rewritten has at most 39 characters, and less than COLUMNS if the environment says it."""
+    old, new = images("fits_narrow_terminals")
+    for columns, longest in (None, 39), ("200", 39), ("30", 29), ("0", 39), ("x", 39):
+        bench = start(data=old, rate=200_000)
+        bench.write("new", new)
+        os.environ.pop("COLUMNS", None)
+        if columns:
+            os.environ["COLUMNS"] = columns
+        try:
+            status, printed, _ = terminal.run(bench, "-w", "new", "--journal", "j")
+        finally:
+            os.environ.pop("COLUMNS", None)
+        check("status", status, 0)
+        texts = [it.decode() for it in terminal.DRAWN.findall(printed)]
+        wide = [it for it in texts[1:] if ", took " not in it and len(it) > longest]
+        check(f"drawings that are too long for {columns}", wide, [])
+        check("the first drawing", (texts[0], len(texts[0]) < 80), (WAITING, True))
+
+
+def says_a_line_a_minute(start):
+    """A run whose standard error is a file prints nothing for a minute, and then a line with its progress."""
+    bench = start(rate=1_600, longest_read=4096)
+    got = bench.run("-r", "out")
+    check("the run", (got.status, got.err), (0, []))
+    if len(bench.minutes) != 1 or not terminal.STEP.fullmatch(bench.minutes[0]):
+        raise Differs("this is not one line of the progress:", repr(bench.minutes))
+
+
+def removes_an_unsealed_journal(start):
+    """A refused session removes the journal that it created, so it may be repeated. A backup keeps its file."""
+    old, new = images("removes_an_unsealed_journal")
+    wire = session_wire(old, new)
+    seal = wire.index(reference.WRITE_ENABLE)
+    sealed = seal - len(reference.compared(*reference.UNIQUE, 0))
+    bench = start(data=old)
+    bench.write("new", new)
+    created = len(reference.carried(reference.probe("TINY64"))) + 1
+    for at, is_left in (created, False), (sealed, False), (sealed + 1, True), (seal + 1, True):
+        got = bench.run("-w", "new", "--journal", "j", events={at: "nak"})
+        check("error 12", got.err[0], "Error 12: stopped.")
+        check(f"the journal is left, at {at}", bench.path("j").exists(), is_left)
+        if is_left:
+            bench.check_file("j", reference.journal("TINY64", old, reference.touched(old, new)))
+        check("the last line", got.err[-1] == reference.used_name(), at == sealed + 1)
+        bench.remove_journal()
+        bench.plug()
+    # A file that existed before stays, whatever it is.
+    for content in b"", b"NORUNDO2", b"other bytes":
+        bench.write("j", content)
+        bench.expect("-w", "new", "--journal", "j", err=reference.file_fault(4, "j"))
+        bench.check_file("j", content)
+    bench.remove_journal()
+    check("status", bench.run("-w", "new", "--journal", "j").status, 0)
+    got = bench.run("--backup", "whole", events={created + 9: "nak"})
+    check("the last line", got.err[-1], reference.used_name("whole"))
+
+
+def keeps_the_log_of_a_session(start):
+    """The log of a restore follows the log that is in its file. Any other run begins its log anew."""
+    old, new = images("keeps_the_log_of_a_session")
+    bench = start(data=old)
+    bench.write("new", new)
+    check("status", bench.run("-w", "new", "--journal", "j", "-o", "log").status, 0)
+    session = bench.path("log").read_bytes()
+    for _ in range(2):
+        before = bench.path("log").read_bytes()
+        check("status", bench.run("--restore", "j", "-o", "log").status, 0)
+        both = bench.path("log").read_bytes()
+        check("the log begins as before, then there is an empty line", both.startswith(before + b"\nLog of "), True)
+    check("the beginning of all", both.startswith(session), True)
+    check("the runs", both.count(b"Log of flashnor-serprog 1.0\n"), 3)
+    check("status", bench.run("--flash-size", "-o", "log").status, 0)
+    check("the runs", bench.path("log").read_bytes().count(b"Log of flashnor-serprog 1.0\n"), 1)
+    for content in b"", None:
+        bench.path("log").unlink()
+        if content is not None:
+            bench.write("log", content)
+        check("status", bench.run("--restore", "j", "-o", "log").status, 0)
+        check("the first bytes", bench.path("log").read_bytes()[:7], b"Log of ")
+
+
+def overwrites_no_file_that_appears_late(start):
+    """A file that appears under the log's name while the layout is read from the chip isn't truncated."""
+    bench = start(data=with_fmap(random_image("late"), 0x100, [(0, 65536, b"all")]), rate=60_000)
+    for content, is_log in (b"other bytes\n" * 9, False), (b"", True), (b"Log of flashnor-serprog 0.9\n", True):
+        bench.path("log").unlink(missing_ok=True)
+        bench.server.begin({})
+        process = bench.start(["-r", "out", "--fmap", "-i", "all", "-o", "log"])
+        while len(bench.server.log) < 6:
+            time.sleep(0.01)
+        check("the log before", bench.path("log").exists(), False)
+        bench.write("log", content)
+        got = bench.finish(process)
+        check("the exit status", got.status, 0 if is_log else 1)
+        if is_log:
+            check("the log", bench.path("log").read_bytes()[:28], b"Log of flashnor-serprog 1.0\n")
+        else:
+            check("the lines", got.err, ["File fault 4: log.", reference.IS_NO_LOG])
+            bench.check_file("log", content)
+
+
+CASES = [keeps_the_log_of_a_session, overwrites_no_file_that_appears_late, removes_an_unsealed_journal, says_a_line_a_minute, quotes_names, quotes_names_after_error_12, quotes_the_device,
+         counts_what_it_reads_again, says_how_long_a_change_takes, shows_locks, advises_on_locks, fits_narrow_terminals]

@@ -1,0 +1,144 @@
+"""Cases of what people type: files with the name `-`, arguments that a terminal doesn't show, flashrom's options."""
+from bench import check
+from maps import with_descriptor, with_fmap
+from options import FREE, SIZE
+import reference
+
+
+# The tip for flashrom's -L, with the names that -c takes (flashnor-serprog(8)).
+CHIPS = ("the known chips are W25Q32FV, W25Q64FV, W25Q128FV, W25Q32FW, W25Q64FW, W25Q128FW, W25Q32JV-M, W25Q64JV-M and "
+         "W25Q128JV-M; others are found by SFDP")
+
+
+def usage(*lines):
+    """Returns the lines of usage fault 1, with these lines as the message of the argument parser."""
+    usage_lines = ["Usage: flashnor-serprog [OPTIONS]", "", "For more information, try '--help'."]
+    return [*lines, "", *usage_lines, "Usage fault 1."]
+
+
+def refuses_dash(start):
+    """`-` is no file: it is usage fault 5 in words for each option with a file; nothing is sent. `./-` is a file."""
+    bench = start(data=FREE)
+    bench.write("new", FREE)
+    for words, option in (
+            (("-r", "-"), "-r"), (("--read=-",), "-r"), (("-v", "-"), "-v"), (("-w", "-", "--journal", "j"), "-w"),
+            (("--restore", "-"), "--restore"), (("--backup", "-"), "--backup"),
+            (("--check-journal", "-"), "--check-journal"),
+            (("--check-journal", "j", "--extract-image", "-"), "--extract-image"),
+            (("-w", "new", "--journal", "-"), "--journal"), (("-r", "out", "-l", "-", "-i", "a"), "-l"),
+            (("-r", "out", "-l", "new", "-i", "a,b:-"), "-i"),
+            (("-r", "out", "--fmap-file", "-", "-i", "a"), "--fmap-file"),
+            (("-r", "out", "--ifd-file", "-", "-i", "a"), "--ifd-file"), (("-r", "out", "-o", "-"), "-o")):
+        bench.expect(*words, err=[f"error: '-' is no file for {option}; for a file with this name give ./-",
+                                  "Usage fault 5."])
+        bench.check_nothing_sent()
+        for name in "-", "out", "j":
+            bench.check_absent(name)
+    bench.expect("-r", "./-", out=[reference.found("TINY64"), f"Read {SIZE} bytes."])
+    bench.check_file("-", FREE)
+    # A name that only begins with a hyphen, or ends with one, is a file.
+    bench.expect("-r", "a-", out=[reference.found("TINY64"), f"Read {SIZE} bytes."])
+    bench.expect("--read=-b", out=[reference.found("TINY64"), f"Read {SIZE} bytes."])
+    bench.check_file("-b", FREE)
+
+
+def finds_dash_in_its_turn(start):
+    """Other usage faults keep their order: fault 4 comes before `-`, and faults 6 to 8 come after it."""
+    bench = start()
+    for words, *lines in (
+            (("-r", "-", "-E"), "error: -r and -E cannot be used together", "Usage fault 4."),
+            (("-r", "-", "--progress", "all"), "error: invalid value of --progress: 'all'; give auto, plain or none",
+             "Usage fault 5."),
+            (("-w", "-"), "error: '-' is no file for -w; for a file with this name give ./-", "Usage fault 5."),
+            (("-r", "-", "--quick"), "error: '-' is no file for -r; for a file with this name give ./-",
+             "Usage fault 5.")):
+        bench.expect(*words, err=lines)
+        bench.check_nothing_sent()
+
+
+def escapes_arguments(start):
+    """An argument in a usage fault is escaped, so that it can neither add a line nor send an escape sequence."""
+    bench = start()
+    for argument, shown in (
+            ("x\x1b[31mR\x07", r"x\x1b[31mR\x07"), ("a\nUsage fault 9.", r"a\x0aUsage fault 9."),
+            ("\x9b2J", r"\xc2\x9b2J"),
+            ("--a\u202eb", r"--a\xe2\x80\xaeb"), ("\u2066a\u2069", r"\xe2\x81\xa6a\xe2\x81\xa9"),
+            ("x' found\n\n  tip: y", r"x' found\x0a\x0a  tip: y"), ("x\n\nUsage: y", r"x\x0a\x0aUsage: y"),
+            ("\u202a\u202d\u2067", r"\xe2\x80\xaa\xe2\x80\xad\xe2\x81\xa7"), ("a\u2027é\u206a", "a\u2027é\u206a")):
+        got = bench.run(argument)
+        check("standard error", "\n".join(got.err), "\n".join(usage(f"error: unexpected argument '{shown}' found")))
+        check("status", (got.out, got.status), ([], 1))
+        bench.check_nothing_sent()
+    bench.expect("--unlock=a\n\nb\x1b", err=usage(
+        r"error: unexpected value 'a\x0a\x0ab\x1b' for '--unlock' found; no more were expected"))
+    bench.expect("-r", "none/\u202ex", err=reference.file_fault(2, r"none/\xe2\x80\xaex"))
+
+
+def gives_tips(start):
+    """An option of flashrom or flashnor that the program lacks is refused with what to use instead."""
+    bench = start()
+    for option, tip in (
+            ("-x", "-r FILE with -i NAME:FILE reads regions into files of their own"),
+            ("--extract", "-r FILE with -i NAME:FILE reads regions into files of their own"),
+            ("-f", "no check can be left out; --unlock lifts protection, -n and -N skip comparisons"),
+            ("-A", "-h lists all options; -N is the one that leaves out the comparison of the whole chip"),
+            ("-L", CHIPS), ("--list-supported", CHIPS), ("--image", "-i takes the names of regions"),
+            ("--wp-region", "--wp-range START,LENGTH takes the addresses of the region"),
+            ("--flash-contents", "leave this option out: the chip itself is read before it is written"),
+            ("--get-size", "--flash-size prints the size of the chip"),
+            ("--rehearse", "only flashnor can rehearse, on an emulated chip")):
+        bench.expect("-V", option, err=usage(f"error: unexpected argument '{option}' found", "", f"  tip: {tip}"))
+        bench.check_nothing_sent()
+    bench.expect("--reed", err=usage("error: unexpected argument '--reed' found"))
+    for words in ("-i", "a", "-i", "b"), ("--include=a", "-ib"):
+        bench.expect("-r", "out", "-l", "layout", *words, err=usage(
+            "error: the argument '--include <NAMES>' cannot be used multiple times", "",
+            "  tip: one -i takes several regions, with commas between them"))
+    bench.expect("-c", "a", "-c", "b", err=usage("error: the argument '--chip <NAME>' cannot be used multiple times"))
+
+
+def takes_repeated_flags(start):
+    """-V may be repeated, as in flashrom, and --progress without a mode is --progress auto."""
+    bench = start()
+    once = [it.split(" ", 1)[-1] for it in bench.run("-V").err]
+    check("lines of -V", bool(once), True)
+    for words in ("-VV",), ("-V", "--verbose"), ("-VVV", "-V"):
+        got = bench.run(*words)
+        check("lines", ([it.split(" ", 1)[-1] for it in got.err], got.out, got.status),
+              (once, [reference.found("TINY64")], 0))
+    bench.expect(out=[reference.found("TINY64")])
+    for words in ("--progress",), ("--progress", "-c", "SFDP"), ("-c", "SFDP", "--progress"):
+        bench.expect(*words, out=[reference.found("TINY64")])
+    bench.expect("--progress", "all", err=[
+        "error: invalid value of --progress: 'all'; give auto, plain or none", "Usage fault 5."])
+
+
+def takes_maps_of_larger_chips(start):
+    """A region of an FMAP or a flash descriptor that lies outside the chip is refused only if -i names it."""
+    fmap = with_fmap(FREE, 0x2000, [
+        (0x1000, 0x1000, b"A"), (SIZE, 1, b"B"), (SIZE - 1, 2, b"C"), (0xFFFFFFFD, 2, b"D")])
+    descriptor = with_descriptor(FREE, [(0, 0), (16, 31), (1, 1), (2, 16), (0x7FFF, 0x7FFF)])
+    for image, option, own, inside, others in (
+            (fmap, "--fmap-file", "--fmap", "A", "BCD"),
+            (descriptor, "--ifd-file", "--ifd", "me", ("bios", "gbe", "pd"))):
+        bench = start(data=image)
+        bench.write("before", image)
+        bench.write("short", image[:0x4000])
+        wanted = b"\xff" * 0x1000 + image[0x1000:0x2000] + b"\xff" * (SIZE - 0x2000)
+        for layout in (option, "before"), (option, "short"), (own,):
+            got = bench.run("-r", "out", *layout, "-i", inside)
+            check("the run", (got.out, got.status), ([reference.found("TINY64"), f"Read {SIZE} bytes."], 0))
+            bench.check_file("out", wanted)
+            bench.path("out").unlink()
+            for name in others:
+                for words in (("-r", "out"), ("-v", "before"), ("-w", "before", "--journal", "j"),
+                              ("-E", "--journal", "j")):
+                    got = bench.run(*words, *layout, "-i", f"{inside},{name}")
+                    check("the fault", (got.err[0], got.out, got.status), ("Error 5: region outside the chip.", [], 1))
+                    for made in "out", "j":
+                        bench.path(made).unlink(missing_ok=True)
+                    bench.check_chip(image)
+
+
+CASES = [refuses_dash, finds_dash_in_its_turn, escapes_arguments, gives_tips, takes_repeated_flags,
+         takes_maps_of_larger_chips]

@@ -1,0 +1,34 @@
+#!/usr/bin/env python3
+"""tests/terminal.py COMMAND..: runs a command with its standard error at a terminal, and prints to standard error what
+the terminal was sent. The status is that of the command."""
+import os
+import pty
+import subprocess
+import sys
+import tty
+
+
+def received(descriptor):
+    """Yields what the terminal was sent, until no process has it open."""
+    while True:
+        try:
+            got = os.read(descriptor, 65536)
+        except OSError:
+            return
+        if not got:
+            return
+        yield got
+
+
+def main():
+    ours, theirs = pty.openpty()
+    tty.setraw(theirs)
+    with subprocess.Popen(sys.argv[1:], stderr=theirs) as run:
+        os.close(theirs)
+        for got in received(ours):
+            os.write(2, got)
+    return run.returncode if run.returncode >= 0 else 128 - run.returncode
+
+
+if __name__ == "__main__":
+    sys.exit(main())
