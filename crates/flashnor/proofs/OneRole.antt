@@ -10,7 +10,7 @@ use Rattle.nor_console.specs.Roles.{FailsApart, IsUnseenFile, IsUnseenStream}
 use Rattle.nor_args.specs.declared.job.ChipJob.{ChipJob}
 use Rattle.flashnor.specs.Roles.{FailsFileRoles, IsPrintedName, changes_files, file_with_role, must_differ}
 use Rattle.nor_console.specs.declared.messages.Fault.{Fault}
-use Rattle.flashnor.specs.declared.roles.Role.{Role}
+use Rattle.nor_console.specs.declared.roles.Role.{Role}
 
 pub pair_fails : {T : Type 0} (nature : Nature) (job : ChipJob) (earlier later : Role) (result : Result T Fault)
     → must_differ job earlier later ≡ true

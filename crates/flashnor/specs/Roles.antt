@@ -12,8 +12,8 @@ use Rattle.flashnor.specs.Tasks.{writes_back}
 use Rattle.nor_console.specs.declared.messages.Fault.{Fault}
 use Rattle.nor_console.specs.declared.messages.Fault.TheVariants as end
 use Rattle.nor_console.specs.declared.messages.FileFault.TheVariants as file
-use Rattle.flashnor.specs.declared.roles.Role.{Role}
-use Rattle.flashnor.specs.declared.roles.Role.TheVariants as role
+use Rattle.nor_console.specs.declared.roles.Role.{Role}
+use Rattle.nor_console.specs.declared.roles.Role.TheVariants as role
 
 -- Holds if roles that need different files have names that are apart (`AreTwo`). If the task writes the chip back
 -- (`writes_back`), the chip's image is apart from its status file and the layout, and the status file is apart from the

@@ -7,36 +7,8 @@ ghost use Rattle.nor_request.specs.declared.refusal.Refusal.TheVariants as Refus
 
 use crate::tasks::writes_back;
 use nor_args::ChipJob;
-use nor_console::{Cause, Fault, Named, apart_as, look_ahead, named_by};
+use nor_console::{Cause, Fault, Named, Role, apart_as, look_ahead, named_by};
 use nor_files::Store;
-
-/// The purpose for which a job uses a file. If two roles share a file although they need different files, the fault
-/// names the file of the later role in this order.
-#[derive(Clone, Copy)]
-pub enum Role {
-    Image,
-    Status,
-    Trace,
-    Layout,
-    Wanted,
-    Output,
-    Journal,
-}
-
-impl Role {
-    // Returns what the file is used as, in words that complete `it is already used as ..`.
-    fn as_str(self) -> &'static str {
-        match self {
-            Role::Image => "image=",
-            Role::Status => "status=",
-            Role::Trace => "trace=",
-            Role::Layout => "the layout of -l",
-            Role::Wanted => "the image of -w or -v",
-            Role::Output => "the file of -r",
-            Role::Journal => "the journal",
-        }
-    }
-}
 
 /// Checks that the trace's file is none of the other files of a session: image, status file, layout, image to write and
 /// journal. Returns the faults of `files_have_one_role`.
@@ -132,7 +104,7 @@ fn check_pair<'a, R: Store>(
         (AreTwo (R.state rt.now).view.nature (file_with_role job.now earlier) (file_with_role job.now later)) }
     ensures err { IfErr result (FailsFileRoles (R.state rt.now).view.nature job.now) }
 {
-    let cause = Cause::Role(earlier.as_str());
+    let cause = Cause::Role(earlier);
     apart_as(
         rt,
         file_with_role(job, earlier),

@@ -4,10 +4,10 @@ ghost use Rattle.std.specs.Prelude.{◌≡◌, IfErr, IfOk, IfSome};
 ghost use Rattle.flashnor.specs.Roles.{FailsFileRoles, IsPrintedName, changes_files};
 ghost use Rattle.flashnor.specs.Streams.{IsReportedTo};
 
-use crate::roles::{Role, file_with_role};
+use crate::roles::file_with_role;
 use crate::tasks::writes_back;
 use nor_args::ChipJob;
-use nor_console::{Cause, Fault, found_streams, is_printed, taken_by};
+use nor_console::{Cause, Fault, Role, found_streams, is_printed, taken_by};
 use nor_files::{Store, Stream};
 
 /// Where the message of a fault is printed.

@@ -9,6 +9,8 @@ use Rattle.nor_console.specs.declared.causes.SystemReason.{SystemReason}
 use Rattle.nor_console.specs.declared.causes.SystemReason.TheVariants as system
 use Rattle.nor_console.specs.declared.messages.FileFault.{FileFault}
 use Rattle.nor_console.specs.declared.messages.FileFault.TheVariants as file
+use Rattle.nor_console.specs.declared.roles.Role.{Role}
+use Rattle.nor_console.specs.declared.roles.Role.TheVariants as role
 
 -- the words for the system's reason
 abbrev pub system_text : SystemReason → List ℕ
@@ -19,6 +21,16 @@ system_text system.Denied = codes "permission denied"
 system_text system.ReadOnly = codes "the file system is read-only"
 system_text system.Full = codes "no space is left on the disk"
 system_text system.Other = codes "input/output error"
+
+-- what a file of this role is used as
+abbrev pub role_text : Role → List ℕ
+role_text role.Image = codes "image="
+role_text role.Status = codes "status="
+role_text role.Trace = codes "trace="
+role_text role.Layout = codes "the layout of -l"
+role_text role.Wanted = codes "the image of -w or -v"
+role_text role.Output = codes "the file of -r"
+role_text role.Journal = codes "the journal"
 
 -- what could not be done with the file: `read` for file fault 1, and otherwise `written`
 abbrev pub verb_of : FileFault → List ℕ
@@ -51,8 +63,8 @@ cause_line fault name because.Exists =
     concat (codes "error: '" ∷ escaped name ∷ codes "' exists already, and a journal never overwrites a file\n" ∷ [])
 cause_line fault name because.Journal =
     concat (codes "error: '" ∷ escaped name ∷ codes "' is a journal, which is never overwritten\n" ∷ [])
-cause_line fault name (because.Role role) =
-    concat (codes "error: '" ∷ escaped name ∷ codes "' is already used as " ∷ role.now ∷ codes "\n" ∷ [])
+cause_line fault name (because.Role used) =
+    concat (codes "error: '" ∷ escaped name ∷ codes "' is already used as " ∷ role_text used ∷ codes "\n" ∷ [])
 cause_line fault name because.Locked =
     concat (codes "error: another process has locked '" ∷ escaped name ∷ codes "'\n" ∷ [])
 cause_line fault name because.Printed =

@@ -4,6 +4,7 @@ ghost use Rattle.nor_console.specs.Causes.{system_text, verb_of};
 
 use crate::escapes::Escaped;
 use crate::messages::FileFault;
+use crate::roles::Role;
 use std::io::ErrorKind;
 use std::{fmt, io};
 
@@ -86,8 +87,8 @@ pub enum Cause {
     Exists,
     /// The file is a journal, and would have been truncated.
     Journal,
-    /// The file is already used as this, for example as `image=`.
-    Role(&'static str),
+    /// The file already has this role.
+    Role(Role),
     /// Another process has locked the file.
     Locked,
     /// The program prints to the file.
@@ -140,7 +141,10 @@ impl fmt::Display for CauseLine<'_> {
                 f,
                 "error: '{name}' is a journal, which is never overwritten"
             ),
-            Cause::Role(role) => writeln!(f, "error: '{name}' is already used as {role}"),
+            Cause::Role(role) => {
+                let role = role.as_str();
+                writeln!(f, "error: '{name}' is already used as {role}")
+            }
             Cause::Locked => writeln!(f, "error: another process has locked '{name}'"),
             Cause::Printed => writeln!(f, "error: the program prints to '{name}'"),
         }

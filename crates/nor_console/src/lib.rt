@@ -50,6 +50,6 @@ pub use printing::{
 pub use reasons::text_of_flaw;
 pub use requests::{include_regions, read_included, read_layout, request_for};
 pub use roles::{
-    Named, apart, apart_as, found_streams, is_printed, journal_of, look_ahead, named_by, unprinted,
+    Named, Role, apart, apart_as, found_streams, is_printed, journal_of, look_ahead, named_by, unprinted,
 };
 pub use streams::{DIRECTORY, Streams, by_line, keep_streams};

@@ -2,6 +2,7 @@
 //! must not print to a named file.
 ghost use Rattle.std.specs.Prelude.{◌≡◌, IfErr, IfOk, OnOk, IsSomeAnd, true};
 ghost use Rattle.nor_files.specs.Files.Failure.{Printed};
+ghost use Rattle.nor_console.specs.Causes.{role_text};
 ghost use Rattle.nor_console.specs.Roles.{FailsApart, FailsUnprinted, IsUnseenFile, IsUnseenStream};
 ghost use Rattle.nor_console.specs.Tasks.{image_of, journal_of, layout_of, named_by};
 ghost use Rattle.nor_console.specs.Stored.{AreTwo};
@@ -13,6 +14,43 @@ use crate::files::{taken_by, unread};
 use crate::messages::Fault;
 use nor_args::{Change, JournalUse, Regions, Task, Wanted};
 use nor_files::{Store, Stream};
+
+/// The purpose for which a job uses a file. If two roles share a file although they need different files, the fault
+/// names the file of the later role in this order.
+#[derive(Clone, Copy)]
+pub enum Role {
+    /// The image of the emulated chip.
+    Image,
+    /// The file with the status bits of the emulated chip.
+    Status,
+    /// The file that receives the transactions.
+    Trace,
+    /// The layout that names the regions.
+    Layout,
+    /// The image to write, or to compare with the chip.
+    Wanted,
+    /// The file into which the chip is read.
+    Output,
+    /// The journal.
+    Journal,
+}
+
+impl Role {
+    /// Returns what the file is used as, in words that complete `it is already used as ..`.
+    pub fn as_str(self) -> &'static str
+        ensures { result.now ≡ role_text self }
+    {
+        match self {
+            Role::Image => "image=",
+            Role::Status => "status=",
+            Role::Trace => "trace=",
+            Role::Layout => "the layout of -l",
+            Role::Wanted => "the image of -w or -v",
+            Role::Output => "the file of -r",
+            Role::Journal => "the journal",
+        }
+    }
+}
 
 /// The files that a task names, by their roles.
 #[derive(Clone, Copy)]

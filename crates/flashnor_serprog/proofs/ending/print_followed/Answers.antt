@@ -18,6 +18,6 @@ one-more found further a b c printed appended = (
   Appends-trans a b c printed.0 (further_line further) printed.2 appended,
 )
 
-pub returns-in_ok-print_answer : goal.returns-in_ok-print_answer
-returns-in_ok-print_answer g c = on_ok_weaker c.print_further.result
+pub returns : goal.returns
+returns g c = on_ok_weaker c.print_further.result
     (one-more c.args.answer c.args.further _ _ _ c.in_ok-print_answer.ensures) c.print_further.ensures
