@@ -114,7 +114,7 @@ def makes_a_new_file(start):
         bench.check_file("whole", content)
         bench.check_nothing_sent()
     bench.expect("--backup", "dev", err=reference.file_fault(5, "dev"))
-    bench.expect("--backup", "none/whole", err=reference.file_fault(2, "none/whole"))
+    bench.expect("--backup", "none/whole", err=reference.file_fault(2, "none/whole", "no directory"))
     bench.path("whole").unlink()
     bench.expect(*BACKUP, "-c", "W25Q64FV", err=reference.OTHER_NAME)
     bench.check_frames(reference.probe("TINY64"))

@@ -157,7 +157,8 @@ def looks_at_the_files_first(start):
     bench.write("old", b"")
     for words, number, name in (("-w", "missing", "--journal", "j"), 1, "missing"), (("-v", "missing"), 1, "missing"), \
             (("-w", "new", "--journal", "old"), 4, "old"):
-        bench.expect(*words, "--fmap", "-i", "RO", err=reference.file_fault(number, name))
+        cause = "missing" if name == "missing" else None
+        bench.expect(*words, "--fmap", "-i", "RO", err=reference.file_fault(number, name, cause))
         bench.check_nothing_sent()
         bench.check_absent("j")
 

@@ -63,7 +63,7 @@ def refuses_part_of_a_chip(start):
     whole = reference.journal("TINY64", old, ALL)
     bench.write("j", whole[:40] + bytes([whole[40] ^ 1]) + whole[41:])
     bench.compare(describe(bench, "j", "--extract-image", "new"), [], DAMAGED)
-    bench.compare(describe(bench, "none", "--extract-image", "new"), [], reference.file_fault(1, "none"))
+    bench.compare(describe(bench, "none", "--extract-image", "new"), [], reference.file_fault(1, "none", "missing"))
     bench.check_file("image", b"as before")
     bench.check_absent("new")
 
@@ -82,7 +82,7 @@ def keeps_journals(start):
     for name in "whole", "./whole", "link", "hard":
         bench.compare(describe(bench, "whole", "--extract-image", name), [], reference.file_fault(5, name))
     bench.compare(describe(bench, "whole", "--extract-image", "none/image"), [],
-                  reference.file_fault(2, "none/image"))
+                  reference.file_fault(2, "none/image", "no directory"))
     for name in "whole", "j1":
         bench.check_file(name, whole)
     needs = ["error: --extract-image needs --check-journal", "Usage fault 8."]

@@ -49,7 +49,8 @@ def needs_a_device(start):
     """A device that is missing is programmer fault 1."""
     bench = start()
     bench.path("dev").unlink()
-    refuse(bench, "DEV cannot be opened. Check its name, and that you may read and write it.", number=1)
+    refuse(bench, "DEV cannot be opened: there is no such file. Check its name, and that the programmer is connected.",
+           number=1)
     bench.check_nothing_sent()
 
 

@@ -91,7 +91,7 @@ def explains_invalid_journals(start):
         bench.write("j", content)
         bench.compare(describe(bench, "j"), [], [why[0], f"Error 15: journal fault {fault}.", why[1]])
         bench.check_file("j", content)
-    bench.compare(describe(bench, "none"), [], reference.file_fault(1, "none"))
+    bench.compare(describe(bench, "none"), [], reference.file_fault(1, "none", "missing"))
     bench.check_absent("none")
 
 

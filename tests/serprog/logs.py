@@ -168,7 +168,7 @@ def needs_a_file_of_its_own(start):
         process = bench.start(["-r", "out", "-o", "errors"], err=errors)
         process.communicate()
     check("status", process.returncode, 1)
-    bench.check_file("errors", f"File fault 5: errors.\n{TAKEN}\n".encode())
+    bench.check_file("errors", "".join(it + "\n" for it in reference.file_fault(5, "errors", "printed")).encode())
     bench.check_nothing_sent()
 
 
@@ -190,14 +190,13 @@ def overwrites_only_logs(start):
         bench.write("log", content)
         bench.expect("--flash-size", "-o", "log", out=[str(len(old))])
         check("the last line", lines_of(bench)[-1], str(len(old)))
-    hint = "It can't be created, written or locked: correct its name or permissions, or free disk space."
     bench.path("place").mkdir()
-    for log in "place", "missing/log":
-        bench.expect("-r", "out", "-o", log, err=[f"File fault 2: {log}.", hint])
+    for log, cause in ("place", "directory"), ("missing/log", "no directory"):
+        bench.expect("-r", "out", "-o", log, err=reference.file_fault(2, log, cause))
         bench.check_nothing_sent()
     if os.geteuid():
         bench.path("place").chmod(0o555)
-        bench.expect("-r", "out", "-o", "place/log", err=["File fault 2: place/log.", hint])
+        bench.expect("-r", "out", "-o", "place/log", err=reference.file_fault(2, "place/log", "denied"))
         bench.path("place").chmod(0o755)
 
 
@@ -208,7 +207,7 @@ def waits_for_no_other_run(start):
         log.write(FIRST.encode() + b"\nanother run\n")
         log.flush()
         fcntl.flock(log, fcntl.LOCK_EX)
-        bench.expect("-r", "out", "-o", "log", err=["File fault 5: log.", TAKEN])
+        bench.expect("-r", "out", "-o", "log", err=reference.file_fault(5, "log", "locked"))
     bench.check_nothing_sent()
     bench.check_file("log", FIRST.encode() + b"\nanother run\n")
 

@@ -34,6 +34,14 @@ FILE_HINTS = {
     4: "It exists already, and is never overwritten: choose a new name.",
     5: "It has two roles in this run, or another program uses it: give each role its own file, or wait for that "
        "program."}
+# The line after that of a file fault whose cause is known.
+CAUSES = {
+    "missing": "There is no such file: correct its name.",
+    "no directory": "There is no such directory: correct its name.",
+    "directory": "It is a directory: give the name of a file.",
+    "denied": "Permission denied: correct its name or its permissions.",
+    "locked": "Another process has locked it: wait until that process has ended.",
+    "printed": "This run prints to it: choose another file."}
 IS_JOURNAL = "It is a journal, which is never overwritten: choose a new name."
 IS_NO_LOG = "It exists, and is no log, so it isn't overwritten: choose a new name."
 # The lines of a journal that was not sealed.
@@ -162,9 +170,9 @@ def used_name(journal="j"):
     return f"This run has created {journal}: repeat the command with a new journal name."
 
 
-def file_fault(number, name):
-    """Returns the lines of this file fault."""
-    return [f"File fault {number}: {name}.", FILE_HINTS[number]]
+def file_fault(number, name, cause=None):
+    """Returns the lines of this file fault. The cause, if the program knows it, is a key of CAUSES."""
+    return [f"File fault {number}: {name}.", CAUSES[cause] if cause else FILE_HINTS[number]]
 
 
 def command(opcode, address=None, dummies=0):

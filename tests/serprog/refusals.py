@@ -161,7 +161,7 @@ def refuses_images(start):
     bench.expect("-w", "short", "--journal", "j", err=[error])
     bench.check_absent("j")
     bench.expect("-v", "short", err=[error])
-    bench.expect("-w", "none", "--journal", "k", err=reference.file_fault(1, "none"))
+    bench.expect("-w", "none", "--journal", "k", err=reference.file_fault(1, "none", "missing"))
     bench.check_nothing_sent()
     bench.check_absent("k")
     bench.check_chip(old)
@@ -176,7 +176,8 @@ def refuses_regions(start):
     bench.write("layout", b"0:fff a\n10000:10fff b\n")
     bench.write("wrong", b"0:fff a\n2000:1000 b\n")
     bench.write("short", bytes(SIZE - 1))
-    for words, *errors in ((("-E",), "Error 5: region outside the chip."),
+    for words, *errors in ((("-E",), "Error 5: region outside the chip.",
+                            f"The chip has {SIZE} bytes, and not all regions of -i are on it: b."),
                            (("-w", "short"), f"Error 4: image of {SIZE - 1} bytes, chip of {SIZE} bytes.",
                             reference.WHOLE_IMAGE)):
         words = (*words, "-l", "layout", "-i", "b", "--journal", "j")

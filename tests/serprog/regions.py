@@ -140,7 +140,7 @@ def refuses_files_that_cannot_be_used(start):
     bench.write("image", old)
     bench.write("part", cut(old, "boot"))
     for words in ("-v", "image"), ("-w", "image", "--journal", "j"):
-        bench.expect(*words, "-l", "layout", "-i", "boot:none", err=reference.file_fault(1, "none"))
+        bench.expect(*words, "-l", "layout", "-i", "boot:none", err=reference.file_fault(1, "none", "missing"))
         bench.check_nothing_sent()
     for words in ("-r", "out"), ("-v", "image"), ("-w", "image", "--journal", "j"):
         bench.expect(*words, "-l", "layout", "-i", "main,boot:",
@@ -222,9 +222,10 @@ def reports_a_file_that_cannot_be_written(start):
     bench.expect("-r", "out", "-l", "layout", "-i", "main:main.bin,boot:full", err=reference.file_fault(2, "full"))
     bench.check_file("out", only(old, "main", "boot"))
     bench.check_file("main.bin", cut(old, "main"))
-    bench.expect("-r", "out", "-l", "layout", "-i", "boot:none/part", err=reference.file_fault(2, "none/part"))
+    bench.expect("-r", "out", "-l", "layout", "-i", "boot:none/part",
+                 err=reference.file_fault(2, "none/part", "no directory"))
     bench.path("folder").mkdir()
-    bench.expect("-r", "out", "-l", "layout", "-i", "boot:folder", err=reference.file_fault(1, "folder"))
+    bench.expect("-r", "out", "-l", "layout", "-i", "boot:folder", err=reference.file_fault(1, "folder", "directory"))
     bench.check_nothing_sent()
 
 
@@ -280,7 +281,7 @@ def keeps_printed_files(start):
     with open(bench.path("print"), "wb") as printed:
         process = bench.start(("-r", "out", "-l", "layout", "-i", "boot:print"), out=printed)
         _, err = process.communicate(timeout=LONGEST)
-    check("the run", (err.decode().splitlines(), process.returncode), (reference.file_fault(5, "print"), 1))
+    check("the run", (err.decode().splitlines(), process.returncode), (reference.file_fault(5, "print", "printed"), 1))
     bench.check_nothing_sent()
 
 

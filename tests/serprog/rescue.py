@@ -51,7 +51,7 @@ def rescue(bench, old, status=b"\0\0"):
         got = bench.run("--restore", "j1")
         if got.out[-1:] and got.out[-1].startswith("Done") or got.err[:1] and got.err[0].startswith("Chip fault 5"):
             break
-        if got.err in (reference.UNSEALED, reference.file_fault(1, "j1")):
+        if got.err in (reference.UNSEALED, reference.file_fault(1, "j1", "missing")):
             bench.check_chip(old, status)
             return
         check("a restore that is to be repeated", got.err[:1] in ([], ["Error 12: stopped."]), True)

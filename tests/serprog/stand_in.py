@@ -25,8 +25,10 @@ BITS = ("BUSY WEL BP0 BP1 BP2 TB SEC SRP0".split(), "SRP1 QE reserved LB1 LB2 LB
 def read_file(name):
     try:
         return Path(name).read_bytes()
-    except OSError:
-        raise Fault(*reference.file_fault(1, name)) from None
+    except FileNotFoundError:
+        raise Fault(*reference.file_fault(1, name, "missing")) from None
+    except IsADirectoryError:
+        raise Fault(*reference.file_fault(1, name, "directory")) from None
 
 
 def regions(given):
@@ -48,11 +50,12 @@ def regions(given):
     return [found[it] for it in given["-i"].split(",")]
 
 
-def included_sectors(ranges, size):
+def included_sectors(ranges, size, names):
     if ranges is None:
         return list(range(size // SECTOR))
     if any(it[-1] >= size for it in ranges):
-        raise Fault("Error 5: region outside the chip.")
+        raise Fault("Error 5: region outside the chip.",
+                    f"The chip has {size} bytes, and not all regions of -i are on it: {names}.")
     return sorted({at for it in ranges for at in range(it[0] // SECTOR, it[-1] // SECTOR + 1)})
 
 
@@ -111,7 +114,7 @@ class Job:
         name = self.given["-r"]
         if Path(name).exists() and Path(name).read_bytes()[:7] == b"NORUNDO":
             raise Fault(f"File fault 4: {name}.", reference.IS_JOURNAL)
-        data = self.scan(included_sectors(self.ranges, self.size))
+        data = self.scan(included_sectors(self.ranges, self.size, self.given.get("-i")))
         Path(name).write_bytes(mixed(b"\xff" * self.size, data, self.ranges))
         return line, f"Read {self.size} bytes."
 
@@ -122,8 +125,8 @@ class Job:
         self.found(self.given.get("-c"))
         try:
             name.touch()
-        except OSError:
-            raise Fault(*reference.file_fault(2, name)) from None
+        except FileNotFoundError:
+            raise Fault(*reference.file_fault(2, name, "no directory")) from None
         line = self.found(self.given.get("-c"))
         status = self.open_status()
         numbers = range(self.size // SECTOR // (2 if MISTAKE == "saves half of the chip" else 1))
@@ -137,7 +140,7 @@ class Job:
         image = read_file(self.given["-v"])
         line = self.found(self.given.get("-c"))
         self.check_length(image)
-        data = self.scan(included_sectors(self.ranges, self.size))
+        data = self.scan(included_sectors(self.ranges, self.size, self.given.get("-i")))
         wanted = mixed(data, image, self.ranges)
         if data != wanted and MISTAKE != "verifies anything":
             at = next(at for at in range(self.size) if data[at] != wanted[at])
@@ -167,7 +170,7 @@ class Job:
         line = self.found(self.given.get("-c"))
         image = b"\xff" * self.size if image is None else image
         self.check_length(image)
-        numbers = included_sectors(self.ranges, self.size)
+        numbers = included_sectors(self.ranges, self.size, self.given.get("-i"))
         status = self.open_status()
         old = self.scan(numbers)
         target = mixed(old, image, self.ranges)
@@ -185,7 +188,7 @@ class Job:
     def read_whole(self, image):
         """Returns the bytes of the whole chip, read before a change with regions."""
         self.check_length(b"\xff" * self.size if image is None else image)
-        included_sectors(self.ranges, self.size)
+        included_sectors(self.ranges, self.size, self.given.get("-i"))
         self.found(self.given.get("-c"))
         return self.scan(range(self.size // SECTOR))
 

@@ -177,8 +177,8 @@ class Link:
     @staticmethod
     def open(path):
         if not os.path.exists(path):
-            raise Fault(f"Programmer fault 1: {path} cannot be opened. Check its name, and that you may read and write "
-                        "it.")
+            raise Fault(f"Programmer fault 1: {path} cannot be opened: there is no such file. Check its name, and that "
+                        "the programmer is connected.")
         if not stat.S_ISCHR(os.stat(path).st_mode) and MISTAKE != "opens anything":
             raise Fault(f"Programmer fault 2: {path} is not a character device. Name the serial port of the "
                         "programmer.")

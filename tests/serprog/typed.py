@@ -71,7 +71,7 @@ def escapes_arguments(start):
         bench.check_nothing_sent()
     bench.expect("--unlock=a\n\nb\x1b", err=usage(
         r"error: unexpected value 'a\x0a\x0ab\x1b' for '--unlock' found; no more were expected"))
-    bench.expect("-r", "none/\u202ex", err=reference.file_fault(2, r"none/\xe2\x80\xaex"))
+    bench.expect("-r", "none/\u202ex", err=reference.file_fault(2, r"none/\xe2\x80\xaex", "no directory"))
 
 
 def gives_tips(start):

@@ -11,13 +11,13 @@ use crate::setting::Setting;
 use crate::trouble::{ProgrammerFault, Trouble};
 use nor_buses::{CheckedStatus, Paced, ReadAhead, ReadTwice, SameChip, SplittingBus};
 use nor_chip::Bus;
-use nor_console::Fault;
+use nor_console::{Fault, SystemReason};
 use nor_files::LockFile;
 use nor_serprog::{AnyProgrammer, BatchingBus, Command, Failure, HandshakeFault, Link};
 use std::alloc::Global;
-use std::fs;
 use std::fs::{File, OpenOptions};
 use std::os::unix::fs::FileTypeExt;
+use std::{fs, io};
 
 // The transaction that wakes the chip and shows whether the port changes bytes that are sent: ABh, and 12 bytes that
 // the chip ignores. If the port changes the length 0Dh in the frame to 0Ah, the programmer takes the last three of
@@ -240,14 +240,19 @@ fn open_device(rt: &HostRuntime, name: &str) -> Result<File, ProgrammerFault> {
     match fs::metadata(rt, name) {
         Ok(metadata) if metadata.file_type().is_char_device() => {}
         Ok(_) => return Err(ProgrammerFault::NoDevice),
-        Err(_) => return Err(ProgrammerFault::NotOpened),
+        Err(error) => return Err(not_opened(&error)),
     }
-    let Ok(device) = OpenOptions::new().read(true).write(true).open(rt, name) else {
-        return Err(ProgrammerFault::NotOpened);
+    let device = match OpenOptions::new().read(true).write(true).open(rt, name) {
+        Ok(device) => device,
+        Err(error) => return Err(not_opened(&error)),
     };
     match device.lock_alone() {
         Ok(true) => Ok(device),
         Ok(false) => Err(ProgrammerFault::InUse),
-        Err(_) => Err(ProgrammerFault::NotOpened),
+        Err(error) => Err(not_opened(&error)),
     }
+}
+
+fn not_opened(error: &io::Error) -> ProgrammerFault {
+    ProgrammerFault::NotOpened(SystemReason::of_reading(error))
 }

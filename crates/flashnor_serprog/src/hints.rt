@@ -8,7 +8,7 @@ use crate::region_files::regions_of;
 use crate::replies::Replies;
 use crate::stop_line::Left;
 use nor_args::{Change, Operation, Regions, Task};
-use nor_console::{Escaped, Fault, FileFault};
+use nor_console::{Cause, Escaped, Fault, FileFault, SystemReason};
 use nor_journal::Journal;
 use nor_model::Status;
 use nor_probe::{ChipName, part_for};
@@ -93,6 +93,9 @@ pub fn print_operation_hint<E: Write>(
         } if reads(operation) => {
             let _ = writeln!(errors, "{IS_JOURNAL}");
         }
+        Fault::Refused(Refusal::RegionOutside) => {
+            print_outside(errors, &operation.task, known.replies.size());
+        }
         Fault::Refused(refusal) => match found_and_expected(*refusal, operation, known) {
             Some(line) => {
                 let _ = writeln!(errors, "{line}");
@@ -121,11 +124,47 @@ fn print_file<E: Write>(errors: &mut E, task: &Task<'_>) {
     }
 }
 
+// Prints the line for an included region that isn't on a chip of this number of bytes, with the value of `-i`.
+fn print_outside<E: Write>(errors: &mut E, task: &Task<'_>, size: Option<u32>) {
+    if let (Some(Regions { names, .. }), Some(size)) = (regions_of(task), size) {
+        let names = Escaped(names);
+        let _ = writeln!(
+            errors,
+            "The chip has {size} bytes, and not all regions of -i are on it: {names}."
+        );
+    }
+}
+
 // Returns the text that follows a fault, if there is one that needs no more than the fault.
 fn hint_for(fault: &Fault<'_>) -> Option<&'static str> {
     match fault {
-        Fault::File { fault, .. } => file_hint(*fault),
+        Fault::File { fault, cause, .. } => cause_hint(*cause).or(file_hint(*fault)),
         Fault::Refused(Refusal::BadJournal(why)) => Some(advice(*why)),
+        _ => None,
+    }
+}
+
+// Returns the text for a file fault whose cause is known.
+fn cause_hint(cause: Cause) -> Option<&'static str> {
+    match cause {
+        Cause::System(SystemReason::Missing) => Some("There is no such file: correct its name."),
+        Cause::System(SystemReason::NoDirectory) => {
+            Some("There is no such directory: correct its name.")
+        }
+        Cause::System(SystemReason::Directory) => {
+            Some("It is a directory: give the name of a file.")
+        }
+        Cause::System(SystemReason::Denied) => Some(
+            "Permission denied: correct its name or its permissions.",
+        ),
+        Cause::System(SystemReason::ReadOnly) => Some(
+            "The file system is read-only: choose another directory.",
+        ),
+        Cause::System(SystemReason::Full) => Some(
+            "No space is left on the disk: free some, or choose another disk.",
+        ),
+        Cause::Locked => Some("Another process has locked it: wait until that process has ended."),
+        Cause::Printed => Some("This run prints to it: choose another file."),
         _ => None,
     }
 }

@@ -8,7 +8,7 @@ use crate::quoted::{Quoted, SetUp};
 use crate::region_faults::RegionFault;
 use crate::setting::WrongSetting;
 use nor_args::{Flaw, Reason, WrongArguments};
-use nor_console::{Escaped, Fault, text_of_flaw};
+use nor_console::{Escaped, Fault, SystemReason, text_of_flaw};
 use nor_serprog::{Failure, HandshakeFault};
 use std::fmt;
 
@@ -174,7 +174,7 @@ pub const MODES: &str = "raw -echo clocal -hupcl min 0 time 50";
 #[derive(Drop)]
 pub enum ProgrammerFault {
     /// 1: the device is missing, or the system can't open or lock it.
-    NotOpened,
+    NotOpened(SystemReason),
     /// 2: the file of this name is no character device.
     NoDevice,
     /// 3: another process has locked the device.
@@ -199,7 +199,7 @@ impl ProgrammerFault {
     /// Returns the number of the fault, as printed: 1 to 12.
     pub fn number(&self) -> u8 {
         match self {
-            ProgrammerFault::NotOpened => 1,
+            ProgrammerFault::NotOpened(_) => 1,
             ProgrammerFault::NoDevice => 2,
             ProgrammerFault::InUse => 3,
             ProgrammerFault::Handshake(fault) => number_of(fault),
@@ -211,7 +211,13 @@ impl ProgrammerFault {
     // printed, since these faults have texts of their own.
     fn reason(&self) -> &'static str {
         match self {
-            ProgrammerFault::NotOpened => "cannot be opened",
+            ProgrammerFault::NotOpened(SystemReason::Missing) => {
+                "cannot be opened: there is no such file"
+            }
+            ProgrammerFault::NotOpened(SystemReason::Denied) => {
+                "cannot be opened: permission denied"
+            }
+            ProgrammerFault::NotOpened(_) => "cannot be opened",
             ProgrammerFault::NoDevice => "is not a character device",
             ProgrammerFault::InUse => "is in use by another program",
             ProgrammerFault::Handshake(_) => "cannot be used",
@@ -221,7 +227,13 @@ impl ProgrammerFault {
 
     fn help(&self) -> Remedy {
         match self {
-            ProgrammerFault::NotOpened => {
+            ProgrammerFault::NotOpened(SystemReason::Missing) => {
+                Remedy::Do("Check its name, and that the programmer is connected.")
+            }
+            ProgrammerFault::NotOpened(SystemReason::Denied) => Remedy::Do(
+                "Become a member of the device's group (often dialout), and log in again.",
+            ),
+            ProgrammerFault::NotOpened(_) => {
                 Remedy::Do("Check its name, and that you may read and write it.")
             }
             ProgrammerFault::NoDevice => Remedy::Do("Name the serial port of the programmer."),
