@@ -225,7 +225,7 @@ has_two_layouts given = nat_lt 1 (how_many (layouts_given given))
 -- the form of the layout; it has a meaning only if exactly one layout is given
 abbrev pub layout_form : Texts → LayoutForm
 layout_form given =
-    if is_some given.layout then form.Lines
+    if is_some given.layout then (if given.hardware then form.Words else form.Lines)
     else if is_some given.fmap_file || given.fmap then form.Fmap else form.Descriptor
 
 -- the mode with the given name, or `None` if `--progress` has no such mode

@@ -158,8 +158,11 @@ pub struct Regions<'a> {
 /// The form of a layout.
 #[derive(Clone, Copy)]
 pub enum LayoutForm {
-    /// `-l`: lines `START:END NAME`, as in flashrom.
+    /// `-l` of flashnor: lines `START:END NAME`.
     Lines,
+    /// `-l` of a program for hardware: lines of words `START:END` and `NAME`, with any blanks around them, as in
+    /// flashrom.
+    Words,
     /// `--fmap-file` and `--fmap`: an image or the bytes of the chip, with an FMAP.
     Fmap,
     /// `--ifd-file` and `--ifd`: an image or the bytes of the chip, which begin with an Intel flash descriptor.

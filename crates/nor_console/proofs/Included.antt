@@ -79,6 +79,7 @@ IsOfLayout fault = ⊥
 
 lacks-only : (of : LayoutForm) (text : List ℕ) (fault : Fault) → LacksLayout of text fault → IsOfLayout fault
 lacks-only form.Lines text (end.Layout fault) is = tt
+lacks-only form.Words text (end.Layout fault) is = tt
 lacks-only form.Fmap text (end.Map fault) is = tt
 lacks-only form.Descriptor text (end.Map fault) is = tt
 lacks-only _ text _ is = absurd is

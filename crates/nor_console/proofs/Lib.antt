@@ -2,3 +2,4 @@ pub mod Printed
 pub mod FileFaults
 pub mod Included
 pub mod Lent
+mod WordsSoFar

@@ -8,6 +8,7 @@ pub mod FaultLines
 pub mod Printing
 pub mod Stored
 pub mod Files
+pub mod LayoutWords
 pub mod Requests
 pub mod Readings
 pub mod Sessions

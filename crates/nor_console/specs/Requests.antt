@@ -28,6 +28,8 @@ use Rattle.nor_args.specs.declared.words.UsageFault.TheVariants as usage
 use Rattle.nor_console.specs.Stored.{IsRead}
 use Rattle.nor_files.specs.Files.{View}
 use Rattle.nor_console.specs.Files.{IsReadingFault, IsTooLong}
+use Rattle.nor_console.specs.LayoutWords.{in_words}
+use Rattle.nor_console.specs.declared.layout_words.Place.TheVariants as place
 use Rattle.nor_console.specs.declared.messages.Fault.{Fault}
 use Rattle.nor_console.specs.declared.messages.Fault.TheVariants as end
 
@@ -52,10 +54,12 @@ request_for change named ranges = record {
 abbrev pub any_size : ℕ
 any_size = 4294967295
 
--- Holds if the text is a layout of the given form with these regions. `Lines`: a text of lines. `Fmap` and
--- `Descriptor`: an image with an FMAP or a flash descriptor, whose regions may lie outside the image and the chip.
+-- Holds if the text is a layout of the given form with these regions. `Lines`: a text of lines. `Words`: a text that is
+-- one as soon as each line has one space between its words, and no other blanks. `Fmap` and `Descriptor`: an image
+-- with an FMAP or a flash descriptor, whose regions may lie outside the image and the chip.
 abbrev pub HasLayout : LayoutForm → (text : List ℕ) → List Region → Type 0
 HasLayout form.Lines text regions = IsLayout text regions
+HasLayout form.Words text regions = IsLayout (in_words place.Start text) regions
 HasLayout form.Fmap text regions = fmap_says any_size text ≡ Ok regions
 HasLayout form.Descriptor text regions = descriptor_says any_size text ≡ Ok regions
 
@@ -114,9 +118,12 @@ IsUnparsed text layout.Memory = AsksMemory text
 IsUnparsed text layout.NoRegion = ⊥
 IsUnparsed text fault = IsNoLayout text fault
 
--- Holds if the text may fail to be parsed as a layout of the given form with this fault.
+-- Holds if the text may fail to be parsed as a layout of the given form with this fault. The words of `Words` need
+-- memory of their own.
 abbrev pub LacksLayout : LayoutForm → (text : List ℕ) → Fault → Type 0
 LacksLayout form.Lines text (end.Layout fault) = IsUnparsed text fault
+LacksLayout form.Words text (end.Layout fault) =
+    IsUnparsed (in_words place.Start text) fault ⊎ (fault ≡ layout.Memory)
 LacksLayout form.Fmap text (end.Map fault) =
     ReadsTable (fmap_says any_size text) (AsksInFmap any_size text) (Err fault)
 LacksLayout form.Descriptor text (end.Map fault) =

@@ -12,6 +12,7 @@
 //! - `printing.rt`: prints answers, help and faults
 //! - `files.rt`: reads, locks and creates the files of a job, and makes the faults of files
 //! - `requests.rt`: the request of a change, and its included addresses
+//! - `layout_words.rt`: layouts with blanks that flashrom takes
 //! - `roles.rt`: the files that a task names, and the check that two names refer to two files
 //! - `streams.rt`: keeps the descriptors 0, 1 and 2 open, and prints by lines
 //!
@@ -25,6 +26,7 @@ mod calls;
 mod causes;
 mod escapes;
 mod files;
+mod layout_words;
 mod messages;
 mod printing;
 mod reasons;
@@ -50,6 +52,7 @@ pub use printing::{
 pub use reasons::text_of_flaw;
 pub use requests::{include_regions, read_included, read_layout, request_for};
 pub use roles::{
-    Named, Role, apart, apart_as, found_streams, is_printed, journal_of, look_ahead, named_by, unprinted,
+    Named, Role, apart, apart_as, found_streams, is_printed, journal_of, look_ahead, named_by,
+    unprinted,
 };
 pub use streams::{DIRECTORY, Streams, by_line, keep_streams};

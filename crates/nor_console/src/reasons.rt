@@ -121,7 +121,8 @@ fn text_of_line(fault: LineFault) -> &'static str
         LineFault::Line => "there is no colon, or no space (a TAB is none) between END and NAME",
         LineFault::Address => "an address is not 1 to 8 hexadecimal digits, without blanks",
         LineFault::Backwards => "the end is below the start",
-        LineFault::Name => "the name is not 1 to 32 visible ASCII characters (a CR is none) other than , and :",
+        LineFault::Name =>
+            "the name is not 1 to 32 visible ASCII characters (a CR is none) other than , and :",
         LineFault::Twice => "an earlier line has this name",
     }
 }

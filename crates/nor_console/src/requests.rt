@@ -3,6 +3,7 @@ ghost use Rattle.std.specs.Prelude.{◌≡◌, ◌≤◌, ℕ, IfOk, IfErr, None
 ghost use Rattle.nor_layout.specs.Included.{are_known, is_included};
 ghost use Rattle.nor_layout.specs.Ranges.{contains};
 ghost use Rattle.nor_layout.specs.Text.{is_region_named};
+ghost use Rattle.nor_args.specs.declared.job.LayoutForm.TheVariants as LayoutForms;
 ghost use Rattle.nor_args.specs.declared.reasons.Reason.TheVariants as Reasons;
 ghost use Rattle.nor_args.specs.declared.words.UsageFault.TheVariants as Usage;
 ghost use Rattle.nor_console.specs.Requests.{AreRangesOf, FailsToInclude, FailsToReadLayout, HasLayout, IsLayoutOf};
@@ -12,10 +13,11 @@ ghost use Rattle.nor_console.specs.declared.messages.Fault.TheVariants as Faults
 
 use crate::causes::Cause;
 use crate::files::{MOST_LAYOUT_BYTES, read_file, unread_by};
+use crate::layout_words::in_words;
 use crate::messages::Fault;
 use nor_args::{Change, LayoutForm, Reason, Regions, UsageFault, Wanted};
 use nor_files::Store;
-use nor_layout::{Layout, Ranges, Region};
+use nor_layout::{Layout, LayoutFault, Ranges, Region};
 use nor_maps::{read_descriptor, read_fmap};
 use nor_probe::ChipName;
 use nor_session::{Request, What};
@@ -119,6 +121,7 @@ fn parse_layout<'a>(alloc: Global, form: LayoutForm, text: &[u8]) -> Result<Layo
             Ok(layout) => Ok(layout),
             Err(fault) => Err(Fault::Layout(fault)),
         },
+        LayoutForm::Words => parse_words(alloc, text),
         LayoutForm::Fmap => match read_fmap(alloc, text, ANY_SIZE) {
             Ok(layout) => Ok(layout),
             Err(fault) => Err(Fault::Map(fault)),
@@ -127,6 +130,21 @@ fn parse_layout<'a>(alloc: Global, form: LayoutForm, text: &[u8]) -> Result<Layo
             Ok(layout) => Ok(layout),
             Err(fault) => Err(Fault::Map(fault)),
         },
+    }
+}
+
+// Parses `text` as a layout of the form `Words`.
+#[tactic(auto, using(crate::proofs::Included::is_unparsed))]
+fn parse_words<'a>(alloc: Global, text: &[u8]) -> Result<Layout, Fault<'a>>
+    ensures ok { IfOk result (λ layout. HasLayout LayoutForms.Words text.now layout) }
+    ensures err { IfErr result (LacksLayout LayoutForms.Words text.now) }
+{
+    let Ok(words) = in_words(alloc, text) else {
+        return Err(Fault::Layout(LayoutFault::Memory));
+    };
+    match Layout::read(alloc, &words) {
+        Ok(layout) => Ok(layout),
+        Err(fault) => Err(Fault::Layout(fault)),
     }
 }
 

@@ -32,7 +32,11 @@ impl<'a> Given<'a> {
         ensures { result ≡ layout_form (texts_of self.now) }
     {
         if self.layout.is_some() {
-            LayoutForm::Lines
+            if self.is_hardware {
+                LayoutForm::Words
+            } else {
+                LayoutForm::Lines
+            }
         } else if self.fmap_file.is_some() || self.fmap {
             LayoutForm::Fmap
         } else {

@@ -1,0 +1,58 @@
+//! Layout texts with blanks that flashrom takes and nor_layout doesn't.
+ghost use Rattle.std.specs.Prelude.{◌≡◌, ◌++◌, IfOk};
+ghost use Rattle.nor_console.specs.LayoutWords.{in_words, is_blank, kept_of, place_after};
+ghost use Rattle.nor_console.specs.declared.layout_words.Place.TheVariants as place;
+
+use std::alloc::{AllocError, Global};
+
+// What precedes a byte in its line.
+#[derive(Clone, Copy)]
+enum Place {
+    /// No word.
+    Start,
+    /// A byte of a word.
+    Word,
+    /// A blank after a word.
+    Blank,
+}
+
+/// Returns a text with one space between the words of each line, and no other blanks. Blanks are the tab, the vertical
+/// tab, the form feed, the carriage return and the space. Fails if memory runs out.
+pub fn in_words(alloc: Global, text: &[u8]) -> Result<Vec<u8>, AllocError>
+    ensures { IfOk result (λ words. words.items ≡ in_words place.Start text.now) }
+{
+    let mut words = Vec::new(alloc);
+    let mut place = Place::Start;
+    for byte in text {
+        place = add_byte(&mut words, place, *byte)?;
+    }
+    Ok(words)
+}
+
+// Adds what becomes of a byte that `place` precedes, and returns what precedes the next byte.
+fn add_byte(words: &mut Vec<u8>, place: Place, byte: u8) -> Result<Place, AllocError>
+    ensures { IfOk result (λ next. (next ≡ place_after place byte)
+        × (words.new.items ≡ words.old.items ++ kept_of place byte)) }
+{
+    if byte == b'\n' {
+        words.push(byte)?;
+        return Ok(Place::Start);
+    }
+    if is_blank(byte) {
+        return Ok(match place {
+            Place::Start => Place::Start,
+            _ => Place::Blank,
+        });
+    }
+    if matches!(place, Place::Blank) {
+        words.push(b' ')?;
+    }
+    words.push(byte)?;
+    Ok(Place::Word)
+}
+
+fn is_blank(byte: u8) -> bool
+    ensures { result ≡ is_blank byte }
+{
+    matches!(byte, b'\t' | 0x0B | 0x0C | b'\r' | b' ')
+}
