@@ -140,5 +140,27 @@ def takes_maps_of_larger_chips(start):
                     bench.check_chip(image)
 
 
+def takes_blanks_in_layouts(start):
+    """A layout may have any blanks around its words, as in flashrom, but a region has both of its words in one line."""
+    old = bytes(range(256)) * (SIZE // 256)
+    bench = start(data=old)
+    bench.write("layout", b"\t0:fff\ta \r\n \x0b 3000:3fff  b\x0c\r\n\r\n \t\n5001:5002\tc")
+    wanted = bytearray(b"\xff" * SIZE)
+    for first, end in (0, 0x1000), (0x3000, 0x4000), (0x5001, 0x5003):
+        wanted[first:end] = old[first:end]
+    bench.expect("-r", "out", "-l", "layout", "-i", "a,b,c", out=[reference.found("TINY64"), f"Read {SIZE} bytes."])
+    bench.check_file("out", wanted)
+    for line, number, why in (
+            (b"0 :fff x", 2, "an address is not 1 to 8 hexadecimal digits, without blanks"),
+            (b"0: fff x", 2, "an address is not 1 to 8 hexadecimal digits, without blanks"),
+            (b"0:fff", 1, "there is no colon, or no space (a TAB is none) between END and NAME"),
+            (b"0:fff\tx\ty", 4,
+             "the name is not 1 to 32 visible ASCII characters (a CR is none) other than , and :")):
+        bench.write("wrong", b" \t\r\n8000:8fff\tc\r\n" + line + b"\t\r\n")
+        bench.expect("-r", "next", "-l", "wrong", "-i", "c",
+                     err=[f"error: {why}", f"Layout fault {number} at line 3.", "The regions are in the file wrong."])
+        bench.check_absent("next")
+
+
 CASES = [refuses_dash, finds_dash_in_its_turn, escapes_arguments, gives_tips, takes_repeated_flags,
-         takes_maps_of_larger_chips]
+         takes_maps_of_larger_chips, takes_blanks_in_layouts]
