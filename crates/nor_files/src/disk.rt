@@ -6,7 +6,7 @@ use crate::folder::sync_folder;
 use crate::held::{Held, hold_chip, hold_journal, mode_beside, sync_under, write_from_start};
 use crate::identity::{is_one_file, is_stream, unseen_stream};
 use crate::locks::LockFile;
-use crate::making::{LogFile, VaultedFile, make_empty, make_new, open_log};
+use crate::making::{LogFile, VaultedFile, make_empty, make_journal, make_new, open_log};
 use crate::store::{CreateFault, LockFault, Store, Stream};
 use nor_journal::{FileVault, Vault};
 use std::alloc::{AllocError, Global};
@@ -219,7 +219,7 @@ where
 
     fn vault_in_new(&mut self, name: &str) -> Result<FileVault<VaultedFile<'a, R>>, CreateFault> {
         let named = String::from_str(self.alloc(), name)?;
-        let file = make_new(self.files, name, mode_beside(&self.held))?;
+        let file = make_journal(self.files, name, mode_beside(&self.held))?;
         sync_folder(self.files, name)?;
         let vaulted = VaultedFile::new(self.files, file, Some(named));
         Ok(FileVault::new(vaulted))

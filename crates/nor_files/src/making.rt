@@ -18,8 +18,35 @@ where
     R::File: LockFile,
 {
     let mut options = OpenOptions::new();
-    options.read(true).write(true).create_new(true).mode(mode);
-    let file = match options.open(files, name) {
+    options.read(true).write(true);
+    make_alone(files, name, &mut options, mode)
+}
+
+/// Creates the file of a journal as `make_new` does, but each write appends to it.
+///
+/// If another program truncates the journal while it is written, the later bytes follow the remaining ones directly.
+/// The file is then too short, which `VaultedFile::check` notices. Other writes would leave a gap of zero bytes, and
+/// the file would have the expected length.
+pub fn make_journal<R: Files>(files: &R, name: &str, mode: u32) -> Result<R::File, CreateFault>
+where
+    R::File: LockFile,
+{
+    let mut options = OpenOptions::new();
+    options.read(true).append(true);
+    make_alone(files, name, &mut options, mode)
+}
+
+// Creates the named file with these options and permissions, and locks it.
+fn make_alone<R: Files>(
+    files: &R,
+    name: &str,
+    options: &mut OpenOptions,
+    mode: u32,
+) -> Result<R::File, CreateFault>
+where
+    R::File: LockFile,
+{
+    let file = match options.create_new(true).mode(mode).open(files, name) {
         Ok(file) => file,
         Err(error) if error.kind() == ErrorKind::AlreadyExists => return Err(CreateFault::There),
         Err(error) => return Err(CreateFault::Unmade(error)),
