@@ -7,7 +7,7 @@ import random
 
 import reference
 from bench import check
-from chip import ERASES, FURTHER, SECTOR, protected_range
+from chip import ERASES, FURTHER, PARTS, SECTOR, protected_range
 
 SIZE = 65536
 FREE = b"\xff" * SIZE
@@ -85,9 +85,18 @@ def keeps_to_the_protocol(start):
 
 
 def names_the_chip(start):
-    """-c takes the name of the chip that is there, and another one is error 3."""
+    """-c takes the name of the chip that is there, in upper or lower case, and another one is error 3."""
+    for part in "W25Q64FV", "W25Q128FV", *FURTHER:
+        bench = start(part)
+        for name in part, part.lower(), part.replace("Q", "q"), part[:5] + part[5:].lower():
+            bench.expect("-c", name, out=[reference.found(part)])
+        bench.check_frames(reference.probe(part))
+        bench.expect("--chip", "w25q", err=[
+            reference.OTHER_NAME[0], "This program knows no chip with the name of -c. The connected chip is "
+            f"{part} ({PARTS[part].id.hex()})."])
     bench = start()
-    bench.expect("-c", "SFDP", out=[reference.found("TINY64")])
+    for name in "SFDP", "sfdp", "Sfdp":
+        bench.expect("-c", name, out=[reference.found("TINY64")])
     bench.expect("-c", "W25Q64FV", err=reference.OTHER_NAME)
     bench.expect("-c", "other", err=[
         reference.OTHER_NAME[0], "This program knows no chip with the name of -c. The connected chip has the ID fe1010, "

@@ -64,6 +64,34 @@ def reads_regions_into_files(start):
     bench.check_file("out", only(old, "data", "over"))
 
 
+def takes_several_options(start):
+    """Several -i, by each of their names, include all their regions, as one -i with commas does."""
+    old = random_image("several")
+    for words in (
+            ("-i", "data:a,main,id:b"), ("-i", "data:a", "-i", "main", "-i", "id:b"),
+            ("-idata:a", "--include", "main,id:b"), ("--image=data:a", "-Vi", "main", "--include=id:b"),
+            ("--image", "data:a,main", "-c", "SFDP", "--image", "id:b")):
+        bench = begin(start, old)
+        got = bench.run(*words, "-r", "out", "-l", "layout")
+        check("the run", (got.out, got.status), ([reference.found("TINY64"), f"Read {SIZE} bytes."], 0))
+        bench.check_file("out", only(old, "data", "main", "id"))
+        bench.check_file("a", cut(old, "data"))
+        bench.check_file("b", cut(old, "id"))
+    # The file of the later option wins, a wrong name is found in each option, and so is the file `-`.
+    bench = begin(start, old)
+    bench.write("first", b"\x01" * 0x2000)
+    bench.write("second", b"\x02" * 0x1000)
+    bench.write("image", FREE)
+    got = bench.run("-w", "image", "--journal", "j", "-l", "layout", "-i", "data:first", "--image", "over:second")
+    check("the run", (got.err, got.status), ([], 0))
+    bench.check_chip(put(put(old, "data", b"\x01" * 0x2000), "over", b"\x02" * 0x1000))
+    for words in ("-i", "data", "-i", "none"), ("-i", "none", "--image", "data"), ("-i", "none,data"):
+        bench.expect("-r", "out", "-l", "layout", *words,
+                     err=["error: the layout has no region 'none'", "Layout fault 8.", NO_REGION])
+    bench.expect("-r", "out", "-l", "layout", "-i", "data", "--image", "id:-",
+                 err=["error: '-' is no file for -i; for a file with this name give ./-", "Usage fault 5."])
+
+
 def writes_a_region_from_a_file(start):
     """-w takes the bytes of a region from its file, all others of the included regions from the image."""
     old, new, other = (random_image(seed) for seed in ("old", "new", "other"))
@@ -305,7 +333,7 @@ def finds_links_to_new_files(start):
     bench.check_absent("own")
 
 
-CASES = [reads_regions_into_files, writes_a_region_from_a_file, lets_the_later_file_win,
+CASES = [reads_regions_into_files, takes_several_options, writes_a_region_from_a_file, lets_the_later_file_win,
          verifies_a_region_against_a_file, refuses_other_lengths, refuses_files_that_cannot_be_used,
          gives_each_file_of_a_read_one_role, keeps_the_files_of_a_write_apart, keeps_a_journal,
          reports_a_file_that_cannot_be_written, needs_a_regular_output, takes_regions_of_maps,

@@ -82,7 +82,7 @@ def gives_tips(start):
             ("--extract", "-r FILE with -i NAME:FILE reads regions into files of their own"),
             ("-f", "no check can be left out; --unlock lifts protection, -n and -N skip comparisons"),
             ("-A", "-h lists all options; -N is the one that leaves out the comparison of the whole chip"),
-            ("-L", CHIPS), ("--list-supported", CHIPS), ("--image", "-i takes the names of regions"),
+            ("-L", CHIPS), ("--list-supported", CHIPS),
             ("--wp-region", "--wp-range START,LENGTH takes the addresses of the region"),
             ("--flash-contents", "leave this option out: the chip itself is read before it is written"),
             ("--get-size", "--flash-size prints the size of the chip"),
@@ -90,10 +90,6 @@ def gives_tips(start):
         bench.expect("-V", option, err=usage(f"error: unexpected argument '{option}' found", "", f"  tip: {tip}"))
         bench.check_nothing_sent()
     bench.expect("--reed", err=usage("error: unexpected argument '--reed' found"))
-    for words in ("-i", "a", "-i", "b"), ("--include=a", "-ib"):
-        bench.expect("-r", "out", "-l", "layout", *words, err=usage(
-            "error: the argument '--include <NAMES>' cannot be used multiple times", "",
-            "  tip: one -i takes several regions, with commas between them"))
     bench.expect("-c", "a", "-c", "b", err=usage("error: the argument '--chip <NAME>' cannot be used multiple times"))
 
 

@@ -117,7 +117,8 @@ fn run_arguments<'b, R: Store<Log = LogFile<File>>, O: Write, E: Write>(
         (R.state files.old) (R.state files.new) (map string_bytes words.now) (device_of connected)
         (⟦<ChipBus<'b> as Bus>⟧.state connected.bus) (O.contents output.old) (O.contents output.new) result) }
 {
-    match read_words(rt.alloc(), words) {
+    let mut included = None;
+    match read_words(rt.alloc(), words, &mut included) {
         Ok(Asked::Description { file, image: None }) => check_journal(files, file, output, errors),
         Ok(
             Asked::Description {
@@ -223,12 +224,16 @@ enum Asked<'a> {
     },
 }
 
-// Returns what the arguments ask for, or their first fault.
-fn read_words<'a>(alloc: Global, words: &'a [String]) -> Result<Asked<'a>, Trouble<'a>>
+// Returns what the arguments ask for, or their first fault. `names` receives the names of all `-i`.
+fn read_words<'a>(
+    alloc: Global,
+    words: &'a [String],
+    names: &'a mut Option<String>,
+) -> Result<Asked<'a>, Trouble<'a>>
     ensures ok { IfOk result (IsAskedByArguments (map string_bytes words.now)) }
     ensures help { IfErr result (IsHelpAskedBy (map string_bytes words.now)) }
 {
-    match operation_of(alloc, HELP, words)? {
+    match operation_of(alloc, HELP, words, names)? {
         HardwareJob::CheckJournal { file, image } => Ok(Asked::Description { file, image }),
         HardwareJob::Chip(job) => {
             let setting = Setting::read(job.programmer)?;

@@ -2,10 +2,11 @@
 use Rattle.std.proofs.Common.{◌≡◌, Bool, None, Option, Some, arith, codes, option_map}
 use Rattle.std.specs.Prelude.{is_some, not}
 use Rattle.std.specs.Borrow.{Bor}
+use Rattle.nor_probe.specs.declared.table.ChipName.{ChipName}
 use Rattle.nor_args.specs.Text.{Text}
 use Rattle.nor_args.specs.Given.{Texts, progress_mode, srp0_of}
 use Rattle.nor_args.specs.Faults.{first_fault, usage_faults}
-use Rattle.nor_args.specs.Job.{IsAsked, IsOperation, IsTask}
+use Rattle.nor_args.specs.Job.{IsAsked, IsOperation, IsTask, name_in_any_case}
 use Rattle.nor_args.specs.declared.job.ChipJob.{ChipJob}
 use Rattle.nor_args.specs.declared.job.Job.TheVariants as job
 use Rattle.nor_args.specs.declared.job.ProgressMode.{ProgressMode}
@@ -27,13 +28,14 @@ given_text None is same = same
 given_text (Some text) is same = same
 
 -- Let the options ask for the job `on_chip` on an emulated chip. A program for hardware is then asked for the operation
--- with the same name and task; its other fields have the values of their options.
-pub operation-asked : (given : Texts) (on_chip : ChipJob) (backup : Bool)
-    (srp0 : Option Bool) (progress : ProgressMode) (log : Option (Bor Text)) → backup ≡ is_some given.backup
+-- with the same task; its other fields have the values of their options.
+pub operation-asked : (given : Texts) (on_chip : ChipJob) (named : Option ChipName) (backup : Bool)
+    (srp0 : Option Bool) (progress : ProgressMode) (log : Option (Bor Text))
+    → named ≡ option_map name_in_any_case given.chip → backup ≡ is_some given.backup
     → srp0 ≡ srp0_of given → progress ≡ progress_mode given → option_map (λ (file : Bor Text). file.now) log ≡ given.log
     → (first_fault (usage_faults (emulated given)) ≡ None) × IsAsked (emulated given) (job.Chip on_chip)
     → IsOperation given (record {
-      named = on_chip.named;
+      named = named;
       verifies_all = not given.no_verify_all;
       is_quick = given.quick;
       is_replaced_chip = given.replaced_chip;
@@ -45,4 +47,4 @@ pub operation-asked : (given : Texts) (on_chip : ChipJob) (backup : Bool)
       log = log;
       task = on_chip.task;
     })
-operation-asked given on_chip backup srp0 progress log same set shown logged is = search task-same
+operation-asked given on_chip named backup srp0 progress log called same set shown logged is = search task-same

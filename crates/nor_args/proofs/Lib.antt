@@ -1,4 +1,5 @@
 pub mod InTurn
+pub mod Joined
 pub mod Numerals
 pub mod Listed
 pub mod Begins

@@ -1,10 +1,10 @@
 -- The values of the options in the arguments.
 use Rattle.std.specs.Prelude.{◌||◌, ℕ, Bool, true, false, Option, Some, None, List, [], ◌∷◌, codes, is_some}
 use Rattle.std.specs.Prelude.{nat_lt, option_and_then, option_map, unwrap_or, if◌then◌else◌}
-use Rattle.std.specs.List.{count_by}
+use Rattle.std.specs.List.{count_by, join_by}
 use Rattle.std.specs.Option.{option_map_or, option_or}
 use Rattle.std.specs.Str.{bytes_eq}
-use Rattle.clap.specs.Words.{Row, count_of, first_of, matches_of}
+use Rattle.clap.specs.Words.{Row, all_of, count_of, first_of, matches_of}
 use Rattle.nor_args.specs.Text.{Text}
 use Rattle.nor_args.specs.Options.{hardware_options, options}
 use Rattle.nor_args.specs.declared.given.Given.{Given}
@@ -74,6 +74,10 @@ is_flag_set value = option_map_or (λ text. bytes_eq text (codes "true")) value 
 abbrev pub text_in : List Row → Text → Option Text
 text_in rows id = first_of id rows
 
+-- all values of the option with the given ID in the rows, with commas between them, or `None` without a value
+abbrev pub joined_in : List Row → Text → Option Text
+joined_in rows id = option_map (join_by (λ text. text) (codes ",")) (all_of id rows)
+
 -- true if the flag with the given ID is set in the rows, which are the result of a parse by `clap`
 abbrev pub is_set_in : List Row → Text → Bool
 is_set_in rows id = is_flag_set (first_of id rows)
@@ -123,7 +127,7 @@ abbrev pub given_by : List Text → Texts
 given_by words = given_in (matches_of options words)
 
 -- the options of a program for hardware in the rows of a parse. The program has more options than flashnor, but neither
--- `-L` nor `--rehearse`.
+-- `-L` nor `--rehearse`. The values of all `-i` count as one value, with commas between them.
 abbrev pub hardware_given_in : List Row → Texts
 hardware_given_in rows = record (given_in rows) {
   list = false;
@@ -138,6 +142,7 @@ hardware_given_in rows = record (given_in rows) {
   replaced_chip = is_set_in rows (codes "replaced-chip");
   fmap_file = text_in rows (codes "fmap-file");
   ifd_file = text_in rows (codes "ifd-file");
+  names = joined_in rows (codes "include");
   fmap = is_set_in rows (codes "fmap");
   ifd = is_set_in rows (codes "ifd");
   no_verify_all = is_set_in rows (codes "noverify-all");

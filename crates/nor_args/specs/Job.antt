@@ -1,10 +1,12 @@
 -- The job that the options ask for, and its parts. For programs for hardware also: the fault of options that ask for no
 -- job or no operation.
 use Rattle.std.specs.Prelude.{◌≡◌, ◌⊎◌, [], ◌∷◌, true, false, MatchResult, Option, Some, None, is_some, not}
-use Rattle.std.specs.Prelude.{option_and_then, option_map}
+use Rattle.std.specs.Prelude.{map, option_and_then, option_map}
 use Rattle.std.specs.Borrow.{Bor}
+use Rattle.std.specs.Char.{to_ascii_uppercase}
 use Rattle.std.specs.Option.{IsSomeAnd}
 use Rattle.nor_probe.specs.Table.{name_of}
+use Rattle.nor_probe.specs.declared.table.ChipName.{ChipName}
 use Rattle.nor_args.specs.Faults.{first_fault, operation_faults}
 use Rattle.nor_args.specs.Given.{Texts, gives_layout, how_many, layout_file, layout_form, operations, output_of}
 use Rattle.nor_args.specs.Given.{progress_mode, srp0_of}
@@ -91,11 +93,15 @@ IsAsked given (job.Chip on_chip) = (given.list ≡ false) × IsChipJob given on_
 
 -- ---- programs for hardware
 
--- Holds if the options have none of the faults 4 to 9 and ask for this operation: `named` is the value of `-c`, and
--- each other field has the value of its option.
+-- the name of the chip that the text spells in upper or lower case
+abbrev pub name_in_any_case : Text → ChipName
+name_in_any_case text = name_of (map to_ascii_uppercase text)
+
+-- Holds if the options have none of the faults 4 to 9 and ask for this operation: `named` is the chip that `-c` names,
+-- in upper or lower case, and each other field has the value of its option.
 pub record IsOperation (given : Texts) (operation : Operation) : Type 0 where
   pub sound : first_fault (operation_faults given) ≡ None
-  pub named : operation.named ≡ option_map name_of given.chip
+  pub named : operation.named ≡ option_map name_in_any_case given.chip
   pub verifies_all : operation.verifies_all ≡ not given.no_verify_all
   pub is_quick : operation.is_quick ≡ given.quick
   pub is_replaced_chip : operation.is_replaced_chip ≡ given.replaced_chip

@@ -5,7 +5,7 @@ use Rattle.std.specs.List.{filter}
 use Rattle.std.specs.Str.{bytes_eq}
 use Rattle.clap.specs.Words.{App, Rule, new_app, new_rule, rule_of, with_rule}
 use Rattle.clap.specs.declared.builder.arg.Arg.{Arg}
-use Rattle.clap.specs.declared.builder.action.ArgAction.TheVariants.{Count, Set, SetTrue, HelpShort, Version}
+use Rattle.clap.specs.declared.builder.action.ArgAction.TheVariants.{Append, Count, Set, SetTrue, HelpShort, Version}
 use Rattle.clap.specs.declared.builder.range.ValueRange.{ValueRange}
 use Rattle.nor_args.specs.declared.options.Choice.{Choice}
 use Rattle.nor_args.specs.Text.{Text}
@@ -141,10 +141,16 @@ long_form rule =
     if bytes_eq rule.id (codes "progress")
     then record (by_name rule) { range = Some at_most_one; missing = codes "auto" ∷ [] } else by_name rule
 
--- the form that the option `rule` has in a program for hardware; `-V` may be repeated
+-- the option `rule`, which may be repeated and has the second long name `--image`
+abbrev pub repeated_names : Rule → Rule
+repeated_names rule = record (by_name rule) { action = Some Append; aliases = codes "image" ∷ [] }
+
+-- the form that the option `rule` has in a program for hardware; `-i` and `-V` may be repeated
 abbrev pub hardware_form : Rule → Rule
 hardware_form rule =
-    if bytes_eq rule.id (codes "verbose") then record (by_name rule) { action = Some Count } else long_form rule
+    if bytes_eq rule.id (codes "include") then repeated_names rule
+    else if bytes_eq rule.id (codes "verbose") then record (by_name rule) { action = Some Count }
+    else long_form rule
 
 -- the options of the list that a program for hardware has, in their form there
 abbrev pub for_hardware : List Rule → List Rule

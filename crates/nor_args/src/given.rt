@@ -4,13 +4,13 @@ ghost use Rattle.std.specs.Prelude.{◌≡◌, None, Some, codes, false, is_some
 ghost use Rattle.std.specs.Prelude.{MatchOption, MatchResult};
 ghost use Rattle.std.specs.Option.{IsSomeAnd};
 ghost use Rattle.clap.specs.Words.{found_of, rows_of};
-ghost use Rattle.nor_args.specs.Given.{given_in, hardware_given_in, operations, is_new_content, asks_change};
+ghost use Rattle.nor_args.specs.Given.{given_in, hardware_given_in, joined_in, operations, is_new_content, asks_change};
 ghost use Rattle.nor_args.specs.Given.{takes_regions};
 ghost use Rattle.nor_args.specs.Given.{progress_mode, progress_of, srp0_of};
 ghost use Rattle.nor_args.specs.Faults.{first_fault, has_unneeded, has_wrong_journal, has_wrong_regions, is_no};
 ghost use Rattle.nor_args.specs.Faults.{operation_faults, passes_test, usage_faults};
 ghost use Rattle.nor_args.specs.Job.{IsAsked, IsHardwareAsked, IsJournalUse, IsOperation, IsRegions, IsTask};
-ghost use Rattle.nor_args.specs.Job.{IsWantedByArguments, IsWrongForHardware, IsWrongOperation};
+ghost use Rattle.nor_args.specs.Job.{IsWantedByArguments, IsWrongForHardware, IsWrongOperation, name_in_any_case};
 ghost use Rattle.nor_args.specs.Numbers.{range_of};
 ghost use Rattle.nor_args.specs.Programmer.{IsProgrammer, has_stop, is_programmer_text};
 ghost use Rattle.nor_args.specs.Stops.{stops_of};
@@ -34,7 +34,10 @@ mod dashes;
 mod faults;
 mod flags;
 mod layouts;
+mod names;
 mod reasons;
+
+pub use names::{chip_named, joined_names};
 
 // A correct value of `-p`, without a `stop=`. The other options of a program for hardware are checked as if this were
 // the value of its `-p`.
@@ -130,8 +133,10 @@ impl<'a> Given<'a> {
     }
 
     /// Collects the options of a program for hardware from the result of `clap`. `-L` and `--rehearse`, which these
-    /// programs lack, are false and missing.
-    pub fn of_hardware(matches: &ArgMatches<'a>) -> Given<'a>
+    /// programs lack, are false and missing. `names` must be the values of `-i`, as `joined_names` joins them.
+    pub fn of_hardware(matches: &ArgMatches<'a>, names: Option<&'a str>) -> Given<'a>
+        requires { option_map (λ text. text.now) names
+            ≡ joined_in (rows_of (found_of matches.now)) (codes "include") }
         ensures { texts_of result ≡ hardware_given_in (rows_of (found_of matches.now)) }
     {
         Given {
@@ -149,6 +154,7 @@ impl<'a> Given<'a> {
             ifd_file: matches.get_str("ifd-file"),
             fmap: is_set(matches, "fmap"),
             ifd: is_set(matches, "ifd"),
+            names,
             no_verify_all: is_set(matches, "noverify-all"),
             progress: matches.get_str("progress"),
             verbose: matches.get_count("verbose") > 0,
@@ -184,9 +190,13 @@ impl<'a> Given<'a> {
     /// of the faults 4 to 9 that the options have.
     ///
     /// With `--check-journal`, returns the first of the faults 4 to 9 if the options have one. Returns fault 2 if both
-    /// `-p` and `--check-journal` are missing. The options must not include `-L`.
-    pub fn hardware_job(self) -> Result<HardwareJob<'a>, WrongArguments<'a>>
-        requires { self.list ≡ false }
+    /// `-p` and `--check-journal` are missing. The options must not include `-L`. `named` must be the chip that `-c`
+    /// names (`chip_named`).
+    pub fn hardware_job(
+        self,
+        named: Option<ChipName>,
+    ) -> Result<HardwareJob<'a>, WrongArguments<'a>>
+        requires { (self.list ≡ false) × (named ≡ option_map name_in_any_case (texts_of self).chip) }
         ensures { MatchResult result (IsHardwareAsked (texts_of self.entry))
             (IsWrongForHardware (texts_of self.entry)) }
     {
@@ -200,7 +210,7 @@ impl<'a> Given<'a> {
             },
             (None, Some(programmer)) => Ok(HardwareJob::Chip(ProgrammerJob {
                 programmer,
-                operation: self.operation(),
+                operation: self.operation(named),
             })),
             (None, None) => Err(self.explained(UsageFault::NoProgrammer)),
         }
@@ -208,12 +218,13 @@ impl<'a> Given<'a> {
 
     // Returns the operation that the options ask for, or the first of the faults 4 to 9 that they have, with its
     // reason. The options must include neither `-L`, so that the job is never a list of chips, nor `--check-journal`.
-    fn operation(self) -> Result<Operation<'a>, WrongArguments<'a>>
-        requires { (self.list ≡ false) × ((texts_of self).check_journal ≡ None) }
+    fn operation(self, named: Option<ChipName>) -> Result<Operation<'a>, WrongArguments<'a>>
+        requires { (self.list ≡ false) × ((texts_of self).check_journal ≡ None)
+            × (named ≡ option_map name_in_any_case (texts_of self).chip) }
         ensures { MatchResult result (IsOperation (texts_of self.entry)) (IsWrongOperation (texts_of self.entry)) }
     {
         match self.emulated().job() {
-            Ok(Job::Chip(ChipJob { named, task, .. })) => Ok(Operation {
+            Ok(Job::Chip(ChipJob { task, .. })) => Ok(Operation {
                 named,
                 verifies_all: !self.no_verify_all,
                 is_quick: self.quick,

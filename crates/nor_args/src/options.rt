@@ -257,7 +257,7 @@ fn add_hardware_choices<'a>(
     let mut longer = command;
     for choice in choices {
         if is_for_hardware(choice.name) {
-            longer = longer.arg(choice.hardware_option(alloc))?;
+            longer = longer.arg(choice.hardware_option(alloc)?)?;
         }
     }
     Ok(longer)

@@ -45,10 +45,6 @@ pub fn reword(
             let message = message_of_unknown(alloc, program, &text)?;
             options.error(error.kind(), &message)
         }
-        ErrorKind::ArgumentConflict => match message_of_repeat(alloc, program, &text)? {
-            Some(message) => options.error(error.kind(), &message),
-            None => Ok(error),
-        },
         ErrorKind::TooManyValues => match message_of_value(alloc, &text)? {
             Some(message) => options.error(error.kind(), &message),
             None => Ok(error),
@@ -95,25 +91,6 @@ fn message_of_value(alloc: Global, text: &str) -> Result<Option<String>, AllocEr
     Ok(Some(message))
 }
 
-// Returns the message of `clap`'s error for a repeated option, with a tip. Returns `None` if there is no tip for it.
-fn message_of_repeat(
-    alloc: Global,
-    program: Program,
-    text: &str,
-) -> Result<Option<String>, AllocError> {
-    let (Program::Hardware, Some((said, _))) = (program, text.rsplit_once(USAGE)) else {
-        return Ok(None);
-    };
-    if !said.contains("--include ") {
-        return Ok(None);
-    }
-    let said = said.strip_prefix("error: ").unwrap_or(said);
-    let message = format!(in alloc;
-        "{said}\n\n  tip: one -i takes several regions, with commas between them"
-    )?;
-    Ok(Some(message))
-}
-
 // Appends `said` to `text`. Each byte of a character that a terminal doesn't show as itself is written as `\xNN`.
 fn push_escaped(text: &mut String, said: &str) -> Result<(), AllocError> {
     for character in said.chars() {
@@ -157,7 +134,6 @@ fn hardware_tip(argument: &str) -> Option<&'static str> {
             "-h lists all options; -N is the one that leaves out the comparison of the whole chip",
         ),
         "-L" | "--list-supported" => Some(KNOWN_CHIPS),
-        "--image" => Some("-i takes the names of regions"),
         "--wp-region" => Some("--wp-range START,LENGTH takes the addresses of the region"),
         "--flash-contents" => Some(
             "leave this option out: the chip itself is read before it is written",

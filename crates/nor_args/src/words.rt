@@ -4,7 +4,7 @@ ghost use Rattle.std.specs.Prelude.{◌≡◌, IfOk, MatchResult, map, string_by
 ghost use Rattle.clap.specs.Words.{FailsBy, HasMatchesOf, app_of, fault_of, is_simple_and_free};
 ghost use Rattle.nor_args.specs.Words.{AreWrong, AreWrongForHardware, IsFault, IsHardwareJob, IsJob};
 
-use crate::given::Given;
+use crate::given::{Given, chip_named, joined_names};
 use crate::job::{HardwareJob, Job};
 use crate::options::{Help, make_hardware_options, make_options};
 use crate::reasons::WrongArguments;
@@ -138,7 +138,8 @@ pub fn explained_request_of<'a>(
 
 /// Returns the job that the arguments of a program for hardware ask for. `words` has the arguments that follow the
 /// program's name. The options are those that only programs for hardware have, and those of flashnor except `-L` and
-/// `--rehearse`. The value of `-p` isn't parsed.
+/// `--rehearse`. The value of `-p` isn't parsed. The values of all `-i` count as one value, with commas between them,
+/// which `names` receives. The name of a chip may be in upper or lower case.
 ///
 /// Returns one of these usage faults with its reason:
 ///
@@ -151,6 +152,7 @@ pub fn operation_of<'a>(
     alloc: Global,
     help: Help,
     words: &'a [String],
+    names: &'a mut Option<String>,
 ) -> Result<HardwareJob<'a>, WrongArguments<'a>>
     ensures { MatchResult result (IsHardwareJob help.program.now (map string_bytes words.now))
         (AreWrongForHardware help.program.now (map string_bytes words.now)) }
@@ -161,7 +163,9 @@ pub fn operation_of<'a>(
         make_hardware_options(alloc, help)?,
         words,
     )?;
-    Given::of_hardware(&matches).hardware_job()
+    let named = chip_named(alloc, &matches)?;
+    *names = joined_names(alloc, &matches)?;
+    Given::of_hardware(&matches, names.as_deref()).hardware_job(named)
 }
 
 // Parses the arguments. The text of an error has each argument escaped (`reword`).

@@ -1,10 +1,11 @@
 //! The options that only programs for hardware have, such as flashnor-serprog.
-ghost use Rattle.std.specs.Prelude.{◌≡◌, map};
+ghost use Rattle.std.specs.Prelude.{◌≡◌, IfOk, map};
 ghost use Rattle.nor_args.specs.Options.{IsOption, by_name, chosen, hardware_form, long_form, own_rules};
+ghost use Rattle.nor_args.specs.Options.{repeated_names};
 
 use crate::options::Choice;
 use clap::{Arg, ArgAction};
-use std::alloc::Global;
+use std::alloc::{AllocError, Global};
 
 // The options that only programs for hardware have, except `-R`, in the order of the help. The help prints them after
 // the options of `CHOICES`, and before `-R` and `-h`.
@@ -124,15 +125,28 @@ impl Choice {
         }
     }
 
-    // Returns the option that this row describes in a program for hardware. `-V` may be repeated, as in flashrom.
-    pub(super) fn hardware_option<'a>(&self, alloc: Global) -> Arg<'a>
-        ensures { IsOption (hardware_form (chosen self.now)) result }
+    // Returns the option that this row describes in a program for hardware. `-V` and `-i` may be repeated, as in
+    // flashrom.
+    pub(super) fn hardware_option<'a>(&self, alloc: Global) -> Result<Arg<'a>, AllocError>
+        ensures { IfOk result (IsOption (hardware_form (chosen self.now))) }
     {
-        if self.name == "verbose" {
-            self.named_in_full(alloc).action(ArgAction::Count)
+        if self.name == "include" {
+            self.repeated_names(alloc)
+        } else if self.name == "verbose" {
+            Ok(self.named_in_full(alloc).action(ArgAction::Count))
         } else {
-            self.long_option(alloc)
+            Ok(self.long_option(alloc))
         }
+    }
+
+    // Returns the option that this row describes, which may be repeated, and has the second long name `--image`, as in
+    // flashrom.
+    fn repeated_names<'a>(&self, alloc: Global) -> Result<Arg<'a>, AllocError>
+        ensures { IfOk result (IsOption (repeated_names (chosen self.now))) }
+    {
+        self.named_in_full(alloc)
+            .action(ArgAction::Append)
+            .alias("image")
     }
 
     // Returns the option that this row describes, with a long name. `--progress` without a mode means `auto`.

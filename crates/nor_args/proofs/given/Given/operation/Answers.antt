@@ -9,8 +9,8 @@ use Rattle.nor_args.proofs.given.Given.operation.Goals as goal
 pub returns-in-Ok-Chip : goal.returns-in-Ok-Chip
 returns-in-Ok-Chip c =
     let asked = rw c.in-Ok-Chip.field-0-is at c.in-Ok-Chip.ensures in
-    operation-asked (texts_of c.args.self) c.in-Ok-Chip.field-0-0
-    c.is_some.result c.srp0.result c.progress_mode.result c.args.self.log
+    operation-asked (texts_of c.args.self) c.in-Ok-Chip.field-0-0 c.args.named
+    c.is_some.result c.srp0.result c.progress_mode.result c.args.self.log c.requires.2
     (given_text c.args.self.backup _ c.is_some.ensures) c.srp0.ensures c.progress_mode.ensures refl
     (subst (λ (t : Texts). (first_fault (usage_faults t) ≡ None) × IsAsked t (job.Chip c.in-Ok-Chip.field-0-0))
     c.emulated.ensures asked)

@@ -1,0 +1,32 @@
+//! The names that a program for hardware takes in further forms: those of regions in several options, and that of the
+//! chip in upper or lower case.
+ghost use Rattle.std.specs.Prelude.{◌≡◌, IfOk, codes, option_map, string_bytes};
+ghost use Rattle.clap.specs.Words.{found_of, rows_of};
+ghost use Rattle.nor_args.specs.Given.{joined_in, text_in};
+ghost use Rattle.nor_args.specs.Job.{name_in_any_case};
+
+use clap::ArgMatches;
+use nor_probe::ChipName;
+use std::alloc::{AllocError, Global};
+
+/// Returns the values of all `-i`, with commas between them, or `None` without `-i`.
+pub fn joined_names(alloc: Global, matches: &ArgMatches<'_>) -> Result<Option<String>, AllocError>
+    ensures { IfOk result (λ names. option_map string_bytes names
+        ≡ joined_in (rows_of (found_of matches.now)) (codes "include")) }
+{
+    match matches.get_strs("include") {
+        Some(values) => Ok(Some(values.join(alloc, ",")?)),
+        None => Ok(None),
+    }
+}
+
+/// Returns the name of the chip that `-c` gives in upper or lower case, or `None` without `-c`.
+pub fn chip_named(alloc: Global, matches: &ArgMatches<'_>) -> Result<Option<ChipName>, AllocError>
+    ensures { IfOk result (λ named. named
+        ≡ option_map name_in_any_case (text_in (rows_of (found_of matches.now)) (codes "chip"))) }
+{
+    match matches.get_str("chip") {
+        Some(text) => Ok(Some(ChipName::of(&text.to_ascii_uppercase(alloc)?))),
+        None => Ok(None),
+    }
+}
