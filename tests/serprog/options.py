@@ -49,13 +49,17 @@ def identifies_further_chips(start):
 def sets_the_clock(start):
     """spispeed= sets the clock by S_SPI_FREQ before the first transaction. Without it the clock isn't set.
 
-    A number with leading zeros is decimal, unlike in flashrom, which takes it for an octal one.
+    A number with leading zeros is decimal, unlike in flashrom, which takes it for an octal one. As in flashrom, k and M
+    multiply it by 1,000 and 1,000,000.
     """
     bench = start()
-    for speed in "2000000", "02000000", "00000000000002000000":
+    for speed, hertz in (
+            ("2000000", 2_000_000), ("02000000", 2_000_000), ("00000000000002000000", 2_000_000), ("2M", 2_000_000),
+            ("2m", 2_000_000), ("500k", 500_000), ("500K", 500_000), ("00000000000000000016M", 16_000_000),
+            ("1k", 1000), ("4294M", 4_294_000_000), ("4294967k", 4_294_967_000), ("4294967295", 4_294_967_295)):
         bench.expect(keys=f",spispeed={speed}", out=[reference.found("TINY64")])
         clocks = [arguments for opcode, arguments in bench.server.commands if opcode == 0x14]
-        check("S_SPI_FREQ", clocks, [(2_000_000).to_bytes(4, "little")])
+        check("S_SPI_FREQ", clocks, [hertz.to_bytes(4, "little")])
         bench.check_frames(reference.probe("TINY64"))
     bench.expect(out=[reference.found("TINY64")])
     check("commands 14h", [it for it in bench.server.commands if it[0] == 0x14], [])

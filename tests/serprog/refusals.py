@@ -266,14 +266,18 @@ EMPTY = "a setting in -p is empty; give serprog:dev=PATH, with commas only betwe
 # Values of -p that are usage fault 3, each with what is wrong: a setting with its flaw, and other texts.
 WRONG_SETTINGS = {
     "": EMPTY, "dev=": "invalid value in -p: 'dev='", "dev=DEV,": EMPTY,
-    "dev=DEV,dev=DEV": "repeated key in -p: 'dev=DEV'", "dev=DEV,image=x": "unknown key in -p: 'image=x'",
+    "dev=DEV,dev=DEV": "repeated key in -p: 'dev=DEV'",
+    "dev=DEV,image=x": "unknown key in -p: 'image=x'; the keys are dev, spispeed and cs",
+    "dev=DEV,Dev=x": "unknown key in -p: 'Dev=x'; the keys are dev, spispeed and cs",
     "dev=DEV,dev": "repeated key in -p: 'dev=DEV'", "dev": "invalid value in -p: 'dev'",
-    **{f"dev=DEV,spispeed={text}":
-       f"invalid value in -p: 'spispeed={text}'; give a decimal number of hertz, 1 to 4294967295"
-       for text in ("0", "1M", "0x100", "1e6", "4294967296", "")},
+    **{f"dev=DEV,spispeed={text}": f"invalid value in -p: 'spispeed={text}'; "
+       "give hertz in decimal, 1 to 4294967295, or for example 500k or 16M"
+       for text in ("0", "0x100", "1e6", "4294967296", "", "k", "M", "0M", "1kk", "1Mk", "k1", "1.5M", "1 M", "1G",
+                    "-1k", "1MHz", "4295M", "4294968k", "18446744073709551615M", "100000000000000000000k", "1M\u212a")},
     "dev=DEV,spispeed=1,spispeed=2": "repeated key in -p: 'spispeed=1'",
-    "dev=DEV,cs=256": "invalid value in -p: 'cs=256'",
-    "dev=DEV,cs=": "invalid value in -p: 'cs='", "dev=DEV,cs=1,cs=2": "repeated key in -p: 'cs=1'",
+    **{f"dev=DEV,{text}": f"invalid value in -p: '{text}'; give a number from 0 to 255"
+       for text in ("cs=256", "cs=", "cs", "cs=1k")},
+    "dev=DEV,cs=1,cs=2": "repeated key in -p: 'cs=1'",
     "cs=1,image=x,cs=2": "repeated key in -p: 'cs=1'", "spispeed=1": "the value of -p lacks dev="}
 WRONG_PROGRAMMERS = {
     "dummy:emulate=TINY64": "the value of -p does not begin with 'serprog:'",

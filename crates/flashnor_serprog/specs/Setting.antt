@@ -1,19 +1,14 @@
 -- The value of `-p` of flashnor-serprog.
-use Rattle.std.specs.Prelude.{◌≡◌, ◌&&◌, ◌||◌, ◌++◌, ℕ, Bool, true, false, not, List, [], ◌∷◌, Option, None, Some, codes, drop, find, nat_eq, nat_le, nat_lt, option_and_then, if◌then◌else◌}
+use Rattle.std.specs.Prelude.{◌≡◌, ◌&&◌, ◌||◌, ◌++◌, ℕ, Bool, true, false, not, List, [], ◌∷◌, Option, None, Some, codes, drop, find, nat_eq, nat_le, option_and_then, if◌then◌else◌}
 use Rattle.std.specs.List.{list_any, starts_with}
 use Rattle.std.specs.Str.{bytes_eq}
-use Rattle.nor_args.specs.Numbers.{decimal_number}
+use Rattle.nor_args.specs.Numbers.{clock_of, decimal_number}
 use Rattle.nor_args.specs.Programmer.{has_key, is_alone_in, is_file, value_in}
 use Rattle.nor_args.specs.Reasons.{flaw_by}
 use Rattle.nor_args.specs.Text.{Text, key_of, pieces_of, reads, value_of}
 use Rattle.flashnor_serprog.specs.declared.setting.Setting.{Setting}
 use Rattle.flashnor_serprog.specs.declared.setting.WrongSetting.{WrongSetting}
 use Rattle.flashnor_serprog.specs.declared.setting.WrongSetting.TheVariants.{Network, BaudRate, Flawed, NoDevice, NoPrefix}
-
--- a clock in hertz: the value of 1 to 20 decimal digits if it is from 1 to 4,294,967,295; `None` for any other text
-abbrev pub clock_of : Text → Option ℕ
-clock_of text = option_and_then
-    (λ hertz. if nat_lt 0 hertz && nat_le hertz 4294967295 then Some hertz else None) (decimal_number text)
 
 -- the number of a chip select: the value of 1 to 20 decimal digits if it is at most 255; `None` for any other text
 abbrev pub chip_select_of : Text → Option ℕ

@@ -14,7 +14,7 @@ pub const HELP: Help = Help {
 const NOTES: &str = "\
 TEXT of -p is serprog: and then KEY=VALUE, between commas, each key at most once:
   dev=PATH      The serial port of the programmer; this key is required
-  spispeed=HZ   The clock in hertz, at most; without it the programmer's own
+  spispeed=HZ   The highest clock: hertz, 500k, 16M; else the programmer's own
   cs=N          The chip select of the programmer, 0 to 255
 
 The command flashnor-serprog that is installed sets up the port. Before you run

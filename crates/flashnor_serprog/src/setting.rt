@@ -4,10 +4,10 @@ ghost use Rattle.std.specs.Prelude.{◌≡◌, option_map};
 ghost use Rattle.std.specs.Result.{MatchResult};
 ghost use Rattle.nor_args.specs.Text.{pieces_of};
 ghost use Rattle.flashnor_serprog.specs.Setting.{EndsWithRate, HasNoRate, IsSetting, IsWrongBy, IsWrongSetting};
-ghost use Rattle.flashnor_serprog.specs.Setting.{chip_select_of, clock_of, first_wrong, has_serprog_key};
+ghost use Rattle.flashnor_serprog.specs.Setting.{chip_select_of, first_wrong, has_serprog_key};
 ghost use Rattle.flashnor_serprog.specs.Setting.{is_serprog_setting, is_wrong, names_network};
 
-use nor_args::{Flaw, is_alone, read_number, setting_value, split_setting};
+use nor_args::{Flaw, is_alone, read_clock, read_number, setting_value, split_setting};
 
 /// The programmer that the value of `-p` describes. The value is `serprog:`, followed by `KEY=VALUE` pairs that are
 /// separated by commas, in any order, each key at most once. `dev=` is required.
@@ -15,7 +15,7 @@ use nor_args::{Flaw, is_alone, read_number, setting_value, split_setting};
 pub struct Setting<'a> {
     /// `dev=PATH`: the device of the programmer.
     pub device: &'a str,
-    /// `spispeed=HZ`: the clock in hertz, from 1 to 4,294,967,295, in at most 20 decimal digits.
+    /// `spispeed=HZ`: the clock in hertz, from 1 to 4,294,967,295, in the form that `read_clock` accepts.
     pub hertz: Option<u32>,
     /// `cs=N`: the chip select that the programmer uses, from 0 to 255. With `None` it is not set.
     pub chip_select: Option<u8>,
@@ -58,7 +58,7 @@ impl<'a> Setting<'a> {
         refuse_rate(device)?;
         Ok(Setting {
             device,
-            hertz: setting_value(list, "spispeed").and_then(|value| read_hertz(value)),
+            hertz: setting_value(list, "spispeed").and_then(|value| read_clock(value)),
             chip_select: setting_value(list, "cs").and_then(|value| read_select(value)),
         })
     }
@@ -101,7 +101,7 @@ fn is_serprog_setting(setting: &str) -> bool
     let (key, value) = split_setting(setting);
     match key {
         "dev" => !value.is_empty(),
-        "spispeed" => read_hertz(value).is_some(),
+        "spispeed" => read_clock(value).is_some(),
         "cs" => read_select(value).is_some(),
         _ => false,
     }
@@ -120,15 +120,6 @@ fn names_network(setting: &str) -> bool
 {
     let (key, _) = split_setting(setting);
     key == "ip"
-}
-
-// Returns the clock in hertz, or `None` if the value is no number from 1 to 4,294,967,295. serprog has no clock of 0
-// Hz. A number with leading zeros is decimal.
-fn read_hertz(value: &str) -> Option<u32>
-    ensures { result ≡ clock_of value.now }
-{
-    let hertz = u32::try_from(read_number(value)?).ok()?;
-    if hertz == 0 { None } else { Some(hertz) }
 }
 
 fn read_select(value: &str) -> Option<u8>

@@ -7,7 +7,7 @@ use crate::port::PortFault;
 use crate::quoted::{Quoted, SetUp};
 use crate::region_faults::RegionFault;
 use crate::setting::WrongSetting;
-use nor_args::{Flaw, Reason, WrongArguments};
+use nor_args::{Flaw, Reason, WrongArguments, split_setting};
 use nor_console::{Escaped, Fault, SystemReason, text_of_flaw};
 use nor_serprog::{Failure, HandshakeFault};
 use std::fmt;
@@ -149,20 +149,25 @@ impl fmt::Display for WrongSetting<'_> {
             WrongSetting::Flawed { setting: "", .. } => f.write_str(
                 "error: a setting in -p is empty; give serprog:dev=PATH, with commas only between settings\n",
             ),
-            WrongSetting::Flawed {
-                setting,
-                flaw: Flaw::Value,
-            } if setting.starts_with("spispeed=") => writeln!(
-                f,
-                "error: invalid value in -p: '{}'; give a decimal number of hertz, 1 to 4294967295",
-                Escaped(setting)
-            ),
             WrongSetting::Flawed { setting, flaw } => {
-                let setting = Escaped(setting);
-                writeln!(f, "error: {} in -p: '{setting}'", text_of_flaw(*flaw))
+                let (wrong, choices) = (text_of_flaw(*flaw), choices_for(setting, *flaw));
+                writeln!(f, "error: {wrong} in -p: '{}'{choices}", Escaped(setting))
             }
             WrongSetting::NoDevice => f.write_str("error: the value of -p lacks dev=\n"),
         }
+    }
+}
+
+// Returns what may take the place of a setting of `-p` with this flaw, or no text.
+fn choices_for(setting: &str, flaw: Flaw) -> &'static str {
+    let (key, _) = split_setting(setting);
+    match flaw {
+        Flaw::Key => "; the keys are dev, spispeed and cs",
+        Flaw::Value if key == "spispeed" => {
+            "; give hertz in decimal, 1 to 4294967295, or for example 500k or 16M"
+        }
+        Flaw::Value if key == "cs" => "; give a number from 0 to 255",
+        _ => "",
     }
 }
 

@@ -1,6 +1,7 @@
 pub mod InTurn
 pub mod Joined
 pub mod Numerals
+pub mod Units
 pub mod Listed
 pub mod Begins
 pub mod Taken

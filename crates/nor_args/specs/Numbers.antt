@@ -1,8 +1,9 @@
 -- The numbers in the values of options.
-use Rattle.std.specs.Prelude.{◌&&◌, ℕ, Bool, List, Option, Some, None, codes, drop, length, nat_eq, nat_le, slice_get}
-use Rattle.std.specs.Prelude.{option_and_then, option_map, if◌then◌else◌}
+use Rattle.std.specs.Prelude.{◌&&◌, ◌*◌, ◌-◌, ℕ, Bool, List, Option, Some, None, codes, drop, length, nat_eq, nat_le}
+use Rattle.std.specs.Prelude.{nat_lt, option_and_then, option_map, slice_get, take, if◌then◌else◌}
 use Rattle.std.specs.Char.{is_digit}
-use Rattle.std.specs.List.{list_all, starts_with}
+use Rattle.std.specs.List.{ends_with, list_all, starts_with}
+use Rattle.std.specs.Option.{option_or}
 use Rattle.std.specs.Result.{result_ok}
 use Rattle.std.specs.Str.Parse.{digits_value}
 use Rattle.hex.specs.Hex.{decode_sized}
@@ -25,6 +26,34 @@ decimal_number = numeral 10 20 18446744073709551615
 -- a number of polls: the value of 1 to 20 decimal digits if it is at most 65,535; `None` for any other text
 abbrev pub polls_of : Text → Option ℕ
 polls_of = numeral 10 20 65535
+
+-- the text before `unit`, or `None` if the text doesn't end with it
+abbrev pub before_unit : (unit : Text) → Text → Option Text
+before_unit unit text =
+    if ends_with nat_eq text unit then Some (take (length text - length unit) text) else None
+
+-- the text before `unit` or, in the other case, `other`, or `None` if the text ends with neither
+abbrev pub before_either : (unit other : Text) → Text → Option Text
+before_either unit other text = option_or (before_unit unit text) (before_unit other text)
+
+-- the text of the number in a clock, and its unit in hertz. `kilo` and `mega` are the text before this unit, or `None`
+-- if `text`, the clock, doesn't end with this unit.
+abbrev pub with_unit : (kilo mega : Option Text) → Text → Text × ℕ
+with_unit (Some digits) mega text = (digits, 1000)
+with_unit None (Some digits) text = (digits, 1000000)
+with_unit None None text = (text, 1)
+
+-- the text of the number in the clock `text`, and its unit in hertz: 1,000 for `k`, 1,000,000 for `M`, in either case
+abbrev pub clock_parts : Text → Text × ℕ
+clock_parts text = with_unit (before_either (codes "k") (codes "K") text)
+    (before_either (codes "M") (codes "m") text) text
+
+-- a clock in hertz: the value of 1 to 20 decimal digits times the unit, if it is from 1 to 4,294,967,295; `None` for
+-- any other text
+abbrev pub clock_of : Text → Option ℕ
+clock_of text = option_and_then
+    (λ number. if nat_lt 0 number && nat_le (number * (clock_parts text).1) 4294967295
+    then Some (number * (clock_parts text).1) else None) (decimal_number (clock_parts text).0)
 
 -- an address or a length: the value of `0x` and 1 to 8 hexadecimal digits, or of 1 to 10 decimal digits if it is below
 -- 2 to the power of 32; `None` for any other text

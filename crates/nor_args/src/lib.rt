@@ -53,7 +53,7 @@ pub use job::{
     Change, ChipJob, HardwareJob, Job, JournalUse, LayoutForm, Operation, ProgrammerJob,
     ProgressMode, Regions, Task, Wanted,
 };
-pub use numbers::read_number;
+pub use numbers::{read_clock, read_number};
 pub use options::Help;
 pub use programmer::{Emulated, Programmer};
 pub use reasons::{Flaw, OptionName, Reason, WrongArguments};

@@ -3,7 +3,7 @@ ghost use Rattle.std.specs.Prelude.{◌≡◌, ◌≤◌, option_map};
 ghost use Rattle.std.specs.Char.{is_digit};
 ghost use Rattle.std.specs.List.{list_all};
 ghost use Rattle.nor_args.specs.Numbers.{numeral, decimal_number, polls_of, number_or_length, range_of};
-ghost use Rattle.nor_args.specs.Numbers.{unique_number, byte_number};
+ghost use Rattle.nor_args.specs.Numbers.{before_unit, byte_number, clock_of, clock_parts, unique_number};
 
 use hex::FromHex;
 
@@ -29,6 +29,37 @@ pub fn read_range(text: &str) -> Option<(u32, u32)>
 {
     let (start, len) = text.split_once(',')?;
     Some((read_place(start)?, read_place(len)?))
+}
+
+/// Parses a clock: a number in the form that `read_number` accepts, of hertz. If `k` or `M` follows the number, in
+/// either case as in flashrom, it is multiplied by 1,000 or 1,000,000. Returns `None` for any other text, for 0 Hz, and
+/// for more than 4,294,967,295 Hz.
+pub fn read_clock(text: &str) -> Option<u32>
+    ensures { result ≡ clock_of text.now }
+{
+    let (digits, unit) = clock_parts(text);
+    let hertz = u32::try_from(read_number(digits)?.checked_mul(unit)?).ok()?;
+    if hertz == 0 { None } else { Some(hertz) }
+}
+
+// Splits a clock into the text of its number and its unit in hertz.
+fn clock_parts(text: &str) -> (&str, u64)
+    ensures { (result.0.now ≡ (clock_parts text.now).0) × (result.1 ≡ (clock_parts text.now).1) }
+{
+    if let Some(digits) = before_unit(text, "k").or(before_unit(text, "K")) {
+        (digits, 1_000)
+    } else if let Some(digits) = before_unit(text, "M").or(before_unit(text, "m")) {
+        (digits, 1_000_000)
+    } else {
+        (text, 1)
+    }
+}
+
+// Returns the text before `unit`, or `None` if the text doesn't end with it.
+fn before_unit<'a>(text: &'a str, unit: &str) -> Option<&'a str>
+    ensures { option_map (λ front. front.now) result ≡ before_unit unit.now text.now }
+{
+    text.strip_suffix(unit)
 }
 
 // Parses an address or a length: either `0x` and 1 to 8 hexadecimal digits of either case, or 1 to 10 decimal digits
