@@ -148,18 +148,22 @@ _flashnor_region_names() {
     done
 }
 
-# Offers the regions of the layout on this line, except those that -i has already, and for flashnor-serprog a file after
-# NAME: (with -r, whose files are truncated, only directories). Offers begin with the part of the word up to its last
-# comma.
+# Offers the regions of the layout on this line, except those that an -i has already, and for flashnor-serprog a file
+# after NAME: (with -r, whose files are truncated, only directories). Offers begin with the part of the word up to its
+# last comma.
 _flashnor_regions() {
-    local word=$1 front=${1%"${1##*,}"} last=${1##*,} region regions=() kind=-f
+    local word=$1 front=${1%"${1##*,}"} last=${1##*,} region regions=() kind=-f place
+    local taken=,$front
     if [[ ${words[0]} == *serprog && $last == *:* ]]; then
         [[ " ${words[*]} " != *" -r "* ]] || kind=-d
         _flashnor_files "$word" "$front${last%%:*}:" "$kind"
         return
     fi
+    for ((place = 0; place + 2 < ${#words[@]}; place++)); do
+        [[ ${words[place]} != -i ]] || taken+=${words[place + 1]},
+    done
     while IFS= read -r region; do
-        [[ ,$front == *",$region,"* || ,$front == *",$region:"* ]] || regions+=("$front$region")
+        [[ $taken == *",$region,"* || $taken == *",$region:"* ]] || regions+=("$front$region")
     done < <(_flashnor_region_names)
     compopt -o nospace 2> /dev/null
     _flashnor_answer "$word" "${regions[@]}"
@@ -175,7 +179,7 @@ _flashnor_letter() {
         --verify) letter=-v ;;
         --erase) letter=-E ;;
         --layout) letter=-l ;;
-        --include) letter=-i ;;
+        --include | --image) letter=-i ;;
         --noverify) letter=-n ;;
         --noverify-all) letter=-N ;;
         --verbose) letter=-V ;;
@@ -271,7 +275,7 @@ _flashnor_serprog() {
         *)
             case $word in
                 --programmer=*) lead=--programmer= _flashnor_serprog_programmer "${word#*=}" ;;
-                --include=*) lead=--include= _flashnor_regions "${word#*=}" ;;
+                --include=* | --image=*) lead=${word%%=*}= _flashnor_regions "${word#*=}" ;;
                 --write=* | --verify=* | --layout=* | --restore=* | --check-journal=* | --fmap-file=* | --ifd-file=*)
                     _flashnor_files "$word" "${word%%=*}=" -f
                     ;;
