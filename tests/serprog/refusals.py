@@ -284,7 +284,8 @@ WRONG_PROGRAMMERS = {
     "serprog": "the value of -p does not begin with 'serprog:'"}
 WRONG_ARGUMENTS = (
     (4, "-E --flash-size", "--flash-size and -E cannot be used together"),
-    (5, "--wp-range 1 --journal j", "invalid value of --wp-range: '1'"), (6, "-E", "-E needs --journal"),
+    (5, "--wp-range 1 --journal j", "invalid value of --wp-range: '1'; give START,LENGTH, each decimal or 0x.."),
+    (6, "-E", "-E needs --journal"),
     (6, "--flash-size --journal j", "--journal needs -w, -E or --wp-range"), (7, "-r out -l layout", "-l needs -i"),
     (7, "--wp-status -l layout -i a", "-l and -i need -r, -v, -w or -E"), (8, "-r out -n", "-n needs -w or -E"),
     (8, "-v x --unlock", "--unlock needs -w or -E"))

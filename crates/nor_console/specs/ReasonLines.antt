@@ -1,6 +1,7 @@
 -- The lines that say what is wrong, byte by byte. Each is printed before the numbered line of a fault.
-use Rattle.std.specs.Prelude.{ℕ, List, [], ◌∷◌, codes}
+use Rattle.std.specs.Prelude.{ℕ, List, [], ◌∷◌, codes, if◌then◌else◌}
 use Rattle.std.specs.List.{concat}
+use Rattle.std.specs.Str.{bytes_eq}
 use Rattle.nor_journal.specs.declared.fault.JournalFault.TheVariants as journal
 use Rattle.nor_layout.specs.declared.fault.LayoutFault.{LayoutFault}
 use Rattle.nor_layout.specs.declared.fault.LayoutFault.TheVariants as layout
@@ -9,6 +10,7 @@ use Rattle.nor_layout.specs.declared.fault.LineFault.TheVariants as in_line
 use Rattle.nor_request.specs.declared.refusal.Refusal.{Refusal}
 use Rattle.nor_request.specs.declared.refusal.Refusal.TheVariants.{BadJournal}
 use Rattle.nor_args.specs.Reasons.{option_text}
+use Rattle.nor_args.specs.Text.{Text, key_of}
 use Rattle.nor_args.specs.declared.reasons.Flaw.{Flaw}
 use Rattle.nor_args.specs.declared.reasons.Flaw.TheVariants as flaw
 use Rattle.nor_args.specs.declared.reasons.Reason.{Reason}
@@ -21,18 +23,27 @@ flaw_text flaw.Key = codes "unknown key"
 flaw_text flaw.Value = codes "invalid value"
 flaw_text flaw.Twice = codes "repeated key"
 
+-- what may take the place of a setting of `-p` with this flaw, or no bytes
+abbrev pub choices_for : (setting : Text) → Flaw → List ℕ
+choices_for setting flaw.Key =
+    codes "; the keys are emulate, image, status, stop, trace, unique, busy and power"
+choices_for setting flaw.Value =
+    if bytes_eq (key_of setting) (codes "emulate") then codes "; give W25Q64FV, W25Q128FV or TINY64" else []
+choices_for setting flaw.Twice = []
+
 -- the line with the reason of a usage fault, or no bytes if there is no reason
 abbrev pub reason_line : Reason → List ℕ
 reason_line because.Unsaid = []
 reason_line because.NoProgrammer = codes "error: the option -p is missing\n"
 reason_line because.NoPrefix = codes "error: the value of -p does not begin with 'dummy:'\n"
 reason_line (because.Setting setting wrong) = concat (codes "error: " ∷ flaw_text wrong ∷ codes " in -p: '"
-    ∷ escaped setting.now ∷ codes "'\n" ∷ [])
-reason_line because.NoChip = codes "error: the value of -p lacks emulate=\n"
+    ∷ escaped setting.now ∷ codes "'" ∷ choices_for setting.now wrong ∷ codes "\n" ∷ [])
+reason_line because.NoChip = codes "error: the value of -p lacks emulate=; give W25Q64FV, W25Q128FV or TINY64\n"
 reason_line (because.Operations first last) = concat (codes "error: " ∷ option_text first ∷ codes " and "
     ∷ option_text last ∷ codes " cannot be used together\n" ∷ [])
 reason_line (because.Range value) =
-    concat (codes "error: invalid value of --wp-range: '" ∷ escaped value.now ∷ codes "'\n" ∷ [])
+    concat (codes "error: invalid value of --wp-range: '" ∷ escaped value.now
+    ∷ codes "'; give START,LENGTH, each decimal or 0x..\n" ∷ [])
 reason_line (because.Progress value) =
     concat (codes "error: invalid value of --progress: '" ∷ escaped value.now
     ∷ codes "'; give auto, plain or none\n" ∷ [])

@@ -1,10 +1,10 @@
 //! The lines that say what is wrong, such as `error: the option -p is missing`. If such a line is printed, it precedes
 //! the numbered line of its fault.
 ghost use Rattle.std.specs.Prelude.{◌≡◌, Some};
-ghost use Rattle.nor_console.specs.ReasonLines.{flaw_text, line_fault_text};
+ghost use Rattle.nor_console.specs.ReasonLines.{choices_for, flaw_text, line_fault_text};
 
 use crate::escapes::Escaped;
-use nor_args::{Flaw, Reason};
+use nor_args::{Flaw, Reason, split_setting};
 use nor_journal::JournalFault;
 use nor_layout::{LayoutFault, LineFault};
 use nor_session::Refusal;
@@ -27,17 +27,23 @@ impl fmt::Display for ReasonLine<'_> {
                 "error: the value of -p does not begin with 'dummy:'\n",
             ),
             Reason::Setting { setting, flaw } => {
+                let (wrong, choices) = (text_of_flaw(flaw), choices_for(setting, flaw));
                 let setting = Escaped(setting);
-                writeln!(f, "error: {} in -p: '{setting}'", text_of_flaw(flaw))
+                writeln!(f, "error: {wrong} in -p: '{setting}'{choices}")
             }
-            Reason::NoChip => f.write_str("error: the value of -p lacks emulate=\n"),
+            Reason::NoChip => f.write_str(
+                "error: the value of -p lacks emulate=; give W25Q64FV, W25Q128FV or TINY64\n",
+            ),
             Reason::Operations { first, last } => {
                 let (first, last) = (first.as_str(), last.as_str());
                 writeln!(f, "error: {first} and {last} cannot be used together")
             }
             Reason::Range(value) => {
                 let value = Escaped(value);
-                writeln!(f, "error: invalid value of --wp-range: '{value}'")
+                writeln!(
+                    f,
+                    "error: invalid value of --wp-range: '{value}'; give START,LENGTH, each decimal or 0x.."
+                )
             }
             Reason::Progress(value) => {
                 let value = Escaped(value);
@@ -92,6 +98,19 @@ pub fn text_of_flaw(flaw: Flaw) -> &'static str
         Flaw::Key => "unknown key",
         Flaw::Value => "invalid value",
         Flaw::Twice => "repeated key",
+    }
+}
+
+// Returns what may take the place of a setting of `-p` with this flaw, or no text.
+fn choices_for(setting: &str, flaw: Flaw) -> &'static str
+    ensures { result.now ≡ choices_for setting.now flaw }
+{
+    let (key, _) = split_setting(setting);
+    match flaw {
+        Flaw::Key => "; the keys are emulate, image, status, stop, trace, unique, busy and power",
+        Flaw::Value if key == "emulate" => "; give W25Q64FV, W25Q128FV or TINY64",
+        Flaw::Value => "",
+        Flaw::Twice => "",
     }
 }
 
