@@ -109,7 +109,7 @@ NAMES = {
     "Refusal": "`Refusal`: the errors of calls.",
     "refusal_number": "`refusal_number refusal`: its number.",
     "RefusalHolds":
-        "`RefusalHolds request image chip refusal`: the error is one of 1 to 10, and applies as the list says.",
+        "`RefusalHolds request image chip refusal`: the error is one of 1 to 10, and applies as SPECIFICATION.md says.",
     "CountsRefusal": "`CountsRefusal old new`: the vault refused a call between these states.",
     "EndsSealed":
         "`EndsSealed request old new vault vault' report`: `vault'` is sealed and refused nothing, and the report "
@@ -122,7 +122,7 @@ NAMES = {
         "`differing`: the saved sectors in which a byte differs from the saved one are touched, and those in which a "
         "bit must go from 0 to 1 are raised.",
     "IsRestoreVerdict":
-        "`IsRestoreVerdict choice journal chip refusal`: the error is the first of the list above that applies.",
+        "`IsRestoreVerdict choice journal chip refusal`: the error is the restore's verdict.",
 }
 
 # The appendices of STATEMENT-FULL.md: the title of each, what breaks if it is wrong, and the definitions and contracts
