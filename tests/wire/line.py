@@ -12,8 +12,12 @@ import time
 import tty
 from typing import NamedTuple
 
+# PATIENCE in the environment: all times are multiplied by it, for a machine that is busy with other work.
+TIMES = int(os.environ.get("PATIENCE", "1"))
 # How long a read of the program waits for a byte, in tenths of a second, and how long a run may take, in seconds.
-PATIENCE, LONGEST = 3, 120
+PATIENCE, LONGEST = 3, 120 * TIMES
+# The longest time that a terminal can wait, in tenths of a second: termios has one byte for it.
+LONGEST_WAIT = 255
 # The kinds of cuts. With STALE, replies that the program did not read arrive at the next run, as a USB device may send
 # them. With OWN_SUPPLY, the programmer selects the chip as soon as it knows the lengths, and the chip keeps its power
 # if the programmer loses it.
@@ -41,6 +45,11 @@ class Result(NamedTuple):
     err: list
     sent: bytes
     replied: int
+
+
+def tenths(patience, times=TIMES):
+    """Returns how many tenths of a second the terminal waits for a byte."""
+    return min(LONGEST_WAIT, patience * times)
 
 
 class Way:
@@ -73,7 +82,7 @@ class Line:
         self.master, self.slave = os.openpty()
         tty.setraw(self.slave)
         settings = termios.tcgetattr(self.slave)
-        settings[6][termios.VMIN], settings[6][termios.VTIME] = 0, patience
+        settings[6][termios.VMIN], settings[6][termios.VTIME] = 0, tenths(patience)
         termios.tcsetattr(self.slave, termios.TCSANOW, settings)
         os.set_blocking(self.master, False)
         os.symlink(os.ttyname(self.slave), os.path.join(folder, "dev"))

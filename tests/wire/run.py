@@ -1,5 +1,5 @@
 #!/usr/bin/env python3
-"""tests/wire/run.py PROGRAM [--all] [--list] [JOB..]: single bytes that are lost, doubled or inserted, and cut frames.
+"""tests/wire/run.py PROGRAM [OPTION..] [JOB..]: single bytes that are lost, doubled or inserted, and cut frames.
 
 The programmer (firmware.py) works byte by byte, as a UART does, and keeps a part of a frame from one run to the next.
 The chips (flash.py, winbond.py) are written from datasheets, and share no code with tests/serprog. frames.py chooses
@@ -7,7 +7,8 @@ the bytes, jobs.py has the jobs, and play.py plays each case and what a user doe
 
 A case that failed is printed with its runs. The last line is `N passed, M failed`, and the exit status is 1 if one
 failed. Without --all a part of the cases is played, which `is_in_part` chooses. --list also prints each case that
-`remains` allows.
+`remains` allows. On a machine that is busy with other work, --processes sets how many cases are played at a time, and
+PATIENCE=N in the environment multiplies all times by N (line.py).
 """
 import argparse
 import collections
@@ -61,18 +62,25 @@ def try_case(program, case):
         return [play.Finding("broken", traceback.format_exc(limit=-4))], None, []
 
 
-def main(words):
+def parse(words):
+    """Returns what the arguments ask for."""
     parser = argparse.ArgumentParser(prog="tests/wire/run.py")
     parser.add_argument("program")
     parser.add_argument("jobs", nargs="*", metavar="JOB", help=", ".join(jobs.JOBS))
     parser.add_argument("--all", action="store_true", help="all cases, in place of a part")
     parser.add_argument("--list", action="store_true", help="print the cases that remain, too")
-    asked = parser.parse_args(words)
-    if not os.access(asked.program, os.X_OK) or set(asked.jobs) - set(jobs.JOBS):
-        parser.error("PROGRAM must be a program, and each JOB a job")
+    parser.add_argument("--processes", type=int, default=PROCESSES, help="cases at a time: %(default)s")
+    asked = parser.parse_intermixed_args(words)
+    if not os.access(asked.program, os.X_OK) or set(asked.jobs) - set(jobs.JOBS) or asked.processes < 1:
+        parser.error("PROGRAM must be a program, each JOB a job, and N at least 1")
+    return asked
+
+
+def main(words):
+    asked = parse(words)
     program, begun = str(Path(asked.program).resolve()), time.monotonic()
     sys.stdout.reconfigure(line_buffering=True)
-    with ProcessPoolExecutor(PROCESSES) as pool:
+    with ProcessPoolExecutor(asked.processes) as pool:
         cases = []
         for found in pool.map(cases_of, *zip(*((program, it) for it in asked.jobs or jobs.JOBS))):
             cases += [it for number, it in enumerate(found) if asked.all or is_in_part(number, *it[1:])]

@@ -2,6 +2,8 @@
 """tests/wire/self.py: the models against their datasheets, and the checks against a program with known faults."""
 import os
 import sys
+import tempfile
+import termios
 import traceback
 from concurrent.futures import ProcessPoolExecutor
 from pathlib import Path
@@ -9,9 +11,10 @@ from pathlib import Path
 import frames
 import jobs
 import play
+import run
 from firmware import Programmer
 from flash import BLANK, Flash, SECTOR
-from line import OWN_SUPPLY, Fault, Way
+from line import LONGEST_WAIT, OWN_SUPPLY, Fault, Line, Way, tenths
 from winbond import LB, QE, SRP0, SRP1, Winbond
 
 WRONG = str(Path(__file__).with_name("wrong.py").resolve())
@@ -173,6 +176,17 @@ def faults_of_the_line():
             same(way.pass_on(b"01234567"[:split]) + way.pass_on(b"01234567"[split:]), wanted)
 
 
+def busy_machines():
+    """PATIENCE multiplies how long the terminal waits, up to the longest time that termios can store."""
+    same([tenths(3, times) for times in (1, 4, 99)], [3, 12, LONGEST_WAIT])
+    with tempfile.TemporaryDirectory() as folder:
+        line = Line(WRONG, folder, None, PATIENCE)
+        waits = termios.tcgetattr(line.slave)[6][termios.VTIME]
+        line.close()
+    same(waits if isinstance(waits, int) else waits[0], tenths(PATIENCE))
+    same(run.parse([WRONG, "--all", "--processes", "2", "whole"]).processes, 2)
+
+
 def found_in(wrong, faults):
     """Returns the kinds of findings of a program with these faults, for each of these faults of its line."""
     os.environ["WRONG"] = wrong
@@ -234,8 +248,8 @@ def chooses_frames():
 
 
 CASES = [lengths_of_status_writes, one_time_bits, volatile_status, lengths_of_erases, programs, busy_chips, protection,
-         further_instructions, frames_byte_by_byte, a_supply_of_its_own, faults_of_the_line, chooses_frames,
-         finds_what_is_sent_together, finds_what_completes_a_frame, finds_lies, finds_wrong_sectors]
+         further_instructions, frames_byte_by_byte, a_supply_of_its_own, faults_of_the_line, busy_machines,
+         chooses_frames, finds_what_is_sent_together, finds_what_completes_a_frame, finds_lies, finds_wrong_sectors]
 
 
 def try_case(number):
