@@ -30,8 +30,9 @@ class Finding(NamedTuple):
 
     once: a one-time bit was set. wrong: status 0 with a wrong chip. silent: the same, but only sectors that no journal
     has are wrong. lost: a restore after a power cycle did not restore a chip whose journal has all changed sectors.
-    hangs: a run did not end. moved: the run before the fault was another one than that without it. bits: QE or
-    protection bits are wrong, which can be written again; a restore reports it, and a job without a journal can't.
+    hangs: a run did not end. moved: the run before the fault was another one than that without it, or the fault never
+    happened. bits: QE or protection bits are wrong, which can be written again; a restore reports it, and a job without
+    a journal can't.
     """
 
     kind: str
@@ -135,6 +136,8 @@ def play(program, name, fault, patience=PATIENCE):
             got = bench.run(*job.words, fault=fault)
             if fault.way == "to" and got.sent[: fault.at] != played.sent[: fault.at]:
                 return [Finding("moved", "the bytes before the fault vary from run to run")], bench.told
+            if fault.way == "back" and got.replied <= fault.at:
+                return [Finding("moved", "the run ended before the fault")], bench.told
             if got.status == -9 and fault.kind != "cut":
                 bench.find("hangs", f"the run did not end in {LONGEST} s")
             bench.compare(got, played.new, job.then, "the run")

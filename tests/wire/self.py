@@ -187,6 +187,16 @@ def busy_machines():
     same(run.parse([WRONG, "--all", "--processes", "2", "whole"]).processes, 2)
 
 
+def faults_that_never_happen():
+    """A case whose run ends before its fault isn't counted as one that passed."""
+    os.environ["WRONG"] = ""
+    _, played = play.clean(WRONG, "wp-enable")
+    last = frames.frames_of(played.sent)[-1].last
+    for at, wanted in (last, ["moved"]), (last - 1, []):
+        found, _ = play.play(WRONG, "wp-enable", Fault("back", at, "double"), PATIENCE)
+        same([it.kind for it in found], wanted)
+
+
 def found_in(wrong, faults):
     """Returns the kinds of findings of a program with these faults, for each of these faults of its line."""
     os.environ["WRONG"] = wrong
@@ -249,7 +259,8 @@ def chooses_frames():
 
 CASES = [lengths_of_status_writes, one_time_bits, volatile_status, lengths_of_erases, programs, busy_chips, protection,
          further_instructions, frames_byte_by_byte, a_supply_of_its_own, faults_of_the_line, busy_machines,
-         chooses_frames, finds_what_is_sent_together, finds_what_completes_a_frame, finds_lies, finds_wrong_sectors]
+         faults_that_never_happen, chooses_frames, finds_what_is_sent_together, finds_what_completes_a_frame, finds_lies,
+         finds_wrong_sectors]
 
 
 def try_case(number):
