@@ -1,6 +1,6 @@
 //! Why a file fault occurred, in words for the user.
 ghost use Rattle.std.specs.Prelude.{◌≡◌, Some};
-ghost use Rattle.nor_console.specs.Causes.{system_text, verb_of};
+ghost use Rattle.nor_console.specs.Causes.{role_text, system_text, verb_of};
 
 use crate::escapes::Escaped;
 use crate::messages::FileFault;
@@ -142,8 +142,8 @@ impl fmt::Display for CauseLine<'_> {
                 "error: '{name}' is a journal, which is never overwritten"
             ),
             Cause::Role(role) => {
-                let role = role.as_str();
-                writeln!(f, "error: '{name}' is already used as {role}")
+                let used = role_text(role);
+                writeln!(f, "error: '{name}' is already used as {used}")
             }
             Cause::Locked => writeln!(f, "error: another process has locked '{name}'"),
             Cause::Printed => writeln!(f, "error: the program prints to '{name}'"),
@@ -157,5 +157,20 @@ fn verb_of(fault: FileFault) -> &'static str
     match fault {
         FileFault::Read => "read",
         _ => "written",
+    }
+}
+
+// Returns what a file with this role is used as, in words that complete `it is already used as ..`.
+fn role_text(role: Role) -> &'static str
+    ensures { result.now ≡ role_text role }
+{
+    match role {
+        Role::Image => "image=",
+        Role::Status => "status=",
+        Role::Trace => "trace=",
+        Role::Layout => "the layout of -l",
+        Role::Wanted => "the image of -w or -v",
+        Role::Output => "the file of -r",
+        Role::Journal => "the journal",
     }
 }

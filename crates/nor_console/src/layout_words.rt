@@ -1,6 +1,6 @@
 //! Layout texts with blanks that flashrom takes and nor_layout doesn't.
 ghost use Rattle.std.specs.Prelude.{◌≡◌, ◌++◌, IfOk};
-ghost use Rattle.nor_console.specs.LayoutWords.{in_words, is_blank, kept_of, place_after};
+ghost use Rattle.nor_console.specs.LayoutWords.{in_words, is_separator, kept_in_words, place_after};
 ghost use Rattle.nor_console.specs.declared.layout_words.Place.TheVariants as place;
 
 use std::alloc::{AllocError, Global};
@@ -32,13 +32,13 @@ pub fn in_words(alloc: Global, text: &[u8]) -> Result<Vec<u8>, AllocError>
 // Adds what becomes of a byte that `place` precedes, and returns what precedes the next byte.
 fn add_byte(words: &mut Vec<u8>, place: Place, byte: u8) -> Result<Place, AllocError>
     ensures { IfOk result (λ next. (next ≡ place_after place byte)
-        × (words.new.items ≡ words.old.items ++ kept_of place byte)) }
+        × (words.new.items ≡ words.old.items ++ kept_in_words place byte)) }
 {
     if byte == b'\n' {
         words.push(byte)?;
         return Ok(Place::Start);
     }
-    if is_blank(byte) {
+    if is_separator(byte) {
         return Ok(match place {
             Place::Start => Place::Start,
             _ => Place::Blank,
@@ -51,8 +51,8 @@ fn add_byte(words: &mut Vec<u8>, place: Place, byte: u8) -> Result<Place, AllocE
     Ok(Place::Word)
 }
 
-fn is_blank(byte: u8) -> bool
-    ensures { result ≡ is_blank byte }
+fn is_separator(byte: u8) -> bool
+    ensures { result ≡ is_separator byte }
 {
     matches!(byte, b'\t' | 0x0B | 0x0C | b'\r' | b' ')
 }

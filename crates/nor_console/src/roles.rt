@@ -2,7 +2,6 @@
 //! must not print to a named file.
 ghost use Rattle.std.specs.Prelude.{◌≡◌, IfErr, IfOk, OnOk, IsSomeAnd, true};
 ghost use Rattle.nor_files.specs.Files.Failure.{Printed};
-ghost use Rattle.nor_console.specs.Causes.{role_text};
 ghost use Rattle.nor_console.specs.Roles.{FailsApart, FailsUnprinted, IsUnseenFile, IsUnseenStream};
 ghost use Rattle.nor_console.specs.Tasks.{image_of, journal_of, layout_of, named_by};
 ghost use Rattle.nor_console.specs.Stored.{AreTwo};
@@ -33,23 +32,6 @@ pub enum Role {
     Output,
     /// The journal.
     Journal,
-}
-
-impl Role {
-    /// Returns what the file is used as, in words that complete `it is already used as ..`.
-    pub fn as_str(self) -> &'static str
-        ensures { result.now ≡ role_text self }
-    {
-        match self {
-            Role::Image => "image=",
-            Role::Status => "status=",
-            Role::Trace => "trace=",
-            Role::Layout => "the layout of -l",
-            Role::Wanted => "the image of -w or -v",
-            Role::Output => "the file of -r",
-            Role::Journal => "the journal",
-        }
-    }
 }
 
 /// The files that a task names, by their roles.
