@@ -22,8 +22,8 @@ pub joined-same : (separator : Text) (texts : List (Bor Text))
 joined-same separator [] = refl
 joined-same separator (text ∷ texts) = ap (λ rest. text.now ++ rest) (further-same separator texts)
 
--- If `values` are the values of the option `id` in the result of a parse, and `joined` is their text with commas
--- between them, `joined` is what `joined_in` defines.
+-- If `values` are the values of the option `id` in the result of a parse, and `joined` is their text with commas between
+-- them, `joined` is what `joined_in` defines.
 pub joined-found : (found : Found) (id : Text) (values : List (Bor Text)) (joined : Text)
     → Some (map (λ (text : Bor Text). text.now) values) ≡ option_map raw_values (matched_of found id)
     → joined ≡ join_by (λ (text : Bor Text). text.now) (codes ",") values → Some joined ≡ joined_in (rows_of found) id

@@ -1,7 +1,7 @@
 -- The reasons of usage faults: for each fault that the options may have (specs/Faults.antt), what is wrong with the
 -- options.
 use Rattle.std.specs.Prelude.{◌≡◌, ◌&&◌, ◌||◌, ℕ, Bool, true, false, ⊤, List, [], ◌∷◌, Option, Some, None, codes}
-use Rattle.std.specs.Prelude.{find, is_some, nat_eq, not, option_map, reverse, if◌then◌else◌}
+use Rattle.std.specs.Prelude.{find, is_some, nat_eq, not, reverse, if◌then◌else◌}
 use Rattle.std.specs.List.{list_any, starts_with}
 use Rattle.nor_args.specs.Text.{Text, pieces_of, reads}
 use Rattle.nor_args.specs.Given.{Texts, asks_change, has_two_layouts, is_new_content, progress_of}
