@@ -115,7 +115,7 @@ def take_lines(page):
     derived = [(name, text) for path in ("link", "programmer") for text, name in re.findall(
         r'#\[error\("(.*?)"\)\]\s*(\w+)', code(f"nor_serprog/src/{path}.rt"))]
     known = {blank(text) for name, text in derived if name not in IMPOSSIBLE and text != "{0}"}
-    reasons = re.findall(r'ProgrammerFault::(?!Handshake)\w+ => "(.*?)"', trouble)
+    reasons = re.findall(r'ProgrammerFault::(?!Handshake)\w+(?:\([\w:]+\))? => (?:\{\s*)?"(.*?)"', trouble)
     known |= {f"_ {text}" for text in reasons} | set(re.findall(r'write_str\("(the programmer is silent)"\)', trouble))
     shown = {blank(re.sub(r"\bXX(?=h\b)|text of the system", "{}", text)).removesuffix(".")
              for cell in rows(page, "Programmer faults").values() for text in cell.split("\v")}
