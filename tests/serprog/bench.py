@@ -73,7 +73,7 @@ class Bench:
     """A directory with a programmer at the link `dev`, and a chip behind it.
 
     `plug` connects a programmer, after the one before was unplugged or closed. The chip stays the same. Without
-    `remembers` the chip before a run isn't kept, so `carried` can't be used.
+    `remembers` the chip before a run isn't kept, so `carried` can't be used. `environment` is added to that of a run.
     """
 
     def __init__(self, program, folder, part="TINY64", data=None, status=b"\0\0", unique=bytes(8), scale=0.0, **traits):
@@ -81,6 +81,7 @@ class Bench:
         self.chip = Chip(part, data, status, unique, scale)
         self.server, self.command, self.words = None, "", []
         self.before, self.image, self.remembers = None, None, True
+        self.environment = {}
         # When the last run began, and the lines that it printed because it took more than a minute.
         self.began, self.minutes = 0, []
         self.plug(**traits)
@@ -118,7 +119,7 @@ class Bench:
         names = names if not {"-n", "-N", "--noverify-all"} & set(words) else []
         self.image = self.path(names[0]).read_bytes() if names and self.path(names[0]).exists() else None
         process = subprocess.Popen(words, cwd=self.folder, stdin=subprocess.DEVNULL, stdout=out,
-                                   stderr=err, env=dict(os.environ, LC_ALL="C"))
+                                   stderr=err, env=dict(os.environ, LC_ALL="C", **self.environment))
         self.server.kill_at(process)
         return process
 

@@ -242,7 +242,10 @@ def uses_small_programmers(start):
 def fills_no_buffer(start):
     """A write enable shares a write to the port only with a page program, if both fit into the serial buffer."""
     old = bytes(SECTOR) + b"\xff" * (SIZE - SECTOR)
-    new = b"\x01" + old[1:SECTOR] + bytes(range(255)) * 2 + b"\xff" * (SIZE - SECTOR - 510)
+    new = bytearray(b"\x01" + old[1:SECTOR] + bytes(range(255)) * 2 + b"\xff" * (SIZE - SECTOR - 510))
+    # Two page programs: one has a data byte too few to go with its write enable, and the other has enough.
+    new[2 * SECTOR : 2 * SECTOR + 31], new[3 * SECTOR : 3 * SECTOR + 32] = b"\x5a" * 31, b"\x5a" * 32
+    new = bytes(new)
     plan = reference.session("TINY64", old, new)
     for buffer in 65535, 283, 282, 274, 64, 18, 15, 8, 0:
         bench = start(data=old, latency=0.002, buffer=buffer, lacks=() if buffer else (0x04,))

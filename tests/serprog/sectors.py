@@ -3,15 +3,25 @@
 A disturbed address erases or programs a sector that the journal doesn't save. The session names the sector, and a
 restore ends with chip fault 5 in place of "Done". Expected bytes and addresses are those of the models (chip.py).
 """
+import hashlib
+import random
+import shutil
+import subprocess
+from pathlib import Path
+
 import reference
 from bench import check
-from chip import SECTOR
+from chip import ERASES, SECTOR
 from losses import sealed_after, session_wire
 from options import ALL, images
 from wire import begins
 
 # The sectors that a session changes. In sector 1 bits only change from 1 to 0.
 CHANGED = (1, 2, 7, 15)
+# A library that records calls on files.
+CUT = Path(__file__).parents[1] / "kill/cut.c"
+# The beginning of the frame of an erase of 4 KiB.
+ERASE = bytes.fromhex("13 040000 000000 20")
 
 
 def places(numbers):
@@ -83,19 +93,56 @@ def names_the_other_sector(start):
 
 
 def names_all_other_sectors(start):
-    """If an address bit is wrong for the whole change, chip fault 4 and each restore name each other sector."""
-    numbers = (2, 7, 15)
-    wire = session_wire(*images("names_all_other_sectors", numbers))
-    first = next(at for at, (out, _) in enumerate(wire, 1) if out[0] in reference.CHANGING)
-    wrong = first, reference.compares_from(wire, first) - 1
-    bench, old, got = disturbed(start, "names_all_other_sectors", wrong, numbers)
-    others = [it for it in changed_in(bench, old) if it not in numbers]
-    check("other sectors", others, sorted(it ^ 4 for it in numbers))
-    begins("the session", got, ["Chip fault 4: the chip differs from its target at "])
-    check("its last line", got.err[1:], [strays(others)])
-    bench.expect("--restore", "j", err=[differs(others)])
-    bench.chip.data[12 * SECTOR] ^= 1
-    bench.expect("--restore", "j", "--quick", err=[differs([*others, 12])])
+    """If an address bit is wrong for the whole change, chip fault 4 and each restore name each other sector.
+
+    Of more than four the first four are named, and the others are counted.
+    """
+    for numbers in (2, 7, 15), (2, 4, 7, 9, 11, 14):
+        wire = session_wire(*images("names_all_other_sectors", numbers))
+        first = next(at for at, (out, _) in enumerate(wire, 1) if out[0] in reference.CHANGING)
+        wrong = first, reference.compares_from(wire, first) - 1
+        bench, old, got = disturbed(start, "names_all_other_sectors", wrong, numbers)
+        others = [it for it in changed_in(bench, old) if it not in numbers]
+        check("other sectors", others, sorted(it ^ 4 for it in numbers))
+        begins("the session", got, ["Chip fault 4: the chip differs from its target at "])
+        check("its last line", got.err[1:], [strays(others)])
+        bench.expect("--restore", "j", err=[differs(others)])
+        bench.chip.data[12 * SECTOR] ^= 1
+        bench.expect("--restore", "j", "--quick", err=[differs(sorted([*others, 12]))])
+
+
+def disturbed_at_the_end(bench, old, new):
+    """Runs a session in the last 192 KiB of a chip. Its only erase of 4 KiB has a wrong address bit in a second run."""
+    bench.remembers = False
+    bench.write("new", new)
+    bench.write("layout", b"fd0000:ffffff end\n")
+    job = ("-w", "new", "-l", "layout", "-i", "end", "-N", "--journal", "j")
+    check("without a wrong bit", bench.run(*job).status, 0)
+    erases = [(at, out[0]) for at, (out, _) in enumerate(bench.server.log, 1) if out[0] in ERASES]
+    check("erases", [it for _, it in erases], [0xD8, 0x52, 0x20])
+    bench.chip.data[:] = old
+    bench.remove_journal()
+    number = erases[-1][0]
+    bench.server.traits.wrong_address = (number, number, 14)
+    got = bench.run(*job)
+    bench.server.traits.wrong_address = ()
+    return got
+
+
+def names_the_last_sector(start):
+    """After erases of 64, 32 and 4 KiB of a chip of 16 MiB only the last sector is named, which no erase was to hit."""
+    size = 1 << 24
+    old = b"\xff" * (size - 0x30000) + random.Random("names_the_last_sector").randbytes(0x30000)
+    new = bytearray(old)
+    for begin, length in (0xFD0000, 0x10000), (0xFE8000, 0x8000), (0xFFB000, SECTOR):
+        new[begin : begin + length] = b"\xff" * length
+    last = size // SECTOR - 1
+    bench = start("W25Q128FV", data=old)
+    got = disturbed_at_the_end(bench, old, bytes(new))
+    check("the last sector", bytes(bench.chip.data[-SECTOR:]), b"\xff" * SECTOR)
+    begins("the session", got, ["Error 14: bytes differ at 0xffb"])
+    check("its last line", got.err[2:], [strays([last])])
+    bench.expect("--restore", "j", "--quick", err=[differs([last])])
 
 
 def says_what_it_cannot_know(start):
@@ -123,6 +170,35 @@ def says_what_it_cannot_know(start):
             check("with -N", bench.run("--restore", "j", "-N", *words)[2], [])
         bench.write("j.sectors", right)
     check("a backup", bench.run("--restore", "whole").err, [])
+
+
+def reports_an_unreadable_file(start):
+    """If the file can't be read, for example because a directory has its name, a restore says so after "Done"."""
+    old, new = images("reports_an_unreadable_file", CHANGED)
+    bench = start(data=old)
+    bench.write("new", new)
+    check("the session", bench.run("-w", "new", "--journal", "j").status, 0)
+    bench.path("j.sectors").unlink()
+    bench.path("j.sectors").mkdir()
+    for words in (), ("--quick",):
+        status, out, err = bench.run("--restore", "j", *words)
+        check("Done", (status, out[1][:5]), (0, "Done:"))
+        check("the line", err, [reference.unknown_sectors("j", "is damaged")])
+
+
+def compares_whole_sums(start):
+    """A sum that differs in only one of its eight bytes is chip fault 5."""
+    old, new = images("compares_whole_sums", CHANGED)
+    bench = start(data=new)
+    bench.write("j", reference.journal("TINY64", old, CHANGED))
+    body = reference.sums("TINY64", old, ALL)[:-32]
+    for other in 0, 12:
+        for at in range(8):
+            # The header has 19 bytes, and an entry has 9, the first of which is 1.
+            place = 19 + 9 * other + 1 + at
+            wrong = body[:place] + bytes([body[place] ^ 0x10]) + body[place + 1 :]
+            bench.write("j.sectors", wrong + hashlib.sha256(wrong).digest())
+            bench.expect("--restore", "j", "--quick", err=[differs([other])])
 
 
 def notes_included_sectors(start):
@@ -188,5 +264,38 @@ def writes_it_before_the_change(start):
     bench.check_absent("j.sectors")
 
 
-CASES = [names_the_other_sector, names_all_other_sectors, says_what_it_cannot_know, notes_included_sectors,
-         keeps_an_old_file, goes_on_without_the_file, writes_it_before_the_change]
+def syncs_it_before_the_change(start):
+    """Its bytes are synced before the first erase is sent, and so is the directory that has its name."""
+    if not shutil.which("cc"):
+        print("skipped: syncs_it_before_the_change, since there is no C compiler (cc)")
+        return
+    old, new = images("syncs_it_before_the_change", CHANGED)
+    bench = start(data=old)
+    bench.write("new", new)
+    library, record = bench.path("cut.so"), bench.path("record")
+    subprocess.run(["cc", "-std=c11", "-O1", "-shared", "-fPIC", "-o", library, CUT], check=True)
+    bench.environment = {"LD_PRELOAD": str(library), "RECORD": str(record), "CALL": "0"}
+    check("the session", bench.run("-w", "new", "--journal", "j").status, 0)
+    events = events_of(record.read_bytes())
+    erase = next(at for at, (what, _, data) in enumerate(events) if what == "write" and ERASE in data)
+    mine = [it for it in events[:erase] if it[1] == "j.sectors"]
+    check("calls on the file", [what for what, _, _ in mine], ["make", "write", "sync"])
+    check("its bytes", mine[1][2], reference.sums("TINY64", old, ALL))
+    made = events.index(("make", "j.sectors", b""))
+    check("a sync of the directory", ("sync", ".", b"") in events[made:erase], True)
+
+
+def events_of(record):
+    """Returns what cut.c recorded of files: the kind, the name and the bytes of each event."""
+    found, at = [], 0
+    while at < len(record):
+        end = record.index(b"\n", at)
+        what, _, size, name = record[at:end].decode().split(" ", 3)
+        at = end + 1 + int(size)
+        found.append((what, name, record[end + 1 : at]))
+    return found
+
+
+CASES = [names_the_other_sector, names_all_other_sectors, names_the_last_sector, says_what_it_cannot_know,
+         reports_an_unreadable_file, compares_whole_sums, notes_included_sectors, keeps_an_old_file,
+         goes_on_without_the_file, writes_it_before_the_change, syncs_it_before_the_change]
