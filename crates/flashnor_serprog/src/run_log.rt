@@ -118,8 +118,8 @@ impl RunLog {
     }
 }
 
-// Writes the first line of a log. If `appends` is true, and the file has bytes, these are kept, and an empty line follows
-// them.
+// Writes the first line of a log. If `appends` is true, and the file has bytes, these are kept, and an empty line
+// follows them.
 fn begin(file: &mut LogWriter, appends: bool) -> io::Result<()> {
     if appends && file.get_mut().append()? {
         writeln!(file)?;
@@ -218,7 +218,8 @@ pub fn start_log<'a, R: Store<Log = LogFile<File>>>(
     }
 }
 
-/// Returns file fault 4 if the file of this name, which was opened for the log, was no log: it appeared after `check_log`.
+/// Returns file fault 4 if the file of this name, which was opened for the log, was no log: it appeared after
+/// `check_log`.
 pub fn check_started<'a>(log: &RunLog, name: Option<&'a str>) -> Result<(), Fault<'a>> {
     match name {
         Some(name) if log.is_refused() => Err(exists(name, Cause::Unknown)),

@@ -186,8 +186,8 @@ impl<'a> Given<'a> {
     }
 
     /// Returns the job of a program for hardware. With `--check-journal` the job has the file name of the journal, and
-    /// with `--extract-image` also that of the image. Otherwise it has the value of `-p`, and the operation or the first
-    /// of the faults 4 to 9 that the options have.
+    /// with `--extract-image` also that of the image. Otherwise it has the value of `-p`, and the operation or the
+    /// first of the faults 4 to 9 that the options have.
     ///
     /// With `--check-journal`, returns the first of the faults 4 to 9 if the options have one. Returns fault 2 if both
     /// `-p` and `--check-journal` are missing. The options must not include `-L`. `named` must be the chip that `-c`

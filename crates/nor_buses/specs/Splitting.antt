@@ -28,8 +28,8 @@ takes_whole sends receives = nat_le 260 sends && nat_le 4096 receives
 
 -- The state of a bus with this history that splits what the bus inside can't take. The chip is that of the bus inside.
 -- If `wide` is true, no transaction that a well-behaved bus must take is split: each is one of the bus inside. Then
--- this bus is well-behaved if the bus inside is. Otherwise it isn't: a program in parts that stops may leave an idle chip
--- whose write enable latch is set, which no stop of a single transaction does.
+-- this bus is well-behaved if the bus inside is. Otherwise it isn't: a program in parts that stops may leave an idle
+-- chip whose write enable latch is set, which no stop of a single transaction does.
 abbrev pub splits : (wide : Bool) → (inside : BusState) → (history : List Exchange) → BusState
 splits wide inside history = record (beside inside history) {
   honest = inside.honest && wide;

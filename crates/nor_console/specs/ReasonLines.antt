@@ -71,7 +71,8 @@ abbrev pub line_fault_text : LineFault → List ℕ
 line_fault_text in_line.Line = codes "there is no colon, or no space (a TAB is none) between END and NAME"
 line_fault_text in_line.Address = codes "an address is not 1 to 8 hexadecimal digits, without blanks"
 line_fault_text in_line.Backwards = codes "the end is below the start"
-line_fault_text in_line.Name = codes "the name is not 1 to 32 visible ASCII characters (a CR is none) other than , and :"
+line_fault_text in_line.Name =
+    codes "the name is not 1 to 32 visible ASCII characters (a CR is none) other than , and :"
 line_fault_text in_line.Twice = codes "an earlier line has this name"
 
 -- the line that says what is wrong with a layout, or no bytes if memory ran out

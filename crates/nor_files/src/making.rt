@@ -154,8 +154,8 @@ impl<F: OpenFile> LogFile<F> {
 }
 
 impl<F: OpenFile + Read + Seek> LogFile<F> {
-    /// Returns whether the file is empty, or begins with these bytes. A FIFO, a device or a terminal isn't read, and the
-    /// result is true. The file is read through the descriptor that is written later, so no other file is judged.
+    /// Returns whether the file is empty, or begins with these bytes. A FIFO, a device or a terminal isn't read, and
+    /// the result is true. The file is read through the descriptor that is written later, so no other file is judged.
     pub fn is_empty_or_begins(&mut self, start: &[u8]) -> io::Result<bool> {
         if !self.is_old {
             return Ok(true);
