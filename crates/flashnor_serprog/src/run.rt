@@ -12,6 +12,7 @@ ghost use Rattle.flashnor_serprog.specs.Sends.{SendsOnly};
 ghost use Rattle.flashnor_serprog.specs.Sources.{ArePlainNames};
 
 use crate::chip_faults::JobFault;
+use crate::chip_list::print_chip_list;
 use crate::connect::{ChipBus, Connected};
 use crate::ending::{end_badly, end_well, status_of};
 use crate::extracting::extract_image;
@@ -119,6 +120,7 @@ fn run_arguments<'b, R: Store<Log = LogFile<File>>, O: Write, E: Write>(
 {
     let mut included = None;
     match read_words(rt.alloc(), words, &mut included) {
+        Ok(Asked::List) => status_of(print_chip_list(output), errors),
         Ok(Asked::Description { file, image: None }) => check_journal(files, file, output, errors),
         Ok(
             Asked::Description {
@@ -212,6 +214,8 @@ fn asked_text<'a>(trouble: &'a Trouble<'_>) -> Option<&'a WordsError>
 // What the arguments ask for.
 #[derive(Drop)]
 enum Asked<'a> {
+    // The list of chips.
+    List,
     // The description of the journal in the file of this name, and its image in the file `image` if there is a name.
     Description {
         file: &'a str,
@@ -234,6 +238,7 @@ fn read_words<'a>(
     ensures help { IfErr result (IsHelpAskedBy (map string_bytes words.now)) }
 {
     match operation_of(alloc, HELP, words, names)? {
+        HardwareJob::List => Ok(Asked::List),
         HardwareJob::CheckJournal { file, image } => Ok(Asked::Description { file, image }),
         HardwareJob::Chip(job) => {
             let setting = Setting::read(job.programmer)?;
