@@ -5,6 +5,7 @@ ghost use Rattle.nor_buses.specs.SameChip.{checked_by};
 ghost use Rattle.nor_buses.specs.Twice.{expected_of, history_of, twice_of};
 ghost use Rattle.flashnor_serprog.specs.Connected.{IsUnused, device_of, expected_by};
 
+use crate::contact::is_missing;
 use crate::port::{DevicePort, PortFault};
 use crate::progress::{Shown, StatusWrite, Terminal};
 use crate::setting::Setting;
@@ -13,6 +14,7 @@ use nor_buses::{CheckedStatus, Paced, ReadAhead, ReadTwice, SameChip, SplittingB
 use nor_chip::Bus;
 use nor_console::{Fault, SystemReason};
 use nor_files::LockFile;
+use nor_session::Refusal;
 use nor_serprog::{AnyProgrammer, BatchingBus, Command, Failure, HandshakeFault, Link};
 use std::alloc::Global;
 use std::fs::{File, OpenOptions};
@@ -47,8 +49,8 @@ pub struct Connected<'a> {
     pub bus: ChipBus<'a>,
 }
 
-/// Connects to the programmer that `-p` describes. Returns usage fault 10 if memory runs out, or the fault of `connect`
-/// with the name of the device.
+/// Connects to the programmer that `-p` describes. Returns usage fault 10 if memory runs out, error 1 if no chip answers,
+/// or the fault of `connect` with the name of the device.
 pub fn connect_by<'a, 'b>(
     rt: &'b HostRuntime,
     terminal: Terminal<'b>,
@@ -71,11 +73,14 @@ pub fn connect_by<'a, 'b>(
         checks,
     ) {
         Ok(connected) => Ok(connected),
-        Err(fault) => {
+        Err(unconnected) => {
             terminal.end_line();
-            Err(Trouble::Programmer {
-                fault,
-                device: setting.device,
+            Err(match unconnected {
+                Unconnected::NoChip => Trouble::Fault(Fault::Refused(Refusal::NoChip)),
+                Unconnected::Programmer(fault) => Trouble::Programmer {
+                    fault,
+                    device: setting.device,
+                },
             })
         }
     }
@@ -91,10 +96,28 @@ fn name_of<'a>(alloc: Global, device: &str) -> Result<String, Fault<'a>>
     }
 }
 
+// Why there is no bus to a chip.
+enum Unconnected {
+    Programmer(ProgrammerFault),
+    // No chip answers.
+    NoChip,
+}
+
+impl From<ProgrammerFault> for Unconnected {
+    ghost use Rattle.flashnor_serprog.specs.declared.connect.Unconnected.TheVariants as unconnected;
+
+    ghost from_gives = { λ fault ended. ended ≡ unconnected.Programmer fault };
+
+    fn from(fault: ProgrammerFault) -> Unconnected {
+        Unconnected::Programmer(fault)
+    }
+}
+
 // Opens and locks the device, identifies the programmer, sets its clock if `spispeed=` is given, and sets its chip
-// select if `cs=` is given. Then wakes the chip, and sends no other transaction. If progress is shown, prints before
-// the first exchange with the programmer what to do if no reply ever arrives. Returns a programmer fault from 1 to 12
-// if one of these steps fails: fault 12 if the port changes bytes that are sent.
+// select if `cs=` is given. Then wakes the chip; only if it doesn't answer, reads its ID and its status (`is_missing`).
+// Sends no other transaction. If progress is shown, prints before the first exchange with the programmer what to do if
+// no reply ever arrives. Returns a programmer fault from 1 to 12 if one of these steps fails: fault 12 if the port
+// changes bytes that are sent. Returns `NoChip` if no chip answers.
 //
 // The returned bus has carried out no transaction yet, and belongs to this device. The contract says nothing about the
 // frames that were sent before the bus existed.
@@ -113,7 +136,7 @@ fn connect<'a>(
     chip_select: Option<u8>,
     image: Option<Vec<u8>>,
     checks: Checks,
-) -> Result<Connected<'a>, ProgrammerFault>
+) -> Result<Connected<'a>, Unconnected>
     ensures fresh { IfOk result (λ connected. IsUnused (⟦<ChipBus<'a> as Bus>⟧.state connected.bus)) }
     ensures named { IfOk result (λ connected. device_of connected ≡ string_bytes device) }
     ensures expects { IfOk result (λ connected. expected_by connected ≡ option_map (λ image. image.items) image) }
@@ -127,7 +150,10 @@ fn connect<'a>(
             .select_chip(&mut link, chip_select)
             .map_err(ProgrammerFault::Handshake)?;
     }
-    wake(&mut link, &programmer)?;
+    let woken = wake(&mut link, &programmer)?;
+    if is_missing(rt, &mut link, &woken).map_err(|failure| of_failure(failure))? {
+        return Err(Unconnected::NoChip);
+    }
     let longest_read = programmer.longest_read();
     let paced = Paced::new(BatchingBus::over(link, programmer), rt);
     let splitting = SplittingBus::new(paced, programmer.longest_part(), longest_read);
@@ -195,25 +221,36 @@ fn reading_twice<B: Bus + Drop>(bus: B, image: Option<Vec<u8>>) -> ReadTwice<B>
 // programmer takes the last three data bytes as commands. If the port sends 0Dh before 0Ah (`onlcr`), the programmer
 // returns more bytes. In both cases the version that is queried next is read wrongly. If the programmer's limits are
 // too low for this frame, only ABh is sent, and the port isn't checked.
-fn wake(link: &mut Link<DevicePort>, programmer: &AnyProgrammer) -> Result<(), ProgrammerFault> {
+//
+// Returns the reply of the chip, which is FFh in all bytes if the programmer's limits are too low.
+fn wake(
+    link: &mut Link<DevicePort>,
+    programmer: &AnyProgrammer,
+) -> Result<[u8; WAKE_REPLIES as usize], ProgrammerFault> {
+    let mut reply = [0xFF; WAKE_REPLIES as usize];
     if programmer.longest_part() < WAKE.len() as u32 || programmer.longest_read() < WAKE_REPLIES {
         let release = Command::Operate {
             out: &WAKE[..1],
             replies: 0,
         };
-        return exchange(link, release, &mut []).map_err(ProgrammerFault::Handshake);
+        exchange(link, release, &mut []).map_err(ProgrammerFault::Handshake)?;
+        return Ok(reply);
     }
     let release = Command::Operate {
         out: &WAKE,
         replies: WAKE_REPLIES,
     };
-    exchange(link, release, &mut [0; WAKE_REPLIES as usize]).map_err(|fault| of_changed(fault))?;
+    exchange(link, release, &mut reply).map_err(|fault| of_changed(fault))?;
     let mut version = [0; 2];
     exchange(link, Command::QueryInterface, &mut version).map_err(|fault| of_changed(fault))?;
     if version != [1, 0] {
         return Err(ProgrammerFault::ChangesBytes);
     }
-    Ok(())
+    Ok(reply)
+}
+
+fn of_failure(failure: Failure<PortFault>) -> ProgrammerFault {
+    ProgrammerFault::Handshake(HandshakeFault::Failure(failure))
 }
 
 fn exchange(

@@ -64,6 +64,7 @@ mod chip_layouts;
 mod chip_list;
 mod chip_names;
 mod connect;
+mod contact;
 mod ending;
 mod estimates;
 mod extracting;
