@@ -145,6 +145,10 @@ def not_stored(address, journal="j"):
             f"with --restore {journal}."]
 
 
+# Why the file of sums of a session of --wp-range is missing.
+UNWRITTEN = "isn't written by a session that saves no sector"
+
+
 def unknown_sectors(journal, why="is missing"):
     """Returns the line of a restore that can't know what the session did to the sectors which its journal lacks."""
     return (f"{journal}.sectors {why}, so it isn't known whether the session damaged another sector. To find out, "

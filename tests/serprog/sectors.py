@@ -191,11 +191,10 @@ def names_what_wp_range_leaves_open(start):
     bench = start("W25Q64FV")
     check("the session", bench.run("--wp-range", "0,0x800000", "--journal", "j").status, 0)
     bench.check_absent("j.sectors")
-    why = "isn't written by a session that saves no sector"
     for words in (), ("--quick",):
         status, out, err = bench.run("--restore", "j", *words)
         check("Done", (status, out[1][:5]), (0, "Done:"))
-        check("the line", err, [reference.unknown_sectors("j", why)])
+        check("the line", err, [reference.unknown_sectors("j", reference.UNWRITTEN)])
         check("with -N", bench.run("--restore", "j", "-N", *words)[2], [])
 
 
