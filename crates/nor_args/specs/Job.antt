@@ -147,7 +147,7 @@ pub record IsListAsked (given : Texts) : Type 0 where
 -- Holds if `--check-journal` and `-L` are missing and `on_chip.programmer` is the value of `-p`. `on_chip.operation`
 -- must be the operation that the options ask for, or the first of the faults 4 to 9 that they have, with its reason.
 pub record IsProgrammerJob (given : Texts) (on_chip : ProgrammerJob) : Type 0 where
-  pub on_chip : is_on_chip given ≡ true
+  pub on_a_chip : is_on_chip given ≡ true
   pub programmer : NamesFile given.programmer on_chip.programmer
   pub operation : MatchResult on_chip.operation (IsOperation given) (IsWrongOperation given)
 
