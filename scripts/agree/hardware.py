@@ -30,9 +30,10 @@ def options():
     """Returns the options of a program for hardware: for each one its spellings, and the name of its value."""
     text = code("nor_args/src/options.rt") + code("nor_args/src/options/hardware.rt")
     left_out = re.findall(r'name != "([-a-z]+)"', text)
+    renamed = dict(re.findall(r'self\.name == "([-a-z]+)" \{\s*option\.long\("([-a-z]+)"\)', text))
     table = re.findall(r"Choice \{\s*letter: (?:None|Some\('(\w)'\)),\s*name: \"([-a-z]+)\",\s*"
                        r"value: (?:None|Some\(\"([^\"]*)\"\))", text)
-    found = [([f"-{letter}"] * bool(letter) + [f"--{name}"], value) for letter, name, value in table
+    found = [([f"-{letter}"] * bool(letter) + [f"--{renamed.get(name, name)}"], value) for letter, name, value in table
              if name not in left_out]
     made = re.search(r"(?s)fn make_hardware_options.*?\n}\n", text)[0]
     for name in re.findall(r"\.arg\((\w+)\(alloc\)\)", made):
