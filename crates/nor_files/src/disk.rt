@@ -255,6 +255,13 @@ where
         }
     }
 
+    fn vault_error(&self) -> Option<io::Error> {
+        match &self.vaulted {
+            Some(file) => file.error(),
+            None => None,
+        }
+    }
+
     fn log_in(&mut self, name: &str) -> Result<LogFile<R::File>, CreateFault> {
         open_log(self.files, name)
     }

@@ -323,6 +323,10 @@ pub trait Store: AllocGlobal {
     fn is_kept(&self, name: &str) -> bool
         ensures { result ≡ false → (state self.now).view.nature.fails (Unwritten name.now) ≡ true };
 
+    /// Returns the system's error of the last write or sync that failed in the vault that was taken back last, or
+    /// `None` if none failed. Contracts claim nothing about it. A store without files of the system returns `None`.
+    fn vault_error(&self) -> Option<io::Error>;
+
     /// Creates or truncates the named file, and lends it as a log. `Disk` refuses to truncate a journal. It truncates
     /// any other existing regular file just before the first write, or at a flush if nothing was written.
     fn log_in(&mut self, name: &str) -> Result<Self::Log, CreateFault>
