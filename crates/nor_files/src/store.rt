@@ -169,9 +169,9 @@ pub trait Store: AllocGlobal {
             × ((state self.now).view.nature.fails (Unread name.now) ≡ true)) };
 
     /// Looks up a file before the run opens other files. If the look-up fails, a later `read_named` of a `Disk` finds
-    /// no file of this name, or returns the error of the look-up, unless a call such as `hold` opened one. Without this rule, a name such as `/dev/fd/6`
-    /// could refer to a file that the run itself opened in the meantime. Contracts see no effect. `look_ahead` itself
-    /// fails only if the program is out of memory.
+    /// no file of this name, or returns the error of the look-up, unless a call such as `hold` opened one. Without this
+    /// rule, a name such as `/dev/fd/6` could refer to a file that the run itself opened in the meantime. Contracts see
+    /// no effect. `look_ahead` itself fails only if the program is out of memory.
     fn look_ahead(&self, name: &str) -> Result<(), AllocError>;
 
     /// Returns whether a file or a link of this name exists.
