@@ -49,8 +49,8 @@ pub struct Connected<'a> {
     pub bus: ChipBus<'a>,
 }
 
-/// Connects to the programmer that `-p` describes. Returns usage fault 10 if memory runs out, error 1 if no chip answers,
-/// or the fault of `connect` with the name of the device.
+/// Connects to the programmer that `-p` describes. Returns usage fault 10 if memory runs out, error 1 if no chip
+/// answers, or the fault of `connect` with the name of the device.
 pub fn connect_by<'a, 'b>(
     rt: &'b HostRuntime,
     terminal: Terminal<'b>,
