@@ -3,7 +3,7 @@
 This is the only file of the scripts that names definitions; scripts/statement_page.md has the prose of STATEMENT.md.
 """
 # The greatest number of lines of definitions and contracts on STATEMENT.md, without comments and blanks.
-MOST_LINES = 300
+MOST_LINES = 220
 
 # The contracts of STATEMENT.md: for each call its file, and those of its clauses that make the headline. What a caller
 # must ensure is always included.
@@ -21,13 +21,9 @@ FIELDS = {
     "AtStop": "count read reached step chip none unsent",
     "Carries": "left step",
     "Does": "config bytes kept busy latch running",
-    "SessionAlways": "answers ends",
-    "SessionReturns": "vault unsealed",
     "SessionModelled": "errors done undo",
-    "EndsSealed": "sealed",
     "CanBeUndone": "accepted",
     "IsDone": "made code is_wanted kept",
-    "ModelledBy": "errors",
 }
 
 # The names that STATEMENT.md describes in one line each; the appendices have their definitions.
@@ -49,18 +45,39 @@ NAMES = {
     "cmp_qe_srp1": "`cmp_qe_srp1`: CMP, QE and SRP1.",
     "lb3_to_reserved": "`lb3_to_reserved`: LB3, LB2, LB1 and the reserved bit.",
     "lb3_to_lb1": "`lb3_to_lb1`: LB3, LB2 and LB1.",
+    "kept_in": "`kept_in status`: the non-volatile bits in two status bytes.",
     "srp0_bit": "`srp0_bit kept`: SRP0, as 0 or 1.",
     "lb3_to_srp1": "`lb3_to_srp1 kept`: the bits from LB3 down to SRP1, as a number.",
     "with_code": "`with_code code kept`: `kept` with the protection bits of `code` in place of its own.",
     "is_chip_size": "`is_chip_size n`: `n` is a power of two from 64 KiB to 16 MiB.",
     "IsChip": "`IsChip chip`: bytes are below 256, status bits fit their registers, and `busy` is below 65,536.",
-    "Command": "`Command`: what a transaction asks for (cases above).",
+    "Command": "`Command`: what a transaction asks for.",
+    "command_of":
+        "`command_of config out replies`: the command of the opcode and the lengths, with the address modulo the size "
+        "(for an erase, the start of its block); `Ignored` if SPECIFICATION.md's table lacks it, or the chip the erase "
+        "type.",
+    "last_for":
+        "`last_for at sent a`: the last of the data bytes `sent` that goes to `a`, if any. The first goes to `at`; the "
+        "addresses wrap within the page.",
+    "BusyAfter":
+        "`BusyAfter chip command busy`: after a status write, program or erase, `busy` is any number below 65,536; a "
+        "poll takes 1 from it, but not from 0; otherwise it stays.",
+    "latch_after":
+        "`latch_after chip command busy`: 06h sets WEL, 04h clears it, and so does an operation that leaves `busy` 0, "
+        "and the poll of the last BUSY; otherwise it stays.",
+    "running_after": "`running_after chip command`: the operation that this command begins; otherwise it stays.",
     "is_idle": "`is_idle chip`: `busy` is 0.",
     "is_protected":
         "`is_protected chip a`: the chip has block protection, and its protection bits protect the address `a`.",
     "is_block_protected":
         "`is_block_protected chip start len`: the first or the last of the `len` addresses from `start` on is "
         "protected, which is so if any is: protected addresses lie at one end of the chip.",
+    "is_in_work":
+        "`is_in_work running a`: `a` is in the page or block of a program or erase; always for `Unknown`, never for a "
+        "status write.",
+    "KeptCut":
+        "`KeptCut running old new`: `new` is `old` or, after a cut status write, the bits before it; anything for "
+        "`Unknown`.",
     "Stopped": "`Stopped`: what a failed transaction returns.",
     "SameNature":
         "`SameNature old new`: `honest`, `steady`, `unlimited` and, on a well-behaved bus, the chip's `config` are as "
@@ -69,10 +86,9 @@ NAMES = {
         "`IsHonestFor out n bus`: the bus is well-behaved, and takes a transaction of this length: `out` has at most "
         "260 bytes and `n` is at most 4,096, or the bus is `unlimited`. The code never sends or reads more.",
     "IsGenuine":
-        "`IsGenuine config`: for an ID in the table, size, erase types and block protection are those of its row. The "
-        "rows are EF 40 17 (W25Q64FV, 8 MiB) and EF 40 18 (W25Q128FV, 16 MiB), with all erase types and block "
-        "protection. The further chips of `flashnor-serprog` aren't in it. Without a row, the chip has no block "
-        "protection and, if its SFDP is accepted, the size and erase types that the SFDP gives.",
+        "`IsGenuine config`: for W25Q64FV and W25Q128FV (the table's IDs; further chips aren't in it), size, erase "
+        "types and block protection are those of its row. Without a row, the chip has no block protection and, if its "
+        "SFDP is accepted, the size and erase types that the SFDP gives.",
     "IsKnown":
         "`IsKnown config`: the chip is genuine, its ID isn't FF FF FF or 00 00 00, and the table has it or its SFDP is "
         "accepted.",
@@ -82,14 +98,12 @@ NAMES = {
         "`IsContent c`: the ID has 3 bytes, a unique ID 8, the status 2; `is_chip_size` holds for the size. The "
         "numbers of the saved sectors rise and are below size / 4,096; each has 4,096 bytes.",
     "text":
-        "`text c`: the header (`NORUNDO2` in ASCII, ID, unique ID, status 1 and 2, size); each saved sector's number "
-        "and bytes; FF FF FF FF; the SHA-256 of all bytes before it. Size and numbers take four bytes each, "
-        "little-endian. Format 1 has `NORUNDO1` and no unique ID.",
+        "`text c`: the bytes of the journal (flashnor-journal(5)).",
     "IsOfType": "`IsOfType journal config`: the journal has the chip's ID and size.",
     "is_saved": "`is_saved journal s`: the journal saves sector `s`.",
     "Saves":
         "`Saves old saved journal`: the journal is valid (`IsContent`), saves exactly the sectors of `saved`, and has "
-        "their bytes in `old`. In `SavesChip`, `saved` is `is_saved journal`, so the second part always holds.",
+        "their bytes in `old`.",
     "is_known_running": "`is_known_running running`: the operation isn't `Unknown`.",
     "Journal": "`Journal`: a journal that was read; in contracts, a `Content`.",
     "JournalFault": "`JournalFault`: why bytes are no journal.",
@@ -111,18 +125,17 @@ NAMES = {
     "RefusalHolds":
         "`RefusalHolds request image chip refusal`: the error is one of 1 to 10, and applies as SPECIFICATION.md says.",
     "CountsRefusal": "`CountsRefusal old new`: the vault refused a call between these states.",
-    "EndsSealed":
-        "`EndsSealed request old new vault vault' report`: `vault'` is sealed and refused nothing, and the report "
-        "counts what was sent.",
+    "SessionAlways":
+        "`SessionAlways ..`: on every bus, an error from 1 to 11 leaves the vault unsealed (`answers`: `unsealed`). "
+        "Success leaves it sealed, without a refusal (`ends`), so by `undo` the request is accepted.",
+    "RanOut":
+        "`RanOut needed old new`: on a punctual bus no transaction is left, and fewer than `needed` were left before.",
     "most_of":
         "`most_of s`: 65,542 + 3 * s + 65,538 * (17 * s + 2), a bound on the transactions of a call that may touch `s` "
         "sectors.",
-    "Choice": "`Choice`: which sectors a restore touches and raises.",
-    "differing":
-        "`differing`: the saved sectors in which a byte differs from the saved one are touched, and those in which a "
-        "bit must go from 0 to 1 are raised.",
-    "IsRestoreVerdict":
-        "`IsRestoreVerdict choice journal chip refusal`: the error is the restore's verdict.",
+    "RestoreModelled":
+        "`RestoreModelled journal old new result`: an error is the restore's verdict or, if the bus stopped (`RanOut`), "
+        "12.",
 }
 
 # The appendices of STATEMENT-FULL.md: the title of each, what breaks if it is wrong, and the definitions and contracts
@@ -147,6 +160,11 @@ APPENDICES = {
             "has_srp1": "nor_model/specs/Chip.antt",
             "srp0_bit": "nor_model/specs/Chip.antt",
             "lb3_to_srp1": "nor_model/specs/Chip.antt",
+            "command_of": "nor_model/specs/Command.antt",
+            "last_for": "nor_model/specs/Step.antt",
+            "BusyAfter": "nor_model/specs/Step.antt",
+            "latch_after": "nor_model/specs/Step.antt",
+            "running_after": "nor_model/specs/Step.antt",
             "with_code": "nor_driver/specs/StatusWrites.antt",
             "cmp_qe_srp1": "nor_model/specs/Step.antt",
             "lb3_to_reserved": "nor_model/specs/Step.antt",
@@ -156,6 +174,9 @@ APPENDICES = {
             "wears": "nor_model/specs/Step.antt",
             "IsChip": "nor_model/specs/Chip.antt",
             "is_known_running": "nor_model/specs/Power.antt",
+            "is_in_work": "nor_model/specs/Power.antt",
+            "KeptCut": "nor_model/specs/Power.antt",
+            "kept_in": "nor_model/specs/Chip.antt",
         },
     ),
     "Identification": (
@@ -222,6 +243,7 @@ APPENDICES = {
         "changes more than promised. The headline doesn't depend on it.",
         {
             "OnlyReads": "nor_driver/specs/OnlyReads.antt",
+            "RanOut": "nor_driver/specs/OnlyReads.antt",
             "Spends": "nor_driver/specs/Limits.antt",
             "IsReportedFor": "nor_session/specs/Made.antt",
             "IsWithinBound": "nor_session/specs/Session.antt",
@@ -234,9 +256,7 @@ APPENDICES = {
             "session": "nor_session/src/sessions.rt",
             "restore": "nor_session/src/restores.rt",
             "rewrite": "nor_session/src/restores.rt",
-            "Choice": "nor_session/specs/Restore.antt",
-            "differing": "nor_session/specs/Restore.antt",
-            "IsRestoreVerdict": "nor_session/specs/Restore.antt",
+            "RestoreModelled": "nor_session/specs/Restore.antt",
             "RefusalHolds": "nor_scan/specs/Verdict.antt",
             "accepted_alone": "nor_session/src/sessions.rt",
         },

@@ -145,7 +145,7 @@ PLANTS = {
     "a page that is too long": (
         STATEMENT, "crates/nor_session/specs/Headline.antt", r"(?m)^  pub unsent : ",
         "".join(f"  pub unsent{at} : vault.sealed ≡ vault.sealed\n" for at in range(40)) + "  pub unsent : ",
-        r"docs/STATEMENT.md has 3\d\d lines, at most 300"),
+        r"docs/STATEMENT.md has 2\d\d lines, at most 220"),
     "a library that a crate doesn't use": (
         AGREE, "crates.txt", r"(?m)^nor_read: ", "nor_read: nor_apply ",
         "crates.txt is to have 'nor_read: nor_request "),
