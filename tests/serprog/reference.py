@@ -201,16 +201,18 @@ def carried(plan, longest=BLOCK, chip=None, image=None):
     other transaction. It is read twice. Before the first modifying command the unique ID is read again, if it was read.
     If an image is expected, only the sectors that differ from it are read again; `chip` is a model of the
     chip before the plan, which is changed. Other replies are compared as `compared` says. After each of these reads the
-    ID is read.
+    ID is read. Status 2 isn't read from a chip that is identified by its SFDP, whose table has nine double words.
     """
     found, begin, end, step, last = [WAKES], 0, 0, 0, 0
+    has_row = all(out[0] != READ_SFDP for out, _ in plan)
     for item in plan:
         out, replies = item
         if out[0] != READ_DATA:
             end = begin
             if out[0] in CHANGING and not last and UNIQUE in plan:
                 found += compared(*UNIQUE, last)
-            found += compared(out, replies, last)
+            if has_row or item != READ_STATUS_2:
+                found += compared(out, replies, last)
             last = out[0] if out[0] in CHANGING else 0x05 if last else 0
             if chip:
                 chip.transfer(out, replies)

@@ -1,6 +1,7 @@
 //! Opens the device of a programmer and identifies the programmer.
 ghost use Rattle.std.specs.Prelude.{◌≡◌, [], IfOk, option_map, string_bytes};
 ghost use Rattle.nor_buses.specs.Checked.{bus_of, history_of as checked_history};
+ghost use Rattle.nor_buses.specs.KnownStatus2.{known_by};
 ghost use Rattle.nor_buses.specs.SameChip.{checked_by};
 ghost use Rattle.nor_buses.specs.Twice.{expected_of, history_of, twice_of};
 ghost use Rattle.flashnor_serprog.specs.Connected.{IsUnused, device_of, expected_by};
@@ -10,7 +11,7 @@ use crate::port::{DevicePort, PortFault};
 use crate::progress::{Shown, StatusWrite, Terminal};
 use crate::setting::Setting;
 use crate::trouble::{ProgrammerFault, Trouble};
-use nor_buses::{CheckedStatus, Paced, ReadAhead, ReadTwice, SameChip, SplittingBus};
+use nor_buses::{CheckedStatus, KnownStatus2, Paced, ReadAhead, ReadTwice, SameChip, SplittingBus};
 use nor_chip::Bus;
 use nor_console::{Fault, SystemReason};
 use nor_files::LockFile;
@@ -33,10 +34,14 @@ const WAKE_REPLIES: u32 = 10;
 
 /// The bus to a chip at a serial programmer. Its layers, from the outside to the programmer: one shows the progress on
 /// standard error; one reads data ahead; one reads the unique ID again before the first modifying command; one reads
-/// IDs, SFDP and data twice; one reads status registers twice and checks status writes; one splits commands that are
-/// too long for the programmer; one pauses between the polls of a busy chip, also between the parts of a split program;
-/// and one sends several commands in one write to the port.
-pub type ChipBus<'a> = Shown<'a, ReadAhead<SameChip<ReadTwice<CheckedStatus<PartsBus<'a>>>>>>;
+/// status 2 only from a chip that is known to have the command; one reads IDs, SFDP and data twice; one reads status
+/// registers twice and checks status writes; one splits commands that are too long for the programmer; one pauses
+/// between the polls of a busy chip, also between the parts of a split program; and one sends several commands in one
+/// write to the port.
+pub type ChipBus<'a> = Shown<'a, ReadAhead<SameChip<KnownStatus2<TwiceBus<'a>>>>>;
+
+// The bus that reads IDs, SFDP and data twice, around the bus that checks the status registers.
+type TwiceBus<'a> = ReadTwice<CheckedStatus<PartsBus<'a>>>;
 
 // The inner layers of `ChipBus`: the bus that splits commands, around the bus that paces polls, around the bus that
 // sends commands together.
@@ -49,6 +54,20 @@ pub struct Connected<'a> {
     pub bus: ChipBus<'a>,
 }
 
+// The IDs of the chips that return status 2 for 35h: those of the rows of nor_probe. Source: their datasheets, Read
+// Status Register-2.
+const WITH_STATUS2: [[u8; 3]; 9] = [
+    [0xEF, 0x40, 0x16],
+    [0xEF, 0x40, 0x17],
+    [0xEF, 0x40, 0x18],
+    [0xEF, 0x60, 0x16],
+    [0xEF, 0x60, 0x17],
+    [0xEF, 0x60, 0x18],
+    [0xEF, 0x70, 0x16],
+    [0xEF, 0x70, 0x17],
+    [0xEF, 0x70, 0x18],
+];
+
 /// Connects to the programmer that `-p` describes. Returns usage fault 10 if memory runs out, error 1 if no chip
 /// answers, or the fault of `connect` with the name of the device.
 pub fn connect_by<'a, 'b>(
@@ -56,6 +75,7 @@ pub fn connect_by<'a, 'b>(
     terminal: Terminal<'b>,
     setting: &Setting<'a>,
     image: Option<Vec<u8>>,
+    before: Option<[u8; 3]>,
     checks: Checks,
 ) -> Result<Connected<'b>, Trouble<'a>>
     ensures fresh { IfOk result (λ connected. IsUnused (⟦<ChipBus<'b> as Bus>⟧.state connected.bus)) }
@@ -70,6 +90,7 @@ pub fn connect_by<'a, 'b>(
         setting.hertz,
         setting.chip_select,
         image,
+        before,
         checks,
     ) {
         Ok(connected) => Ok(connected),
@@ -127,6 +148,8 @@ impl From<ProgrammerFault> for Unconnected {
 // gets into a journal. If a sector was misread as equal to `image`, the comparison after a write detects the misread,
 // unless it misreads the sector in the same way; `-v` doesn't detect it.
 //
+// If `before` is given, an earlier run read status 2 of a chip with this ID, so 35h is sent to it, too.
+//
 // `checks` says which modifying commands the bus refuses.
 fn connect<'a>(
     rt: &'a HostRuntime,
@@ -135,6 +158,7 @@ fn connect<'a>(
     hertz: Option<u32>,
     chip_select: Option<u8>,
     image: Option<Vec<u8>>,
+    before: Option<[u8; 3]>,
     checks: Checks,
 ) -> Result<Connected<'a>, Unconnected>
     ensures fresh { IfOk result (λ connected. IsUnused (⟦<ChipBus<'a> as Bus>⟧.state connected.bus)) }
@@ -157,7 +181,9 @@ fn connect<'a>(
     let longest_read = programmer.longest_read();
     let paced = Paced::new(BatchingBus::over(link, programmer), rt);
     let splitting = SplittingBus::new(paced, programmer.longest_part(), longest_read);
-    let bus = SameChip::new(reading_twice(checking(splitting, checks), image));
+    let twice = reading_twice(checking(splitting, checks), image);
+    let known = KnownStatus2::new(twice, &WITH_STATUS2, before);
+    let bus = SameChip::new(known);
     Ok(Connected {
         device,
         bus: Shown::new(

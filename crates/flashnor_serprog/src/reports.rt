@@ -123,7 +123,7 @@ pub fn report_changed_byte<E: Write>(errors: &mut E, bus: &ChipBus<'_>, status: 
     ensures few { status ≤ 1 → result ≤ 1 }
     ensures failed { result ≡ 0 → status ≡ 0 }
 {
-    match bus.inner().inner().inner().inner().changed_byte() {
+    match bus.inner().inner().inner().inner().inner().changed_byte() {
         Some(changed) => {
             let _ = writeln!(errors, "{}", ChangedLine(changed));
             1
@@ -135,7 +135,7 @@ pub fn report_changed_byte<E: Write>(errors: &mut E, bus: &ChipBus<'_>, status: 
 // Prints the line that follows error 12: the cause, and what the job left.
 fn print_cause<E: Write>(errors: &mut E, bus: &ChipBus<'_>, left: Left<'_>) {
     let same = bus.inner().inner();
-    let twice = same.inner();
+    let twice = same.inner().inner();
     let checked = twice.inner();
     let line = StopLine {
         other: same.other(),
@@ -152,7 +152,7 @@ fn left_after<'a>(fault: &JobFault<'_>, bus: &ChipBus<'_>, operation: &Operation
     if fault.follows_completion() {
         return Left::Completed;
     }
-    let begun = bus.inner().inner().inner().inner().has_begun();
+    let begun = bus.inner().inner().inner().inner().inner().has_begun();
     if begun && operation.srp0.is_some() {
         return Left::EitherLock;
     }
