@@ -71,6 +71,9 @@ def take_chips(page):
              for name, number, size in re.findall(r"winbond!\((\w+), \[0x([^]]+)\], ([\d_]+)\)", text)]
     listed = rows_of("docs/SPECIFICATION.md", "Name") + rows_of("docs/SPECIFICATION.md", "Further name")
     same("rows for hardware", sources=table, SPECIFICATION=[(row[0], row[1], in_bytes(row[2])) for row in listed])
+    block = re.search(r"(?s)const WITH_STATUS2: .*?\n\];", code("flashnor_serprog/src/connect.rt"))
+    known = re.findall(r"\[0x(\w\w), 0x(\w\w), 0x(\w\w)\]", block[0] if block else "")
+    same("chips with status 2", sources={number for _, number, _ in table}, connect={" ".join(it) for it in known})
     shown = [part.text for part in page if "Require the name" in part.text]
     same("names for -c for hardware", sources={"SFDP", *(name for name, _, _ in table)},
          manual=re.findall(r"W25Q[-\w]+|SFDP", shown[0] if shown else ""), completion=completed("-c ", NAME))

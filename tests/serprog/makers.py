@@ -7,7 +7,7 @@ from a journal whose session read a status 2 other than 00h.
 """
 import reference
 from bench import check
-from chip import Chip, sfdp
+from chip import PARTS, Chip, sfdp
 from losses import FEW, chip_images
 
 SECOND = b"\x35"
@@ -116,4 +116,13 @@ def restores_older_journals(start):
     check("35h was sent", asked(bench), 0)
 
 
-CASES = [never_enters_qpi, changes_no_lock, reads_named_status_2, restores_older_journals]
+def asks_each_row(start):
+    """Each chip with a row is asked for status 2."""
+    for part in (name for name, it in PARTS.items() if it.has_row):
+        bench = start(part, status=b"\0\x40")
+        got = bench.run("--wp-status")
+        check(f"exit status, and status bytes of {part}", (got.status, got.out[-1]), (0, "Status: 0x00 0x40"))
+        check(f"35h was sent to {part}", asked(bench), 2)
+
+
+CASES = [asks_each_row, never_enters_qpi, changes_no_lock, reads_named_status_2, restores_older_journals]
