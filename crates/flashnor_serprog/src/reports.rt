@@ -12,11 +12,11 @@ use crate::status_line::{ChangedLine, protects};
 use crate::stop_line::{Left, StopLine};
 use crate::trouble::Trouble;
 use nor_args::{Operation, Task};
-use nor_console::{Escaped, Fault, named_by};
+use nor_console::{Escaped, Fault, SystemReason, named_by};
 use nor_files::Store;
 use nor_journal::Journal;
 use std::fs;
-use std::io::Write;
+use std::io::{ErrorKind, Write};
 
 /// Prints the lines of a fault that ended a run before its job began, if they weren't printed already.
 pub fn print_trouble<E: Write>(errors: &mut E, trouble: &Trouble<'_>, operation: &Operation<'_>) {
@@ -34,13 +34,14 @@ pub fn print_trouble<E: Write>(errors: &mut E, trouble: &Trouble<'_>, operation:
 
 /// Prints the line of the fault with which a job ended, and after it, if there are such lines: the fault's hint; after
 /// error 12 its cause, after any other fault the line for a port that changes bytes; and the fault's note. `saved` is
-/// what the journal of a restore says about its chip.
+/// what the journal of a restore says about its chip, and `unwritten` why the journal or the output can't be written.
 pub fn print_job_fault<E: Write>(
     errors: &mut E,
     fault: &JobFault<'_>,
     bus: &ChipBus<'_>,
     operation: &Operation<'_>,
     saved: Option<Saved>,
+    unwritten: Option<SystemReason>,
 ) {
     let _ = writeln!(errors, "{fault}");
     let left = left_after(fault, bus, operation);
@@ -49,6 +50,7 @@ pub fn print_job_fault<E: Write>(
             saved,
             replies: bus.replies(),
             left,
+            unwritten,
         };
         print_operation_hint(errors, fault, operation, &known);
     }
@@ -114,6 +116,16 @@ fn new_journal_of<'a>(operation: &Operation<'a>) -> Option<&'a str> {
         Task::Change(_) => named.journal,
         _ if operation.is_backup => named.output,
         _ => None,
+    }
+}
+
+/// Returns the system's reason why the last journal or output of the run can't be written. Returns `None` if all writes
+/// and syncs succeeded, or if the file was removed or replaced meanwhile.
+pub fn unwritten_by<R: Store>(files: &R) -> Option<SystemReason> {
+    let error = files.vault_error()?;
+    match error.kind() {
+        ErrorKind::NotFound => None,
+        _ => Some(SystemReason::of_making(&error)),
     }
 }
 
