@@ -204,6 +204,11 @@ def removes_an_unsealed_journal(start):
     check("the last line", got.err[-1], reference.used_name("whole"))
 
 
+# What follows file fault 2 for a journal that was lost after it was sealed.
+LOST = "After this run sealed the journal, another program removed, replaced or changed it: don't restore from a file " \
+       "with this name."
+
+
 def at_moment(bench, moment, **chosen):
     """Lets a command run at this call of the next runs (COMMAND), or lets the call fail (ERROR)."""
     library = bench.path("meanwhile.so")
@@ -229,6 +234,24 @@ def prints_the_systems_reason(start):
     bench.expect("-r", "out", err=["Error 19: output failed after 0 bytes.", reference.CAUSES["full"]])
     bench.environment = {}
     bench.expect("-v", "loop", err=reference.file_fault(1, "loop", "loop"))
+
+
+def notices_a_lost_journal(start):
+    """A journal that is removed, replaced or truncated after it was sealed is file fault 2 at the end of the run."""
+    if not shutil.which("cc"):
+        print("skipped: notices_a_lost_journal, since there is no C compiler (cc)")
+        return
+    old, new = images("notices_a_lost_journal")
+    for command, is_lost in (("mv j moved", True), ("cp j k; mv k j", True), ("truncate -s -1 j", True),
+                             ("cp j k", False)):
+        bench = start(data=old)
+        bench.write("new", new)
+        at_moment(bench, "make j.sectors", COMMAND=command)
+        got = bench.run("-w", "new", "--journal", "j")
+        check("the last line", got.out[-1].split(":")[0], "Done")
+        check("standard error", got.err, ["File fault 2: j.", LOST] if is_lost else [])
+        check("status", got.status, int(is_lost))
+        bench.check_chip(new)
 
 
 def keeps_the_log_of_a_session(start):
@@ -275,6 +298,6 @@ def overwrites_no_file_that_appears_late(start):
             bench.check_file("log", content)
 
 
-CASES = [prints_the_systems_reason, keeps_the_log_of_a_session,
+CASES = [prints_the_systems_reason, notices_a_lost_journal, keeps_the_log_of_a_session,
          overwrites_no_file_that_appears_late, removes_an_unsealed_journal, says_a_line_a_minute, quotes_names, quotes_names_after_error_12, quotes_the_device,
          counts_what_it_reads_again, says_how_long_a_change_takes, shows_locks, advises_on_locks, fits_narrow_terminals]

@@ -12,7 +12,7 @@ use crate::status_line::{ChangedLine, protects};
 use crate::stop_line::{Left, StopLine};
 use crate::trouble::Trouble;
 use nor_args::{Operation, Task};
-use nor_console::{Escaped, Fault, SystemReason, named_by};
+use nor_console::{Escaped, Fault, SystemReason, named_by, unmade};
 use nor_files::Store;
 use nor_journal::Journal;
 use std::fs;
@@ -128,6 +128,33 @@ pub fn unwritten_by<R: Store>(files: &R) -> Option<SystemReason> {
         _ => Some(SystemReason::of_making(&error)),
     }
 }
+
+/// Checks that the name of the journal that a session or a backup sealed still refers to its file, and that the file
+/// has its length. If not, prints file fault 2 with this name. Returns the exit status of the run: 1 if the fault was
+/// printed, and otherwise `status`.
+pub fn report_lost_journal<R: Store, E: Write>(
+    errors: &mut E,
+    files: &R,
+    operation: &Operation<'_>,
+    status: u8,
+) -> u8
+    ensures few { status ≤ 1 → result ≤ 1 }
+    ensures failed { result ≡ 0 → status ≡ 0 }
+{
+    match new_journal_of(operation) {
+        Some(name) if !files.is_kept(name) => {
+            let fault = unmade(name);
+            let _ = writeln!(errors, "{fault}");
+            let _ = writeln!(errors, "{IS_LOST}");
+            1
+        }
+        _ => status,
+    }
+}
+
+const IS_LOST: &str =
+    "After this run sealed the journal, another program removed, replaced or changed it: don't \
+    restore from a file with this name.";
 
 /// If the port seems to change bytes that are received, prints the line for this fault. Returns the exit status of the
 /// run: 1 if the line was printed, and otherwise `status`.

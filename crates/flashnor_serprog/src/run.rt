@@ -300,7 +300,7 @@ fn run_job<'b, R: Store, O: Write, E: Write>(
         }
         Ok(answer) => {
             bus.end_progress(true);
-            let printed = end_compared(output, errors, bus, answer, operation, &before);
+            let printed = end_compared(output, errors, &*files, bus, answer, operation, &before);
             end_run(errors, bus, operation, printed)
         }
         Err(fault) => {
