@@ -68,6 +68,7 @@ mod contact;
 mod ending;
 mod estimates;
 mod extracting;
+mod file_hints;
 mod following;
 mod gauge;
 mod help;

@@ -25,7 +25,9 @@ use crate::preparing::{Prepared, prepare};
 use crate::progress::{Progress, Terminal};
 use crate::region_copies::{reads_out, write_region_files};
 use crate::region_files::{RegionFile, plain_names};
-use crate::reports::{clear_journal, print_job_fault, print_trouble, report_changed_byte};
+use crate::reports::{
+    clear_journal, print_job_fault, print_trouble, report_changed_byte, unwritten_by,
+};
 use crate::run_log::end_log;
 use crate::setting::Setting;
 use crate::strays::{begin_notes, end_compared, report_strays};
@@ -298,12 +300,12 @@ fn run_job<'b, R: Store, O: Write, E: Write>(
         }
         Ok(answer) => {
             bus.end_progress(true);
-            let printed = end_compared(output, errors, bus, answer, operation, &before);
+            let printed = end_compared(output, errors, &*files, bus, answer, operation, &before);
             end_run(errors, bus, operation, printed)
         }
         Err(fault) => {
             bus.end_progress(false);
-            print_job_fault(errors, &fault, bus, operation, saved);
+            print_job_fault(errors, &fault, bus, operation, saved, unwritten_by(&*files));
             report_strays(errors, bus, &fault, operation);
             clear_journal(errors, &*files, &fault, bus, operation);
             end_log(errors, terminal.log(), operation.log, 1)
