@@ -15,8 +15,8 @@ use nor_buses::{CheckedStatus, KnownStatus2, Paced, ReadAhead, ReadTwice, SameCh
 use nor_chip::Bus;
 use nor_console::{Fault, SystemReason};
 use nor_files::LockFile;
-use nor_session::Refusal;
 use nor_serprog::{AnyProgrammer, BatchingBus, Command, Failure, HandshakeFault, Link};
+use nor_session::Refusal;
 use std::alloc::Global;
 use std::fs::{File, OpenOptions};
 use std::os::unix::fs::FileTypeExt;

@@ -11,6 +11,7 @@ const IDLE: u8 = 0xFF;
 // How often a chip that doesn't answer is asked before it counts as missing, and the pause after each time, in
 // milliseconds.
 const TIMES: u32 = 10;
+
 const PAUSE: u64 = 150;
 
 /// Returns whether no chip answers: each reply to 9Fh (Read ID) and to 05h (Read Status Register-1) has only bytes FFh,
