@@ -220,14 +220,13 @@ CREATED = "This run has created j: repeat the command with a new journal name."
 
 
 def prints_the_systems_reason(start):
-    """After errors 11 and 19 and the faults of files, a line has the system's reason."""
+    """After errors 11 and 19 a line has the system's reason."""
     if not shutil.which("cc"):
         print("skipped: prints_the_systems_reason, since there is no C compiler (cc)")
         return
     old, new = images("prints_the_systems_reason")
     bench = start(data=old)
     bench.write("new", new)
-    bench.path("loop").symlink_to("loop")
     for moment, error, cause in (("fsync j", "ENOSPC", "full"), ("write j", "EIO", "input"),
                                  ("fsync j", "ESTALE", "refused")):
         at_moment(bench, moment, ERROR=error)
@@ -240,7 +239,6 @@ def prints_the_systems_reason(start):
     at_moment(bench, "write out", ERROR="EDQUOT")
     bench.expect("-r", "out", err=["Error 19: output failed after 0 bytes.", reference.CAUSES["full"]])
     bench.environment = {}
-    bench.expect("-v", "loop", err=reference.file_fault(1, "loop", "loop"))
 
 
 def notices_a_lost_journal(start):
