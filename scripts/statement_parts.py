@@ -107,11 +107,15 @@ NAMES = {
     "is_known_running": "`is_known_running running`: the operation isn't `Unknown`.",
     "Journal": "`Journal`: a journal that was read; in contracts, a `Content`.",
     "JournalFault": "`JournalFault`: why bytes are no journal.",
-    "ChipName": "`ChipName`: the name of a row, SFDP for a chip without a row, or a name that no chip has.",
-    "Ranges": "`Ranges`: at most 64 spans of one or more addresses.",
+    "What":
+        "`What`: `Write`, `Erase`, or `WpRange start len`: protect exactly the `len` addresses from `start` on, none if "
+        "`len` is 0.",
+    "Request":
+        "`Request`: its `what`, the spans `included` (at most 64), the required name `named`, and whether it has "
+        "`unlock`, which permits the part *unlock*, and `verify`.",
     "is_requested":
         "`is_requested request size a`: the request is a write or an erase, and `a` is below `size` and included: in "
-        "one of the spans, or the request has no `Ranges`.",
+        "one of the spans, or the request has none.",
     "target": "`target what image a`: the byte of the image at `a` for a write, FFh for an erase.",
     "code_of": "`code_of kept`: CMP (the highest bit), SEC, TB, BP2, BP1 and BP0 as a number.",
     "IsLeastCode":
@@ -210,6 +214,8 @@ APPENDICES = {
     "The addresses of a request": (
         "If this is wrong, a session changes other addresses than the user meant, and refuses other requests.",
         {
+            "What": "nor_request/src/request.rt",
+            "Request": "nor_request/src/request.rt",
             "Ranges": "nor_layout/src/ranges.rt",
             "includes": "nor_layout/specs/Sectors.antt",
             "ReachesPast": "nor_layout/specs/Sectors.antt",
