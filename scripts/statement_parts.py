@@ -86,9 +86,9 @@ NAMES = {
         "`IsHonestFor out n bus`: the bus is well-behaved, and takes a transaction of this length: `out` has at most "
         "260 bytes and `n` is at most 4,096, or the bus is `unlimited`. The code never sends or reads more.",
     "IsGenuine":
-        "`IsGenuine config`: for W25Q64FV and W25Q128FV (the table's IDs; further chips aren't in it), size, erase "
-        "types and block protection are those of its row. Without a row, the chip has no block protection and, if its "
-        "SFDP is accepted, the size and erase types that the SFDP gives.",
+        "`IsGenuine config`: for an ID in the table (W25Q64FV, W25Q128FV, no further chip), size, erase types and "
+        "block protection are those of its row. Without a row, the chip has no block protection and, if its SFDP is "
+        "accepted, the size and erase types that the SFDP gives.",
     "IsKnown":
         "`IsKnown config`: the chip is genuine, its ID isn't FF FF FF or 00 00 00, and the table has it or its SFDP is "
         "accepted.",
@@ -107,11 +107,15 @@ NAMES = {
     "is_known_running": "`is_known_running running`: the operation isn't `Unknown`.",
     "Journal": "`Journal`: a journal that was read; in contracts, a `Content`.",
     "JournalFault": "`JournalFault`: why bytes are no journal.",
-    "ChipName": "`ChipName`: the name of a row, SFDP for a chip without a row, or a name that no chip has.",
-    "Ranges": "`Ranges`: at most 64 spans of one or more addresses.",
+    "What":
+        "`What`: `Write`, `Erase`, or `WpRange start len`: protect exactly the `len` addresses from `start` on, none if "
+        "`len` is 0.",
+    "Request":
+        "`Request`: its `what`, the spans `included` (at most 64), the required name `named`, and whether it has "
+        "`unlock`, which permits the part *unlock*, and `verify`.",
     "is_requested":
         "`is_requested request size a`: the request is a write or an erase, and `a` is below `size` and included: in "
-        "one of the spans, or the request has no `Ranges`.",
+        "one of the spans, or the request has none.",
     "target": "`target what image a`: the byte of the image at `a` for a write, FFh for an erase.",
     "code_of": "`code_of kept`: CMP (the highest bit), SEC, TB, BP2, BP1 and BP0 as a number.",
     "IsLeastCode":
@@ -126,16 +130,17 @@ NAMES = {
         "`RefusalHolds request image chip refusal`: the error is one of 1 to 10, and applies as SPECIFICATION.md says.",
     "CountsRefusal": "`CountsRefusal old new`: the vault refused a call between these states.",
     "SessionAlways":
-        "`SessionAlways ..`: on every bus, an error from 1 to 11 leaves the vault unsealed (`answers`: `unsealed`). "
-        "Success leaves it sealed, without a refusal (`ends`), so by `undo` the request is accepted.",
+        "`SessionAlways ..`: among others, on every bus an error from 1 to 11 leaves the vault unsealed (`answers`: "
+        "`unsealed`), and success leaves it sealed, without a refusal (`ends`). On a modelled bus the request is then "
+        "accepted, by `undo`.",
     "RanOut":
         "`RanOut needed old new`: on a punctual bus no transaction is left, and fewer than `needed` were left before.",
     "most_of":
         "`most_of s`: 65,542 + 3 * s + 65,538 * (17 * s + 2), a bound on the transactions of a call that may touch `s` "
         "sectors.",
     "RestoreModelled":
-        "`RestoreModelled journal old new result`: an error is the restore's verdict or, if the bus stopped (`RanOut`), "
-        "12.",
+        "`RestoreModelled ..`: among others, an error is the restore's verdict or, if the bus stopped (`RanOut`), 12 "
+        "(`errors`).",
 }
 
 # The appendices of STATEMENT-FULL.md: the title of each, what breaks if it is wrong, and the definitions and contracts
@@ -210,6 +215,8 @@ APPENDICES = {
     "The addresses of a request": (
         "If this is wrong, a session changes other addresses than the user meant, and refuses other requests.",
         {
+            "What": "nor_request/src/request.rt",
+            "Request": "nor_request/src/request.rt",
             "Ranges": "nor_layout/src/ranges.rt",
             "includes": "nor_layout/specs/Sectors.antt",
             "ReachesPast": "nor_layout/specs/Sectors.antt",

@@ -168,7 +168,8 @@ PLANTS = {
         STATEMENT, "scripts/statement_parts.py", r'"IsFresh": ', '"OnlyReads": "`OnlyReads`", "IsFresh": ',
         "NAMES of scripts/statement_parts.py has what STATEMENT.md doesn't use: OnlyReads"),
     "a name that no appendix has": (
-        STATEMENT, "scripts/statement_parts.py", r'(?m)^ +"Ranges": "nor_layout.*\n', "", "no appendix has Ranges"),
+        STATEMENT, "scripts/statement_parts.py", r'(?m)^ +"is_known_running": "nor_model.*\n', "",
+        "no appendix has is_known_running"),
     "a clause of the page that isn't there": (
         STATEMENT, "scripts/statement_parts.py", r"sessions.rt keeps always", "sessions.rt keeps ever",
         "'session' has no clause ever"),
