@@ -18,12 +18,15 @@ NAMING = (0b101, 0b110)
 
 
 def table(size, requirements):
-    """Returns SFDP bytes. With quad enable requirements, the first table has 16 double words (JESD216B)."""
-    if requirements is None:
-        return sfdp(size)
+    """Returns SFDP bytes. With quad enable requirements, the first table has 16 double words (JESD216B).
+
+    Without them it has nine. What follows looks like requirements 101b, but belongs to another table of the maker.
+    """
     found = bytearray(sfdp(size).ljust(16 + 64, b"\0"))
-    found[4], found[11] = 6, 16
-    found[16 + 58] = requirements << 4 | 0x0F
+    found[16 + 58] = 0b101 << 4
+    if requirements is not None:
+        found[4], found[11] = 6, 16
+        found[16 + 58] = requirements << 4 | 0x0F
     return bytes(found)
 
 
