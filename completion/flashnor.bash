@@ -178,6 +178,7 @@ _flashnor_letter() {
         --write) letter=-w ;;
         --verify) letter=-v ;;
         --erase) letter=-E ;;
+        --list-supported) letter=-L ;;
         --layout) letter=-l ;;
         --include | --image) letter=-i ;;
         --noverify) letter=-n ;;
@@ -286,9 +287,10 @@ _flashnor_serprog() {
                 *)
                     _flashnor_options "$word" -p --programmer -r --read -w --write -v --verify -E --erase --backup \
                         --restore --check-journal --extract-image --flash-name --flash-size --wp-status --wp-list \
-                        --wp-range --wp-enable --wp-disable -c --chip -l --layout --fmap-file --ifd-file --fmap --ifd \
-                        -i --include --journal --unlock -n --noverify -N --noverify-all --quick --replaced-chip \
-                        --progress -V --verbose -o --output -R --version -h --help
+                        --wp-range --wp-enable --wp-disable -L --list-supported -c --chip -l --layout \
+                        --fmap-file --ifd-file --fmap --ifd -i --include --journal --unlock -n --noverify \
+                        -N --noverify-all --quick --replaced-chip --progress -V --verbose -o --output \
+                        -R --version -h --help
                     ;;
             esac
             ;;

@@ -47,6 +47,7 @@ static int number_of(const char *name) {
         {"EACCES", EACCES}, {"EPERM", EPERM},   {"EIO", EIO},       {"EMFILE", EMFILE}, {"ENFILE", ENFILE},
         {"ENOMEM", ENOMEM}, {"EINVAL", EINVAL}, {"ENOSYS", ENOSYS}, {"ENOLCK", ENOLCK}, {"EOPNOTSUPP", EOPNOTSUPP},
         {"ENOSPC", ENOSPC}, {"EDQUOT", EDQUOT}, {"ESTALE", ESTALE}, {"ELOOP", ELOOP},
+        {"EBUSY", EBUSY},
     };
     for (size_t each = 0; each < sizeof errors / sizeof *errors; each++)
         if (strcmp(errors[each].name, name) == 0) return errors[each].number;

@@ -30,9 +30,10 @@ def options():
     """Returns the options of a program for hardware: for each one its spellings, and the name of its value."""
     text = code("nor_args/src/options.rt") + code("nor_args/src/options/hardware.rt")
     left_out = re.findall(r'name != "([-a-z]+)"', text)
+    renamed = dict(re.findall(r'self\.name == "([-a-z]+)" \{\s*option\.long\("([-a-z]+)"\)', text))
     table = re.findall(r"Choice \{\s*letter: (?:None|Some\('(\w)'\)),\s*name: \"([-a-z]+)\",\s*"
                        r"value: (?:None|Some\(\"([^\"]*)\"\))", text)
-    found = [([f"-{letter}"] * bool(letter) + [f"--{name}"], value) for letter, name, value in table
+    found = [([f"-{letter}"] * bool(letter) + [f"--{renamed.get(name, name)}"], value) for letter, name, value in table
              if name not in left_out]
     made = re.search(r"(?s)fn make_hardware_options.*?\n}\n", text)[0]
     for name in re.findall(r"\.arg\((\w+)\(alloc\)\)", made):
@@ -70,6 +71,9 @@ def take_chips(page):
              for name, number, size in re.findall(r"winbond!\((\w+), \[0x([^]]+)\], ([\d_]+)\)", text)]
     listed = rows_of("docs/SPECIFICATION.md", "Name") + rows_of("docs/SPECIFICATION.md", "Further name")
     same("rows for hardware", sources=table, SPECIFICATION=[(row[0], row[1], in_bytes(row[2])) for row in listed])
+    block = re.search(r"(?s)const WITH_STATUS2: .*?\n\];", code("flashnor_serprog/src/connect.rt"))
+    known = re.findall(r"\[0x(\w\w), 0x(\w\w), 0x(\w\w)\]", block[0] if block else "")
+    same("chips with status 2", sources={number for _, number, _ in table}, connect={" ".join(it) for it in known})
     shown = [part.text for part in page if "Require the name" in part.text]
     same("names for -c for hardware", sources={"SFDP", *(name for name, _, _ in table)},
          manual=re.findall(r"W25Q[-\w]+|SFDP", shown[0] if shown else ""), completion=completed("-c ", NAME))

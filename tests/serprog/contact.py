@@ -6,6 +6,7 @@ journal may have bytes that the chip never had, and no one-time bit may be set. 
 must restore it. If the chip stays lost, the line below error 12 says so.
 """
 import hashlib
+import time
 
 import bits
 import reference
@@ -149,6 +150,36 @@ def lose(start, work):
                 check_cause(got, work, at, seal, byte)
 
 
+def finds_no_contact(start):
+    """Without contact every reply is FFh. That is error 1 before a file is created, after ten reads of ID and status."""
+    old, new = chip_images(FEW)
+    for words, absent in (((), ()), (("-r", "out"), ("out",)), (("--backup", "j"), ("j",)), (("--wp-status",), ()),
+                          (("-w", "new", "--journal", "j"), ("j", "j.sectors")), (("--wp-enable",), ())):
+        bench = start(data=old)
+        bench.write("new", new)
+        bench.server.traits.lost = (1, END, 0xFF)
+        bench.expect(*words, err=reference.NO_CHIP)
+        check("transactions", [out for out, _ in bench.server.log[1:]], [b"\x9f", b"\x05"] * 10)
+        for name in absent:
+            bench.check_absent(name)
+
+
+def waits_for_a_late_contact(start):
+    """A chip that answers before the tenth time is found. One that is busy isn't missing, however long that takes."""
+    for last in 1, 2, 3, 4, 19, 20:
+        bench = start()
+        bench.server.traits.lost = (1, last, 0xFF)
+        bench.expect(out=[reference.found("TINY64")])
+    bench = start()
+    bench.server.traits.lost = (1, 21, 0xFF)
+    bench.expect(err=reference.NO_CHIP)
+    bench = start()
+    bench.chip.until = time.monotonic() + 3
+    bench.server.traits.lost = (1, 1, 0xFF)
+    bench.expect(out=[reference.found("TINY64")])
+    check("is busy", bench.chip.is_busy(), False)
+
+
 def loses_a_write(start):
     """-w of a chip of 64 KiB, with the comparison of the whole chip."""
     lose(start, tiny(("-w", "new", "--journal", "j"), chip_images(FEW)[1], FEW))
@@ -191,5 +222,6 @@ def loses_an_unlock(start):
     lose(start, bits.unlock())
 
 
-CASES = [loses_a_write, loses_an_erase, loses_a_read, loses_a_backup, loses_a_restore, loses_a_change_of_range,
+CASES = [finds_no_contact, waits_for_a_late_contact, loses_a_write, loses_an_erase, loses_a_read, loses_a_backup,
+         loses_a_restore, loses_a_change_of_range,
          loses_a_restore_of_the_range, loses_an_unlock]

@@ -405,8 +405,9 @@ def protects(start):
     check("status bytes", bytes(bench.chip.status), b"\x1c\0")
     bench.check_file("j", reference.journal("W25Q64FV", bytes(1 << 23), [], b"\x04\x40"))
     bench.check_frames(reference.identify("W25Q64FV") + reference.write_status(b"\x1c\0"))
-    bench.expect("--restore", "j", out=[
-        "Found W25Q64FV (ef4017), 8388608 bytes.", "Done: touched 0, erases 0, programs 0, transactions 7."])
+    done = ["Found W25Q64FV (ef4017), 8388608 bytes.", "Done: touched 0, erases 0, programs 0, transactions 7."]
+    got = bench.run("--restore", "j")
+    check("the restore", got, (0, done, [reference.unknown_sectors("j", reference.UNWRITTEN)]))
     check("status bytes", bytes(bench.chip.status), b"\x04\x40")
     bench.expect("--wp-range", "0x1000,0x1000", "--journal", "k",
                  err=reference.NOT_OFFERED)

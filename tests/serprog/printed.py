@@ -7,6 +7,7 @@ import re
 import shutil
 import subprocess
 import time
+from pathlib import Path
 
 import reference
 import terminal
@@ -20,6 +21,7 @@ from regions import random_image
 
 SHELLS = [it for it in ("sh", "dash", "bash", "busybox") if shutil.which(it)]
 LARGE = 1 << 23
+MEANWHILE = Path(__file__).parents[1] / "meanwhile.c"
 NAMES = ["x';touch PWN;'", "it's", "'", "a b", "$(touch PWN)", "`touch PWN`", 'a"b', "a\\b", "*", "~", "#a", "!x", "-j",
          "\u00e9"]
 # Names that no command can have: with a newline, an escape sequence, or a C1 control character.
@@ -202,6 +204,61 @@ def removes_an_unsealed_journal(start):
     check("the last line", got.err[-1], reference.used_name("whole"))
 
 
+# What follows file fault 2 for a journal that was lost after it was sealed.
+LOST = "After this run sealed the journal, another program removed, replaced or changed it: don't restore from a file " \
+       "with this name."
+
+
+def at_moment(bench, moment, **chosen):
+    """Lets a command run at this call of the next runs (COMMAND), or lets the call fail (ERROR)."""
+    library = bench.path("meanwhile.so")
+    subprocess.run(["cc", "-std=c11", "-O1", "-shared", "-fPIC", "-o", library, MEANWHILE], check=True)
+    bench.environment = {"LD_PRELOAD": str(library), "MOMENT": moment, **chosen}
+
+
+CREATED = "This run has created j: repeat the command with a new journal name."
+
+
+def prints_the_systems_reason(start):
+    """After errors 11 and 19 a line has the system's reason."""
+    if not shutil.which("cc"):
+        print("skipped: prints_the_systems_reason, since there is no C compiler (cc)")
+        return
+    old, new = images("prints_the_systems_reason")
+    bench = start(data=old)
+    bench.write("new", new)
+    for moment, error, cause in (("fsync j", "ENOSPC", "full"), ("write j", "EIO", "input"),
+                                 ("fsync j", "ESTALE", "refused")):
+        at_moment(bench, moment, ERROR=error)
+        lines = ["Error 11: journal not written.", reference.CAUSES[cause]]
+        # A journal that is complete stays, although it may not be on the disk.
+        is_complete = moment.startswith("fsync")
+        bench.expect("-w", "new", "--journal", "j", err=lines + [CREATED] * is_complete)
+        check("is the journal there", bench.path("j").exists(), is_complete)
+        bench.path("j").unlink(missing_ok=True)
+    at_moment(bench, "write out", ERROR="EDQUOT")
+    bench.expect("-r", "out", err=["Error 19: output failed after 0 bytes.", reference.CAUSES["full"]])
+    bench.environment = {}
+
+
+def notices_a_lost_journal(start):
+    """A journal that is removed, replaced or truncated after it was sealed is file fault 2 at the end of the run."""
+    if not shutil.which("cc"):
+        print("skipped: notices_a_lost_journal, since there is no C compiler (cc)")
+        return
+    old, new = images("notices_a_lost_journal")
+    for command, is_lost in (("mv j moved", True), ("cp j k; mv k j", True), ("truncate -s -1 j", True),
+                             ("cp j k", False)):
+        bench = start(data=old)
+        bench.write("new", new)
+        at_moment(bench, "make j.sectors", COMMAND=command)
+        got = bench.run("-w", "new", "--journal", "j")
+        check("the last line", got.out[-1].split(":")[0], "Done")
+        check("standard error", got.err, ["File fault 2: j.", LOST] if is_lost else [])
+        check("status", got.status, int(is_lost))
+        bench.check_chip(new)
+
+
 def keeps_the_log_of_a_session(start):
     """The log of a restore follows the log that is in its file. Any other run begins its log anew."""
     old, new = images("keeps_the_log_of_a_session")
@@ -246,5 +303,6 @@ def overwrites_no_file_that_appears_late(start):
             bench.check_file("log", content)
 
 
-CASES = [keeps_the_log_of_a_session, overwrites_no_file_that_appears_late, removes_an_unsealed_journal, says_a_line_a_minute, quotes_names, quotes_names_after_error_12, quotes_the_device,
+CASES = [prints_the_systems_reason, notices_a_lost_journal, keeps_the_log_of_a_session,
+         overwrites_no_file_that_appears_late, removes_an_unsealed_journal, says_a_line_a_minute, quotes_names, quotes_names_after_error_12, quotes_the_device,
          counts_what_it_reads_again, says_how_long_a_change_takes, shows_locks, advises_on_locks, fits_narrow_terminals]

@@ -40,6 +40,9 @@ CAUSES = {
     "no directory": "There is no such directory: correct its name.",
     "directory": "It is a directory: give the name of a file.",
     "denied": "Permission denied: correct its name or its permissions.",
+    "full": "No space is left on the disk: free some, or choose another disk.",
+    "input": "Input/output error: check the disk, or choose another disk.",
+    "refused": "The system refused it: choose another file or directory.",
     "locked": "Another process has locked it: wait until that process has ended.",
     "printed": "This run prints to it: choose another file."}
 IS_JOURNAL = "It is a journal, which is never overwritten: choose a new name."
@@ -145,6 +148,10 @@ def not_stored(address, journal="j"):
             f"with --restore {journal}."]
 
 
+# Why the file of sums of a session of --wp-range is missing.
+UNWRITTEN = "isn't written by a session that saves no sector"
+
+
 def unknown_sectors(journal, why="is missing"):
     """Returns the line of a restore that can't know what the session did to the sectors which its journal lacks."""
     return (f"{journal}.sectors {why}, so it isn't known whether the session damaged another sector. To find out, "
@@ -197,16 +204,18 @@ def carried(plan, longest=BLOCK, chip=None, image=None):
     other transaction. It is read twice. Before the first modifying command the unique ID is read again, if it was read.
     If an image is expected, only the sectors that differ from it are read again; `chip` is a model of the
     chip before the plan, which is changed. Other replies are compared as `compared` says. After each of these reads the
-    ID is read.
+    ID is read. Status 2 isn't read from a chip that is identified by its SFDP, whose table has nine double words.
     """
     found, begin, end, step, last = [WAKES], 0, 0, 0, 0
+    has_row = all(out[0] != READ_SFDP for out, _ in plan)
     for item in plan:
         out, replies = item
         if out[0] != READ_DATA:
             end = begin
             if out[0] in CHANGING and not last and UNIQUE in plan:
                 found += compared(*UNIQUE, last)
-            found += compared(out, replies, last)
+            if has_row or item != READ_STATUS_2:
+                found += compared(out, replies, last)
             last = out[0] if out[0] in CHANGING else 0x05 if last else 0
             if chip:
                 chip.transfer(out, replies)

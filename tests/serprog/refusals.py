@@ -305,7 +305,7 @@ def refuses_arguments(start):
         bench.expect(*words.split(), err=[f"error: {why}", f"Usage fault {fault}."])
     got = bench.finish(bench.start_words([bench.program, "--flash-size"]))
     bench.compare(got, [], ["error: the option -p is missing", "Usage fault 2."])
-    for words in ["-L"], ["--rehearse", "1"], ["--none"]:
+    for words in ["--rehearse", "1"], ["--none"]:
         got = bench.run(*words)
         check("the last line", (got.out, got.err[-1:], got.status), ([], ["Usage fault 1."], 1))
     bench.check_nothing_sent()

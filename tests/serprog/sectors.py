@@ -186,6 +186,18 @@ def reports_an_unreadable_file(start):
         check("the line", err, [reference.unknown_sectors("j", "is damaged")])
 
 
+def names_what_wp_range_leaves_open(start):
+    """A session of --wp-range reads no sector, so its restore says after "Done" that it can't know about sectors."""
+    bench = start("W25Q64FV")
+    check("the session", bench.run("--wp-range", "0,0x800000", "--journal", "j").status, 0)
+    bench.check_absent("j.sectors")
+    for words in (), ("--quick",):
+        status, out, err = bench.run("--restore", "j", *words)
+        check("Done", (status, out[1][:5]), (0, "Done:"))
+        check("the line", err, [reference.unknown_sectors("j", reference.UNWRITTEN)])
+        check("with -N", bench.run("--restore", "j", "-N", *words)[2], [])
+
+
 def compares_whole_sums(start):
     """A sum that differs in only one of its eight bytes is chip fault 5."""
     old, new = images("compares_whole_sums", CHANGED)
@@ -297,5 +309,5 @@ def events_of(record):
 
 
 CASES = [names_the_other_sector, names_all_other_sectors, names_the_last_sector, says_what_it_cannot_know,
-         reports_an_unreadable_file, compares_whole_sums, notes_included_sectors, keeps_an_old_file,
-         goes_on_without_the_file, writes_it_before_the_change, syncs_it_before_the_change]
+         reports_an_unreadable_file, names_what_wp_range_leaves_open, compares_whole_sums, notes_included_sectors,
+         keeps_an_old_file, goes_on_without_the_file, writes_it_before_the_change, syncs_it_before_the_change]

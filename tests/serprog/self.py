@@ -48,6 +48,7 @@ MISTAKES = {
     "polls one byte": "erases",
     "believes one status": "bits_protect_05",
     "believes one status 2": "bits_protect_35",
+    "asks each chip for status 2": "never_enters_qpi",
     "writes other bits": "protects",
     "does not read a status write back": "protects",
     "does not compare a status write": "reads_status_writes_back",

@@ -159,16 +159,16 @@ def rewrites_a_line(start):
 
 
 def says_that_the_chip_is_busy(start):
-    """If 256 polls show BUSY before the ID is read, a line says what may be wrong: without contact all replies are FFh.
+    """If 256 polls show BUSY before the ID is read, a line says what may be wrong.
 
-    The first transaction wakes the chip, so the last reply of FFh is that of poll 255 or 256.
+    The first transaction wakes the chip, so the last reply of 03h is that of poll 255 or 256.
     """
     for last, lines in (256, []), (257, [BUSY_CHIP]), (400, [BUSY_CHIP]):
         bench = start()
-        bench.server.traits.lost = (1, last, 0xFF)
+        bench.server.traits.lost = (1, last, 0x03)
         bench.expect_at_terminal(lines=[*lines, "identify"])
     bench = start()
-    bench.server.traits.lost = (1, 300, 0xFF)
+    bench.server.traits.lost = (1, 300, 0x03)
     check("the exit status", bench.run("-o", "log").status, 0)
     check("a line of the log", BUSY_CHIP in bench.path("log").read_text(), True)
 

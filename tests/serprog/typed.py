@@ -1,13 +1,13 @@
 """Cases of what people type: files with the name `-`, arguments that a terminal doesn't show, flashrom's options."""
 from bench import check
+from chip import PARTS
 from maps import with_descriptor, with_fmap
 from options import FREE, SIZE
 import reference
 
 
-# The tip for flashrom's -L, with the names that -c takes (flashnor-serprog(8)).
-CHIPS = ("the known chips are W25Q32FV, W25Q64FV, W25Q128FV, W25Q32FW, W25Q64FW, W25Q128FW, W25Q32JV-M, W25Q64JV-M and "
-         "W25Q128JV-M; others are found by SFDP")
+# The supply of each chip that -L lists (Winbond datasheets, operating ranges).
+SUPPLY = {"FV": "2.7 to 3.6 V", "-M": "2.7 to 3.6 V", "FW": "1.65 to 1.95 V"}
 
 
 def usage(*lines):
@@ -82,7 +82,6 @@ def gives_tips(start):
             ("--extract", "-r FILE with -i NAME:FILE reads regions into files of their own"),
             ("-f", "no check can be left out; --unlock lifts protection, -n and -N skip comparisons"),
             ("-A", "-h lists all options; -N is the one that leaves out the comparison of the whole chip"),
-            ("-L", CHIPS), ("--list-supported", CHIPS),
             ("--wp-region", "--wp-range START,LENGTH takes the addresses of the region"),
             ("--flash-contents", "leave this option out: the chip itself is read before it is written"),
             ("--get-size", "--flash-size prints the size of the chip"),
@@ -91,6 +90,25 @@ def gives_tips(start):
         bench.check_nothing_sent()
     bench.expect("--reed", err=usage("error: unexpected argument '--reed' found"))
     bench.expect("-c", "a", "-c", "b", err=usage("error: the argument '--chip <NAME>' cannot be used multiple times"))
+
+
+def lists_the_chips(start):
+    """-L prints the chips that are known by their ID, with or without -p, and sends nothing."""
+    bench = start()
+    rows = {it.id.hex(): f"{name:11} {it.id.hex()}  {it.size >> 20:2} MiB  {SUPPLY[name[-2:]]}"
+            for name, it in PARTS.items() if it.has_row}
+    wanted = [rows[it] for it in sorted(rows)]
+    wanted.append("SFDP        any other chip whose SFDP offers erases of 4 KiB, from 64 KiB to 16 MiB")
+    for words in ("-L",), ("--list-supported",), ("-L", "-c", "SFDP"):
+        got = bench.finish(bench.start_words([bench.program, *words]))
+        bench.compare(got, wanted, [])
+        bench.expect(*words, out=wanted)
+        bench.check_nothing_sent()
+    for fault, words, why in (
+            (4, "-L -E", "-L and -E cannot be used together"),
+            (4, "-L --check-journal j", "-L and --check-journal cannot be used together"),
+            (8, "-L -n", "-n needs -w or -E"), (6, "-L --journal j", "--journal needs -w, -E or --wp-range")):
+        bench.expect(*words.split(), err=[f"error: {why}", f"Usage fault {fault}."])
 
 
 def takes_repeated_flags(start):
@@ -158,5 +176,5 @@ def takes_blanks_in_layouts(start):
         bench.check_absent("next")
 
 
-CASES = [refuses_dash, finds_dash_in_its_turn, escapes_arguments, gives_tips, takes_repeated_flags,
+CASES = [refuses_dash, finds_dash_in_its_turn, escapes_arguments, gives_tips, lists_the_chips, takes_repeated_flags,
          takes_maps_of_larger_chips, takes_blanks_in_layouts]

@@ -39,9 +39,10 @@ def cases_of(program, name):
 
 
 def is_in_part(number, fault, frame):
-    """True if a case belongs to the part: a byte that is lost, or a cut, in a frame that modifies the chip, and each
-    STEP-th of all others."""
+    """True if a case belongs to the part: a byte that is lost, or a cut, in a frame that modifies the chip, up to three
+    neighbours that are lost in a status write, and each STEP-th of all others."""
     is_main = frame.modifies and fault.way == "to" and (fault.kind, fault.value) in (("lose", 1), ("cut", 1))
+    is_main |= frame.kind[1] == 0x01 and fault.way == "to" and fault.kind == "lose"
     return is_main or number % STEP == 0
 
 

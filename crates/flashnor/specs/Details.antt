@@ -1,8 +1,9 @@
--- The lines with what an error compared, byte by byte.
+-- The lines with what an error compared or the system's reason for it, byte by byte.
 use Rattle.std.specs.Prelude.{ℕ, List, [], ◌∷◌, ◌++◌, codes, decimal, slice_index}
 use Rattle.std.specs.List.{concat}
 use Rattle.nor_probe.specs.Table.{name_text}
 use Rattle.nor_request.specs.Texts.{hex_digits}
+use Rattle.nor_console.specs.Causes.{system_text}
 use Rattle.nor_console.specs.Lines.{id_digits}
 use Rattle.nor_console.specs.declared.messages.Wording.{Wording}
 use Rattle.nor_console.specs.declared.messages.Wording.TheVariants as worded
@@ -28,7 +29,8 @@ abbrev pub unit_line : (journal chip : ℕ) → List ℕ
 unit_line journal chip = concat (codes "error: the journal's unique ID is " ∷ unique_text journal
     ∷ codes ", and the chip's " ∷ unique_text chip ∷ codes "\n" ∷ [])
 
--- the line with what an error compared, with its line feed, or no bytes if nothing is known
+-- the line with what an error compared or the system's reason for it, with its line feed, or no bytes if nothing is
+-- known
 abbrev pub detail_line : Detail → List ℕ
 detail_line detail.Unsaid = []
 detail_line detail.NoName = codes "error: no known chip has the name of -c (see -L)\n"
@@ -39,6 +41,10 @@ detail_line (detail.Chip journal journal_size chip chip_size) = concat (codes "e
     ∷ codes " and " ∷ decimal chip_size ∷ codes "\n" ∷ [])
 detail_line (detail.Status journal chip) = status_line journal chip
 detail_line (detail.Unit journal chip) = unit_line journal chip
+detail_line (detail.Journal reason) =
+    concat (codes "error: the journal can't be written: " ∷ system_text reason ∷ codes "\n" ∷ [])
+detail_line (detail.Output reason) =
+    concat (codes "error: the output can't be written: " ∷ system_text reason ∷ codes "\n" ∷ [])
 
 -- the line that is printed of what an error compared, in this wording
 abbrev pub detail_in : Wording → Detail → List ℕ

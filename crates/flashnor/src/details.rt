@@ -1,16 +1,18 @@
-//! What was expected and what was found, for the errors that compare the chip with a name or with a journal.
+//! What was expected and what was found, for the errors that compare the chip with a name or with a journal. Also the
+//! system's reason, for the errors of a journal or an output that can't be written.
 ghost use Rattle.std.specs.Prelude.{Some};
 
 use nor_args::{ChipJob, Emulated, Task};
 use nor_chip::SimBus;
-use nor_console::{Digits, MOST_JOURNAL_BYTES, Outcome, read_file};
+use nor_console::{Digits, MOST_JOURNAL_BYTES, Outcome, SystemReason, read_file};
 use nor_files::Store;
 use nor_journal::Journal;
 use nor_probe::ChipName;
 use nor_session::Refusal;
 use std::fmt;
+use std::io::ErrorKind;
 
-/// What an error compared. Contracts claim nothing about it.
+/// What an error compared, or the system's reason for it. Contracts claim nothing about it.
 #[derive(Clone, Copy)]
 pub enum Detail {
     /// Nothing more is known than the error says.
@@ -39,18 +41,40 @@ pub enum Detail {
         journal: u64,
         chip: u64,
     },
+    /// Error 11: the system's reason why the journal can't be written.
+    Journal(SystemReason),
+    /// Error 19: the system's reason why the output can't be written.
+    Output(SystemReason),
 }
 
-/// Returns what the error of a call compared, if it is one of these errors. `bus` is the bus after the call. A journal
-/// is read again, since the call has used up its bytes.
+/// Returns what the error of a call compared or the system's reason for it, if it is one of these errors. `bus` is the
+/// bus after the call. A journal is read again, since the call has used up its bytes.
 pub fn detail_of<R: Store>(rt: &R, job: &ChipJob<'_>, outcome: &Outcome, bus: &SimBus) -> Detail {
     let Err(refusal) = outcome else {
         return Detail::Unsaid;
     };
     match (refusal, &job.task) {
         (Refusal::OtherName, _) => name_detail(job),
+        (Refusal::Vault, _) => match unwritten_by(rt) {
+            Some(reason) => Detail::Journal(reason),
+            None => Detail::Unsaid,
+        },
+        (Refusal::Output { .. }, _) => match unwritten_by(rt) {
+            Some(reason) => Detail::Output(reason),
+            None => Detail::Unsaid,
+        },
         (_, Task::Restore { journal }) => journal_detail(rt, *journal, refusal, job, bus),
         _ => Detail::Unsaid,
+    }
+}
+
+// Returns the system's reason why the last journal or output of the run can't be written. Returns `None` if all writes
+// and syncs succeeded, or if the file was removed or replaced meanwhile.
+fn unwritten_by<R: Store>(rt: &R) -> Option<SystemReason> {
+    let error = rt.vault_error()?;
+    match error.kind() {
+        ErrorKind::NotFound => None,
+        _ => Some(SystemReason::of_making(&error)),
     }
 }
 
@@ -138,6 +162,14 @@ impl fmt::Display for DetailLine {
             }
             Detail::Status { journal, chip } => write!(f, "{}", StatusLine { journal, chip }),
             Detail::Unit { journal, chip } => write!(f, "{}", UnitLine { journal, chip }),
+            Detail::Journal(reason) => {
+                let why = reason.as_str();
+                writeln!(f, "error: the journal can't be written: {why}")
+            }
+            Detail::Output(reason) => {
+                let why = reason.as_str();
+                writeln!(f, "error: the output can't be written: {why}")
+            }
         }
     }
 }

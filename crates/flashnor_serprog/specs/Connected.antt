@@ -2,6 +2,7 @@
 use Rattle.std.specs.Prelude.{◌≡◌, ◌&&◌, ℕ, Bool, true, false, List, [], Option, None, Some, option_map, string_bytes, ⊤}
 use Rattle.nor_model.specs.Bus.{BusState}
 use Rattle.nor_buses.specs.Ahead.{ahead_of}
+use Rattle.nor_buses.specs.KnownStatus2.{known_by}
 use Rattle.nor_buses.specs.SameChip.{checked_by}
 use Rattle.nor_buses.specs.Twice.{expected_of}
 use Rattle.nor_args.specs.Text.{Text}
@@ -20,7 +21,8 @@ device_of connected = string_bytes connected.device
 -- the image that the bus expects, if any. Data that equals this image at its address is read only once; all other data
 -- is read twice (`EndsTwice`).
 abbrev pub expected_by : Connected → Option (List ℕ)
-expected_by connected = option_map (λ image. image.items) (expected_of (checked_by (ahead_of connected.bus.bus)))
+expected_by connected =
+    option_map (λ image. image.items) (expected_of (known_by (checked_by (ahead_of connected.bus.bus))))
 
 -- Holds if the bus has carried out no transaction yet.
 pub record IsUnused (state : BusState) : Type 0 where

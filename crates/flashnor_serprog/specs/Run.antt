@@ -53,9 +53,10 @@ pub record IsAskedFor (words : List Text) (device : Bor Text) (operation : Opera
       (hardware.Chip (record { programmer = programmer; operation = Ok operation }))
   pub named : IsDeviceOf programmer.now device.now
 
--- Holds if the arguments ask for this: the description of the journal in a file, or an operation on the chip of a
--- programmer.
+-- Holds if the arguments ask for this: the list of chips, the description of the journal in a file, or an operation on
+-- the chip of a programmer.
 abbrev pub IsAskedByArguments : List Text → Asked → Type 0
+IsAskedByArguments words asked.List = IsHardwareJob program words hardware.List
 IsAskedByArguments words (asked.Description file image) = IsHardwareJob program words (hardware.CheckJournal file image)
 IsAskedByArguments words (asked.Chip setting operation) = IsAskedFor words setting.device operation
 
@@ -197,12 +198,13 @@ pub record HasChecked (before after : View) (words : List Text) : Type 0 where
   pub asked : IsHardwareJob program words (hardware.CheckJournal file image)
   pub described : HasDescribed before file.now after image
 
--- Holds if a run may end with exit status 0: its arguments ask for the help or the version; they ask for the
--- description of a journal that is sealed and undamaged, whose image was written if they ask for it; or their job was
--- run, with status 0, on the bus that the run left in `used`.
+-- Holds if a run may end with exit status 0: its arguments ask for the help, the version or the list of chips; they ask
+-- for the description of a journal that is sealed and undamaged, whose image was written if they ask for it; or their
+-- job was run, with status 0, on the bus that the run left in `used`.
 abbrev pub HasSucceeded : (state : Connected → BusState) → (files after : FilesState) → List Text
     → (used : Option Connected) → (out out' : Option (List ℕ)) → Type 0
-HasSucceeded state files after words used out out' = ArgumentsAskForHelp words
+HasSucceeded state files after words used out out' = (ArgumentsAskForHelp words
+    ⊎ IsHardwareJob program words hardware.List)
     ⊎ (HasChecked files.view after.view words
     ⊎ IsSomeAnd used (λ connected.
     HasRunJob state files after words (device_of connected) (state connected) out out' 0))

@@ -86,7 +86,7 @@ fn read_first<'a, 'b, E: Write>(
     ensures { IfOk result (λ chip. IsReadFirst (λ connected. ⟦<ChipBus<'b> as Bus>⟧.state connected.bus)
         setting.now.device.now operation.now.named form (held_by chip).bytes) }
 {
-    let mut connected = connect_by(rt, terminal, setting, None, Checks::Protection)?;
+    let mut connected = connect_by(rt, terminal, setting, None, None, Checks::Protection)?;
     terminal.print(&READING);
     read_and_report(&mut connected.bus, operation, form, rt.alloc(), errors)
 }
@@ -113,7 +113,7 @@ fn read_and_report<'a, 'b, E: Write>(
         }
         Err(fault) => {
             bus.end_progress(false);
-            print_job_fault(errors, &JobFault::Fault(fault), bus, operation, None);
+            print_job_fault(errors, &JobFault::Fault(fault), bus, operation, None, None);
             Err(Trouble::Printed)
         }
     }

@@ -1,19 +1,22 @@
 //! Opens the device of a programmer and identifies the programmer.
 ghost use Rattle.std.specs.Prelude.{◌≡◌, [], IfOk, option_map, string_bytes};
 ghost use Rattle.nor_buses.specs.Checked.{bus_of, history_of as checked_history};
+ghost use Rattle.nor_buses.specs.KnownStatus2.{known_by};
 ghost use Rattle.nor_buses.specs.SameChip.{checked_by};
 ghost use Rattle.nor_buses.specs.Twice.{expected_of, history_of, twice_of};
 ghost use Rattle.flashnor_serprog.specs.Connected.{IsUnused, device_of, expected_by};
 
+use crate::contact::is_missing;
 use crate::port::{DevicePort, PortFault};
 use crate::progress::{Shown, StatusWrite, Terminal};
 use crate::setting::Setting;
 use crate::trouble::{ProgrammerFault, Trouble};
-use nor_buses::{CheckedStatus, Paced, ReadAhead, ReadTwice, SameChip, SplittingBus};
+use nor_buses::{CheckedStatus, KnownStatus2, Paced, ReadAhead, ReadTwice, SameChip, SplittingBus};
 use nor_chip::Bus;
 use nor_console::{Fault, SystemReason};
 use nor_files::LockFile;
 use nor_serprog::{AnyProgrammer, BatchingBus, Command, Failure, HandshakeFault, Link};
+use nor_session::Refusal;
 use std::alloc::Global;
 use std::fs::{File, OpenOptions};
 use std::os::unix::fs::FileTypeExt;
@@ -31,10 +34,14 @@ const WAKE_REPLIES: u32 = 10;
 
 /// The bus to a chip at a serial programmer. Its layers, from the outside to the programmer: one shows the progress on
 /// standard error; one reads data ahead; one reads the unique ID again before the first modifying command; one reads
-/// IDs, SFDP and data twice; one reads status registers twice and checks status writes; one splits commands that are
-/// too long for the programmer; one pauses between the polls of a busy chip, also between the parts of a split program;
-/// and one sends several commands in one write to the port.
-pub type ChipBus<'a> = Shown<'a, ReadAhead<SameChip<ReadTwice<CheckedStatus<PartsBus<'a>>>>>>;
+/// status 2 only from a chip that is known to have the command; one reads IDs, SFDP and data twice; one reads status
+/// registers twice and checks status writes; one splits commands that are too long for the programmer; one pauses
+/// between the polls of a busy chip, also between the parts of a split program; and one sends several commands in one
+/// write to the port.
+pub type ChipBus<'a> = Shown<'a, ReadAhead<SameChip<KnownStatus2<TwiceBus<'a>>>>>;
+
+// The bus that reads IDs, SFDP and data twice, around the bus that checks the status registers.
+type TwiceBus<'a> = ReadTwice<CheckedStatus<PartsBus<'a>>>;
 
 // The inner layers of `ChipBus`: the bus that splits commands, around the bus that paces polls, around the bus that
 // sends commands together.
@@ -47,13 +54,28 @@ pub struct Connected<'a> {
     pub bus: ChipBus<'a>,
 }
 
-/// Connects to the programmer that `-p` describes. Returns usage fault 10 if memory runs out, or the fault of `connect`
-/// with the name of the device.
+// The IDs of the chips that return status 2 for 35h: those of the rows of nor_probe. Source: their datasheets, Read
+// Status Register-2.
+const WITH_STATUS2: [[u8; 3]; 9] = [
+    [0xEF, 0x40, 0x16],
+    [0xEF, 0x40, 0x17],
+    [0xEF, 0x40, 0x18],
+    [0xEF, 0x60, 0x16],
+    [0xEF, 0x60, 0x17],
+    [0xEF, 0x60, 0x18],
+    [0xEF, 0x70, 0x16],
+    [0xEF, 0x70, 0x17],
+    [0xEF, 0x70, 0x18],
+];
+
+/// Connects to the programmer that `-p` describes. Returns usage fault 10 if memory runs out, error 1 if no chip
+/// answers, or the fault of `connect` with the name of the device.
 pub fn connect_by<'a, 'b>(
     rt: &'b HostRuntime,
     terminal: Terminal<'b>,
     setting: &Setting<'a>,
     image: Option<Vec<u8>>,
+    before: Option<[u8; 3]>,
     checks: Checks,
 ) -> Result<Connected<'b>, Trouble<'a>>
     ensures fresh { IfOk result (λ connected. IsUnused (⟦<ChipBus<'b> as Bus>⟧.state connected.bus)) }
@@ -68,14 +90,18 @@ pub fn connect_by<'a, 'b>(
         setting.hertz,
         setting.chip_select,
         image,
+        before,
         checks,
     ) {
         Ok(connected) => Ok(connected),
-        Err(fault) => {
+        Err(unconnected) => {
             terminal.end_line();
-            Err(Trouble::Programmer {
-                fault,
-                device: setting.device,
+            Err(match unconnected {
+                Unconnected::NoChip => Trouble::Fault(Fault::Refused(Refusal::NoChip)),
+                Unconnected::Programmer(fault) => Trouble::Programmer {
+                    fault,
+                    device: setting.device,
+                },
             })
         }
     }
@@ -91,10 +117,28 @@ fn name_of<'a>(alloc: Global, device: &str) -> Result<String, Fault<'a>>
     }
 }
 
+// Why there is no bus to a chip.
+enum Unconnected {
+    Programmer(ProgrammerFault),
+    // No chip answers.
+    NoChip,
+}
+
+impl From<ProgrammerFault> for Unconnected {
+    ghost use Rattle.flashnor_serprog.specs.declared.connect.Unconnected.TheVariants as unconnected;
+
+    ghost from_gives = { λ fault ended. ended ≡ unconnected.Programmer fault };
+
+    fn from(fault: ProgrammerFault) -> Unconnected {
+        Unconnected::Programmer(fault)
+    }
+}
+
 // Opens and locks the device, identifies the programmer, sets its clock if `spispeed=` is given, and sets its chip
-// select if `cs=` is given. Then wakes the chip, and sends no other transaction. If progress is shown, prints before
-// the first exchange with the programmer what to do if no reply ever arrives. Returns a programmer fault from 1 to 12
-// if one of these steps fails: fault 12 if the port changes bytes that are sent.
+// select if `cs=` is given. Then wakes the chip; only if it doesn't answer, reads its ID and its status (`is_missing`).
+// Sends no other transaction. If progress is shown, prints before the first exchange with the programmer what to do if
+// no reply ever arrives. Returns a programmer fault from 1 to 12 if one of these steps fails: fault 12 if the port
+// changes bytes that are sent. Returns `NoChip` if no chip answers.
 //
 // The returned bus has carried out no transaction yet, and belongs to this device. The contract says nothing about the
 // frames that were sent before the bus existed.
@@ -104,6 +148,8 @@ fn name_of<'a>(alloc: Global, device: &str) -> Result<String, Fault<'a>>
 // gets into a journal. If a sector was misread as equal to `image`, the comparison after a write detects the misread,
 // unless it misreads the sector in the same way; `-v` doesn't detect it.
 //
+// If `before` is given, an earlier run read status 2 of a chip with this ID, so 35h is sent to it, too.
+//
 // `checks` says which modifying commands the bus refuses.
 fn connect<'a>(
     rt: &'a HostRuntime,
@@ -112,8 +158,9 @@ fn connect<'a>(
     hertz: Option<u32>,
     chip_select: Option<u8>,
     image: Option<Vec<u8>>,
+    before: Option<[u8; 3]>,
     checks: Checks,
-) -> Result<Connected<'a>, ProgrammerFault>
+) -> Result<Connected<'a>, Unconnected>
     ensures fresh { IfOk result (λ connected. IsUnused (⟦<ChipBus<'a> as Bus>⟧.state connected.bus)) }
     ensures named { IfOk result (λ connected. device_of connected ≡ string_bytes device) }
     ensures expects { IfOk result (λ connected. expected_by connected ≡ option_map (λ image. image.items) image) }
@@ -127,11 +174,16 @@ fn connect<'a>(
             .select_chip(&mut link, chip_select)
             .map_err(ProgrammerFault::Handshake)?;
     }
-    wake(&mut link, &programmer)?;
+    let woken = wake(&mut link, &programmer)?;
+    if is_missing(rt, &mut link, &woken).map_err(|failure| of_failure(failure))? {
+        return Err(Unconnected::NoChip);
+    }
     let longest_read = programmer.longest_read();
     let paced = Paced::new(BatchingBus::over(link, programmer), rt);
     let splitting = SplittingBus::new(paced, programmer.longest_part(), longest_read);
-    let bus = SameChip::new(reading_twice(checking(splitting, checks), image));
+    let twice = reading_twice(checking(splitting, checks), image);
+    let known = KnownStatus2::new(twice, &WITH_STATUS2, before);
+    let bus = SameChip::new(known);
     Ok(Connected {
         device,
         bus: Shown::new(
@@ -195,25 +247,36 @@ fn reading_twice<B: Bus + Drop>(bus: B, image: Option<Vec<u8>>) -> ReadTwice<B>
 // programmer takes the last three data bytes as commands. If the port sends 0Dh before 0Ah (`onlcr`), the programmer
 // returns more bytes. In both cases the version that is queried next is read wrongly. If the programmer's limits are
 // too low for this frame, only ABh is sent, and the port isn't checked.
-fn wake(link: &mut Link<DevicePort>, programmer: &AnyProgrammer) -> Result<(), ProgrammerFault> {
+//
+// Returns the reply of the chip, which is FFh in all bytes if the programmer's limits are too low.
+fn wake(
+    link: &mut Link<DevicePort>,
+    programmer: &AnyProgrammer,
+) -> Result<[u8; WAKE_REPLIES as usize], ProgrammerFault> {
+    let mut reply = [0xFF; WAKE_REPLIES as usize];
     if programmer.longest_part() < WAKE.len() as u32 || programmer.longest_read() < WAKE_REPLIES {
         let release = Command::Operate {
             out: &WAKE[..1],
             replies: 0,
         };
-        return exchange(link, release, &mut []).map_err(ProgrammerFault::Handshake);
+        exchange(link, release, &mut []).map_err(ProgrammerFault::Handshake)?;
+        return Ok(reply);
     }
     let release = Command::Operate {
         out: &WAKE,
         replies: WAKE_REPLIES,
     };
-    exchange(link, release, &mut [0; WAKE_REPLIES as usize]).map_err(|fault| of_changed(fault))?;
+    exchange(link, release, &mut reply).map_err(|fault| of_changed(fault))?;
     let mut version = [0; 2];
     exchange(link, Command::QueryInterface, &mut version).map_err(|fault| of_changed(fault))?;
     if version != [1, 0] {
         return Err(ProgrammerFault::ChangesBytes);
     }
-    Ok(())
+    Ok(reply)
+}
+
+fn of_failure(failure: Failure<PortFault>) -> ProgrammerFault {
+    ProgrammerFault::Handshake(HandshakeFault::Failure(failure))
 }
 
 fn exchange(

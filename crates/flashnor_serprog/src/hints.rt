@@ -2,13 +2,14 @@
 //! regions are.
 
 use crate::chip_names::{ChipText, Connected, Hex};
+use crate::file_hints::{file_fault_hint, reason_hint};
 use crate::journals::{StatusBits, advice};
 use crate::lock_bits::{Lock, SRP0, SRP1};
 use crate::region_files::regions_of;
 use crate::replies::Replies;
 use crate::stop_line::Left;
 use nor_args::{Change, Operation, Regions, Task};
-use nor_console::{Cause, Escaped, Fault, FileFault, SystemReason};
+use nor_console::{Escaped, Fault, FileFault, SystemReason};
 use nor_journal::Journal;
 use nor_model::Status;
 use nor_probe::{ChipName, part_for};
@@ -56,6 +57,8 @@ pub struct Known<'a> {
     pub saved: Option<Saved>,
     pub replies: Replies,
     pub left: Left<'a>,
+    /// Why the last write or sync of the journal or the output failed, if one failed and the reason is known.
+    pub unwritten: Option<SystemReason>,
 }
 
 impl Known<'_> {
@@ -65,6 +68,7 @@ impl Known<'_> {
             saved: None,
             replies: Replies::default(),
             left: Left::Reading,
+            unwritten: None,
         }
     }
 }
@@ -95,6 +99,11 @@ pub fn print_operation_hint<E: Write>(
         }
         Fault::Refused(Refusal::RegionOutside) => {
             print_outside(errors, &operation.task, known.replies.size());
+        }
+        Fault::Refused(Refusal::Vault | Refusal::Output { .. }) => {
+            if let Some(reason) = known.unwritten {
+                let _ = writeln!(errors, "{}", reason_hint(reason));
+            }
         }
         Fault::Refused(refusal) => match found_and_expected(*refusal, operation, known) {
             Some(line) => {
@@ -138,53 +147,8 @@ fn print_outside<E: Write>(errors: &mut E, task: &Task<'_>, size: Option<u32>) {
 // Returns the text that follows a fault, if there is one that needs no more than the fault.
 fn hint_for(fault: &Fault<'_>) -> Option<&'static str> {
     match fault {
-        Fault::File { fault, cause, .. } => cause_hint(*cause).or(file_hint(*fault)),
+        Fault::File { fault, cause, .. } => file_fault_hint(*fault, *cause),
         Fault::Refused(Refusal::BadJournal(why)) => Some(advice(*why)),
-        _ => None,
-    }
-}
-
-// Returns the text for a file fault whose cause is known.
-fn cause_hint(cause: Cause) -> Option<&'static str> {
-    match cause {
-        Cause::System(SystemReason::Missing) => Some("There is no such file: correct its name."),
-        Cause::System(SystemReason::NoDirectory) => {
-            Some("There is no such directory: correct its name.")
-        }
-        Cause::System(SystemReason::Directory) => {
-            Some("It is a directory: give the name of a file.")
-        }
-        Cause::System(SystemReason::Denied) => Some(
-            "Permission denied: correct its name or its permissions.",
-        ),
-        Cause::System(SystemReason::ReadOnly) => Some(
-            "The file system is read-only: choose another directory.",
-        ),
-        Cause::System(SystemReason::Full) => Some(
-            "No space is left on the disk: free some, or choose another disk.",
-        ),
-        Cause::Locked => Some("Another process has locked it: wait until that process has ended."),
-        Cause::Printed => Some("This run prints to it: choose another file."),
-        _ => None,
-    }
-}
-
-fn file_hint(fault: FileFault) -> Option<&'static str> {
-    match fault {
-        FileFault::Read => Some(
-            "It is missing or can't be read: correct its name or its permissions.",
-        ),
-        FileFault::Write => Some(
-            "It can't be created, written or locked: correct its name or permissions, or free disk \
-            space.",
-        ),
-        FileFault::Exists => Some(
-            "It exists already, and is never overwritten: choose a new name.",
-        ),
-        FileFault::Taken => Some(
-            "It has two roles in this run, or another program uses it: give each role its own file, or wait for \
-            that program.",
-        ),
         _ => None,
     }
 }
@@ -203,6 +167,7 @@ fn found_and_expected<'a>(
         saved,
         replies,
         left,
+        ..
     } = *known;
     match refusal {
         Refusal::NoChip => Some(Line::NoChip),

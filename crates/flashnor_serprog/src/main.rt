@@ -1,4 +1,4 @@
-//! `flashnor_serprog` does the jobs of `flashnor`, except `-L` and rehearsals, on a chip at a serial programmer.
+//! `flashnor_serprog` does the jobs of `flashnor`, except rehearsals, on a chip at a serial programmer.
 //!
 //! It identifies, reads, verifies, writes, erases and write-protects a SPI NOR chip over the serprog protocol. Before a
 //! change it saves a journal in a new file, from which `--restore` restores the original chip. It uses the engine of
@@ -12,6 +12,7 @@
 //! - `layout_lines.rt`: the lines of a fault of a layout
 //! - `hints.rt`: the line after that of a fault, for example with what to do, or what was found and expected
 //! - `chip_names.rt`: how a chip is named in a line
+//! - `chip_list.rt`: the list of chips that `-L` prints
 //! - `quoted.rt`: names of files in commands that you may copy
 //! - `replies.rt`: what the chip replied before the first modifying command
 //! - `setting.rt`: the value of `-p`
@@ -60,11 +61,14 @@ mod backups;
 mod change_lines;
 mod chip_faults;
 mod chip_layouts;
+mod chip_list;
 mod chip_names;
 mod connect;
+mod contact;
 mod ending;
 mod estimates;
 mod extracting;
+mod file_hints;
 mod following;
 mod gauge;
 mod help;

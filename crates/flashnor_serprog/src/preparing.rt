@@ -27,7 +27,7 @@ use nor_args::{Operation, Task};
 use nor_chip::Bus;
 use nor_files::{LogFile, Store};
 use nor_jobs::Sources;
-use nor_journal::MemVault;
+use nor_journal::{Journal, MemVault};
 use std::fs::File;
 use std::io::Write;
 
@@ -88,7 +88,8 @@ pub fn prepare<'a, 'b, R: Store<Log = LogFile<File>>, E: Write>(
     start_log(files, screen.log(), operation.log, keeps_log(operation))?;
     check_started(screen.log(), operation.log)?;
     print_replaced(errors, operation);
-    let connected = connect_by(rt, terminal, setting, image, checks_for(operation))?;
+    let before = id_before(operation, &sources.bytes);
+    let connected = connect_by(rt, terminal, setting, image, before, checks_for(operation))?;
     Ok(Prepared {
         regions,
         sources,
@@ -104,6 +105,15 @@ fn checks_for(operation: &Operation<'_>) -> Checks {
         Checks::Guarded
     } else {
         Checks::Protection
+    }
+}
+
+// Returns the ID of the chip from which the journal of a restore was made, if its session read a status 2 other than
+// 00h. Then 35h was sent to this chip before. A session of a chip that isn't known to have 35h stores 00h.
+fn id_before(operation: &Operation<'_>, bytes: &[u8]) -> Option<[u8; 3]> {
+    match (&operation.task, Journal::read(bytes)) {
+        (Task::Restore { .. }, Ok(journal)) if journal.status()[1] != 0 => Some(journal.id()),
+        _ => None,
     }
 }
 

@@ -12,11 +12,11 @@ use crate::status_line::{ChangedLine, protects};
 use crate::stop_line::{Left, StopLine};
 use crate::trouble::Trouble;
 use nor_args::{Operation, Task};
-use nor_console::{Escaped, Fault, named_by};
+use nor_console::{Escaped, Fault, SystemReason, named_by, unmade};
 use nor_files::Store;
 use nor_journal::Journal;
 use std::fs;
-use std::io::Write;
+use std::io::{ErrorKind, Write};
 
 /// Prints the lines of a fault that ended a run before its job began, if they weren't printed already.
 pub fn print_trouble<E: Write>(errors: &mut E, trouble: &Trouble<'_>, operation: &Operation<'_>) {
@@ -34,13 +34,14 @@ pub fn print_trouble<E: Write>(errors: &mut E, trouble: &Trouble<'_>, operation:
 
 /// Prints the line of the fault with which a job ended, and after it, if there are such lines: the fault's hint; after
 /// error 12 its cause, after any other fault the line for a port that changes bytes; and the fault's note. `saved` is
-/// what the journal of a restore says about its chip.
+/// what the journal of a restore says about its chip, and `unwritten` why the journal or the output can't be written.
 pub fn print_job_fault<E: Write>(
     errors: &mut E,
     fault: &JobFault<'_>,
     bus: &ChipBus<'_>,
     operation: &Operation<'_>,
     saved: Option<Saved>,
+    unwritten: Option<SystemReason>,
 ) {
     let _ = writeln!(errors, "{fault}");
     let left = left_after(fault, bus, operation);
@@ -49,6 +50,7 @@ pub fn print_job_fault<E: Write>(
             saved,
             replies: bus.replies(),
             left,
+            unwritten,
         };
         print_operation_hint(errors, fault, operation, &known);
     }
@@ -117,13 +119,50 @@ fn new_journal_of<'a>(operation: &Operation<'a>) -> Option<&'a str> {
     }
 }
 
+/// Returns the system's reason why the last journal or output of the run can't be written. Returns `None` if all writes
+/// and syncs succeeded, or if the file was removed or replaced meanwhile.
+pub fn unwritten_by<R: Store>(files: &R) -> Option<SystemReason> {
+    let error = files.vault_error()?;
+    match error.kind() {
+        ErrorKind::NotFound => None,
+        _ => Some(SystemReason::of_making(&error)),
+    }
+}
+
+/// Checks that the name of the journal that a session or a backup sealed still refers to its file, and that the file
+/// has its length. If not, prints file fault 2 with this name. Returns the exit status of the run: 1 if the fault was
+/// printed, and otherwise `status`.
+pub fn report_lost_journal<R: Store, E: Write>(
+    errors: &mut E,
+    files: &R,
+    operation: &Operation<'_>,
+    status: u8,
+) -> u8
+    ensures few { status ≤ 1 → result ≤ 1 }
+    ensures failed { result ≡ 0 → status ≡ 0 }
+{
+    match new_journal_of(operation) {
+        Some(name) if !files.is_kept(name) => {
+            let fault = unmade(name);
+            let _ = writeln!(errors, "{fault}");
+            let _ = writeln!(errors, "{IS_LOST}");
+            1
+        }
+        _ => status,
+    }
+}
+
+const IS_LOST: &str =
+    "After this run sealed the journal, another program removed, replaced or changed it: don't \
+    restore from a file with this name.";
+
 /// If the port seems to change bytes that are received, prints the line for this fault. Returns the exit status of the
 /// run: 1 if the line was printed, and otherwise `status`.
 pub fn report_changed_byte<E: Write>(errors: &mut E, bus: &ChipBus<'_>, status: u8) -> u8
     ensures few { status ≤ 1 → result ≤ 1 }
     ensures failed { result ≡ 0 → status ≡ 0 }
 {
-    match bus.inner().inner().inner().inner().changed_byte() {
+    match bus.inner().inner().inner().inner().inner().changed_byte() {
         Some(changed) => {
             let _ = writeln!(errors, "{}", ChangedLine(changed));
             1
@@ -135,7 +174,7 @@ pub fn report_changed_byte<E: Write>(errors: &mut E, bus: &ChipBus<'_>, status: 
 // Prints the line that follows error 12: the cause, and what the job left.
 fn print_cause<E: Write>(errors: &mut E, bus: &ChipBus<'_>, left: Left<'_>) {
     let same = bus.inner().inner();
-    let twice = same.inner();
+    let twice = same.inner().inner();
     let checked = twice.inner();
     let line = StopLine {
         other: same.other(),
@@ -152,7 +191,7 @@ fn left_after<'a>(fault: &JobFault<'_>, bus: &ChipBus<'_>, operation: &Operation
     if fault.follows_completion() {
         return Left::Completed;
     }
-    let begun = bus.inner().inner().inner().inner().has_begun();
+    let begun = bus.inner().inner().inner().inner().inner().has_begun();
     if begun && operation.srp0.is_some() {
         return Left::EitherLock;
     }

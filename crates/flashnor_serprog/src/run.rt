@@ -12,6 +12,7 @@ ghost use Rattle.flashnor_serprog.specs.Sends.{SendsOnly};
 ghost use Rattle.flashnor_serprog.specs.Sources.{ArePlainNames};
 
 use crate::chip_faults::JobFault;
+use crate::chip_list::print_chip_list;
 use crate::connect::{ChipBus, Connected};
 use crate::ending::{end_badly, end_well, status_of};
 use crate::extracting::extract_image;
@@ -24,7 +25,9 @@ use crate::preparing::{Prepared, prepare};
 use crate::progress::{Progress, Terminal};
 use crate::region_copies::{reads_out, write_region_files};
 use crate::region_files::{RegionFile, plain_names};
-use crate::reports::{clear_journal, print_job_fault, print_trouble, report_changed_byte};
+use crate::reports::{
+    clear_journal, print_job_fault, print_trouble, report_changed_byte, unwritten_by,
+};
 use crate::run_log::end_log;
 use crate::setting::Setting;
 use crate::strays::{begin_notes, end_compared, report_strays};
@@ -119,6 +122,7 @@ fn run_arguments<'b, R: Store<Log = LogFile<File>>, O: Write, E: Write>(
 {
     let mut included = None;
     match read_words(rt.alloc(), words, &mut included) {
+        Ok(Asked::List) => status_of(print_chip_list(output), errors),
         Ok(Asked::Description { file, image: None }) => check_journal(files, file, output, errors),
         Ok(
             Asked::Description {
@@ -212,6 +216,8 @@ fn asked_text<'a>(trouble: &'a Trouble<'_>) -> Option<&'a WordsError>
 // What the arguments ask for.
 #[derive(Drop)]
 enum Asked<'a> {
+    // The list of chips.
+    List,
     // The description of the journal in the file of this name, and its image in the file `image` if there is a name.
     Description {
         file: &'a str,
@@ -234,6 +240,7 @@ fn read_words<'a>(
     ensures help { IfErr result (IsHelpAskedBy (map string_bytes words.now)) }
 {
     match operation_of(alloc, HELP, words, names)? {
+        HardwareJob::List => Ok(Asked::List),
         HardwareJob::CheckJournal { file, image } => Ok(Asked::Description { file, image }),
         HardwareJob::Chip(job) => {
             let setting = Setting::read(job.programmer)?;
@@ -293,12 +300,12 @@ fn run_job<'b, R: Store, O: Write, E: Write>(
         }
         Ok(answer) => {
             bus.end_progress(true);
-            let printed = end_compared(output, errors, bus, answer, operation, &before);
+            let printed = end_compared(output, errors, &*files, bus, answer, operation, &before);
             end_run(errors, bus, operation, printed)
         }
         Err(fault) => {
             bus.end_progress(false);
-            print_job_fault(errors, &fault, bus, operation, saved);
+            print_job_fault(errors, &fault, bus, operation, saved, unwritten_by(&*files));
             report_strays(errors, bus, &fault, operation);
             clear_journal(errors, &*files, &fault, bus, operation);
             end_log(errors, terminal.log(), operation.log, 1)

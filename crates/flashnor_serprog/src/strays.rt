@@ -8,11 +8,13 @@ use crate::chip_faults::JobFault;
 use crate::connect::ChipBus;
 use crate::ending::end_well;
 use crate::notes::Notes;
+use crate::reports::report_lost_journal;
 use crate::sums_file::{Before, UnknownLine, noting_journal, sums_name};
 use nor_args::{Operation, Task};
 use nor_chip::{Bus, Stopped};
 use nor_console::{Answer, Fault};
 use nor_driver::read_sector;
+use nor_files::Store;
 use nor_geometry::SECTOR_LEN;
 use nor_session::Refusal;
 use nor_sums::{Changed, SECTORS, find_changed, sum_of};
@@ -161,10 +163,12 @@ fn new_notes(operation: &Operation<'_>, alloc: Global) -> Result<Option<Notes>, 
 
 /// Ends a run that succeeded. If it was a restore, and the sectors that its journal doesn't save differ from those
 /// before the session, prints chip fault 5. Otherwise prints the answer and, after a restore that could not be compared
-/// with the time before the session, a line that says so. Returns the exit status.
-pub fn end_compared<'b, O: Write, E: Write>(
+/// with the time before the session, a line that says so. After a session or a backup also prints file fault 2 if its
+/// journal was lost after it was sealed. Returns the exit status.
+pub fn end_compared<'b, R: Store, O: Write, E: Write>(
     output: &mut O,
     errors: &mut E,
+    files: &R,
     bus: &ChipBus<'b>,
     answer: Answer,
     operation: &Operation<'_>,
@@ -182,7 +186,7 @@ pub fn end_compared<'b, O: Write, E: Write>(
     }
     let status = end_well(output, errors, answer, operation, bus.replies().status);
     report_unknown(errors, before, operation);
-    status
+    report_lost_journal(errors, files, operation, status)
 }
 
 // Returns the sectors whose sums after the restore aren't those before the session.

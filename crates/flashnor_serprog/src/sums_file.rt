@@ -70,9 +70,11 @@ pub fn store<R: Store>(files: &mut R, name: &str, bytes: &[u8]) -> bool {
 /// What the file beside a restore's journal says.
 #[derive(Drop)]
 pub enum Before {
-    /// No comparison is made: there is no restore, or it isn't compared (`-N`), or its journal saves all sectors or
-    /// none. A session that saves none erases and programs nothing.
+    /// No comparison is made: there is no restore, or it isn't compared (`-N`), or its journal saves all sectors.
     Unneeded,
+    /// The file is missing, and the journal saves no sector: a session of `--wp-range` reads no sector, so it writes no
+    /// such file. Even so, a disturbed status write may have reached a sector.
+    Unwritten,
     /// The file is missing.
     Missing,
     /// The file can't be read, or has other contents than a session writes.
@@ -87,8 +89,11 @@ pub enum Before {
 pub fn read_before<R: Store>(files: &R, operation: &Operation<'_>, bytes: &[u8]) -> Before {
     match &operation.task {
         Task::Restore { journal } if operation.verifies_all => match Journal::read(bytes) {
-            Ok(saved) if saved.count() > 0 && saved.count() < saved.size() as usize / 4096 => {
-                read_beside(files, *journal, &saved)
+            Ok(saved) if saved.count() < saved.size() as usize / 4096 => {
+                match read_beside(files, *journal, &saved) {
+                    Before::Missing if saved.count() == 0 => Before::Unwritten,
+                    before => before,
+                }
             }
             _ => Before::Unneeded,
         },
@@ -148,6 +153,7 @@ impl Before {
     pub fn why_unknown(&self) -> Option<&'static str> {
         match self {
             Before::Missing => Some("is missing"),
+            Before::Unwritten => Some("isn't written by a session that saves no sector"),
             Before::Damaged => Some("is damaged"),
             Before::Other => Some("belongs to another journal"),
             Before::Unneeded | Before::Known(_) => None,

@@ -1,6 +1,6 @@
 -- The values of the options in the arguments.
-use Rattle.std.specs.Prelude.{◌||◌, ℕ, Bool, true, false, Option, Some, None, List, [], ◌∷◌, codes, is_some}
-use Rattle.std.specs.Prelude.{nat_lt, option_and_then, option_map, unwrap_or, if◌then◌else◌}
+use Rattle.std.specs.Prelude.{◌&&◌, ◌||◌, ℕ, Bool, true, false, Option, Some, None, List, [], ◌∷◌, codes, is_some}
+use Rattle.std.specs.Prelude.{nat_lt, not, option_and_then, option_map, unwrap_or, if◌then◌else◌}
 use Rattle.std.specs.List.{count_by, join_by}
 use Rattle.std.specs.Option.{option_map_or, option_or}
 use Rattle.std.specs.Str.{bytes_eq}
@@ -126,11 +126,10 @@ given_in rows = record {
 abbrev pub given_by : List Text → Texts
 given_by words = given_in (matches_of options words)
 
--- the options of a program for hardware in the rows of a parse. The program has more options than flashnor, but neither
--- `-L` nor `--rehearse`. The values of all `-i` count as one value, with commas between them.
+-- the options of a program for hardware in the rows of a parse. The program has more options than flashnor, but lacks
+-- `--rehearse`. The values of all `-i` count as one value, with commas between them.
 abbrev pub hardware_given_in : List Row → Texts
 hardware_given_in rows = record (given_in rows) {
-  list = false;
   rehearse = None;
   flash_name = is_set_in rows (codes "flash-name");
   backup = text_in rows (codes "backup");
@@ -261,6 +260,10 @@ is_new_content given = is_some given.write || given.erase
 -- rehearsal
 abbrev pub asks_change : Texts → Bool
 asks_change given = is_new_content given || is_some given.wp_range
+
+-- true if neither `--check-journal` nor `-L` is given; each of these two options needs no chip
+abbrev pub is_on_chip : Texts → Bool
+is_on_chip given = not (is_some given.check_journal) && not given.list
 
 -- true if `-r`, `-v`, `-w` or `-E` is given; each of these options can be limited to regions of the chip
 abbrev pub takes_regions : Texts → Bool

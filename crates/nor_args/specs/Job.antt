@@ -9,7 +9,7 @@ use Rattle.nor_probe.specs.Table.{name_of}
 use Rattle.nor_probe.specs.declared.table.ChipName.{ChipName}
 use Rattle.nor_args.specs.Faults.{first_fault, operation_faults}
 use Rattle.nor_args.specs.Given.{Texts, gives_layout, how_many, layout_file, layout_form, operations, output_of}
-use Rattle.nor_args.specs.Given.{progress_mode, srp0_of}
+use Rattle.nor_args.specs.Given.{is_on_chip, progress_mode, srp0_of}
 use Rattle.nor_args.specs.Numbers.{range_of}
 use Rattle.nor_args.specs.Programmer.{IsProgrammer}
 use Rattle.nor_args.specs.Reasons.{IsReason}
@@ -125,11 +125,11 @@ pub record LacksProgrammer (given : Texts) (wrong : WrongArguments) : Type 0 whe
   pub lacks : given.programmer ≡ None
 
 -- Holds if the options of a program for hardware ask for no job, because of the fault in `wrong`. If `--check-journal`
--- is given, this is the first of the faults 4 to 9 that the options have. If neither `--check-journal` nor `-p` is
--- given, it is fault 2.
+-- or `-L` is given, this is the first of the faults 4 to 9 that the options have. If neither is given, nor `-p`, it is
+-- fault 2.
 abbrev pub IsWrongForHardware : Texts → WrongArguments → Type 0
-IsWrongForHardware given wrong = ((is_some given.check_journal ≡ true) × IsWrongOperation given wrong)
-    ⊎ ((given.check_journal ≡ None) × LacksProgrammer given wrong)
+IsWrongForHardware given wrong = ((is_on_chip given ≡ false) × IsWrongOperation given wrong)
+    ⊎ ((is_on_chip given ≡ true) × LacksProgrammer given wrong)
 
 -- Holds if `--check-journal` names this file, `image` is the value of `--extract-image`, and the options have none of
 -- the faults 4 to 9.
@@ -138,14 +138,21 @@ pub record IsJournalCheck (given : Texts) (file : Bor Text) (image : Option (Bor
   pub extracted : option_map (λ (file : Bor Text). file.now) image ≡ given.extract_image
   pub sound : first_fault (operation_faults given) ≡ None
 
--- Holds if `--check-journal` is missing and `on_chip.programmer` is the value of `-p`. `on_chip.operation` must be the
--- operation that the options ask for, or the first of the faults 4 to 9 that they have, with its reason.
-pub record IsProgrammerJob (given : Texts) (on_chip : ProgrammerJob) : Type 0 where
+-- Holds if `-L` is given without `--check-journal`, and the options have none of the faults 4 to 9.
+pub record IsListAsked (given : Texts) : Type 0 where
   pub unchecked : given.check_journal ≡ None
+  pub listed : given.list ≡ true
+  pub sound : first_fault (operation_faults given) ≡ None
+
+-- Holds if `--check-journal` and `-L` are missing and `on_chip.programmer` is the value of `-p`. `on_chip.operation`
+-- must be the operation that the options ask for, or the first of the faults 4 to 9 that they have, with its reason.
+pub record IsProgrammerJob (given : Texts) (on_chip : ProgrammerJob) : Type 0 where
+  pub on_a_chip : is_on_chip given ≡ true
   pub programmer : NamesFile given.programmer on_chip.programmer
   pub operation : MatchResult on_chip.operation (IsOperation given) (IsWrongOperation given)
 
 -- Holds if the options of a program for hardware ask for this job.
 abbrev pub IsHardwareAsked : Texts → HardwareJob → Type 0
 IsHardwareAsked given (hardware.CheckJournal file image) = IsJournalCheck given file image
+IsHardwareAsked given hardware.List = IsListAsked given
 IsHardwareAsked given (hardware.Chip on_chip) = IsProgrammerJob given on_chip

@@ -99,9 +99,9 @@ options =
 
 -- ---- programs for hardware
 
--- true for the ID of an option that a program for hardware has: every option except `-L` and `--rehearse`
+-- true for the ID of an option that a program for hardware has: every option except `--rehearse`
 abbrev pub is_for_hardware : Text → Bool
-is_for_hardware id = not (bytes_eq id (codes "list")) && not (bytes_eq id (codes "rehearse"))
+is_for_hardware id = not (bytes_eq id (codes "rehearse"))
 
 -- the options that only programs for hardware have, except `-R`. Here the options with a letter still lack their long
 -- names.
@@ -135,11 +135,12 @@ no_hardware_options_of program = let app = no_options_of program in
 abbrev pub at_most_one : ValueRange
 at_most_one = record { start_inclusive = 0; end_inclusive = 1 }
 
--- the option `rule` with a long name; `--progress` without a mode means `auto`
+-- the option `rule` with a long name, which is `--list-supported` for `-L`; `--progress` without a mode means `auto`
 abbrev pub long_form : Rule → Rule
 long_form rule =
     if bytes_eq rule.id (codes "progress")
-    then record (by_name rule) { range = Some at_most_one; missing = codes "auto" ∷ [] } else by_name rule
+    then record (by_name rule) { range = Some at_most_one; missing = codes "auto" ∷ [] }
+    else if bytes_eq rule.id (codes "list") then record rule { long = Some (codes "list-supported") } else by_name rule
 
 -- the option `rule`, which may be repeated and has the second long name `--image`
 abbrev pub repeated_names : Rule → Rule
@@ -167,8 +168,8 @@ version_rule = record (by_letter (codes "R") (new_rule (codes "release"))) {
 abbrev pub hardware_help_rule : Rule
 hardware_help_rule = record help_rule { long = Some (codes "help") }
 
--- the `clap` command of a program for hardware with this name. It has the options of flashnor except `-L` and
--- `--rehearse`, the options `own_rules`, and `-R` and `-h`, all with a long name.
+-- the `clap` command of a program for hardware with this name. It has the options of flashnor except `--rehearse`, the
+-- options `own_rules`, and `-R` and `-h`, all with a long name.
 abbrev pub hardware_options : (program : Text) → App
 hardware_options program =
     let shared = with_rules (no_hardware_options_of program) (for_hardware most_rules) in

@@ -1,5 +1,5 @@
 -- Which arguments ask for which job, which have which usage fault, and which ask neither for a job nor for help.
-use Rattle.std.specs.Prelude.{◌≡◌, ◌≢◌, [], List, Some, None, ⊤, ◌⊎◌, drop, is_some, map, string_bytes, true}
+use Rattle.std.specs.Prelude.{◌≡◌, ◌≢◌, [], List, Some, None, ⊤, ◌⊎◌, drop, false, map, string_bytes, true}
 use Rattle.std.specs.Global.{Global}
 use Rattle.std.specs.Vec.Iter.{into_iter_items}
 use Rattle.std.specs.declared.string.String.{String}
@@ -9,7 +9,7 @@ use Rattle.clap.specs.declared.error.Error.{Error}
 use Rattle.clap.specs.declared.error.kind.ErrorKind.TheVariants as kind
 use Rattle.nor_args.specs.Text.{Text}
 use Rattle.nor_args.specs.Options.{hardware_options, options}
-use Rattle.nor_args.specs.Given.{Texts, given_by, hardware_given_by}
+use Rattle.nor_args.specs.Given.{Texts, given_by, hardware_given_by, is_on_chip}
 use Rattle.nor_args.specs.Faults.{first_fault, operation_faults, usage_faults}
 use Rattle.nor_args.specs.Job.{IsAsked, IsHardwareAsked}
 use Rattle.nor_args.specs.Reasons.{IsReason}
@@ -77,13 +77,12 @@ pub record IsHardwareJob (program : Text) (words : List Text) (job : HardwareJob
   pub taken : hardware_refusals_of program words ≡ []
   pub asked : IsHardwareAsked (hardware_given_by program words) job
 
--- Holds if the options of a program for hardware ask for no job, because of this fault. If `--check-journal` is given,
--- this is the first of the faults 4 to 9 that the options have. If neither `--check-journal` nor `-p` is given, it is
--- fault 2.
+-- Holds if the options of a program for hardware ask for no job, because of this fault. If `--check-journal` or `-L` is
+-- given, this is the first of the faults 4 to 9 that the options have. If neither is given, nor `-p`, it is fault 2.
 abbrev pub HasNoJob : Texts → UsageFault → Type 0
 HasNoJob given fault =
-    ((is_some given.check_journal ≡ true) × (first_fault (operation_faults given) ≡ Some fault))
-    ⊎ ((given.check_journal ≡ None) × ((fault ≡ why.NoProgrammer) × (given.programmer ≡ None)))
+    ((is_on_chip given ≡ false) × (first_fault (operation_faults given) ≡ Some fault))
+    ⊎ ((is_on_chip given ≡ true) × ((fault ≡ why.NoProgrammer) × (given.programmer ≡ None)))
 
 -- Holds if a run of the program with this name may report this fault for these arguments. For the fault `Words`, `clap`
 -- may reject the arguments with an error of this kind. For another fault, `clap` accepts the arguments, and the options

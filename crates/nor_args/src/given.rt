@@ -132,15 +132,14 @@ impl<'a> Given<'a> {
         }
     }
 
-    /// Collects the options of a program for hardware from the result of `clap`. `-L` and `--rehearse`, which these
-    /// programs lack, are false and missing. `names` must be the values of `-i`, as `joined_names` joins them.
+    /// Collects the options of a program for hardware from the result of `clap`. `--rehearse`, which these programs
+    /// lack, is missing. `names` must be the values of `-i`, as `joined_names` joins them.
     pub fn of_hardware(matches: &ArgMatches<'a>, names: Option<&'a str>) -> Given<'a>
         requires { option_map (λ text. text.now) names
             ≡ joined_in (rows_of (found_of matches.now)) (codes "include") }
         ensures { texts_of result ≡ hardware_given_in (rows_of (found_of matches.now)) }
     {
         Given {
-            list: false,
             rehearse: None,
             flash_name: is_set(matches, "flash-name"),
             backup: matches.get_str("backup"),
@@ -186,33 +185,37 @@ impl<'a> Given<'a> {
     }
 
     /// Returns the job of a program for hardware. With `--check-journal` the job has the file name of the journal, and
-    /// with `--extract-image` also that of the image. Otherwise it has the value of `-p`, and the operation or the
-    /// first of the faults 4 to 9 that the options have.
+    /// with `--extract-image` also that of the image. With `-L` it is the list of chips. Otherwise it has the value of
+    /// `-p`, and the operation or the first of the faults 4 to 9 that the options have.
     ///
-    /// With `--check-journal`, returns the first of the faults 4 to 9 if the options have one. Returns fault 2 if both
-    /// `-p` and `--check-journal` are missing. The options must not include `-L`. `named` must be the chip that `-c`
-    /// names (`chip_named`).
+    /// With `--check-journal` or `-L`, returns the first of the faults 4 to 9 if the options have one. Returns fault 2
+    /// if `-p`, `--check-journal` and `-L` are all missing. `named` must be the chip that `-c` names (`chip_named`).
     pub fn hardware_job(
         self,
         named: Option<ChipName>,
     ) -> Result<HardwareJob<'a>, WrongArguments<'a>>
-        requires { (self.list ≡ false) × (named ≡ option_map name_in_any_case (texts_of self).chip) }
+        requires { named ≡ option_map name_in_any_case (texts_of self).chip }
         ensures { MatchResult result (IsHardwareAsked (texts_of self.entry))
             (IsWrongForHardware (texts_of self.entry)) }
     {
-        match (self.check_journal, self.programmer) {
-            (Some(file), _) => match self.emulated().fault() {
-                None => Ok(HardwareJob::CheckJournal {
-                    file,
-                    image: self.extract_image,
-                }),
-                Some(fault) => Err(self.explained(fault)),
-            },
-            (None, Some(programmer)) => Ok(HardwareJob::Chip(ProgrammerJob {
-                programmer,
-                operation: self.operation(named),
-            })),
-            (None, None) => Err(self.explained(UsageFault::NoProgrammer)),
+        if self.check_journal.is_none() && !self.list {
+            return match self.programmer {
+                Some(programmer) => Ok(HardwareJob::Chip(ProgrammerJob {
+                    programmer,
+                    operation: self.operation(named),
+                })),
+                None => Err(self.explained(UsageFault::NoProgrammer)),
+            };
+        }
+        if let Some(fault) = self.emulated().fault() {
+            return Err(self.explained(fault));
+        }
+        match self.check_journal {
+            Some(file) => Ok(HardwareJob::CheckJournal {
+                file,
+                image: self.extract_image,
+            }),
+            None => Ok(HardwareJob::List),
         }
     }
 

@@ -36,7 +36,9 @@ pub enum HardwareJob<'a> {
         file: &'a str,
         image: Option<&'a str>,
     },
-    /// Without `--check-journal`: a job on the chip of a programmer.
+    /// `-L`: list the chips that have a row. This needs no programmer, so `-p` is ignored.
+    List,
+    /// Without `--check-journal` and `-L`: a job on the chip of a programmer.
     Chip(ProgrammerJob<'a>),
 }
 

@@ -232,9 +232,9 @@ pub struct Help {
     pub notes: &'static str,
 }
 
-/// Returns the `clap` command of a program for hardware. Its options are those of flashnor except `-L`, which needs no
-/// chip, and `--rehearse`, which needs an emulated chip. It also has the options that only programs for hardware have,
-/// and `-R`, which prints the version. Each option with a letter has a long name, too, as in flashrom: `-r` is also
+/// Returns the `clap` command of a program for hardware. Its options are those of flashnor except `--rehearse`, which
+/// needs an emulated chip. It also has the options that only programs for hardware have, and `-R`, which prints the
+/// version. Each option with a letter has a long name, too, as in flashrom: `-r` is also
 /// `--read`, and `-h` is also `--help`. Fails only if memory runs out.
 pub fn make_hardware_options<'a>(alloc: Global, help: Help) -> Result<Command<'a>, AllocError>
     ensures { IfOk result (λ command. app_of command ≡ hardware_options help.program.now) }
@@ -263,11 +263,11 @@ fn add_hardware_choices<'a>(
     Ok(longer)
 }
 
-// True if a program for hardware has the option with the ID `name`: all options except `-L` and `--rehearse`.
+// True if a program for hardware has the option with the ID `name`: all options except `--rehearse`.
 fn is_for_hardware(name: &str) -> bool
     ensures { result ≡ is_for_hardware name.now }
 {
-    name != "list" && name != "rehearse"
+    name != "rehearse"
 }
 
 // Returns the `clap` command of the program that `help` describes, without options. `clap`'s own help option is

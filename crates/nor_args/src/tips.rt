@@ -15,11 +15,6 @@ const AFTER_UNKNOWN: &str = "' found\n\n";
 // The beginning of the usage, which follows the message in the text of `clap`'s error.
 const USAGE: &str = "\n\nUsage: ";
 
-// The chips that a program for hardware knows, as `-c` takes them.
-const KNOWN_CHIPS: &str =
-    "the known chips are W25Q32FV, W25Q64FV, W25Q128FV, W25Q32FW, W25Q64FW, W25Q128FW, \
-    W25Q32JV-M, W25Q64JV-M and W25Q128JV-M; others are found by SFDP";
-
 /// Whose options are parsed.
 #[derive(Clone, Copy)]
 pub enum Program {
@@ -133,7 +128,6 @@ fn hardware_tip(argument: &str) -> Option<&'static str> {
         "-A" => Some(
             "-h lists all options; -N is the one that leaves out the comparison of the whole chip",
         ),
-        "-L" | "--list-supported" => Some(KNOWN_CHIPS),
         "--wp-region" => Some("--wp-range START,LENGTH takes the addresses of the region"),
         "--flash-contents" => Some(
             "leave this option out: the chip itself is read before it is written",

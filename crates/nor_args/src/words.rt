@@ -137,16 +137,16 @@ pub fn explained_request_of<'a>(
 }
 
 /// Returns the job that the arguments of a program for hardware ask for. `words` has the arguments that follow the
-/// program's name. The options are those that only programs for hardware have, and those of flashnor except `-L` and
+/// program's name. The options are those that only programs for hardware have, and those of flashnor except
 /// `--rehearse`. The value of `-p` isn't parsed. The values of all `-i` count as one value, with commas between them,
 /// which `names` receives. The name of a chip may be in upper or lower case.
 ///
 /// Returns one of these usage faults with its reason:
 ///
 /// - fault 1 if `clap` rejects the arguments, or if they ask for the help or the version
-/// - fault 2 if both `-p` and `--check-journal` are missing
-/// - the first of the faults 4 to 8 that the options have, if `--check-journal` is given; without `--check-journal`
-///   such a fault is part of the job (`ProgrammerJob::operation`)
+/// - fault 2 if `-p`, `--check-journal` and `-L` are all missing
+/// - the first of the faults 4 to 8 that the options have, if `--check-journal` or `-L` is given; without them such a
+///   fault is part of the job (`ProgrammerJob::operation`)
 /// - fault 10, out of memory, which may be returned for any arguments
 pub fn operation_of<'a>(
     alloc: Global,

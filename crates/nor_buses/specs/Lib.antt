@@ -12,3 +12,4 @@ pub mod StatusRead
 pub mod KnownStatus
 pub mod Checked
 pub mod SameChip
+pub mod KnownStatus2

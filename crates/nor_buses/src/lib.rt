@@ -14,6 +14,7 @@
 //! - `again.rt`: repeats a read, as a whole or only for the sectors whose bytes differ from an image
 //! - `ahead.rt`: a bus that reads ahead
 //! - `same_chip.rt`: a bus that reads the unique ID again before the first modifying command
+//! - `known_status2.rt`: a bus that reads status 2 only from a chip that is known to have this command
 //! - `layers.rt`: all layers together, and that they are a well-behaved bus
 #![tactic(auto)]
 
@@ -21,6 +22,7 @@ mod again;
 mod ahead;
 mod counts;
 mod known;
+mod known_status2;
 mod layers;
 mod paced;
 mod parts;
@@ -32,6 +34,7 @@ mod twice;
 pub use ahead::ReadAhead;
 pub use counts::ChangedByte;
 pub use known::CheckFault;
+pub use known_status2::KnownStatus2;
 pub use layers::{Layered, layers_are_well_behaved};
 pub use paced::Paced;
 pub use same_chip::{OtherChip, SameChip};

@@ -20,7 +20,11 @@ system_text system.Directory = codes "it is a directory"
 system_text system.Denied = codes "permission denied"
 system_text system.ReadOnly = codes "the file system is read-only"
 system_text system.Full = codes "no space is left on the disk"
-system_text system.Other = codes "input/output error"
+system_text system.Busy = codes "something else uses it"
+system_text system.Loop = codes "too many links, or a loop of links"
+system_text system.LongName = codes "the name is too long"
+system_text system.InputOutput = codes "input/output error"
+system_text system.Other = codes "the system refused it"
 
 -- what a file of this role is used as
 abbrev pub role_text : Role → List ℕ

@@ -8,6 +8,9 @@ use crate::roles::Role;
 use std::io::ErrorKind;
 use std::{fmt, io};
 
+// The system's number of an input/output error, which has no `ErrorKind` of its own.
+const EIO: i32 = 5;
+
 /// The system's reason why a call on a file failed.
 #[derive(Clone, Copy)]
 pub enum SystemReason {
@@ -23,6 +26,14 @@ pub enum SystemReason {
     ReadOnly,
     /// The disk is full, or the user's share of it is used up.
     Full,
+    /// Something else uses the file: EBUSY, or ETXTBSY for a program that is running.
+    Busy,
+    /// The links of the name form a loop, or there are too many of them.
+    Loop,
+    /// The name, or a part of it, is too long.
+    LongName,
+    /// The disk reported an error: EIO.
+    InputOutput,
     /// Any other reason.
     Other,
 }
@@ -37,6 +48,10 @@ impl SystemReason {
             ErrorKind::PermissionDenied => SystemReason::Denied,
             ErrorKind::ReadOnlyFilesystem => SystemReason::ReadOnly,
             ErrorKind::StorageFull | ErrorKind::QuotaExceeded => SystemReason::Full,
+            ErrorKind::ResourceBusy | ErrorKind::ExecutableFileBusy => SystemReason::Busy,
+            ErrorKind::FilesystemLoop => SystemReason::Loop,
+            ErrorKind::InvalidFilename => SystemReason::LongName,
+            _ if error.raw_os_error() == Some(EIO) => SystemReason::InputOutput,
             _ => SystemReason::Other,
         }
     }
@@ -61,7 +76,11 @@ impl SystemReason {
             SystemReason::Denied => "permission denied",
             SystemReason::ReadOnly => "the file system is read-only",
             SystemReason::Full => "no space is left on the disk",
-            SystemReason::Other => "input/output error",
+            SystemReason::Busy => "something else uses it",
+            SystemReason::Loop => "too many links, or a loop of links",
+            SystemReason::LongName => "the name is too long",
+            SystemReason::InputOutput => "input/output error",
+            SystemReason::Other => "the system refused it",
         }
     }
 }

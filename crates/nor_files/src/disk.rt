@@ -1,5 +1,5 @@
 //! `Disk`: the files of the operating system, as an implementation of the trait `Store`.
-ghost use Rattle.std.specs.Prelude.{◌≡◌, IfOk, IfSome, take};
+ghost use Rattle.std.specs.Prelude.{◌≡◌, IfOk, IfSome, None, take};
 ghost use Rattle.std.proofs.lemmas.Bool.{false≢true};
 
 use crate::folder::sync_folder;
@@ -17,6 +17,13 @@ use std::os::unix::fs::FileTypeExt;
 use std::rt::Files;
 use std::{fs, io};
 
+// A name that could not be looked up, and why.
+#[derive(Drop)]
+struct Unseen {
+    name: String,
+    error: io::Error,
+}
+
 /// The system's files, through the runtime. Contracts know nothing about them: that each call works on the named file
 /// and obeys the contract of `Store` is assumed, and tested.
 ///
@@ -32,7 +39,7 @@ pub struct Disk<'a, R: Files> {
     files: &'a R,
     held: Vec<Held<R::File>>,
     // Names that could not be looked up when `look_ahead` was called.
-    unseen: RefCell<Vec<String>>,
+    unseen: RefCell<Vec<Unseen>>,
     // The file whose vault was taken back last. It stays open, which also keeps its lock.
     vaulted: Option<VaultedFile<'a, R>>,
     // Whether the vault that was taken back last was sealed.
@@ -56,11 +63,14 @@ impl<'a, R: Files + AllocGlobal> Disk<'a, R> {
         self.held.iter().find(|held| held.name.as_str() == name)
     }
 
-    // True if `look_ahead` could not look up this name.
-    fn is_unseen(&self, name: &str) -> bool {
+    // Returns why `look_ahead` could not look up this name, or `None` if it could.
+    fn unseen_by(&self, name: &str) -> Option<io::Error> {
         match self.unseen.try_borrow() {
-            Ok(unseen) => unseen.iter().any(|unseen| unseen.as_str() == name),
-            Err(_) => false,
+            Ok(unseen) => {
+                let found = unseen.iter().find(|unseen| unseen.name.as_str() == name);
+                found.map(|unseen| unseen.error)
+            }
+            Err(_) => None,
         }
     }
 
@@ -114,10 +124,10 @@ where
     }
 
     fn look_ahead(&self, name: &str) -> Result<(), AllocError> {
-        if fs::metadata(self.files, name).is_err() {
+        if let Err(error) = fs::metadata(self.files, name) {
             let name = String::from_str(self.files.alloc(), name)?;
             if let Ok(mut unseen) = self.unseen.try_borrow_mut() {
-                unseen.push(name)?;
+                unseen.push(Unseen { name, error })?;
             }
         }
         Ok(())
@@ -149,13 +159,12 @@ where
             file.rewind()?;
             return Ok(Some(read_up_to(self.alloc(), file, most)?));
         }
-        if self.is_unseen(name) {
-            return Ok(None);
+        if let Some(error) = self.unseen_by(name) {
+            return missing_or(error);
         }
         match fs::open(self.files, name) {
             Ok(file) => Ok(Some(read_up_to(self.alloc(), file, most)?)),
-            Err(error) if error.kind() == ErrorKind::NotFound => Ok(None),
-            Err(error) => Err(error),
+            Err(error) => missing_or(error),
         }
     }
 
@@ -246,8 +255,26 @@ where
         }
     }
 
+    fn vault_error(&self) -> Option<io::Error> {
+        match &self.vaulted {
+            Some(file) => file.error(),
+            None => None,
+        }
+    }
+
     fn log_in(&mut self, name: &str) -> Result<LogFile<R::File>, CreateFault> {
         open_log(self.files, name)
+    }
+}
+
+// Returns `None` if the error says that the file is missing, and otherwise the error.
+fn missing_or(error: io::Error) -> io::Result<Option<Vec<u8>>>
+    ensures { IfOk result (λ found. found ≡ None) }
+{
+    if error.kind() == ErrorKind::NotFound {
+        Ok(None)
+    } else {
+        Err(error)
     }
 }
 

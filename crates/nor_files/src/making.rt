@@ -5,6 +5,7 @@ use crate::identity::is_same;
 use crate::locks::LockFile;
 use crate::store::CreateFault;
 use nor_journal::{FIRST_MAGIC, MAGIC};
+use std::cell::Cell;
 use std::fs::{Metadata, OpenFile, OpenOptions};
 use std::io::{ErrorKind, Read, Seek, SeekFrom, Write};
 use std::os::unix::fs::OpenOptionsExt;
@@ -205,6 +206,8 @@ pub struct VaultedFile<'a, R: Files> {
     file: R::File,
     name: Option<String>,
     written: u64,
+    // The error of the last write or sync that failed, if there was one.
+    failed: Cell<Option<io::Error>>,
 }
 
 impl<'a, R: Files> VaultedFile<'a, R> {
@@ -216,7 +219,19 @@ impl<'a, R: Files> VaultedFile<'a, R> {
             file,
             name,
             written: 0,
+            failed: Cell::new(None),
         }
+    }
+
+    /// Returns the error of the last write or sync of the file that failed, or `None` if none failed.
+    pub fn error(&self) -> Option<io::Error> {
+        self.failed.get()
+    }
+
+    // Syncs the file, and checks it.
+    fn sync_and_check(&self) -> io::Result<()> {
+        self.file.sync_all()?;
+        self.check()
     }
 
     /// Checks that a later run finds this file under its name, with the number of bytes written. A file without a name
@@ -251,9 +266,16 @@ fn write_again<F: Write>(file: &mut F, bytes: &[u8]) -> io::Result<usize>
 impl<R: Files> Write for VaultedFile<'_, R> {
     // A vault treats each error as a refusal. Therefore a write that a signal interrupted is tried again here.
     fn write(&mut self, bytes: &[u8]) -> io::Result<usize> {
-        let taken = write_again(&mut self.file, bytes)?;
-        self.written = self.written.saturating_add(taken as u64);
-        Ok(taken)
+        match write_again(&mut self.file, bytes) {
+            Ok(taken) => {
+                self.written = self.written.saturating_add(taken as u64);
+                Ok(taken)
+            }
+            Err(error) => {
+                self.failed.set(Some(error));
+                Err(error)
+            }
+        }
     }
 
     fn flush(&mut self) -> io::Result<()> {
@@ -271,8 +293,13 @@ impl<R: Files> OpenFile for VaultedFile<'_, R> {
     }
 
     fn sync_all(&self) -> io::Result<()> {
-        self.file.sync_all()?;
-        self.check()
+        match self.sync_and_check() {
+            Ok(()) => Ok(()),
+            Err(error) => {
+                self.failed.set(Some(error));
+                Err(error)
+            }
+        }
     }
 
     fn sync_data(&self) -> io::Result<()> {

@@ -309,6 +309,10 @@ impl Store for Memory {
         true
     }
 
+    fn vault_error(&self) -> Option<io::Error> {
+        None
+    }
+
     fn log_in(&mut self, name: &str) -> Result<Sink, CreateFault> {
         self.lend(name, false)?;
         Ok(io::sink())

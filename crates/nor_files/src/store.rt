@@ -169,9 +169,9 @@ pub trait Store: AllocGlobal {
             × ((state self.now).view.nature.fails (Unread name.now) ≡ true)) };
 
     /// Looks up a file before the run opens other files. If the look-up fails, a later `read_named` of a `Disk` finds
-    /// no file of this name, unless a call such as `hold` opened one. Without this rule, a name such as `/dev/fd/6`
-    /// could refer to a file that the run itself opened in the meantime. Contracts see no effect. `look_ahead` itself
-    /// fails only if the program is out of memory.
+    /// no file of this name, or returns the error of the look-up, unless a call such as `hold` opened one. Without this
+    /// rule, a name such as `/dev/fd/6` could refer to a file that the run itself opened in the meantime. Contracts see
+    /// no effect. `look_ahead` itself fails only if the program is out of memory.
     fn look_ahead(&self, name: &str) -> Result<(), AllocError>;
 
     /// Returns whether a file or a link of this name exists.
@@ -322,6 +322,10 @@ pub trait Store: AllocGlobal {
     /// that `vault_in_new` created, and uses the name given there instead of `name`.
     fn is_kept(&self, name: &str) -> bool
         ensures { result ≡ false → (state self.now).view.nature.fails (Unwritten name.now) ≡ true };
+
+    /// Returns the system's error of the last write or sync that failed in the vault that was taken back last, or
+    /// `None` if none failed. Contracts claim nothing about it. A store without files of the system returns `None`.
+    fn vault_error(&self) -> Option<io::Error>;
 
     /// Creates or truncates the named file, and lends it as a log. `Disk` refuses to truncate a journal. It truncates
     /// any other existing regular file just before the first write, or at a flush if nothing was written.

@@ -149,13 +149,16 @@ impl Choice {
             .alias("image")
     }
 
-    // Returns the option that this row describes, with a long name. `--progress` without a mode means `auto`.
+    // Returns the option that this row describes, with a long name, which is `--list-supported` for `-L`, as in
+    // flashrom. `--progress` without a mode means `auto`.
     fn long_option<'a>(&self, alloc: Global) -> Arg<'a>
         ensures { IsOption (long_form (chosen self.now)) result }
     {
         let option = self.named_in_full(alloc);
         if self.name == "progress" {
             option.num_args(0..=1).default_missing_value("auto")
+        } else if self.name == "list" {
+            option.long("list-supported")
         } else {
             option
         }

@@ -27,7 +27,7 @@ returns-in_ok-operation-in-Chip-clause-ok c = let job = rw c.in-Chip.is at c.in_
   asked = record {
     taken = job.taken;
     asked = record {
-      unchecked = job.asked.unchecked;
+      on_a_chip = job.asked.on_a_chip;
       programmer = job.asked.programmer;
       operation = rw c.in_ok-operation-in-Chip.was at job.asked.operation;
     };

@@ -1,0 +1,258 @@
+//! A bus that reads status 2 (35h) only from a chip that is known to have this command.
+ghost use Rattle.std.specs.Prelude.{◌≡◌, ◌⊎◌, ◌||◌, ◌<◌, ℕ, [], true, false, length, slice_index, OnErr, OnOk};
+ghost use Rattle.std.proofs.lemmas.Bool.{false≢true};
+ghost use Rattle.nor_model.specs.Bus.{Transfers};
+ghost use Rattle.nor_model.specs.History.{begins_with};
+ghost use Rattle.nor_buses.specs.KnownStatus2.{known_by, has_status2, ids_of, before_of, history_of};
+ghost use Rattle.nor_buses.specs.KnownStatus2.{known_status2_state, asks_none, is_id_listed, is_same, shows_known};
+ghost use Rattle.nor_buses.specs.KnownStatus2.{is_readable, names_status2};
+
+use nor_model::{Bus, History, Stopped};
+
+const READ_STATUS2: u8 = 0x35;
+
+const READ_ID: u8 = 0x9F;
+
+const READ_SFDP: u8 = 0x5A;
+
+// The number of double words that the first parameter table must have to contain the quad enable requirements, which
+// are in double word 15.
+const WORDS: u8 = 15;
+
+// The offset of double word 15 in the table.
+const WORD_15: u32 = 56;
+
+/// A bus that sends 35h only to a chip that is known to return status 2 for it. On other makers' chips 35h may mean
+/// something else: Macronix MX25L12835F, ISSI IS25LP128 and Micron MT25QL128 enter QPI mode, and then ignore each
+/// command until their power is off.
+///
+/// The chip is known if one of these conditions holds:
+///
+/// - A read of the ID (9Fh with three reply bytes) returned an ID of the list `ids`, or the ID `before`.
+/// - Double word 15 of its first parameter table says so: its quad enable requirements, bits 22 to 20, are 101b or 110b
+///   (JESD216B). When the first 35h is requested, the bus reads this double word if the header of the table, at address
+///   8, was read before and gives at least 15 double words.
+///
+/// To any other chip 35h is not sent, and each reply byte is 00h. Each other transaction is passed on unchanged, and so
+/// is 35h if the chip is known. The bus remembers what it knows. So the bus inside must stop if the ID changes, as
+/// `CheckedStatus` does. That bus sends 35h also of its own accord, after a status write; but it sends a status write
+/// only if 35h was passed on to it before.
+///
+/// The history lists each transaction over this bus with its reply. In contracts, the chip is that of the bus inside.
+/// This bus is not well-behaved, because it replies 00h for a chip that isn't known. If the chip is known, each
+/// transaction over it is one transaction of the bus inside (`known`).
+#[derive(Drop)]
+pub struct KnownStatus2<B> {
+    bus: B,
+    // The IDs of the chips that have the command.
+    ids: &'static [[u8; 3]],
+    // The ID of a chip whose status 2 an earlier run read.
+    before: Option<[u8; 3]>,
+    is_known: bool,
+    // The address of double word 15, if the header of the table was read and gives at least 15 double words.
+    word_15: Option<u32>,
+    history: History,
+}
+
+impl<B: Bus + Drop> KnownStatus2<B> {
+    /// Returns a bus over `bus`. The chips with the IDs `ids` have the command. So has the one with the ID `before`, if
+    /// it is given, because an earlier run read its status 2.
+    pub fn new(bus: B, ids: &'static [[u8; 3]], before: Option<[u8; 3]>) -> KnownStatus2<B>
+        ensures bus { known_by result ≡ bus }
+        ensures known { has_status2 result ≡ false }
+        ensures ids { ids_of result ≡ ids.now }
+        ensures before { before_of result ≡ before }
+        ensures history { history_of result ≡ [] }
+    {
+        KnownStatus2 {
+            bus,
+            ids,
+            before,
+            is_known: false,
+            word_15: None,
+            history: History::new(),
+        }
+    }
+
+    /// Returns the bus inside, which carries out the transactions of this bus.
+    pub fn inner(&self) -> &B
+        ensures { result.now ≡ known_by self.now }
+    {
+        &self.bus
+    }
+
+    /// Returns whether the chip is known to return status 2 for 35h.
+    pub fn has_status2(&self) -> bool
+        ensures { result ≡ has_status2 self.now }
+    {
+        self.is_known
+    }
+}
+
+impl<B: Bus> KnownStatus2<B> {
+    // Reads double word 15 if its address is known, and records whether it names 35h.
+    fn find_out(&mut self) -> Result<(), Stopped>
+        ensures history { history_of self.new ≡ history_of self.old }
+        ensures ids { ids_of self.new ≡ ids_of self.old }
+        ensures before { before_of self.new ≡ before_of self.old }
+        ensures none { asks_none (B.state (known_by self.old)).history ≡ true
+            → asks_none (B.state (known_by self.new)).history ≡ true }
+        ensures stays { has_status2 self.old ≡ true → (self.new ≡ self.old) × OnErr result ⊥ }
+        ensures learns { has_status2 self.old ≡ false → has_status2 self.new ≡ true
+            → names_status2 (B.state (known_by self.new)).history ≡ true }
+    {
+        if self.is_known {
+            return Ok(());
+        }
+        if let Some(address) = self.word_15 {
+            let [_, high, middle, low] = address.to_be_bytes();
+            let mut word = [0; 4];
+            self.bus
+                .transfer(&[READ_SFDP, high, middle, low, 0], &mut word)?;
+            self.word_15 = None;
+            self.is_known = is_readable(word);
+        }
+        Ok(())
+    }
+
+    // Makes one transaction, and does not add it to the history.
+    fn carry(&mut self, out: &[u8], reply: &mut [u8]) -> Result<(), Stopped>
+        ensures history { history_of self.new ≡ history_of self.old }
+        ensures ids { ids_of self.new ≡ ids_of self.old }
+        ensures before { before_of self.new ≡ before_of self.old }
+        ensures known { has_status2 self.old ≡ true → Transfers out.now reply.old reply.new result
+            (B.state (known_by self.old)) (B.state (known_by self.new)) }
+        ensures passes { begins_with 0x35 out.now ≡ false → Transfers out.now reply.old reply.new result
+            (B.state (known_by self.old)) (B.state (known_by self.new)) }
+        ensures none { has_status2 self.new ≡ false → asks_none (B.state (known_by self.old)).history ≡ true
+            → asks_none (B.state (known_by self.new)).history ≡ true }
+        ensures zeros { begins_with 0x35 out.now ≡ true → has_status2 self.new ≡ false
+            → OnOk result ((i : ℕ) → i < length reply.new → slice_index reply.new i ≡ 0) }
+        ensures stays { has_status2 self.old ≡ true → has_status2 self.new ≡ true }
+        ensures learns { has_status2 self.old ≡ false → has_status2 self.new ≡ true
+            → (shows_known (ids_of self.old) (before_of self.old) out.now reply.new ≡ true)
+            ⊎ (names_status2 (B.state (known_by self.new)).history ≡ true) }
+    {
+        if is_second(out) {
+            self.find_out()?;
+            if !self.is_known {
+                reply.fill(0);
+                return Ok(());
+            }
+            return self.bus.transfer(out, reply);
+        }
+        self.bus.transfer(out, reply)?;
+        self.remember(out, reply);
+        Ok(())
+    }
+
+    // Records what the reply to a transaction says about the chip.
+    fn remember(&mut self, out: &[u8], reply: &[u8])
+        ensures history { history_of self.new ≡ history_of self.old }
+        ensures ids { ids_of self.new ≡ ids_of self.old }
+        ensures before { before_of self.new ≡ before_of self.old }
+        ensures bus { known_by self.new ≡ known_by self.old }
+        ensures known { has_status2 self.new
+            ≡ (has_status2 self.old || shows_known (ids_of self.old) (before_of self.old) out.now reply.now) }
+    {
+        self.is_known = self.is_known || is_known_chip(self.ids, self.before, out, reply);
+        if let [READ_SFDP, 0, 0, 8, _] = out {
+            self.word_15 = word_15_in(reply);
+        }
+    }
+}
+
+impl<B: Bus> Bus for KnownStatus2<B> {
+    ghost state = { known_status2_state B.state };
+
+    ghost reaches = { λ known honest. absurd (false≢true honest) };
+
+    fn transfer(&mut self, out: &[u8], reply: &mut [u8]) -> Result<(), Stopped>
+        ensures law { Transfers out.now reply.old reply.new result
+            (known_status2_state B.state self.old) (known_status2_state B.state self.new) }
+        ensures ids { ids_of self.new ≡ ids_of self.old }
+        ensures before { before_of self.new ≡ before_of self.old }
+        ensures known { has_status2 self.old ≡ true → Transfers out.now reply.old reply.new result
+            (B.state (known_by self.old)) (B.state (known_by self.new)) }
+        ensures passes { begins_with 0x35 out.now ≡ false → Transfers out.now reply.old reply.new result
+            (B.state (known_by self.old)) (B.state (known_by self.new)) }
+        ensures none { has_status2 self.new ≡ false → asks_none (B.state (known_by self.old)).history ≡ true
+            → asks_none (B.state (known_by self.new)).history ≡ true }
+        ensures zeros { begins_with 0x35 out.now ≡ true → has_status2 self.new ≡ false
+            → OnOk result ((i : ℕ) → i < length reply.new → slice_index reply.new i ≡ 0) }
+        ensures stays { has_status2 self.old ≡ true → has_status2 self.new ≡ true }
+        ensures learns { has_status2 self.old ≡ false → has_status2 self.new ≡ true
+            → (shows_known (ids_of self.old) (before_of self.old) out.now reply.new ≡ true)
+            ⊎ (names_status2 (B.state (known_by self.new)).history ≡ true) }
+    {
+        match self.carry(out, reply) {
+            Ok(()) => {
+                self.history = self.history.replied(out, reply);
+                Ok(())
+            }
+            Err(Stopped) => {
+                self.history = self.history.stopped(out);
+                Err(Stopped)
+            }
+        }
+    }
+
+    fn has_further_types(&self) -> bool {
+        self.bus.has_further_types()
+    }
+}
+
+// Returns whether a transaction begins with the opcode of a read of status 2.
+fn is_second(out: &[u8]) -> bool
+    ensures { result ≡ begins_with 0x35 out.now }
+{
+    matches!(out, [READ_STATUS2, ..])
+}
+
+// Returns whether a transaction is a read of the ID of a chip that has the command: one of the list, or the one with
+// the ID `before`.
+fn is_known_chip(ids: &[[u8; 3]], before: Option<[u8; 3]>, out: &[u8], reply: &[u8]) -> bool
+    ensures { result ≡ shows_known ids.now before out.now reply.now }
+{
+    if !matches!(out, [READ_ID, ..]) || reply.len() != 3 {
+        return false;
+    }
+    let mut id = [0; 3];
+    id.copy_from_slice(reply);
+    is_same(before, id) || is_id_listed(ids, id)
+}
+
+// Returns whether the ID is in the list.
+fn is_id_listed(ids: &[[u8; 3]], id: [u8; 3]) -> bool
+    ensures { result ≡ is_id_listed ids.now id }
+{
+    ids.iter().any(|one| *one == id)
+}
+
+// Returns whether `before` is this ID.
+fn is_same(before: Option<[u8; 3]>, id: [u8; 3]) -> bool
+    ensures { result ≡ is_same before id }
+{
+    match before {
+        Some(one) => one == id,
+        None => false,
+    }
+}
+
+// Returns the address of double word 15, if the header of the first parameter table is `header`, and the table has this
+// double word (JESD216B, parameter headers).
+fn word_15_in(header: &[u8]) -> Option<u32> {
+    match header {
+        [0, _, 1, words, low, middle, high, _] if *words >= WORDS => {
+            Some(u32::from_le_bytes([*low, *middle, *high, 0]) + WORD_15)
+        }
+        _ => None,
+    }
+}
+
+// Returns whether the quad enable requirements of double word 15 name 35h (JESD216B, section on this double word).
+fn is_readable(word: [u8; 4]) -> bool
+    ensures { result ≡ is_readable word }
+{
+    matches!(word[2] / 16 % 8, 5 | 6)
+}

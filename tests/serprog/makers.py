@@ -1,0 +1,128 @@
+"""Cases of chips of other makers, for which 35h (read status 2) may mean something else.
+
+35h enters QPI mode on Macronix MX25L12835F, ISSI IS25LP128 and Micron MT25QL128 (from memory of their datasheets). Such
+a chip then ignores each command, until its power is off. So 35h may be sent only to a chip that has a row, to one whose
+SFDP says that 35h reads status 2 (JESD216B, double word 15, quad enable requirements 101b and 110b), and by a restore
+from a journal whose session read a status 2 other than 00h.
+"""
+import reference
+from bench import check
+from chip import PARTS, Chip, sfdp
+from losses import FEW, chip_images
+
+SECOND = b"\x35"
+# The quad enable requirements (bits 22 to 20 of double word 15) of the chips that enter QPI mode: QE is bit 6 of status
+# 1 (010b), or there is none (000b). `None` is a table without this double word.
+OTHERS = (None, 0b010, 0b000, 0b001, 0b100, 0b111)
+NAMING = (0b101, 0b110)
+
+
+def table(size, requirements):
+    """Returns SFDP bytes. With quad enable requirements, the first table has 16 double words (JESD216B)."""
+    if requirements is None:
+        return sfdp(size)
+    found = bytearray(sfdp(size).ljust(16 + 64, b"\0"))
+    found[4], found[11] = 6, 16
+    found[16 + 58] = requirements << 4 | 0x0F
+    return bytes(found)
+
+
+class MakersChip(Chip):
+    """TINY64, with an SFDP table of its own. If `enters_qpi`, it ignores each command after 35h."""
+
+    def __init__(self, requirements, enters_qpi=True, **chosen):
+        super().__init__("TINY64", **chosen)
+        self.table, self.enters_qpi, self.in_qpi = table(self.size, requirements), enters_qpi, False
+
+    def transfer(self, out, replies):
+        if self.enters_qpi and out[:1] == SECOND:
+            self.in_qpi = True
+        return b"\xff" * replies if self.in_qpi else super().transfer(out, replies)
+
+    def read(self, opcode, out, replies):
+        if opcode == 0x5A and len(out) == 5:
+            return self.table[int.from_bytes(out[1:4], "big") :][:replies].ljust(replies, b"\xff")
+        return super().read(opcode, out, replies)
+
+
+def connect(start, requirements, **chosen):
+    """Returns a bench with such a chip, and with the image `new` of `chip_images`."""
+    old, new = chip_images(FEW)
+    bench = start()
+    bench.chip = MakersChip(requirements, data=old, **chosen)
+    bench.plug()
+    bench.write("new", new)
+    return bench, old, new
+
+
+def asked(bench):
+    """Returns how often 35h was sent in the last run."""
+    return sum(out[:1] == SECOND for out, _ in bench.server.log)
+
+
+def never_enters_qpi(start):
+    """No job sends 35h to a chip whose SFDP doesn't name it. All jobs work."""
+    for requirements in OTHERS:
+        bench, old, new = connect(start, requirements)
+        found = reference.found("TINY64")
+        for words, status in (((), 0), (("--flash-size",), 0), (("--wp-status",), 1), (("--wp-list",), 1),
+                              (("--wp-enable",), 1), (("--wp-disable",), 1), (("--backup", "b"), 0),
+                              (("-r", "image"), 0), (("-w", "new", "--journal", "j"), 0)):
+            got = bench.run(*words)
+            check(f"exit status of {words}, {got.err}", got.status, status)
+            check(f"35h in {words}", asked(bench), 0)
+        bench.check_file("image", old)
+        bench.check_chip(new)
+        bench.check_file("j", reference.journal("TINY64", old, FEW))
+        bench.expect("--restore", "j", out=[found, reference.report(reference.restore("TINY64", old, FEW), len(FEW))])
+        check("35h in the restore", asked(bench), 0)
+        bench.check_chip(old)
+        check("the chip is in QPI mode", bench.chip.in_qpi, False)
+
+
+def changes_no_lock(start):
+    """A change of SRP0 or of the protected range is refused before anything is written: 01h has two bytes there."""
+    bench, old, _ = connect(start, 0b010)
+    for words in ("--wp-enable",), ("--wp-disable",), ("--wp-range", "0,0x1000", "--journal", "k"):
+        bench.expect(*words, err=reference.NO_PROTECTION)
+        check("status writes", [out for out, _ in bench.server.log if out[:1] in (b"\x01", b"\x06")], [])
+    bench.check_chip(old)
+
+
+def reads_named_status_2(start):
+    """A chip whose SFDP names 35h is asked. Its status 2 is in the journal, and a restore compares it."""
+    for requirements in NAMING:
+        bench, old, new = connect(start, requirements, enters_qpi=False, status=b"\0\2")
+        check("the session", bench.run("-w", "new", "--journal", "j").status, 0)
+        check("35h was sent", asked(bench) > 0, True)
+        bench.check_file("j", reference.journal("TINY64", old, FEW, b"\0\2"))
+        check("the restore", bench.run("--restore", "j").status, 0)
+        bench.check_chip(old, b"\0\2")
+
+
+def restores_older_journals(start):
+    """A journal with a status 2 shows that its session sent 35h, so its restore does. Another chip isn't asked."""
+    old, new = chip_images(FEW)
+    for requirements in None, 0b010:
+        bench, _, _ = connect(start, requirements, enters_qpi=False, status=b"\0\2")
+        bench.write("j", reference.journal("TINY64", old, FEW, b"\0\2"))
+        bench.chip.data[:] = new
+        plan = reference.restore("TINY64", old, FEW)
+        bench.expect("--restore", "j", out=[reference.found("TINY64"), reference.report(plan, len(FEW))])
+        bench.check_chip(old, b"\0\2")
+    bench, _, _ = connect(start, None)
+    bench.write("j", reference.journal("GUARD64", old, FEW, b"\0\2"))
+    check("the restore with the journal of another chip", bench.run("--restore", "j").status, 1)
+    check("35h was sent", asked(bench), 0)
+
+
+def asks_each_row(start):
+    """Each chip with a row is asked for status 2."""
+    for part in (name for name, it in PARTS.items() if it.has_row):
+        bench = start(part, status=b"\0\x40")
+        got = bench.run("--wp-status")
+        check(f"exit status, and status bytes of {part}", (got.status, got.out[-1]), (0, "Status: 0x00 0x40"))
+        check(f"35h was sent to {part}", asked(bench), 2)
+
+
+CASES = [asks_each_row, never_enters_qpi, changes_no_lock, reads_named_status_2, restores_older_journals]
