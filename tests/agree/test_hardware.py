@@ -25,7 +25,8 @@ PLANTS = {
     "an option that the completion lacks": (
         COMPLETION, r" --noverify-all --quick --r", " --quick --r", "sources has '--noverify-all', completion hasn't"),
     "an option of flashnor in the completion": (
-        COMPLETION, r"--quick --replaced", "-L --quick --replaced", "completion has '-L', sources hasn't"),
+        COMPLETION, r"--quick --replaced", "--rehearse --quick --replaced",
+        "completion has '--rehearse', sources hasn't"),
     "a file that the completion doesn't offer": (
         COMPLETION, r"-r \| --journal \| --backup \|", "-r | --journal |", "sources has '--backup', completion hasn't"),
     "another ID of a further chip": (
