@@ -57,7 +57,7 @@ NAMES = {
         "(for an erase, the start of its block); `Ignored` if SPECIFICATION.md's table lacks it, or the chip the erase "
         "type.",
     "last_for":
-        "`last_for at sent a`: the last of the data bytes `sent` that goes to `a`, if any. The first goes to `at`; the "
+        "`last_for at sent a`: the last of the data bytes `sent` that goes to `a`, if any. Byte 0 goes to `at`; the "
         "addresses wrap within the page.",
     "BusyAfter":
         "`BusyAfter chip command busy`: after a status write, program or erase, `busy` is any number below 65,536; a "
@@ -95,7 +95,7 @@ NAMES = {
     "unique_of": "`unique_of config`: its unique ID.",
     "SavedSector": "`SavedSector`: the `number` of a saved sector, and its `bytes`.",
     "IsContent":
-        "`IsContent c`: the ID has 3 bytes, a unique ID 8, the status 2; `is_chip_size` holds for the size. The "
+        "`IsContent c`: ID, unique ID and status have 3, 8 and 2 bytes; `is_chip_size` holds for the size. The "
         "numbers of the saved sectors rise and are below size / 4,096; each has 4,096 bytes.",
     "text":
         "`text c`: the bytes of the journal (flashnor-journal(5)).",
