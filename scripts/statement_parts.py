@@ -30,16 +30,16 @@ FIELDS = {
 NAMES = {
     "Sent":
         "`Sent`: the transactions that `Records` adds, the last one first, each with all bytes that it was to send. "
-        "No program can read or clear it.",
+        "No program can read or clear this list.",
     "Records":
         "`Records out answer result old new`: if `out` is empty or begins with 03h, 04h, 05h, 35h, 4Bh, 5Ah or 9Fh, "
-        "`sent` stays. Otherwise all of `out` is put before the old `sent`, even if the bus stopped.",
-    "IsFresh": "`IsFresh vault`: the vault is unsealed, and accepted no byte.",
+        "`sent` doesn't change. Otherwise all of `out` is put in front of `sent`, even if the bus stopped.",
+    "IsFresh": "`IsFresh vault`: the vault is unsealed, and has accepted no byte.",
     "Vault":
         "`Vault`: the trait of a vault. `put` appends a piece to `bytes`. A failed call counts as a refusal. A "
         "failed `put` appends the piece's first bytes: none, some or all.",
     "Kinds":
-        "`Kinds`: the fields `k32` and `k64` say whether 52h erases 32 KiB and D8h 64 KiB.",
+        "`Kinds`: `k32` says whether 52h erases 32 KiB, `k64` whether D8h erases 64 KiB.",
     "has_srp0": "`has_srp0 kept`: SRP0 is set.",
     "has_srp1": "`has_srp1 kept`: SRP1 is set.",
     "cmp_qe_srp1": "`cmp_qe_srp1`: CMP, QE and SRP1.",
@@ -48,98 +48,99 @@ NAMES = {
     "kept_in": "`kept_in status`: the non-volatile bits in two status bytes.",
     "srp0_bit": "`srp0_bit kept`: SRP0, as 0 or 1.",
     "lb3_to_srp1": "`lb3_to_srp1 kept`: the bits from LB3 down to SRP1, as a number.",
-    "with_code": "`with_code code kept`: `kept` with the protection bits of `code` in place of its own.",
+    "with_code": "`with_code code kept`: `kept`, but with the protection bits of `code`.",
     "is_chip_size": "`is_chip_size n`: `n` is a power of two from 64 KiB to 16 MiB.",
     "IsChip": "`IsChip chip`: bytes are below 256, status bits fit their registers, and `busy` is below 65,536.",
     "Command": "`Command`: what a transaction asks for.",
     "command_of":
-        "`command_of config out replies`: the command of the opcode and the lengths, with the address modulo the size "
-        "(for an erase, the start of its block); `Ignored` if SPECIFICATION.md's table lacks it, or the chip the erase "
-        "type.",
+        "`command_of config out replies`: the command for this opcode and these lengths, with the address modulo the "
+        "size (for an erase, the start of its block); `Ignored` if SPECIFICATION.md's table lacks the command, or the "
+        "chip the erase type.",
     "last_for":
-        "`last_for at sent a`: the last of the data bytes `sent` that goes to `a`, if any. Byte 0 goes to `at`; the "
-        "addresses wrap within the page.",
+        "`last_for at sent a`: the last byte of the data `sent` that goes to the address `a`, if any. Byte 0 goes to "
+        "`at`; the addresses wrap within the page.",
     "BusyAfter":
-        "`BusyAfter chip command busy`: after a status write, program or erase, `busy` is any number below 65,536; a "
-        "poll takes 1 from it, but not from 0; otherwise it stays.",
+        "`BusyAfter chip command busy`: after a status write, program or erase, `busy` is any number below 65,536. A "
+        "poll lowers `busy` by 1, if `busy` isn't 0. Otherwise `busy` doesn't change.",
     "latch_after":
-        "`latch_after chip command busy`: 06h sets WEL, 04h clears it, and so does an operation that leaves `busy` 0, "
-        "and the poll of the last BUSY; otherwise it stays.",
-    "running_after": "`running_after chip command`: the operation that this command begins; otherwise it stays.",
+        "`latch_after chip command busy`: 06h sets WEL. 04h clears WEL, and so does an operation that leaves `busy` 0, "
+        "or the poll that shows the last BUSY. Otherwise WEL doesn't change.",
+        "running_after":
+        "`running_after chip command`: the operation that this command begins or, if it begins none, the old one.",
     "is_idle": "`is_idle chip`: `busy` is 0.",
     "is_protected":
         "`is_protected chip a`: the chip has block protection, and its protection bits protect the address `a`.",
     "is_block_protected":
         "`is_block_protected chip start len`: the first or the last of the `len` addresses from `start` on is "
-        "protected, which is so if any is: protected addresses lie at one end of the chip.",
+        "protected. That is so if any is, because protected addresses lie at one end of the chip.",
     "is_in_work":
-        "`is_in_work running a`: `a` is in the page or block of a program or erase; always for `Unknown`, never for a "
-        "status write.",
+        "`is_in_work running a`: `a` is in the page or block of a program or erase. It is true for `Unknown`, and "
+        "false for a status write.",
     "KeptCut":
-        "`KeptCut running old new`: `new` is `old` or, after a cut status write, the bits before it; anything for "
-        "`Unknown`.",
+        "`KeptCut running old new`: `new` is `old` or, after a cut status write, the bits before this write. For "
+        "`Unknown`, `new` may be anything.",
     "Stopped": "`Stopped`: what a failed transaction returns.",
     "SameNature":
         "`SameNature old new`: `honest`, `steady`, `unlimited` and, on a well-behaved bus, the chip's `config` are as "
         "before.",
     "IsHonestFor":
-        "`IsHonestFor out n bus`: the bus is well-behaved, and takes a transaction of this length: `out` has at most "
+        "`IsHonestFor out n bus`: the bus is well-behaved, and accepts a transaction of this length: `out` has at most "
         "260 bytes and `n` is at most 4,096, or the bus is `unlimited`. The code never sends or reads more.",
     "IsGenuine":
         "`IsGenuine config`: for an ID in the table (W25Q64FV, W25Q128FV, no further chip), size, erase types and "
         "block protection are those of its row. Without a row, the chip has no block protection and, if its SFDP is "
-        "accepted, the size and erase types that the SFDP gives.",
+        "accepted, the size and erase types in the SFDP.",
     "IsKnown":
-        "`IsKnown config`: the chip is genuine, its ID isn't FF FF FF or 00 00 00, and the table has it or its SFDP is "
-        "accepted.",
-    "unique_of": "`unique_of config`: its unique ID.",
+        "`IsKnown config`: the chip is genuine, its ID isn't FF FF FF or 00 00 00, and the table has the ID or the "
+        "chip's SFDP is accepted.",
+    "unique_of": "`unique_of config`: the chip's unique ID.",
     "SavedSector": "`SavedSector`: the `number` of a saved sector, and its `bytes`.",
     "IsContent":
         "`IsContent c`: ID, unique ID and status have 3, 8 and 2 bytes; `is_chip_size` holds for the size. The "
-        "numbers of the saved sectors rise and are below size / 4,096; each has 4,096 bytes.",
+        "numbers of the saved sectors ascend and are below size / 4,096; each sector has 4,096 bytes.",
     "text":
         "`text c`: the bytes of the journal (flashnor-journal(5)).",
     "IsOfType": "`IsOfType journal config`: the journal has the chip's ID and size.",
     "is_saved": "`is_saved journal s`: the journal saves sector `s`.",
     "Saves":
         "`Saves old saved journal`: the journal is valid (`IsContent`), saves exactly the sectors of `saved`, and has "
-        "their bytes in `old`.",
+        "the bytes of these sectors in `old`.",
     "is_known_running": "`is_known_running running`: the operation isn't `Unknown`.",
     "Journal": "`Journal`: a journal that was read; in contracts, a `Content`.",
     "JournalFault": "`JournalFault`: why bytes are no journal.",
     "What":
-        "`What`: `Write`, `Erase`, or `WpRange start len`: protect exactly the `len` addresses from `start` on, none if "
-        "`len` is 0.",
+        "`What`: `Write`, `Erase`, or `WpRange start len`, which protects exactly the `len` addresses from `start` on "
+        "(none if `len` is 0).",
     "Request":
-        "`Request`: its `what`, the spans `included` (at most 64), the required name `named`, and whether it has "
-        "`unlock`, which permits the part *unlock*, and `verify`.",
+        "`Request`: the change (`what`), the `included` spans (at most 64), the required name (`named`), and the flags "
+        "`verify` and `unlock`, which permits the part *unlock*.",
     "is_requested":
-        "`is_requested request size a`: the request is a write or an erase, and `a` is below `size` and included: in "
-        "one of the spans, or the request has none.",
+        "`is_requested request size a`: the request is a write or an erase, and `a` is below `size` and in one of the "
+        "included spans, if the request has any.",
     "target": "`target what image a`: the byte of the image at `a` for a write, FFh for an erase.",
     "code_of": "`code_of kept`: CMP (the highest bit), SEC, TB, BP2, BP1 and BP0 as a number.",
     "IsLeastCode":
         "`IsLeastCode size start len code`: `code` is the least number below 64 whose protection bits are defined (not "
         "SEC with BP 110) and protect exactly the `len` addresses from `start` on.",
     "Report":
-        "`Report`: the chip found, and counts, which are right (`reported`). A session with nothing to change sent no "
+        "`Report`: the chip found, and right counts (`reported`). A session with nothing to change sent no "
         "modifying command (`unsent` of `IsDone`).",
     "Refusal": "`Refusal`: the errors of calls.",
-    "refusal_number": "`refusal_number refusal`: its number.",
+    "refusal_number": "`refusal_number refusal`: the error's number.",
     "RefusalHolds":
         "`RefusalHolds request image chip refusal`: the error is one of 1 to 10, and applies as SPECIFICATION.md says.",
     "CountsRefusal": "`CountsRefusal old new`: the vault refused a call between these states.",
     "SessionAlways":
-        "`SessionAlways ..`: among others, on every bus an error from 1 to 11 leaves the vault unsealed (`answers`: "
-        "`unsealed`), and success leaves it sealed, without a refusal (`ends`). On a modelled bus the request is then "
-        "accepted, by `undo`.",
+        "`SessionAlways ..`, among others: on every bus, an error from 1 to 11 leaves the vault unsealed (`answers`: "
+        "`unsealed`), and after success the vault is sealed and refused no call (`ends`). On a modelled bus the "
+        "request was then accepted, by `undo`.",
     "RanOut":
         "`RanOut needed old new`: on a punctual bus no transaction is left, and fewer than `needed` were left before.",
     "most_of":
         "`most_of s`: 65,542 + 3 * s + 65,538 * (17 * s + 2), a bound on the transactions of a call that may touch `s` "
         "sectors.",
     "RestoreModelled":
-        "`RestoreModelled ..`: among others, an error is the restore's verdict or, if the bus stopped (`RanOut`), 12 "
+        "`RestoreModelled ..`, among others: an error is the restore's verdict or, if the bus stopped (`RanOut`), 12 "
         "(`errors`).",
 }
 
@@ -148,7 +149,7 @@ NAMES = {
 # appendix has.
 APPENDICES = {
     "Block protection": (
-        "If this is wrong, errors 7 to 10 are wrong for a real chip, and so is the range that it protects.",
+        "If this is wrong, errors 7 to 10 are wrong for a real chip, and so is the chip's protected range.",
         {
             "is_protected": "nor_model/specs/Guard.antt",
             "is_block_protected": "nor_model/specs/Guard.antt",
@@ -159,7 +160,7 @@ APPENDICES = {
     ),
     "The chip, by opcodes": (
         "If this is wrong, a real chip does something else than the model, and no promise about its bytes holds. "
-        "Read it with the datasheet of the W25Q64FV.",
+        "Read this appendix with the datasheet of the W25Q64FV.",
         {
             "has_srp0": "nor_model/specs/Chip.antt",
             "has_srp1": "nor_model/specs/Chip.antt",
@@ -186,7 +187,7 @@ APPENDICES = {
     ),
     "Identification": (
         "If this is wrong, a real chip may have another size, other erase types or other protection than the promises "
-        "assume of a genuine one. Read it with JESD216.",
+        "assume of a genuine chip. Read this appendix with JESD216.",
         {
             "IsGenuine": "nor_probe/specs/Known.antt",
             "IsKnown": "nor_probe/specs/Known.antt",
@@ -247,7 +248,7 @@ APPENDICES = {
     ),
     "Counts and bounds": (
         "If this is wrong, a report's numbers are wrong, a call takes longer than promised, or a call that only reads "
-        "changes more than promised. The headline doesn't depend on it.",
+        "changes more than promised. The headline doesn't depend on this appendix.",
         {
             "OnlyReads": "nor_driver/specs/OnlyReads.antt",
             "RanOut": "nor_driver/specs/OnlyReads.antt",
@@ -315,17 +316,18 @@ ELSEWHERE = {"Work", "Fault", "Answer", "AreIncluded"}
 # Prose below an appendix.
 NOTES = {
     "The model of files":
-        "`Memory` (nor_files) is proved to keep this contract, with files in memory, so it can be kept. `Disk`, the "
-        "system's files, is assumed to behave so. `seen_may_stay` says that a crash may leave what a read returns. "
-        "Without it, a store whose `may_leave` never holds would meet each promise about what a crash may leave. "
-        "`names_of_one` says that names which aren't apart are names of one file. Without it, a store for which no two "
-        "names are apart would meet each promise about other files.",
+        "`Memory` (files in memory, in nor_files) is proved to keep this contract, so the contract can be kept. "
+        "`Disk`, the system's files, is assumed to keep the contract. `seen_may_stay` says that a crash may leave what "
+        "a read returns. Without this clause, a store whose `may_leave` never holds would meet each promise about what "
+        "a crash may leave. `names_of_one` says that names which aren't apart are names of one file. Without this "
+        "clause, a store for which no two names are apart would meet each promise about other files.",
     "The files of a run":
-        "`R: Store` is any store of files, and `R.state` what contracts see of it. In this appendix `Journal` is the "
-        "content of a journal, which the others call `Content`, and `Content` is what the chip's files hold at the "
-        "start. The clauses hold at every exit, even if all calls on files fail from some call on (`left`). So they "
-        "hold wherever the process is killed or its host crashes. `AreIncluded` (crates/nor_console/specs/Requests.antt) "
-        "says which addresses the regions of a layout have. `run_over` promises all this for each job on a chip.",
+        "`R: Store` is any store of files, and `R.state` is the state that contracts see. In this appendix `Journal` "
+        "is the content of a journal, which the other appendices call `Content`, and `Content` is what the chip's "
+        "files hold at the start. The clauses hold at every exit, even if all calls on files fail from some call on "
+        "(`left`). So the clauses hold wherever the process is killed or its host crashes. `AreIncluded` "
+        "(crates/nor_console/specs/Requests.antt) says which addresses the regions of a layout have. `run_over` "
+        "promises all this for each job on a chip.",
 }
 
 # The subjects of both pages in their order, and the files whose definitions each of them has. If a definition needs one
