@@ -148,6 +148,8 @@ def not_stored(address, journal="j"):
             f"with --restore {journal}."]
 
 
+# The length of a journal without sectors: its header, and the end mark with the digest.
+EMPTY = 61
 # Why the file of sums of a session of --wp-range is missing.
 UNWRITTEN = "isn't written by a session that saves no sector"
 
@@ -168,7 +170,7 @@ def sums(part, old, known, unique=bytes(8)):
 
 def is_partial(whole):
     """Returns whether these bytes are a journal of format 2 that saves some sectors of its chip, but not all."""
-    saved = (len(whole) - 61) // (SECTOR + 4)
+    saved = (len(whole) - EMPTY) // (SECTOR + 4)
     return whole[:8] == b"NORUNDO2" and 0 < saved < int.from_bytes(whole[21:25], "little") // SECTOR
 
 

@@ -511,8 +511,13 @@ def after_change(job, journal):
 def print_note(words):
     """Prints the last line of a restore. The stand-in writes no file beside a journal, so it never knows the sums."""
     names = [name for option, name in zip(words, words[1:]) if option == "--restore"]
-    if names and "-N" not in words and reference.is_partial(read_file(names[0])):
+    if not names or "-N" in words:
+        return
+    journal = read_file(names[0])
+    if reference.is_partial(journal):
         print(reference.unknown_sectors(names[0]), file=sys.stderr)
+    elif len(journal) == reference.EMPTY:
+        print(reference.unknown_sectors(names[0], reference.UNWRITTEN), file=sys.stderr)
 
 
 def main():
