@@ -22,8 +22,8 @@ the program without it, set it up yourself, or the run may hang:
   stty -F PATH raw -echo clocal -hupcl min 0 time 50
 
 Data is read twice, unless it equals the image; a difference stops the run. A
-journal holds the old content and status of all that a change touches, and
---restore needs it: keep it until you have accepted the change.
+journal contains the original bytes of each sector that a change modifies, and
+the status bytes. --restore needs it: keep it until you have accepted the change.
 
 After -w and -E the whole chip is compared with what it should hold, also
 outside the regions of -i. After --restore the sectors that its journal lacks
@@ -70,4 +70,4 @@ Usage fault 8: -n, -N, --unlock, --quick, --replaced-chip or --extract-image
   with an operation that can't have it
 Usage fault 10: out of memory
 
-The manual page, flashnor-serprog(8), says what each fault asks for.";
+The manual page, flashnor-serprog(8), says what to do about each fault.";

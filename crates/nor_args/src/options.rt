@@ -16,7 +16,7 @@ mod hardware;
 const FLASHNOR: Help = Help {
     program: "flashnor",
     version: "1.0",
-    about: "flashnor 1.0: programs SPI NOR flash, and can restore what it changed.",
+    about: "flashnor 1.0: programs emulated SPI NOR flash, and can restore what it changed.",
     notes: NOTES,
 };
 
@@ -30,11 +30,11 @@ TEXT of -p is dummy: and then KEY=VALUE, between commas, each key at most once:
   stop=N        Stop after N transactions; not with --rehearse
   trace=FILE    Write a line for each transaction into this file
   unique=HEX    The chip's unique ID, 16 hexadecimal digits; else all are 0
-  busy=N        How many polls answer BUSY after each operation, 0 to 65535
-  power=HH      Each stop is a loss of power: what is being written becomes HH
+  busy=N        How many polls show BUSY after each operation, 0 to 65535
+  power=HH      A stop cuts the power: the page or block in progress becomes HH
 
-A journal holds the old content and status of all that a change touches, and
---restore needs it.
+A journal contains the original bytes of each sector that a change modifies,
+and the status bytes. --restore needs it.
 
 A rehearsal changes no file but the trace. The first number of --rehearse stops
 the change after that many transactions, the second stops the restore that
@@ -55,7 +55,7 @@ Usage fault 5: --wp-range needs two numbers, decimal or 0x..
 Usage fault 6: -w, -E, --wp-range need exactly one of --journal, --rehearse
 Usage fault 7: -l and -i need each other, and one of -r, -w, -v, -E
 Usage fault 8: -n and --unlock need -w or -E
-Usage fault 9: --rehearse needs 1 to 64 numbers, and no stop= beside it
+Usage fault 9: --rehearse needs 1 to 64 numbers, without stop=
 Usage fault 10: out of memory
 
 File fault 1: the file can't be read
@@ -81,7 +81,7 @@ Error 15: journal fault 5: the sector number isn't above the one before it
 Error 15: journal fault 6: bytes follow the digest
 Error 15: journal fault 7: the digest differs: the file is damaged
 
-The manual page, flashnor(8), says what each fault asks for.";
+The manual page, flashnor(8), says what to do about each fault.";
 
 // An option: how it is written, and its line in the help.
 struct Choice {
@@ -182,7 +182,7 @@ static CHOICES: [Choice; 18] = [
         letter: None,
         name: "rehearse",
         value: Some("N,N,.."),
-        help: "Or rehearse, stopped after N transactions, see below",
+        help: "Instead of --journal: try it in memory, see below",
     },
     Choice {
         letter: Some('l'),

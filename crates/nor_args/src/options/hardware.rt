@@ -98,13 +98,13 @@ static HARDWARE_CHOICES: [Choice; 16] = [
         letter: Some('V'),
         name: "verbose",
         value: None,
-        help: "Print more about the run",
+        help: "Print each step and each modifying command",
     },
     Choice {
         letter: Some('o'),
         name: "output",
         value: Some("FILE"),
-        help: "Write all that the run prints and -V into this file",
+        help: "Write a log: all printed lines, and those of -V",
     },
 ];
 
