@@ -23,7 +23,7 @@ the program without it, set it up yourself, or the run may hang:
 
 Data is read twice, unless it equals the image; a difference stops the run. A
 journal contains the original bytes of each sector that a change modifies, and
-the status bytes. --restore needs it: keep it until you have accepted the change.
+the status bytes. --restore needs it: keep it until you accepted the change.
 
 After -w and -E the whole chip is compared with what it should hold, also
 outside the regions of -i. After --restore the sectors that its journal lacks
