@@ -28,8 +28,6 @@ fault-returned : (words : List Text) (fault : UsageFault) → refusals_of words 
 fault-returned words (why.Words error) taken h = absurd (not-words _ _ _ _ _ _ _ _ error h)
 fault-returned words _ taken h = search
 
--- If `clap` accepts `words`, and `r` is the job or the fault of their options `given`, then `r` is the job or the fault
--- of `words`.
 pub asked-by_words : (words : List Text) (given : Texts) (r : Result Job UsageFault) → refusals_of words ≡ []
     → given ≡ given_by words
     → MatchResult r (λ job. (first_fault (usage_faults given) ≡ None) × IsAsked given job)
@@ -37,8 +35,6 @@ pub asked-by_words : (words : List Text) (given : Texts) (r : Result Job UsageFa
     → MatchResult r (IsJob words) (IsFault words)
 asked-by_words words given r taken same h = grind (arith, fault-returned)
 
--- If `clap` accepts `words`, and `wrong` has the first fault of their options `given` and its reason, then `words` have
--- this fault and reason.
 pub wrong-by_words : (words : List Text) (given : Texts) (fault : UsageFault) (wrong : WrongArguments)
     → refusals_of words ≡ [] → given ≡ given_by words → first_fault (usage_faults given) ≡ Some fault
     → wrong.fault ≡ fault → IsReason given fault wrong.reason → AreWrong words wrong
@@ -59,7 +55,6 @@ no-job given wrong (inl checked) = (inl (checked.0, checked.1.fault), checked.1.
 no-job given wrong (inr other) =
     (inr (other.0, (other.1.fault, other.1.lacks)), rw (other.1.fault, other.1.reason) refl)
 
--- The first of the faults 4 to 9 is never `Words`, the fault 1 that `clap` reports.
 no-words : (given : Texts) (error : Error) → first_fault (operation_faults given) ≡ Some (why.Words error) → ⊥
 no-words given error is = not-words false false _ _ _ _ _ _ error is
 
@@ -71,8 +66,6 @@ hardware_fault-returned program words (why.Words error) taken (inl checked) =
 hardware_fault-returned program words (why.Words error) taken (inr other) = absurd (words-apart other.1.0)
 hardware_fault-returned program words _ taken h = search
 
--- Let `clap` accept `words`, the arguments of a program for hardware. If `r` is the job or the fault of their options
--- `given`, it is the job or the fault of `words`.
 pub hardware_asked-by_words : (program : Text) (words : List Text) (given : Texts)
     (r : Result HardwareJob WrongArguments)
     → hardware_refusals_of program words ≡ [] → given ≡ hardware_given_by program words

@@ -5,8 +5,6 @@ use Rattle.std.specs.Borrow.{Bor}
 use Rattle.std.specs.Option.{MatchOption}
 use Rattle.nor_args.specs.Text.{Text}
 
--- Let `r` be the result of the parser `f` for the text in `o`, or `None` if `o` is `None`. Then `option_and_then f` has
--- the result `r` for `o` with its text as bytes.
 pub and_then_read : {T : Type 0} (f : Text → Option T) (o : Option (Bor Text)) (r : Option T)
     → MatchOption o (r ≡ None) (λ x. r ≡ f x.now) → option_and_then f (option_map (λ x. x.now) o) ≡ r
 and_then_read f o r h = grind arith

@@ -15,20 +15,17 @@ use Rattle.nor_args.specs.declared.job.Task.{Task}
 abbrev any_chip : Text
 any_chip = codes "dummy:emulate=TINY64"
 
--- the same options, with an emulated chip as the value of `-p`
 abbrev pub emulated : Texts → Texts
 emulated given = record given { programmer = Some any_chip }
 
 task-same : (given : Texts) (asked : Task) → IsTask (emulated given) asked → IsTask given asked
 task-same given asked is = grind arith
 
--- Whether an option has a value is the same if its text is represented as bytes instead of a borrow.
 pub given_text : (text : Option (Bor Text)) (is : Bool) → is ≡ is_some text → is ≡ is_some (option_map (λ t. t.now) text)
 given_text None is same = same
 given_text (Some text) is same = same
 
--- Let the options ask for the job `on_chip` on an emulated chip. A program for hardware is then asked for the operation
--- with the same task; its other fields have the values of their options.
+-- If the options ask for `on_chip` on an emulated chip, a program for hardware is asked for the same task.
 pub operation-asked : (given : Texts) (on_chip : ChipJob) (named : Option ChipName) (backup : Bool)
     (srp0 : Option Bool) (progress : ProgressMode) (log : Option (Bor Text))
     → named ≡ option_map name_in_any_case given.chip → backup ≡ is_some given.backup

@@ -7,7 +7,6 @@ use Rattle.nor_args.specs.Options.{hardware_form, chosen, for_hardware, is_for_h
 use Rattle.nor_args.specs.Options.{with_hardware_choice, with_rules}
 use Rattle.nor_args.specs.declared.options.Choice.{Choice}
 
--- the command with the option `rule` in its form for hardware appended, if a program for hardware has this option
 abbrev with_hardware_rule : App → Rule → App
 with_hardware_rule app rule = cond (is_for_hardware rule.id) (with_rule app (hardware_form rule)) app
 

@@ -7,18 +7,15 @@ use Rattle.std.proofs.lemmas.Iterator.Splits.{YieldsList-from_str_split}
 use Rattle.std.proofs.lemmas.List.{at_drop_more, at_drop_all}
 use Rattle.nor_args.specs.Text.{Text, pieces_of}
 
--- The iterator that splits `text` at its commas yields the pieces of `text`.
 pub yields_pieces : {made s : _} (text : Text) → s ≡ made → split_text made ≡ text → split_has_more made ≡ true
     → split_pattern {P = ℕ} made ≡ 44
     → YieldsList (split_steps FindsChar (λ a b. b ≡ a)) (λ x. x.now) s (pieces_of text)
 yields_pieces text gives is more pattern = rw gives (YieldsList-from_str_split 44 text (lit< tt) is more pattern)
 
--- The pieces from index `n` on are the piece at `n` and the pieces from `n + 1` on.
 pub turned : (pieces : List Text) (n : ℕ) (piece : Text) → (n < length pieces) × (piece ≡ get_or pieces n piece)
     → drop n pieces ≡ piece ∷ drop (n + 1) pieces
 turned pieces n piece at =
     at_drop_more (λ (left : List Text). left) pieces n piece at.0 ∙ ap (λ p. p ∷ drop (n + 1) pieces) (sym at.1)
 
--- No pieces remain from index `n` on if `n` is the number of pieces.
 pub ended : (pieces : List Text) (n : ℕ) → n ≡ length pieces → drop n pieces ≡ []
 ended pieces n all = at_drop_all (λ (left : List Text). left) pieces n (omega (arith, all))

@@ -8,22 +8,18 @@ use Rattle.clap.proofs.WalkLemmas.{raw_values-rows}
 use Rattle.nor_args.specs.Text.{Text}
 use Rattle.nor_args.specs.Given.{joined_in}
 
--- The further values, each after the separator, are the same for borrowed texts and for their bytes.
 further-same : (separator : Text) (texts : List (Bor Text))
     → flat_map (λ text. separator ++ text.now) texts
     ≡ flat_map (λ text. separator ++ text) (map (λ (text : Bor Text). text.now) texts)
 further-same separator [] = refl
 further-same separator (text ∷ texts) = ap (λ rest. (separator ++ text.now) ++ rest) (further-same separator texts)
 
--- Borrowed texts and their bytes are joined to the same bytes.
 pub joined-same : (separator : Text) (texts : List (Bor Text))
     → join_by (λ (text : Bor Text). text.now) separator texts
     ≡ join_by (λ text. text) separator (map (λ (text : Bor Text). text.now) texts)
 joined-same separator [] = refl
 joined-same separator (text ∷ texts) = ap (λ rest. text.now ++ rest) (further-same separator texts)
 
--- If `values` are the values of the option `id` in the result of a parse, and `joined` is their text with commas between
--- them, `joined` is what `joined_in` defines.
 pub joined-found : (found : Found) (id : Text) (values : List (Bor Text)) (joined : Text)
     → Some (map (λ (text : Bor Text). text.now) values) ≡ option_map raw_values (matched_of found id)
     → joined ≡ join_by (λ (text : Bor Text). text.now) (codes ",") values → Some joined ≡ joined_in (rows_of found) id

@@ -10,14 +10,11 @@ use Rattle.nor_args.specs.Numbers.{decimal_number}
 use Rattle.nor_args.specs.Stops.{stops_of}
 use Rattle.nor_args.proofs.InTurn.{turned}
 
--- the list `stops` and then the numbers in `pieces`, or `None` if one of the pieces isn't a number or there are more
--- than 64 stops in all
 abbrev pub with_stops : List ℕ → List Text → Option (List ℕ)
 with_stops stops pieces = cond (list_all (reads decimal_number) pieces && nat_le (length stops + length pieces) 64)
     (Some (stops ++ filter_map decimal_number pieces)) None
 
--- The piece at index `n` either isn't a number, or follows 64 stops, or is one more stop. In the first two cases
--- `with_stops` is `None`; in the third, the stop moves from the remaining pieces to the list of stops.
+-- The piece at index `n` isn't a number, or follows 64 stops, or is one more stop.
 module _ (stops : List ℕ) (pieces : List Text) (n : ℕ) (piece : Text)
     (at : (n < length pieces) × (piece ≡ get_or pieces n piece)) where
   pub stops-refused : decimal_number piece ≡ None → with_stops stops (drop n pieces) ≡ None

@@ -11,7 +11,6 @@ use Rattle.std.proofs.lemmas.List.{at_drop_all}
 use Rattle.nor_args.specs.Text.{Text, rest_of}
 use Rattle.nor_args.specs.Numbers.{numeral, range_of}
 
--- If each byte of `text` is a digit, `text` has no leading plus sign to remove.
 without_plus : (radix : ℕ) (text : Text) → radix ≤ 36 → list_all (λ digit. is_digit digit radix) text ≡ true
     → without_leading_plus text ≡ text
 without_plus radix text low all = grind (arith, nat_tests)
@@ -20,13 +19,9 @@ all_digits : (radix : ℕ) (text : Text) → list_all (λ digit. is_digit digit 
 all_digits radix [] all = tt
 all_digits radix (c ∷ cs) all = grind (arith, nat_tests, all_digits radix cs)
 
--- the number `n`, or `None` if it is above `greatest`
 abbrev pub at_most : ℕ → ℕ → Option ℕ
 at_most greatest n = cond (nat_le n greatest) (Some n) None
 
--- Let `text` consist of at most `most` digits, let `greatest` be below 2 to the power of 64, and let `r` be the result
--- of `from_str_radix`. Then `numeral` is the number in `r`, or `None` if `r` is an error or the number is above
--- `greatest`.
 pub numeral-parsed : {E : Type 0} (radix most greatest : ℕ) (text : Text) (r : Result ℕ E) → radix ≤ 36
     → greatest < 2 ^ 64 → list_all (λ digit. is_digit digit radix) text ≡ true → length text ≤ most
     → ParsesUnsigned 64 radix text r
@@ -37,7 +32,6 @@ numeral-parsed radix most greatest text (Err e) low fits all short parses =
     let read = rw (without_plus radix text low all) at parses in
     grind (arith, nat_tests, all_digits radix text all)
 
--- A text without a comma isn't a range, so `range_of` is `None`.
 pub range_of-uncut : (text : Text) → position_or_len (λ byte. byte == 44) text ≡ length text → range_of text ≡ None
 range_of-uncut text uncut =
     let none : rest_of text ≡ [] = at_drop_all (λ (x : Text). x) text _ (omega (arith, uncut)) in

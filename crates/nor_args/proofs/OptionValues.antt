@@ -11,8 +11,6 @@ use Rattle.nor_args.specs.declared.programmer.Programmer.{Programmer}
 abbrev text_at : Option (Bor Text) → Option Text
 text_at = option_map (λ t. t.now)
 
--- Holds if `found` is the programmer that the value describes. If there is no value, or if the value describes no
--- programmer, `found` must be `None`.
 abbrev pub Means : Option Text → Option Programmer → Type 0
 Means text found = MatchOption found (passes_test is_programmer_text text ≡ false)
     (λ programmer. IsSomeAnd text (λ t. IsProgrammer t programmer))

@@ -12,8 +12,6 @@ use Rattle.nor_args.specs.Job.{IsWantedByArguments}
 use Rattle.nor_args.specs.declared.job.Wanted.{Wanted}
 use Rattle.nor_args.specs.declared.words.UsageFault.TheVariants as why
 
--- the usage faults 2 to 9, in this order; the arguments `a` to `h` say whether the options have the fault at the same
--- position
 abbrev pub cases : (a b c d e f g h : Bool) → List Case
 cases a b c d e f g h = (a, why.NoProgrammer) ∷ (b, why.Programmer) ∷ (c, why.TwoOperations) ∷ (d, why.Range)
     ∷ (e, why.Journal) ∷ (f, why.Layout) ∷ (g, why.Unneeded) ∷ (h, why.Stops) ∷ []
@@ -34,17 +32,13 @@ pub sound-none : (given : Texts) → first_fault (usage_faults given) ≡ None �
 sound-none given none =
     let no = none-holds _ _ _ _ _ _ _ _ none in record { value = no.0; journal = no.1; regions = no.2; stops = no.3 }
 
--- If `Sound` holds and the options include neither `-w` nor `-E` nor a `--wp-range` that can be parsed, they ask for no
--- change.
 pub no_change-wanted : (given : Texts) → Sound given → is_new_content given ≡ false
     → option_and_then range_of given.wp_range ≡ None → asks_change given ≡ false
 no_change-wanted given sound same none = grind arith
 
--- If the options have a target of a change, they ask for a change.
 change-wanted : (given : Texts) (wanted : Wanted) → IsWantedByArguments given wanted → asks_change given ≡ true
 change-wanted given wanted is = grind arith
 
--- If options without fault 6 ask for a change and `--journal` is missing, `--rehearse` is given.
 rehearsed : (given : Texts) → has_wrong_journal given ≡ false → asks_change given ≡ true → given.journal ≡ None
     → is_some given.rehearse ≡ true
 rehearsed given sound asks journal = grind arith
@@ -54,8 +48,6 @@ parsed : (text : Option Text) (stops : Option (List ℕ)) (stopped : Bool)
     → option_and_then stops_of text ≡ stops → is_some stops ≡ true
 parsed text stops stopped sound some same = grind arith
 
--- Let `Sound` hold, and let the options have a target of a change. If `--journal` is missing, then `--rehearse` is
--- given and its value can be parsed.
 pub stops-kept : (given : Texts) (wanted : Wanted) (stops : Option (List ℕ)) → Sound given
     → IsWantedByArguments given wanted → option_and_then stops_of given.rehearse ≡ stops
     → given.journal ≡ None → is_some stops ≡ true

@@ -1,5 +1,4 @@
--- Lemmas about a parse of the arguments by `clap`. A success yields the rows that the specification of `clap` defines,
--- and a failure is a usage fault that the arguments may have.
+-- A successful parse by `clap` yields the rows that `clap` specifies; a failure is a usage fault of the arguments.
 use Rattle.std.proofs.Common.{◌≡◌, [], true, List, Ok, Err, inl, inr, refl}
 use Rattle.clap.specs.Words.{App, FailsBy, HasMatchesOf, fault_of, found_of, is_simple, is_simple_and_free, matches_of}
 use Rattle.clap.specs.Words.{rows_of}
@@ -16,8 +15,7 @@ use Rattle.nor_args.specs.declared.reasons.Reason.TheVariants as because
 use Rattle.nor_args.specs.declared.reasons.WrongArguments.{WrongArguments}
 use Rattle.nor_args.specs.declared.words.UsageFault.{UsageFault}
 
--- No option of flashnor requires or excludes another option, and each option has a form for which the specification of
--- `clap` defines the matches.
+-- No option requires or excludes another one, and `clap` specifies the matches of each option's form.
 pub options_are_free : is_simple_and_free options ≡ true
 unfolding clap_on_literals
 options_are_free = refl
@@ -34,9 +32,6 @@ pub hardware_options_are_simple : (program : Text) → is_simple (hardware_optio
 unfolding clap_on_literals
 hardware_options_are_simple program = refl
 
--- Let `clap` parse `words` with the options `own`, and let `m` be the resulting matches. If `own` is simple and free
--- (`is_simple_and_free`), the specification of `clap` lists no error for `words`. If `own` is simple (`is_simple`), the
--- matches `m` have exactly the rows that `matches_of` defines for `own` and `words`.
 module _ (app own : App) (same : app ≡ own) (words : List Text) (m : ArgMatches) where
   pub none-refused : is_simple_and_free own ≡ true → (is_simple_and_free app ≡ true → FailsBy (fault_of app words) (Ok m))
       → fault_of own words ≡ []
@@ -45,7 +40,6 @@ module _ (app own : App) (same : app ≡ own) (words : List Text) (m : ArgMatche
   pub rows-taken : is_simple own ≡ true → HasMatchesOf app words m → rows_of (found_of m) ≡ matches_of own words
   rows-taken simple matches = let rows = rw same at matches in (rows simple).0
 
--- If `clap` fails with `error` for flashnor's options, the fault that `error` becomes is one that `words` may have.
 refused : (words : List Text) (app : App) → app ≡ options → (error : Error) (fault : UsageFault)
     → (is_simple_and_free app ≡ true → FailsBy {T = ArgMatches} (fault_of app words) (Err error))
     → BecomesFault error fault → IsFault words fault
@@ -56,7 +50,6 @@ refused words app same error fault fails (inr other) =
       | inr among ↦ among
     ])
 
--- For a fault that an error of `clap` becomes, the reason `Unsaid` is correct.
 unsaid : (given : Texts) (error : Error) (fault : UsageFault) (reason : Reason) → BecomesFault error fault
     → reason ≡ because.Unsaid → IsReason given fault reason
 unsaid given error fault reason (inl memory) is = rw memory.1 is
@@ -70,8 +63,6 @@ refused-wrong words app same error wrong fails becomes = record {
   reason = unsaid (given_by words) error wrong.fault wrong.reason becomes.fault becomes.reason;
 }
 
--- If `clap` fails with `error` for the options of a program for hardware, the fault that `error` becomes is one that
--- `words` may have.
 hardware-refused : (program : Text) (app : App) → app ≡ hardware_options program → (words : List Text)
     (error : Error) (fault : UsageFault)
     → (is_simple_and_free app ≡ true → FailsBy {T = ArgMatches} (fault_of app words) (Err error))

@@ -6,7 +6,6 @@ use Rattle.std.proofs.lemmas.Str.Pattern.{ends_text}
 use Rattle.nor_args.specs.Text.{Text}
 use Rattle.nor_args.specs.Numbers.{before_unit}
 
--- `strip_suffix` returns what `before_unit` defines.
 pub before_unit-stripped : (unit text : Text) (r : Option (Bor Text))
     → MatchOption r (FindsTextSuffix unit text None) (λ x. StripsSuffix (FindsTextSuffix unit) text x.now)
     → option_map (λ front. front.now) r ≡ before_unit unit text

@@ -1,5 +1,4 @@
--- The usage faults: which of the faults 2 to 9 the options have, provided that `clap` accepts the arguments, and the
--- number and the message of each fault.
+-- The usage faults 2 to 9 that options may have if `clap` accepts the arguments, and the message of each fault.
 use Rattle.std.specs.Prelude.{◌&&◌, ◌||◌, ◌++◌, ℕ, Bool, false, Option, Some, None, List, [], ◌∷◌, codes, decimal}
 use Rattle.std.specs.Prelude.{drop, find, is_some, nat_eq, nat_lt, not, option_map, if◌then◌else◌}
 use Rattle.std.specs.List.{list_any}
@@ -16,20 +15,19 @@ use Rattle.nor_args.specs.declared.reasons.OptionName.TheVariants as option
 use Rattle.nor_args.specs.declared.words.UsageFault.{UsageFault}
 use Rattle.nor_args.specs.declared.words.UsageFault.TheVariants as why
 
--- one of the usage faults, and before it a truth value: whether the options have this fault
+-- a usage fault, and before it whether the options have this fault
 abbrev pub Case : Type 0
 Case = Bool × UsageFault
 
--- true if `text` is a value, not `None`, and the value passes `test`
+-- true if the option has a value, and the value passes `test`
 abbrev pub passes_test : (Text → Bool) → Option Text → Bool
 passes_test test text = option_map_or test text false
 
--- true if `text` is a value, not `None`, and the value fails `test`
+-- true if the option has a value, and the value fails `test`
 abbrev pub is_no : (Text → Bool) → Option Text → Bool
 is_no test = passes_test (λ text. not (test text))
 
--- fault 6: true if a change (`-w`, `-E` or `--wp-range`) is given, but not exactly one of `--journal` and `--rehearse`.
--- True also if `--journal` or `--rehearse` is given, but no change.
+-- fault 6: a change without exactly one of `--journal` and `--rehearse`, or one of these without a change
 abbrev pub has_wrong_journal : Texts → Bool
 has_wrong_journal given =
     not (nat_eq (how_many (is_some given.journal ∷ is_some given.rehearse ∷ [])) (if asks_change given then 1 else 0))
@@ -38,12 +36,10 @@ has_wrong_journal given =
 abbrev pub Choosing : Type 0
 Choosing = Bool × OptionName
 
--- the first option in the list that is given, or `None` if none is given
 abbrev pub first_given : List Choosing → Option OptionName
 first_given choices =
     option_map (λ (choosing : Choosing). choosing.1) (find (λ (choosing : Choosing). choosing.0) choices)
 
--- true if the option has the value `-`
 abbrev pub is_dash : Option Text → Bool
 is_dash = passes_test (λ text. bytes_eq text (codes "-"))
 
@@ -51,7 +47,6 @@ is_dash = passes_test (λ text. bytes_eq text (codes "-"))
 abbrev pub has_dash : Text → Bool
 has_dash piece = bytes_eq (after_colon piece) (codes "-")
 
--- true if a value of `-i` names the file `-` for a region
 abbrev pub lists_dash : Text → Bool
 lists_dash text = list_any has_dash (pieces_of text)
 
@@ -65,46 +60,38 @@ file_choices given =
     ∷ (passes_test lists_dash given.names, option.Include) ∷ (is_dash given.fmap_file, option.FmapFile)
     ∷ (is_dash given.ifd_file, option.IfdFile) ∷ (is_dash given.log, option.Output) ∷ []
 
--- in a program for hardware, the first option that names the file `-`, or `None` if none does; for flashnor `-` is the
--- name of a file like any other
+-- the first option of a program for hardware that names the file `-`; for flashnor `-` is an ordinary name
 abbrev pub dashed : Texts → Option OptionName
 dashed given = if given.hardware then first_given (file_choices given) else None
 
--- fault 5: true if the value of `--wp-range` isn't a start and a length, the value of `--progress` isn't a mode, or an
--- option of a program for hardware names the file `-`; flashnor lacks `--progress`
+-- fault 5: a value of `--wp-range` or `--progress` that can't be parsed, or the file `-` in a program for hardware
 abbrev pub has_wrong_value : Texts → Bool
 has_wrong_value given =
     (is_no (reads range_of) given.wp_range || is_no (reads progress_of) given.progress) || is_some (dashed given)
 
--- fault 7: true if a layout (`-l`, `--fmap-file`, `--ifd-file`, `--fmap` or `--ifd`) is given without `-i`, or `-i`
--- without a layout; if both are given without any of `-r`, `-v`, `-w` and `-E`; or if more than one layout is given.
--- flashnor has only the layout of `-l`.
+-- fault 7: a layout without `-i`, `-i` without a layout, both without `-r`, `-v`, `-w` or `-E`, or several layouts
 abbrev pub has_wrong_regions : Texts → Bool
 has_wrong_regions given = (gives_layout given || is_some given.names)
     && not (gives_layout given
     && (is_some given.names && (takes_regions given && not (has_two_layouts given))))
 
--- true if `--extract-image` is given without `--check-journal`
 abbrev pub lacks_check : Texts → Bool
 lacks_check given = is_some given.extract_image && not (is_some given.check_journal)
 
--- true if `--replaced-chip` is given without `--restore`, or `--extract-image` without `--check-journal`; flashnor has
--- none of these options except `--restore`
 abbrev pub has_unneeded_for_journal : Texts → Bool
 has_unneeded_for_journal given = (given.replaced_chip && not (is_some given.restore)) || lacks_check given
 
--- true if `-N` is given without any of `-w`, `-E` and `--restore`, or `--quick` without `--restore`, or if
--- `has_unneeded_for_journal` is true; flashnor has neither `-N` nor `--quick`
+-- the part of fault 8 that only a program for hardware can have
 abbrev pub has_unneeded_for_hardware : Texts → Bool
 has_unneeded_for_hardware given = (given.no_verify_all && not (is_new_content given || is_some given.restore))
     || ((given.quick && not (is_some given.restore)) || has_unneeded_for_journal given)
 
--- fault 8: true if `-n` or `--unlock` is given without `-w` or `-E`, or if `has_unneeded_for_hardware` is true
+-- fault 8: an option without the operation that it needs
 abbrev pub has_unneeded : Texts → Bool
 has_unneeded given =
     ((given.no_verify || given.unlock) && not (is_new_content given)) || has_unneeded_for_hardware given
 
--- the faults 2 to 9, in this order; for each fault, whether the options have it
+-- the faults 2 to 9, in this order, and for each whether the options have it
 abbrev pub usage_faults : Texts → List Case
 usage_faults given =
     (not (is_some given.programmer) && not given.list, why.NoProgrammer)
@@ -121,19 +108,16 @@ usage_faults given =
     )
     ∷ []
 
--- the faults 4 to 9, in this order; for each fault, whether the options have it. The value of `-p` is ignored, as if it
--- were correct and had no `stop=`. A program for hardware never has fault 9, because it lacks `--rehearse`.
+-- the faults 4 to 9. The value of `-p` is ignored, as if it were correct and had no `stop=`.
 abbrev pub operation_faults : Texts → List Case
 operation_faults given = drop 2 (usage_faults (record given { programmer = None }))
 
--- the first fault in the list that the options have, or `None` if they have none of them
 abbrev pub first_fault : List Case → Option UsageFault
 first_fault [] = None
 first_fault (case ∷ cases) = if case.0 then Some case.1 else first_fault cases
 
 -- ---- messages
 
--- the number of a fault, which its message contains
 abbrev pub usage_fault_number : UsageFault → ℕ
 usage_fault_number (why.Words error) = 1
 usage_fault_number why.NoProgrammer = 2
@@ -146,12 +130,10 @@ usage_fault_number why.Unneeded = 8
 usage_fault_number why.Stops = 9
 usage_fault_number why.Memory = 10
 
--- the message of the fault with the given number
 abbrev pub numbered : ℕ → List ℕ
 numbered number = codes "Usage fault " ++ (decimal number ++ codes ".")
 
--- the message of a fault, or `None` for fault 1. The message of fault 1 begins with the message of `clap`, and isn't
--- specified.
+-- the message of a fault; `None` for fault 1, whose message begins with that of `clap`
 abbrev pub usage_fault_text : UsageFault → Option (List ℕ)
 usage_fault_text (why.Words error) = None
 usage_fault_text fault = Some (numbered (usage_fault_number fault))

@@ -13,76 +13,60 @@ use Rattle.nor_args.specs.declared.job.LayoutForm.TheVariants as form
 use Rattle.nor_args.specs.declared.job.ProgressMode.{ProgressMode}
 use Rattle.nor_args.specs.declared.job.ProgressMode.TheVariants as mode
 
--- The options in the arguments. An option that takes a value has that value, or `None` if it isn't given. A flag is
--- true if it is set.
+-- The values of the options, by their long names except `names` (`-i`) and `log` (`-o`); true for a flag that is set.
 pub record Texts : Type 0 where
-  -- The values of `-p TEXT` and `-c NAME`.
   pub programmer : Option Text
   pub chip : Option Text
-  -- Whether `-L`, `--flash-size`, `--flash-name`, `--wp-status` and `--wp-list` are set.
   pub list : Bool
   pub flash_size : Bool
   pub flash_name : Bool
   pub wp_status : Bool
   pub wp_list : Bool
-  -- The values of `-r FILE` and `-v FILE`.
   pub read : Option Text
   pub verify : Option Text
-  -- The values of `-w FILE`, `--wp-range S,L` and `--restore FILE`, and whether `-E` is set.
   pub write : Option Text
   pub erase : Bool
   pub wp_range : Option Text
   pub restore : Option Text
-  -- The values of `--backup FILE`, `--check-journal FILE` and `--extract-image FILE`.
   pub backup : Option Text
   pub check_journal : Option Text
   pub extract_image : Option Text
-  -- Whether `--wp-enable` and `--wp-disable` are set.
   pub wp_enable : Bool
   pub wp_disable : Bool
-  -- Whether `--quick` and `--replaced-chip` are set.
   pub quick : Bool
   pub replaced_chip : Bool
-  -- The values of `--journal FILE` and `--rehearse N,N,..`.
   pub journal : Option Text
   pub rehearse : Option Text
-  -- The values of `-l FILE`, `--fmap-file FILE`, `--ifd-file FILE` and `-i NAMES`.
   pub layout : Option Text
   pub fmap_file : Option Text
   pub ifd_file : Option Text
   pub names : Option Text
-  -- Whether `--fmap` and `--ifd` are set.
   pub fmap : Bool
   pub ifd : Bool
-  -- Whether `-n`, `-N` and `--unlock` are set.
   pub no_verify : Bool
   pub no_verify_all : Bool
   pub unlock : Bool
-  -- The value of `--progress MODE`, and whether `-V` is set.
   pub progress : Option Text
   pub verbose : Bool
-  -- The value of `-o FILE`.
   pub log : Option Text
   -- Whether the program is one for hardware, which takes no file with the name `-`.
   pub hardware : Bool
 
--- true if the value is the text `true`, which `clap` gives a flag that is set
+-- true for the text `true`, which `clap` gives a flag that is set
 abbrev pub is_flag_set : Option Text → Bool
 is_flag_set value = option_map_or (λ text. bytes_eq text (codes "true")) value false
 
--- the value of the option with the given ID in the rows, which are the result of a parse by `clap`
 abbrev pub text_in : List Row → Text → Option Text
 text_in rows id = first_of id rows
 
--- all values of the option with the given ID in the rows, with commas between them, or `None` without a value
+-- all values of the option with this ID in the rows of a parse, with commas between them; `None` without a value
 abbrev pub joined_in : List Row → Text → Option Text
 joined_in rows id = option_map (join_by (λ text. text) (codes ",")) (all_of id rows)
 
--- true if the flag with the given ID is set in the rows, which are the result of a parse by `clap`
 abbrev pub is_set_in : List Row → Text → Bool
 is_set_in rows id = is_flag_set (first_of id rows)
 
--- the options of flashnor in the rows of a parse; flashnor lacks the options that only programs for hardware have
+-- the options of flashnor in the rows of a parse by `clap`
 abbrev pub given_in : List Row → Texts
 given_in rows = record {
   programmer = text_in rows (codes "programmer");
@@ -122,12 +106,10 @@ given_in rows = record {
   hardware = false;
 }
 
--- the options that flashnor's arguments contain, as `clap` parses them
 abbrev pub given_by : List Text → Texts
 given_by words = given_in (matches_of options words)
 
--- the options of a program for hardware in the rows of a parse. The program has more options than flashnor, but lacks
--- `--rehearse`. The values of all `-i` count as one value, with commas between them.
+-- the options of a program for hardware in the rows of a parse; the values of all `-i` count as one value
 abbrev pub hardware_given_in : List Row → Texts
 hardware_given_in rows = record (given_in rows) {
   rehearse = None;
@@ -151,12 +133,10 @@ hardware_given_in rows = record (given_in rows) {
   hardware = true;
 }
 
--- the options that the arguments of a program for hardware contain, as `clap` parses them; `program` is the program's
--- name
 abbrev pub hardware_given_by : (program : Text) → List Text → Texts
 hardware_given_by program words = hardware_given_in (matches_of (hardware_options program) words)
 
--- the options in `given`, a value of the code's type `Given`, with each text as its bytes
+-- the options of the code's type `Given`, with each text as its bytes
 abbrev pub texts_of : Given → Texts
 texts_of given = record {
   programmer = option_map (λ text. text.now) given.programmer;
@@ -196,11 +176,9 @@ texts_of given = record {
   hardware = given.is_hardware;
 }
 
--- the number of elements of the list that are true
 abbrev pub how_many : List Bool → ℕ
 how_many = count_by (λ asked. asked)
 
--- the number of operations that the options ask for
 abbrev pub operations : Texts → ℕ
 operations given = how_many (
     given.list ∷ given.flash_size ∷ given.flash_name ∷ given.wp_status ∷ given.wp_list
@@ -208,21 +186,17 @@ operations given = how_many (
     ∷ is_some given.write ∷ given.erase ∷ is_some given.wp_range ∷ is_some given.restore
     ∷ is_some given.backup ∷ is_some given.check_journal ∷ given.wp_enable ∷ given.wp_disable ∷ [])
 
--- the file name of the layout: the value of the first of `-l`, `--fmap-file` and `--ifd-file` that is given, or `None`
--- if none is given
+-- the file of the layout, or `None` if there is no layout or it is read from the chip
 abbrev pub layout_file : Texts → Option Text
 layout_file given = option_or given.layout (option_or given.fmap_file given.ifd_file)
 
--- for each of `-l`, `--fmap-file`, `--ifd-file`, `--fmap` and `--ifd`, in this order, whether it is given
 abbrev pub layouts_given : Texts → List Bool
 layouts_given given =
     is_some given.layout ∷ is_some given.fmap_file ∷ is_some given.ifd_file ∷ given.fmap ∷ given.ifd ∷ []
 
--- true if a layout is given, by one of the options of `layouts_given`
 abbrev pub gives_layout : Texts → Bool
 gives_layout given = is_some (layout_file given) || (given.fmap || given.ifd)
 
--- true if more than one layout is given, by the options of `layouts_given`
 abbrev pub has_two_layouts : Texts → Bool
 has_two_layouts given = nat_lt 1 (how_many (layouts_given given))
 
@@ -232,7 +206,6 @@ layout_form given =
     if is_some given.layout then (if given.hardware then form.Words else form.Lines)
     else if is_some given.fmap_file || given.fmap then form.Fmap else form.Descriptor
 
--- the mode with the given name, or `None` if `--progress` has no such mode
 abbrev pub progress_of : Text → Option ProgressMode
 progress_of text =
     if bytes_eq text (codes "auto") then Some mode.Auto
@@ -240,31 +213,26 @@ progress_of text =
     else if bytes_eq text (codes "none") then Some mode.Hidden
     else None
 
--- the mode that `--progress` names, or `Auto` if the option is missing or its value isn't a mode
 abbrev pub progress_mode : Texts → ProgressMode
 progress_mode given = unwrap_or (option_and_then progress_of given.progress) mode.Auto
 
--- the value that SRP0 must get: true with `--wp-enable`, false with `--wp-disable`, `None` without either
 abbrev pub srp0_of : Texts → Option Bool
 srp0_of given = if given.wp_enable then Some true else if given.wp_disable then Some false else None
 
--- the file into which the chip is read: the value of `-r`, or if `-r` is missing the value of `--backup`
 abbrev pub output_of : Texts → Option Text
 output_of given = option_or given.read given.backup
 
--- true if `-w` or `-E` is given; both options change the bytes of the chip
 abbrev pub is_new_content : Texts → Bool
 is_new_content given = is_some given.write || given.erase
 
--- true if `-w`, `-E` or `--wp-range` is given; each of these options changes the chip, and needs a journal or a
--- rehearsal
+-- true for a change of the chip, which needs a journal or a rehearsal
 abbrev pub asks_change : Texts → Bool
 asks_change given = is_new_content given || is_some given.wp_range
 
--- true if neither `--check-journal` nor `-L` is given; each of these two options needs no chip
+-- true if the job needs a chip
 abbrev pub is_on_chip : Texts → Bool
 is_on_chip given = not (is_some given.check_journal) && not given.list
 
--- true if `-r`, `-v`, `-w` or `-E` is given; each of these options can be limited to regions of the chip
+-- true if the operation can be limited to regions of the chip
 abbrev pub takes_regions : Texts → Bool
 takes_regions given = is_some given.read || (is_some given.verify || is_new_content given)

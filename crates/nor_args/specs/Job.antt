@@ -1,5 +1,4 @@
--- The job that the options ask for, and its parts. For programs for hardware also: the fault of options that ask for no
--- job or no operation.
+-- The job that the options ask for; for programs for hardware also the fault of options that ask for none.
 use Rattle.std.specs.Prelude.{◌≡◌, ◌⊎◌, [], ◌∷◌, true, false, MatchResult, Option, Some, None, is_some, not}
 use Rattle.std.specs.Prelude.{map, option_and_then, option_map}
 use Rattle.std.specs.Borrow.{Bor}
@@ -34,32 +33,25 @@ use Rattle.nor_args.specs.declared.reasons.Reason.TheVariants as because
 use Rattle.nor_args.specs.declared.reasons.WrongArguments.{WrongArguments}
 use Rattle.nor_args.specs.declared.words.UsageFault.TheVariants as why
 
--- Holds if the option is given and its value is this file name.
 abbrev pub NamesFile : Option Text → Bor Text → Type 0
 NamesFile option text = option ≡ Some text.now
 
--- Holds if a layout is given and the regions consist of its file, its form and the value of `-i`. For a layout that is
--- read from the chip (`--fmap` or `--ifd`), the file must be `None`. Regions `None` require that no layout is given and
--- `-i` is missing.
+-- Holds for the layout's file (`None` if it is read from the chip), its form, and the value of `-i`.
 abbrev pub IsRegions : Texts → Option Regions → Type 0
 IsRegions given None = (gives_layout given ≡ false) × (given.names ≡ None)
 IsRegions given (Some regions) = (gives_layout given ≡ true)
     × (option_map (λ (file : Bor Text). file.now) regions.layout ≡ layout_file given)
     × (regions.form ≡ layout_form given) × NamesFile given.names regions.names
 
--- Holds if the options ask for this target of a change.
 abbrev pub IsWantedByArguments : Texts → Wanted → Type 0
 IsWantedByArguments given (want.Write image) = NamesFile given.write image
 IsWantedByArguments given want.Erase = given.erase ≡ true
 IsWantedByArguments given (want.Range start len) = option_and_then range_of given.wp_range ≡ Some (start, len)
 
--- Holds if the journal is written into the file that `--journal` names, or if the change is rehearsed with the stops
--- that `--rehearse` lists.
 abbrev pub IsJournalUse : Texts → JournalUse → Type 0
 IsJournalUse given (uses.Journal file) = NamesFile given.journal file
 IsJournalUse given (uses.Rehearse stops) = option_and_then stops_of given.rehearse ≡ Some stops.items
 
--- Holds if each field of `change` has the value of its option.
 pub record IsChange (given : Texts) (change : Change) : Type 0 where
   pub wanted : IsWantedByArguments given change.wanted
   pub regions : IsRegions given change.regions
@@ -67,8 +59,7 @@ pub record IsChange (given : Texts) (change : Change) : Type 0 where
   pub verify : change.verify ≡ not given.no_verify
   pub journal_use : IsJournalUse given change.journal_use
 
--- Holds if the options ask for this operation. They ask for `Probe` if they contain no operation except perhaps
--- `--flash-name`, `--wp-enable` or `--wp-disable`.
+-- Holds if the options ask for this operation. `Probe` allows `--flash-name`, `--wp-enable` and `--wp-disable`.
 abbrev pub IsTask : Texts → Task → Type 0
 IsTask given task.Probe = operations given ≡ how_many (given.flash_name ∷ given.wp_enable ∷ given.wp_disable ∷ [])
 IsTask given task.FlashSize = given.flash_size ≡ true
@@ -79,26 +70,21 @@ IsTask given (task.Verify file regions) = NamesFile given.verify file × IsRegio
 IsTask given (task.Change change) = IsChange given change
 IsTask given (task.Restore journal) = NamesFile given.restore journal
 
--- Holds if each field of `on_chip`, a job on a chip, has the value of its option.
 pub record IsChipJob (given : Texts) (on_chip : ChipJob) : Type 0 where
   pub programmer : IsSomeAnd given.programmer (λ text. IsProgrammer text on_chip.programmer)
   pub named : on_chip.named ≡ option_map name_of given.chip
   pub task : IsTask given on_chip.task
 
--- Holds if the options ask for this job of flashnor: for the list of chips if `-L` is given, otherwise for a job on a
--- chip.
 abbrev pub IsAsked : Texts → Job → Type 0
 IsAsked given job.List = given.list ≡ true
 IsAsked given (job.Chip on_chip) = (given.list ≡ false) × IsChipJob given on_chip
 
 -- ---- programs for hardware
 
--- the name of the chip that the text spells in upper or lower case
 abbrev pub name_in_any_case : Text → ChipName
 name_in_any_case text = name_of (map to_ascii_uppercase text)
 
--- Holds if the options have none of the faults 4 to 9 and ask for this operation: `named` is the chip that `-c` names in
--- upper or lower case, and each other field has the value of its option.
+-- Holds if the options ask for this operation and have none of the faults 4 to 9.
 pub record IsOperation (given : Texts) (operation : Operation) : Type 0 where
   pub sound : first_fault (operation_faults given) ≡ None
   pub named : operation.named ≡ option_map name_in_any_case given.chip
@@ -113,45 +99,36 @@ pub record IsOperation (given : Texts) (operation : Operation) : Type 0 where
   pub log : option_map (λ (file : Bor Text). file.now) operation.log ≡ given.log
   pub task : IsTask given operation.task
 
--- Holds if `wrong` has the first of the faults 4 to 9 that the options have, and a reason for this fault.
 pub record IsWrongOperation (given : Texts) (wrong : WrongArguments) : Type 0 where
   pub fault : first_fault (operation_faults given) ≡ Some wrong.fault
   pub reason : IsReason given wrong.fault wrong.reason
 
--- Holds if `-p` is missing, and `wrong` has fault 2 and its reason.
 pub record LacksProgrammer (given : Texts) (wrong : WrongArguments) : Type 0 where
   pub fault : wrong.fault ≡ why.NoProgrammer
   pub reason : wrong.reason ≡ because.NoProgrammer
   pub lacks : given.programmer ≡ None
 
--- Holds if the options of a program for hardware ask for no job, because of the fault in `wrong`. If `--check-journal`
--- or `-L` is given, this is the first of the faults 4 to 9 that the options have. If neither is given, nor `-p`, it is
--- fault 2.
+-- Holds if the options ask for no job because of this fault: one of 4 to 9 with `--check-journal` or `-L`, else 2.
 abbrev pub IsWrongForHardware : Texts → WrongArguments → Type 0
 IsWrongForHardware given wrong = ((is_on_chip given ≡ false) × IsWrongOperation given wrong)
     ⊎ ((is_on_chip given ≡ true) × LacksProgrammer given wrong)
 
--- Holds if `--check-journal` names this file, `image` is the value of `--extract-image`, and the options have none of
--- the faults 4 to 9.
 pub record IsJournalCheck (given : Texts) (file : Bor Text) (image : Option (Bor Text)) : Type 0 where
   pub named : NamesFile given.check_journal file
   pub extracted : option_map (λ (file : Bor Text). file.now) image ≡ given.extract_image
   pub sound : first_fault (operation_faults given) ≡ None
 
--- Holds if `-L` is given without `--check-journal`, and the options have none of the faults 4 to 9.
 pub record IsListAsked (given : Texts) : Type 0 where
   pub unchecked : given.check_journal ≡ None
   pub listed : given.list ≡ true
   pub sound : first_fault (operation_faults given) ≡ None
 
--- Holds if `--check-journal` and `-L` are missing and `on_chip.programmer` is the value of `-p`. `on_chip.operation`
--- must be the operation that the options ask for, or the first of the faults 4 to 9 that they have, with its reason.
+-- Holds for a job on a chip. Its operation is what the options ask for, or the first of their faults 4 to 9.
 pub record IsProgrammerJob (given : Texts) (on_chip : ProgrammerJob) : Type 0 where
   pub on_a_chip : is_on_chip given ≡ true
   pub programmer : NamesFile given.programmer on_chip.programmer
   pub operation : MatchResult on_chip.operation (IsOperation given) (IsWrongOperation given)
 
--- Holds if the options of a program for hardware ask for this job.
 abbrev pub IsHardwareAsked : Texts → HardwareJob → Type 0
 IsHardwareAsked given (hardware.CheckJournal file image) = IsJournalCheck given file image
 IsHardwareAsked given hardware.List = IsListAsked given

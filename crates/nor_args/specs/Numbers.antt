@@ -14,63 +14,55 @@ abbrev pub is_numeral : (radix most greatest : ℕ) → Text → Bool
 is_numeral radix most greatest text = list_all (λ digit. is_digit digit radix) text
     && (nat_le 1 (length text) && (nat_le (length text) most && nat_le (digits_value radix text) greatest))
 
--- the value of the text's digits, or `None` if `is_numeral` is false for the text
 abbrev pub numeral : (radix most greatest : ℕ) → Text → Option ℕ
 numeral radix most greatest text =
     if is_numeral radix most greatest text then Some (digits_value radix text) else None
 
--- the value of 1 to 20 decimal digits if it is below 2 to the power of 64; `None` for any other text
+-- the value of 1 to 20 decimal digits if it is below 2 to the power of 64
 abbrev pub decimal_number : Text → Option ℕ
 decimal_number = numeral 10 20 18446744073709551615
 
--- a number of polls: the value of 1 to 20 decimal digits if it is at most 65,535; `None` for any other text
+-- a number of polls: the value of 1 to 20 decimal digits if it is at most 65,535
 abbrev pub polls_of : Text → Option ℕ
 polls_of = numeral 10 20 65535
 
--- the text before `unit`, or `None` if the text doesn't end with it
 abbrev pub before_unit : (unit : Text) → Text → Option Text
 before_unit unit text =
     if ends_with nat_eq text unit then Some (take (length text - length unit) text) else None
 
--- the text before `unit` or, in the other case, `other`, or `None` if the text ends with neither
 abbrev pub before_either : (unit other : Text) → Text → Option Text
 before_either unit other text = option_or (before_unit unit text) (before_unit other text)
 
--- the text of the number in a clock, and its unit in hertz. `kilo` and `mega` are the text before this unit, or `None`
--- if `text`, the clock, doesn't end with this unit.
+-- the text of the number in the clock `text`, and the clock's unit in hertz
 abbrev pub with_unit : (kilo mega : Option Text) → Text → Text × ℕ
 with_unit (Some digits) mega text = (digits, 1000)
 with_unit None (Some digits) text = (digits, 1000000)
 with_unit None None text = (text, 1)
 
--- the text of the number in the clock `text`, and its unit in hertz: 1,000 for `k`, 1,000,000 for `M`, in either case
 abbrev pub clock_parts : Text → Text × ℕ
 clock_parts text = with_unit (before_either (codes "k") (codes "K") text)
     (before_either (codes "M") (codes "m") text) text
 
--- a clock in hertz: the value of 1 to 20 decimal digits times the unit, if it is from 1 to 4,294,967,295; `None` for
--- any other text
+-- a clock in hertz, from 1 to 4,294,967,295: a number, and `k` or `M` in either case for 1,000 or 1,000,000
 abbrev pub clock_of : Text → Option ℕ
 clock_of text = option_and_then
     (λ number. if nat_lt 0 number && nat_le (number * (clock_parts text).1) 4294967295
     then Some (number * (clock_parts text).1) else None) (decimal_number (clock_parts text).0)
 
--- an address or a length: the value of `0x` and 1 to 8 hexadecimal digits, or of 1 to 10 decimal digits if it is below
--- 2 to the power of 32; `None` for any other text
+-- an address or a length below 2 to the power of 32: `0x` and 1 to 8 hexadecimal digits, or 1 to 10 decimal digits
 abbrev pub number_or_length : Text → Option ℕ
 number_or_length text = if starts_with nat_eq text (codes "0x") then numeral 16 8 4294967295 (drop 2 text)
     else numeral 10 10 4294967295 text
 
--- the start that precedes the first comma and the length that follows it, or `None` if one of them isn't a number
+-- a start and a length with a comma between them
 abbrev pub range_of : Text → Option (ℕ × ℕ)
 range_of text =
     option_and_then (λ start. option_map (λ len. (start, len)) (number_or_length (rest_of text)))
     (number_or_length (front_of text))
 
--- the eight bytes that 16 hexadecimal digits encode, or `None` for any other text
+-- the eight bytes that 16 hexadecimal digits encode
 abbrev pub unique_number : Text → Option (List ℕ)
 unique_number text = result_ok (decode_sized text 8)
 
--- the byte that two hexadecimal digits encode, or `None` for any other text
 abbrev pub byte_number : Text → Option ℕ
 byte_number text = option_and_then (λ bytes. slice_get bytes 0) (result_ok (decode_sized text 1))

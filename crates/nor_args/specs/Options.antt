@@ -10,23 +10,18 @@ use Rattle.clap.specs.declared.builder.range.ValueRange.{ValueRange}
 use Rattle.nor_args.specs.declared.options.Choice.{Choice}
 use Rattle.nor_args.specs.Text.{Text}
 
--- the option with this ID, which takes one value
 abbrev pub valued : Text → Rule
 valued id = record (new_rule id) { action = Some Set; value_names = 1 }
 
--- the flag with this ID; a flag is an option that takes no value
 abbrev pub flag : Text → Rule
 flag id = record (new_rule id) { action = Some SetTrue }
 
--- the option `rule`, written as `-` and the given letter
 abbrev pub by_letter : Text → Rule → Rule
 by_letter letter rule = record rule { short = slice_get letter 0 }
 
--- the option `rule`, with its ID as a long name after `--`
 abbrev pub by_name : Rule → Rule
 by_name rule = record rule { long = Some rule.id }
 
--- the options `-p` and `-c`, which name the programmer and the chip, and `-L`, which lists the chips
 abbrev pub chip_rules : List Rule
 chip_rules =
     by_letter (codes "p") (valued (codes "programmer"))
@@ -34,7 +29,6 @@ chip_rules =
     ∷ by_letter (codes "L") (flag (codes "list"))
     ∷ []
 
--- the options for operations that only read the chip
 abbrev pub reader_rules : List Rule
 reader_rules =
     by_name (flag (codes "flash-size"))
@@ -44,7 +38,6 @@ reader_rules =
     ∷ by_letter (codes "v") (valued (codes "verify"))
     ∷ []
 
--- the options for operations that change the chip
 abbrev pub change_rules : List Rule
 change_rules =
     by_letter (codes "w") (valued (codes "write"))
@@ -64,7 +57,6 @@ manner_rules =
     ∷ by_name (flag (codes "unlock"))
     ∷ []
 
--- `-h`, which prints the help
 abbrev pub help_rule : Rule
 help_rule = by_letter (codes "h") (record (new_rule (codes "usage")) { action = Some HelpShort })
 
@@ -72,26 +64,21 @@ help_rule = by_letter (codes "h") (record (new_rule (codes "usage")) { action = 
 abbrev pub most_rules : List Rule
 most_rules = chip_rules ++ reader_rules ++ change_rules ++ manner_rules
 
--- Holds if `arg`, an option of `clap`, has the rule `option` and isn't a global option.
 pub record IsOption (option : Rule) (arg : Arg) : Type 0 where
   pub rule : rule_of arg ≡ option
   pub local : arg.global ≡ false
 
--- the `clap` command of a program with this name, without options. The program's name isn't among the arguments that it
--- parses, and `clap`'s own help option is disabled.
+-- the `clap` command of a program, without options; `clap` parses no program's name and adds no help option
 abbrev pub no_options_of : Text → App
 no_options_of program = let app = new_app program in
     record app { top = record app.top { no_binary_name = true; disable_help_flag = true } }
 
--- the `clap` command of flashnor without options
 abbrev pub no_options : App
 no_options = no_options_of (codes "flashnor")
 
--- the command with the options of the list appended
 abbrev pub with_rules : App → List Rule → App
 with_rules = fold with_rule
 
--- the `clap` command of flashnor with all options
 abbrev pub options : App
 options =
     with_rule (with_rules (with_rules (with_rules (with_rules no_options chip_rules) reader_rules) change_rules)
@@ -99,12 +86,10 @@ options =
 
 -- ---- programs for hardware
 
--- true for the ID of an option that a program for hardware has: every option except `--rehearse`
 abbrev pub is_for_hardware : Text → Bool
 is_for_hardware id = not (bytes_eq id (codes "rehearse"))
 
--- the options that only programs for hardware have, except `-R`. Here the options with a letter still lack their long
--- names.
+-- the options that only programs for hardware have, except `-R`; `long_form` adds the long names that lack here
 abbrev pub own_rules : List Rule
 own_rules =
     by_name (valued (codes "backup"))
@@ -125,13 +110,10 @@ own_rules =
     ∷ by_letter (codes "o") (valued (codes "output"))
     ∷ []
 
--- the `clap` command of a program for hardware with this name, without options. It has a version, and `clap`'s own
--- version option is disabled.
 abbrev pub no_hardware_options_of : (program : Text) → App
 no_hardware_options_of program = let app = no_options_of program in
     record app { top = record app.top { has_version = true; disable_version_flag = true } }
 
--- from none to one value
 abbrev pub at_most_one : ValueRange
 at_most_one = record { start_inclusive = 0; end_inclusive = 1 }
 
@@ -142,7 +124,6 @@ long_form rule =
     then record (by_name rule) { range = Some at_most_one; missing = codes "auto" ∷ [] }
     else if bytes_eq rule.id (codes "list") then record rule { long = Some (codes "list-supported") } else by_name rule
 
--- the option `rule`, which may be repeated and has the second long name `--image`
 abbrev pub repeated_names : Rule → Rule
 repeated_names rule = record (by_name rule) { action = Some Append; aliases = codes "image" ∷ [] }
 
@@ -153,23 +134,19 @@ hardware_form rule =
     else if bytes_eq rule.id (codes "verbose") then record (by_name rule) { action = Some Count }
     else long_form rule
 
--- the options of the list that a program for hardware has, in their form there
 abbrev pub for_hardware : List Rule → List Rule
 for_hardware rules = map hardware_form (filter (λ rule. is_for_hardware rule.id) rules)
 
--- `-R` or `--version`, which prints the version of a program for hardware
 abbrev pub version_rule : Rule
 version_rule = record (by_letter (codes "R") (new_rule (codes "release"))) {
   long = Some (codes "version");
   action = Some Version;
 }
 
--- `-h` or `--help`, which prints the help of a program for hardware
 abbrev pub hardware_help_rule : Rule
 hardware_help_rule = record help_rule { long = Some (codes "help") }
 
--- the `clap` command of a program for hardware with this name. It has the options of flashnor except `--rehearse`, the
--- options `own_rules`, and `-R` and `-h`, all with a long name.
+-- flashnor's options except `--rehearse`, and `own_rules`, `-R` and `-h`, all with a long name
 abbrev pub hardware_options : (program : Text) → App
 hardware_options program =
     let shared = with_rules (no_hardware_options_of program) (for_hardware most_rules) in
@@ -177,7 +154,7 @@ hardware_options program =
 
 -- ---- the tables in src/options.rt and src/options/hardware.rt
 
--- the option with the name and the letter of a row; whether the option takes a value is not yet set
+-- the option with the name and the letter of a row; `chosen` sets whether the option takes a value
 abbrev pub named : Choice → Rule
 named choice = record (new_rule choice.name.now) {
   short = choice.letter;
@@ -191,12 +168,9 @@ chosen choice = record (named choice) {
   value_names = if is_some choice.value then 1 else 0;
 }
 
--- the command with the option of this row appended
 abbrev pub with_choice : App → Choice → App
 with_choice app choice = with_rule app (chosen choice)
 
--- the command with the option of this row appended, in its form for hardware, or the command itself if a program for
--- hardware lacks this option
 abbrev pub with_hardware_choice : App → Choice → App
 with_hardware_choice app choice =
     if is_for_hardware choice.name.now then with_rule app (hardware_form (chosen choice)) else app

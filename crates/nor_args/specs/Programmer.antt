@@ -14,11 +14,9 @@ use Rattle.nor_args.specs.Text.{Text, pieces_of, key_of, value_of, reads}
 abbrev pub IsConfigOfEmulated : Emulated → Config → Type 0
 IsConfigOfEmulated chip = IsMadeOf chip.part
 
--- true if `name` isn't empty, and so may be the name of a file
 abbrev pub is_file : Text → Bool
 is_file name = nat_lt 0 (length name)
 
--- the known keys, each with the test that its values pass
 abbrev pub keys : List (Text × (Text → Bool))
 keys =
     (codes "emulate", reads emulated_named)
@@ -31,15 +29,12 @@ keys =
     ∷ (codes "power", reads byte_number)
     ∷ []
 
--- true if the key of `setting` is `key`
 abbrev pub has_key : (key setting : Text) → Bool
 has_key key setting = bytes_eq (key_of setting) key
 
--- true if `key` is known and `value` passes the test of this key
 abbrev pub may_have : (key value : Text) → Bool
 may_have key value = list_any (λ known. bytes_eq key known.0 && known.1 value) keys
 
--- true if the setting has a known key and a value that passes this key's test
 abbrev pub is_setting : Text → Bool
 is_setting setting = may_have (key_of setting) (value_of setting)
 
@@ -47,7 +42,6 @@ is_setting setting = may_have (key_of setting) (value_of setting)
 abbrev pub is_alone_in : List Text → Text → Bool
 is_alone_in settings setting = nat_le (count_by (has_key (key_of setting)) settings) 1
 
--- true if each of `settings` has a known key and a value that this key may have, and no two of them have the same key
 abbrev pub are_settings : List Text → Bool
 are_settings settings = list_all (λ setting. is_setting setting && is_alone_in settings setting) settings
 
@@ -55,26 +49,22 @@ are_settings settings = list_all (λ setting. is_setting setting && is_alone_in 
 abbrev pub settings_of : Text → List Text
 settings_of text = pieces_of (drop 6 text)
 
--- the value of the first of `settings` that has this key, or `None` if none has it
 abbrev pub value_in : List Text → Text → Option Text
 value_in settings key = option_map value_of (find (has_key key) settings)
 
--- the value that `text` gives to `key`, or `None` if `text` lacks the key; `text` is the value of `-p`
+-- the value of `key` in `text`, the value of `-p`
 abbrev pub said : (text key : Text) → Option Text
 said text = value_in (settings_of text)
 
--- true if the text describes a programmer: it consists of `dummy:` and correct settings, and one of these names the
--- chip
+-- true if the text consists of `dummy:` and correct settings, one of which names the chip
 abbrev pub is_programmer_text : Text → Bool
 is_programmer_text text = starts_with nat_eq text (codes "dummy:")
     && (are_settings (settings_of text) && is_some (option_and_then emulated_named (said text (codes "emulate"))))
 
--- true if the text describes a programmer with a `stop=`
 abbrev pub has_stop : Text → Bool
 has_stop text = is_programmer_text text && is_some (option_and_then decimal_number (said text (codes "stop")))
 
--- Holds if the text describes this programmer: each field has the value of its key, or is `None` if the text lacks the
--- key.
+-- Holds if the text describes this programmer; a field is `None` if its key is missing.
 pub record IsProgrammer (text : Text) (programmer : Programmer) : Type 0 where
   pub sound : is_programmer_text text ≡ true
   pub chip : option_and_then emulated_named (said text (codes "emulate")) ≡ Some programmer.chip.part

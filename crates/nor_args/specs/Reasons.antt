@@ -1,5 +1,4 @@
--- The reasons of usage faults: for each fault that the options may have (specs/Faults.antt), what is wrong with the
--- options.
+-- The reasons of usage faults: what is wrong with the options.
 use Rattle.std.specs.Prelude.{◌≡◌, ◌&&◌, ◌||◌, ℕ, Bool, true, false, ⊤, List, [], ◌∷◌, Option, Some, None, codes}
 use Rattle.std.specs.Prelude.{find, is_some, nat_eq, not, reverse, if◌then◌else◌}
 use Rattle.std.specs.List.{list_any, starts_with}
@@ -20,7 +19,6 @@ use Rattle.nor_args.specs.declared.reasons.WrongArguments.{WrongArguments}
 use Rattle.nor_args.specs.declared.words.UsageFault.{UsageFault}
 use Rattle.nor_args.specs.declared.words.UsageFault.TheVariants as why
 
--- the option as you type it
 abbrev pub option_text : OptionName → List ℕ
 option_text option.List = codes "-L"
 option_text option.FlashSize = codes "--flash-size"
@@ -54,29 +52,23 @@ option_text option.Output = codes "-o"
 
 -- ---- fault 3
 
--- true if `setting`, one of `settings`, has an unknown key, a wrong value, or a key that another of `settings` has, too
 unfoldable pub is_flawed : List Text → Text → Bool
 is_flawed settings setting = not (is_setting setting) || not (is_alone_in settings setting)
 
--- the first of `settings` for which `is_flawed` is true
 abbrev pub first_flawed : List Text → Option Text
 first_flawed settings = find (is_flawed settings) settings
 
--- true if the setting has a known key
 abbrev pub has_known_key : Text → Bool
 has_known_key setting = list_any (λ known. has_key known.0 setting) keys
 
--- The flaw of a setting that has a flaw. `known` says whether its key is known, and `valid` says whether the key is
--- known and may have the setting's value. If both are true, another setting has the same key.
+-- The flaw of a setting that has one: if its key and value are right, another setting has the same key.
 abbrev pub flaw_by : (known valid : Bool) → Flaw
 flaw_by known valid = if not known then flaw.Key else if valid then flaw.Twice else flaw.Value
 
--- what is wrong with `setting`, which must have a flaw
 abbrev pub flaw_of : Text → Flaw
 flaw_of setting = flaw_by (has_known_key setting) (is_setting setting)
 
--- Holds if this is the reason why the value of `-p` is wrong. `NoPrefix`: the value doesn't begin with `dummy:`.
--- `Setting`: this is the first setting with a flaw. `NoChip`: no setting has a flaw, so `emulate=` is missing.
+-- Holds if this is the reason why the value of `-p` is wrong.
 abbrev pub IsWrongProgrammer : Text → Reason → Type 0
 IsWrongProgrammer text because.NoPrefix = starts_with nat_eq text (codes "dummy:") ≡ false
 IsWrongProgrammer text (because.Setting setting wrong) = (starts_with nat_eq text (codes "dummy:") ≡ true)
@@ -98,78 +90,69 @@ operation_choices given =
     ∷ (is_some given.backup, option.Backup) ∷ (is_some given.check_journal, option.CheckJournal)
     ∷ (given.wp_enable, option.WpEnable) ∷ (given.wp_disable, option.WpDisable) ∷ []
 
--- the reason that names `first` and `last`, the first and the last of the options that are given
 abbrev pub operations_reason : (first last : Option OptionName) → Reason
 operations_reason (Some first) (Some last) = because.Operations first last
 operations_reason first last = because.Unsaid
 
 -- ---- faults 5 to 9
 
--- Holds if the reason of fault 5 contains this value of `--wp-range`. Without a value there is no reason (`Unsaid`).
 abbrev pub IsWrongRange : Option Text → Reason → Type 0
 IsWrongRange (Some value) (because.Range text) = text.now ≡ value
 IsWrongRange None because.Unsaid = ⊤
 IsWrongRange value _ = ⊥
 
--- Holds if the reason of fault 5 contains this value of `--progress`. Without a value there is no reason (`Unsaid`).
 abbrev pub IsWrongMode : Option Text → Reason → Type 0
 IsWrongMode (Some value) (because.Progress text) = text.now ≡ value
 IsWrongMode None because.Unsaid = ⊤
 IsWrongMode value _ = ⊥
 
--- the reason of fault 5 that names an option with the file `-`
 abbrev pub dash_reason : Option OptionName → Reason
 dash_reason (Some option) = because.Dash option
 dash_reason None = because.Unsaid
 
--- Holds if this is the reason of fault 5: the value of `--progress` if `wrong_mode` is true, otherwise the value of
--- `--wp-range` if `wrong_range` is true, otherwise the first option that names the file `-`.
+-- Holds if this is the reason of fault 5: first a wrong `--progress`, then a wrong `--wp-range`, then a file `-`.
 abbrev pub IsWrongValue : (wrong_mode wrong_range : Bool) → Texts → Reason → Type 0
 IsWrongValue true wrong_range given reason = IsWrongMode given.progress reason
 IsWrongValue false true given reason = IsWrongRange given.wp_range reason
 IsWrongValue false false given reason = reason ≡ dash_reason (dashed given)
 
--- the first of `-w`, `-E` and `--wp-range` that is given; `--wp-range` also if none of them is given
+-- the option that asks for the change; `--wp-range` also if none does
 abbrev pub change_option : Texts → OptionName
 change_option given = if is_some given.write then option.Write else if given.erase then option.Erase else option.WpRange
 
--- the reason of fault 6: both `--journal` and `--rehearse` are given, or a change is given without either, or one of
--- them without a change
+-- the reason of fault 6
 abbrev pub journal_reason : Texts → Reason
 journal_reason given =
     if is_some given.journal && is_some given.rehearse then because.JournalAndRehearse
     else if asks_change given then because.NoJournal (change_option given)
     else because.NoChange (if is_some given.journal then option.Journal else option.Rehearse)
 
--- each option that gives a layout with whether it is given, in the order of `layouts_given`
 abbrev pub layout_choices : Texts → List Choosing
 layout_choices given =
     (is_some given.layout, option.Layout) ∷ (is_some given.fmap_file, option.FmapFile)
     ∷ (is_some given.ifd_file, option.IfdFile) ∷ (given.fmap, option.Fmap) ∷ (given.ifd, option.Ifd) ∷ []
 
--- the reason of fault 7 if at most one layout is given: `layout` is its option, and `names` is the value of `-i`
+-- the reason of fault 7 if at most one layout is given
 abbrev pub names_reason : (layout : Option OptionName) → (names : Option Text) → Reason
 names_reason (Some layout) (Some names) = because.NoRegions layout
 names_reason (Some layout) None = because.NoNames layout
 names_reason None names = because.NoLayout
 
--- the reason of fault 7: more than one layout is given, or a layout, `-i` or an operation on regions is missing
+-- the reason of fault 7
 abbrev pub regions_reason : Texts → Reason
 regions_reason given =
     if has_two_layouts given
     then operations_reason (first_given (layout_choices given)) (first_given (reverse (layout_choices given)))
     else names_reason (first_given (layout_choices given)) given.names
 
--- the reason of fault 8 for an option that needs a journal: `--extract-image` needs `--check-journal`, and `--quick` and
--- `--replaced-chip` need `--restore`
+-- the reason of fault 8 for an option that needs `--check-journal` or `--restore`
 abbrev pub journal_option_reason : Texts → Reason
 journal_option_reason given =
     if lacks_check given then because.NoCheck
     else if given.quick && not (is_some given.restore) then because.NoRestore option.Quick
     else because.NoRestore option.ReplacedChip
 
--- the reason of fault 8: the option that is given without the operation that it needs. `-n` and `--unlock` need `-w` or
--- `-E`, and `-N` needs one of these or `--restore`. `journal_option_reason` has the other options.
+-- the reason of fault 8: the option that is given without the operation that it needs
 abbrev pub unneeded_reason : Texts → Reason
 unneeded_reason given =
     if is_new_content given then journal_option_reason given
@@ -182,9 +165,7 @@ unneeded_reason given =
 abbrev pub first_unread : Text → Option Text
 first_unread text = find (λ piece. not (reads decimal_number piece)) (pieces_of text)
 
--- Holds if this is the reason of fault 9. `Stop`: the first part of the value of `--rehearse` that isn't a number.
--- `ManyStops`: the value has more than 64 numbers. `StopAndRehearse`: the value is correct, so the fault is the `stop=`
--- of `-p`.
+-- Holds if this is the reason of fault 9. If the value of `--rehearse` is correct, the fault is a `stop=` of `-p`.
 abbrev pub IsWrongStops : Option Text → Reason → Type 0
 IsWrongStops (Some text) (because.Stop piece) = first_unread text ≡ Some piece.now
 IsWrongStops (Some text) because.ManyStops = (first_unread text ≡ None) × (stops_of text ≡ None)
@@ -194,7 +175,6 @@ IsWrongStops text _ = ⊥
 
 -- ---- all faults
 
--- Holds if this is the reason of fault 3 for this value of `-p`, which is `None` if `-p` is missing.
 abbrev pub IsProgrammerReason : Option Text → Reason → Type 0
 IsProgrammerReason (Some text) reason = IsWrongProgrammer text reason
 IsProgrammerReason None reason = reason ≡ because.Unsaid
@@ -213,6 +193,5 @@ IsReason given why.Unneeded reason = reason ≡ unneeded_reason given
 IsReason given why.Stops reason = IsWrongStops given.rehearse reason
 IsReason given _ reason = reason ≡ because.Unsaid
 
--- Holds if `wrong` has the fault `Memory` (out of memory), which has no reason.
 abbrev pub IsOutOfMemory : WrongArguments → Type 0
 IsOutOfMemory wrong = (wrong.fault ≡ why.Memory) × (wrong.reason ≡ because.Unsaid)

@@ -4,8 +4,7 @@ use Rattle.std.specs.List.{list_all}
 use Rattle.nor_args.specs.Text.{Text, pieces_of, reads}
 use Rattle.nor_args.specs.Numbers.{decimal_number}
 
--- the numbers that the commas of the text separate, or `None` if some part isn't a number or there are more than 64
--- parts
+-- the numbers between the commas; `None` if a part isn't a number, or if there are more than 64 parts
 abbrev pub stops_of : Text → Option (List ℕ)
 stops_of text =
     if list_all (reads decimal_number) (pieces_of text) && nat_le (length (pieces_of text)) 64

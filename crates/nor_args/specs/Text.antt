@@ -7,8 +7,7 @@ use Rattle.std.specs.List.{slice_split, before_first, after_first}
 abbrev pub Text : Type 0
 Text = List ℕ
 
--- true for a character that a terminal doesn't show as itself: a control character (U+0000 to U+001F or U+007F to
--- U+009F), or one that changes the direction of the text after it (U+202A to U+202E or U+2066 to U+2069)
+-- true for a control character, and for one that changes the direction of the text after it
 abbrev pub is_hidden : (character : ℕ) → Bool
 is_hidden character = is_control character
     || ((nat_le 0x202A character && nat_le character 0x202E) || (nat_le 0x2066 character && nat_le character 0x2069))
@@ -21,7 +20,6 @@ pieces_of = slice_split (λ byte. byte == 44)
 abbrev pub front_of : Text → Text
 front_of = before_first (λ byte. byte == 44)
 
--- the bytes that follow the first comma, or no bytes if the text has no comma
 abbrev pub rest_of : Text → Text
 rest_of = after_first (λ byte. byte == 44)
 
@@ -29,14 +27,11 @@ rest_of = after_first (λ byte. byte == 44)
 abbrev pub key_of : Text → Text
 key_of = before_first (λ byte. byte == 61)
 
--- the bytes that follow the first `=`, or no bytes if the text has no `=`
 abbrev pub value_of : Text → Text
 value_of = after_first (λ byte. byte == 61)
 
--- the bytes that follow the first `:`, or no bytes if the text has no `:`
 abbrev pub after_colon : Text → Text
 after_colon = after_first (λ byte. byte == 58)
 
--- true if the parser `reading` returns a value for the text
 abbrev pub reads : {T : Type 0} → (Text → Option T) → Text → Bool
 reads reading text = is_some (reading text)

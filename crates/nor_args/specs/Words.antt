@@ -1,4 +1,4 @@
--- Which arguments ask for which job, which have which usage fault, and which ask neither for a job nor for help.
+-- Which arguments ask for which job, and which have which usage fault.
 use Rattle.std.specs.Prelude.{◌≡◌, ◌≢◌, [], List, Some, None, ⊤, ◌⊎◌, drop, false, map, string_bytes, true}
 use Rattle.std.specs.Global.{Global}
 use Rattle.std.specs.Vec.Iter.{into_iter_items}
@@ -24,77 +24,60 @@ use Rattle.nor_args.specs.declared.words.UsageFault.TheVariants as why
 abbrev pub arguments_of : IntoIter (String Global) Global → List Text
 arguments_of args = map string_bytes (drop 1 (into_iter_items args))
 
--- the kinds of error with which `clap` may reject the arguments of flashnor; the list is empty if `clap` accepts them
+-- the kinds of error with which `clap` may reject the arguments of flashnor; none if `clap` accepts them
 abbrev pub refusals_of : List Text → Kinds
 refusals_of words = fault_of options words
 
--- Holds if the arguments of flashnor ask for this job: `clap` accepts the arguments, the options have no fault, and
--- each part of the job has the value of its option.
 pub record IsJob (words : List Text) (job : Job) : Type 0 where
   pub taken : refusals_of words ≡ []
   pub sound : first_fault (usage_faults (given_by words)) ≡ None
   pub asked : IsAsked (given_by words) job
 
--- Holds if a run with these arguments may report this fault. For the fault `Words`, `clap` may reject the arguments
--- with an error of this kind. For the faults 2 to 9, `clap` accepts the arguments, and this is the first fault that the
--- options have. The fault `Memory` (out of memory) is possible with any arguments.
+-- Holds if a run with these arguments may report this fault. Memory may run out with any arguments.
 abbrev pub IsFault : List Text → UsageFault → Type 0
 IsFault words (why.Words error) = IsAmong (kind_of error) (refusals_of words)
 IsFault words why.Memory = ⊤
 IsFault words fault = (refusals_of words ≡ []) × (first_fault (usage_faults (given_by words)) ≡ Some fault)
 
--- Holds if a run with these arguments may report this fault, and the reason belongs to the fault.
 pub record AreWrong (words : List Text) (wrong : WrongArguments) : Type 0 where
   pub fault : IsFault words wrong.fault
   pub reason : IsReason (given_by words) wrong.fault wrong.reason
 
--- Holds for the usage fault that an error of `clap` becomes: `Memory` if memory ran out, otherwise `Words`.
 abbrev pub BecomesFault : Error → UsageFault → Type 0
 BecomesFault error fault =
     ((kind_of error ≡ kind.OutOfMemory) × (fault ≡ why.Memory))
     ⊎ ((kind_of error ≢ kind.OutOfMemory) × (fault ≡ why.Words error))
 
--- Holds if `wrong` has the fault that an error of `clap` becomes, and no reason.
 pub record BecomesWrong (error : Error) (wrong : WrongArguments) : Type 0 where
   pub fault : BecomesFault error wrong.fault
   pub reason : wrong.reason ≡ because.Unsaid
 
--- Holds if the arguments ask neither for a job nor for help.
 pub record IsRefusedArguments (words : List Text) : Type 0 where
   pub no_job : (job : Job) → IsJob words job → ⊥
   pub no_help : IsAmong kind.DisplayHelp (refusals_of words) → ⊥
 
 -- ---- programs for hardware
 
--- the kinds of error with which `clap` may reject the arguments of a program for hardware with this name; the list is
--- empty if `clap` accepts them
 abbrev pub hardware_refusals_of : (program : Text) → List Text → Kinds
 hardware_refusals_of program words = fault_of (hardware_options program) words
 
--- Holds if the arguments of the program with this name ask for this job: `clap` accepts the arguments, and the options
--- in them ask for the job (`IsHardwareAsked`).
 pub record IsHardwareJob (program : Text) (words : List Text) (job : HardwareJob) : Type 0 where
   pub taken : hardware_refusals_of program words ≡ []
   pub asked : IsHardwareAsked (hardware_given_by program words) job
 
--- Holds if the options of a program for hardware ask for no job, because of this fault. If `--check-journal` or `-L` is
--- given, this is the first of the faults 4 to 9 that the options have. If neither is given, nor `-p`, it is fault 2.
+-- Holds if the options of a program for hardware ask for no job because of this fault.
 abbrev pub HasNoJob : Texts → UsageFault → Type 0
 HasNoJob given fault =
     ((is_on_chip given ≡ false) × (first_fault (operation_faults given) ≡ Some fault))
     ⊎ ((is_on_chip given ≡ true) × ((fault ≡ why.NoProgrammer) × (given.programmer ≡ None)))
 
--- Holds if a run of the program with this name may report this fault for these arguments. For the fault `Words`, `clap`
--- may reject the arguments with an error of this kind. For another fault, `clap` accepts the arguments, and the options
--- have this fault (`HasNoJob`). The fault `Memory` (out of memory) is possible with any arguments.
+-- Holds if a run of this program for hardware may report this fault for these arguments.
 abbrev pub IsHardwareFault : (program : Text) → List Text → UsageFault → Type 0
 IsHardwareFault program words (why.Words error) = IsAmong (kind_of error) (hardware_refusals_of program words)
 IsHardwareFault program words why.Memory = ⊤
 IsHardwareFault program words fault =
     (hardware_refusals_of program words ≡ []) × HasNoJob (hardware_given_by program words) fault
 
--- Holds if a run of the program with this name may report this fault for these arguments, and the reason belongs to the
--- fault.
 pub record AreWrongForHardware (program : Text) (words : List Text) (wrong : WrongArguments) : Type 0 where
   pub fault : IsHardwareFault program words wrong.fault
   pub reason : IsReason (hardware_given_by program words) wrong.fault wrong.reason

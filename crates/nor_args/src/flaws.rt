@@ -9,8 +9,7 @@ use crate::programmer::Emulated;
 use crate::reasons::{Flaw, Reason};
 use crate::settings::{is_alone, split_setting};
 
-/// Returns the reason why `text` is a wrong value of `-p`: it doesn't begin with `dummy:`, a setting has a flaw, or
-/// `emulate=` is missing. For a value that isn't wrong, the function returns `NoChip`, too.
+/// Returns the reason why `text` is a wrong value of `-p`. For a correct value the result is `NoChip`, too.
 pub fn programmer_reason(text: &str) -> Reason<'_>
     ensures { IsWrongProgrammer text.now result }
 {
@@ -26,8 +25,7 @@ pub fn programmer_reason(text: &str) -> Reason<'_>
     }
 }
 
-/// Returns whether each setting in `list` has a known key and a value that this key may have, and no two settings have
-/// the same key.
+/// Returns whether each setting in `list` has a known key and a correct value, and no two have the same key.
 pub fn are_settings(list: &str) -> bool
     ensures { result ≡ are_settings (pieces_of list.now) }
 {
@@ -35,7 +33,6 @@ pub fn are_settings(list: &str) -> bool
         .all(|setting| is_setting(setting) && is_alone(list, setting))
 }
 
-// True if `setting` has a known key and a value that this key may have.
 fn is_setting(setting: &str) -> bool
     ensures { result ≡ is_setting setting.now }
 {
@@ -51,15 +48,12 @@ fn is_setting(setting: &str) -> bool
     }
 }
 
-// Returns the first setting in `list` with an unknown key, a wrong value, or a key that another setting has, too.
-// Returns `None` if there is none.
 fn first_flawed(list: &str) -> Option<&str>
     ensures { option_map (λ setting. setting.now) result ≡ first_flawed (pieces_of list.now) }
 {
     list.split(',').find(|setting| is_flawed(list, setting))
 }
 
-// True if `setting` has an unknown key, a wrong value, or a key that another setting in `list` has, too.
 #[tactic(auto, unfolding(crate::specs::Reasons::is_flawed))]
 fn is_flawed(list: &str, setting: &str) -> bool
     ensures { result ≡ is_flawed (pieces_of list.now) setting.now }
@@ -67,8 +61,7 @@ fn is_flawed(list: &str, setting: &str) -> bool
     !is_setting(setting) || !is_alone(list, setting)
 }
 
-// Returns what is wrong with `setting`. If its key is known and its value is valid, the result is that another setting
-// has the same key.
+// If the key is known and the value is correct, another setting has the same key.
 fn flaw_of(setting: &str) -> Flaw
     ensures { result ≡ flaw_of setting.now }
 {

@@ -1,5 +1,4 @@
-//! The values of the options in the arguments, and the job that these options ask for or the first usage fault that
-//! they have.
+//! The values of the options, and the job that they ask for or their first usage fault.
 ghost use Rattle.std.specs.Prelude.{◌≡◌, None, Some, codes, false, is_some, true, option_map, option_and_then};
 ghost use Rattle.std.specs.Prelude.{MatchOption, MatchResult};
 ghost use Rattle.std.specs.Option.{IsSomeAnd};
@@ -39,12 +38,10 @@ mod reasons;
 
 pub use names::{chip_named, joined_names};
 
-// A correct value of `-p`, without a `stop=`. The other options of a program for hardware are checked as if this were
-// the value of its `-p`.
+// A correct value of `-p`, with which the other options of a program for hardware are checked.
 const ANY_CHIP: &str = "dummy:emulate=TINY64";
 
-/// The options in the arguments. An option that takes a value has that value, or `None` if it isn't given. A flag is
-/// true if it is set.
+/// The values of the options: `None` or false if an option isn't given.
 #[derive(Clone, Copy)]
 pub struct Given<'a> {
     programmer: Option<&'a str>,
@@ -88,8 +85,7 @@ pub struct Given<'a> {
 impl<'a> Given<'a> {
     ghost use Rattle.nor_args.specs.Given.{texts_of};
 
-    /// Collects the options of flashnor from the result of `clap`. The options that only programs for hardware have are
-    /// missing or false.
+    /// Collects flashnor's options from the result of `clap`; those that only programs for hardware have are missing.
     pub fn of(matches: &ArgMatches<'a>) -> Given<'a>
         ensures { texts_of result ≡ given_in (rows_of (found_of matches.now)) }
     {
@@ -132,8 +128,7 @@ impl<'a> Given<'a> {
         }
     }
 
-    /// Collects the options of a program for hardware from the result of `clap`. `--rehearse`, which these programs
-    /// lack, is missing. `names` must be the values of `-i`, as `joined_names` joins them.
+    /// Collects the options of a program for hardware from the result of `clap`. `names` must come from `joined_names`.
     pub fn of_hardware(matches: &ArgMatches<'a>, names: Option<&'a str>) -> Given<'a>
         requires { option_map (λ text. text.now) names
             ≡ joined_in (rows_of (found_of matches.now)) (codes "include") }
@@ -163,8 +158,8 @@ impl<'a> Given<'a> {
         }
     }
 
-    /// Returns the job that the options ask for, or the first of the faults 2 to 9 that they have. The options must not
-    /// include `--check-journal`.
+    /// Returns the job that the options ask for, or the first of their faults 2 to 9. `--check-journal` must be
+    /// missing.
     pub fn job(self) -> Result<Job<'a>, UsageFault>
         requires { (texts_of self).check_journal ≡ None }
         ensures { MatchResult result
@@ -184,12 +179,11 @@ impl<'a> Given<'a> {
         }
     }
 
-    /// Returns the job of a program for hardware. With `--check-journal` the job has the file name of the journal, and
-    /// with `--extract-image` also that of the image. With `-L` it is the list of chips. Otherwise it has the value of
-    /// `-p`, and the operation or the first of the faults 4 to 9 that the options have.
+    /// Returns the job of a program for hardware: with `--check-journal` the check of a journal, with `-L` the list of
+    /// chips, otherwise the value of `-p` and the operation or the first of the faults 4 to 9.
     ///
     /// With `--check-journal` or `-L`, returns the first of the faults 4 to 9 if the options have one. Returns fault 2
-    /// if `-p`, `--check-journal` and `-L` are all missing. `named` must be the chip that `-c` names (`chip_named`).
+    /// if `-p` is missing, too. `named` must be the result of `chip_named`.
     pub fn hardware_job(
         self,
         named: Option<ChipName>,
@@ -219,8 +213,6 @@ impl<'a> Given<'a> {
         }
     }
 
-    // Returns the operation that the options ask for, or the first of the faults 4 to 9 that they have, with its
-    // reason. The options must include neither `-L`, so that the job is never a list of chips, nor `--check-journal`.
     fn operation(self, named: Option<ChipName>) -> Result<Operation<'a>, WrongArguments<'a>>
         requires { (self.list ≡ false) × ((texts_of self).check_journal ≡ None)
             × (named ≡ option_map name_in_any_case (texts_of self).chip) }
@@ -245,8 +237,7 @@ impl<'a> Given<'a> {
         }
     }
 
-    // Returns the same options with `ANY_CHIP` as the value of `-p`. The faults of the other options are the same for
-    // each correct value without a `stop=`, so any such value will do.
+    // The faults of the other options are the same for each correct value of `-p` without a `stop=`.
     fn emulated(&self) -> Given<'a>
         ensures { texts_of result
             ≡ record (texts_of self.now) { programmer = Some (codes "dummy:emulate=TINY64") } }
@@ -257,7 +248,6 @@ impl<'a> Given<'a> {
         }
     }
 
-    // Returns the value that SRP0 must get, or `None` without `--wp-enable` and `--wp-disable`.
     fn srp0(&self) -> Option<bool>
         ensures { result ≡ srp0_of (texts_of self.now) }
     {
@@ -270,7 +260,6 @@ impl<'a> Given<'a> {
         }
     }
 
-    // Returns the mode that `--progress` names, or `Auto` if the option is missing or its value isn't a mode.
     fn progress_mode(&self) -> ProgressMode
         ensures { result ≡ progress_mode (texts_of self.now) }
     {
@@ -280,7 +269,6 @@ impl<'a> Given<'a> {
         }
     }
 
-    // Returns the programmer that the value of `-p` describes, or `None` if `-p` is missing or its value is wrong.
     #[tactic(auto, using(crate::proofs::OptionValues::means_read))]
     fn parsed_programmer(&self) -> Option<Programmer<'a>>
         ensures { MatchOption result (passes_test is_programmer_text (texts_of self.now).programmer ≡ false)
@@ -289,7 +277,6 @@ impl<'a> Given<'a> {
         self.programmer.and_then(Programmer::read)
     }
 
-    // Returns the range that `--wp-range` gives, or `None` if the option is missing or its value can't be parsed.
     #[tactic(auto, using(crate::proofs::Begins::and_then_read))]
     fn parsed_range(&self) -> Option<(u32, u32)>
         ensures { option_and_then range_of (texts_of self.now).wp_range ≡ result }
@@ -297,7 +284,6 @@ impl<'a> Given<'a> {
         self.wp_range.and_then(read_range)
     }
 
-    // Returns the stops that `--rehearse` gives, or `None` if the option is missing or its value can't be parsed.
     #[tactic(auto, using(crate::proofs::OptionValues::viewed_read))]
     fn parsed_stops(&self) -> Option<ArrayVec<u64, MOST_STOPS>>
         ensures { option_and_then stops_of (texts_of self.now).rehearse ≡ option_map (λ stops. stops.items) result }
@@ -305,8 +291,6 @@ impl<'a> Given<'a> {
         self.rehearse.and_then(read_stops)
     }
 
-    // Returns the operation on the chip. The options must have no fault, and must include neither `-L` nor
-    // `--check-journal`.
     fn task(&self) -> Task<'a>
         requires { ((texts_of self.now).list ≡ false) × ((texts_of self.now).check_journal ≡ None)
             × (first_fault (usage_faults (texts_of self.now)) ≡ None) }
@@ -324,8 +308,6 @@ impl<'a> Given<'a> {
         })
     }
 
-    // Returns the target of a change, or `None` if the options include neither `-w` nor `-E` nor a `--wp-range` whose
-    // value can be parsed.
     fn wanted(&self) -> Option<Wanted<'a>>
         ensures { MatchOption result ((is_new_content (texts_of self.now) ≡ false)
             × (option_and_then range_of (texts_of self.now).wp_range ≡ None))
@@ -339,8 +321,7 @@ impl<'a> Given<'a> {
         }
     }
 
-    // Returns what is done with the journal of a change. If there is no `--journal`, the value of `--rehearse` must be
-    // a list of stops, so the `unwrap` can't fail.
+    // Without `--journal`, `--rehearse` is a list of stops, so the `unwrap` can't fail.
     fn journal_use(&self) -> JournalUse<'a>
         requires { (texts_of self.now).journal ≡ None
             → is_some (option_and_then stops_of (texts_of self.now).rehearse) ≡ true }
@@ -354,8 +335,6 @@ impl<'a> Given<'a> {
         }
     }
 
-    // Returns the layout and the names of the included regions, or `None` if both are missing. The options must not
-    // have fault 7.
     fn regions(&self) -> Option<Regions<'a>>
         requires { has_wrong_regions (texts_of self.now) ≡ false }
         ensures { IsRegions (texts_of self.now) result }
@@ -370,9 +349,6 @@ impl<'a> Given<'a> {
         }
     }
 
-    // Returns the operation on the chip if the options ask for no change of it. Then the operation is `Probe` if they
-    // name no operation. The options must not have fault 7, and must include none of `-L`, `--check-journal`, `-w`,
-    // `-E` and `--wp-range`.
     fn plain_task(&self) -> Task<'a>
         requires { ((texts_of self.now).list ≡ false) × ((texts_of self.now).check_journal ≡ None)
             × (asks_change (texts_of self.now) ≡ false)

@@ -30,13 +30,12 @@ pub struct ChipJob<'a> {
 /// The job that the arguments of a program for hardware ask for.
 #[derive(Drop)]
 pub enum HardwareJob<'a> {
-    /// `--check-journal FILE`: describe the journal in the named file, and with `--extract-image` also write the image
-    /// in it into the file `image`. This needs no programmer, so `-p` is ignored.
+    /// `--check-journal FILE`: describe the journal; with `--extract-image`, write its image to `image`. Ignores `-p`.
     CheckJournal {
         file: &'a str,
         image: Option<&'a str>,
     },
-    /// `-L`: list the chips that have a row. This needs no programmer, so `-p` is ignored.
+    /// `-L`: list the chips that have a row. Ignores `-p`.
     List,
     /// Without `--check-journal` and `-L`: a job on the chip of a programmer.
     Chip(ProgrammerJob<'a>),
@@ -48,8 +47,7 @@ pub struct ProgrammerJob<'a> {
     /// The value of `-p` as you typed it. This crate doesn't parse it.
     pub programmer: &'a str,
     /// The operation that the options ask for, or the first of the usage faults 4 to 8 that they have, with its reason.
-    /// Fault 9 can't occur, because there is no `--rehearse`. If the program finds that the value of `-p` is wrong, it
-    /// must report usage fault 3 instead of a fault in this field.
+    /// If the value of `-p` is wrong, the program must report usage fault 3 instead.
     pub operation: Result<Operation<'a>, WrongArguments<'a>>,
 }
 
@@ -58,8 +56,7 @@ pub struct ProgrammerJob<'a> {
 pub struct Operation<'a> {
     /// `-c NAME`: the name that the chip must have.
     pub named: Option<ChipName>,
-    /// True without `-N`: after a restore, the program compares the sectors that the journal doesn't save. After a
-    /// write or an erase without `-n`, it compares the whole chip.
+    /// True without `-N`: compare what a restore left alone, and the whole chip after a verified write or erase.
     pub verifies_all: bool,
     /// True with `--quick`: a restore rewrites only the saved sectors that differ.
     pub is_quick: bool,
@@ -69,8 +66,7 @@ pub struct Operation<'a> {
     pub is_backup: bool,
     /// True with `--flash-name`: `task` is `Task::Probe`, and the program prints only the name of the identified chip.
     pub is_flash_name: bool,
-    /// `Some(true)` with `--wp-enable`, `Some(false)` with `--wp-disable`: `task` is `Task::Probe`, and the program
-    /// sets or clears SRP0, bit 7 of status 1.
+    /// `--wp-enable` (true) or `--wp-disable` (false): `task` is `Task::Probe`. Sets or clears SRP0, bit 7 of status 1.
     pub srp0: Option<bool>,
     /// The mode of `--progress MODE`: how the program shows its progress.
     pub progress: ProgressMode,
@@ -85,8 +81,8 @@ pub struct Operation<'a> {
 /// How a program for hardware shows the progress of its job.
 #[derive(Clone, Copy)]
 pub enum ProgressMode {
-    /// `auto`, also without `--progress`: progress is shown only if standard error is a character device. On a terminal
-    /// it is one line that is rewritten, on any other character device it is lines below each other.
+    /// `auto`, the default: on standard error, one line that is rewritten on a terminal, lines on another character
+    /// device, and nothing otherwise.
     Auto,
     /// `plain`: progress is shown as lines below each other, even if standard error is a file or a pipe.
     Plain,
@@ -97,8 +93,7 @@ pub enum ProgressMode {
 impl ProgressMode {
     ghost use Rattle.nor_args.specs.Given.{progress_of};
 
-    /// Returns the mode that a value of `--progress` names: `auto`, `plain` or `none`. Returns `None` for any other
-    /// text.
+    /// Returns the mode that `auto`, `plain` or `none` names, or `None` for any other text.
     pub fn read(text: &str) -> Option<ProgressMode>
         ensures { result ≡ progress_of text.now }
     {
@@ -117,8 +112,7 @@ impl ProgressMode {
 /// An operation on a chip.
 #[derive(Drop)]
 pub enum Task<'a> {
-    /// Only identify the chip, because no operation is given. For `--flash-name`, `--wp-enable` and `--wp-disable` of a
-    /// program for hardware the task is the same; `Operation::is_flash_name` or `Operation::srp0` tells them apart.
+    /// Only identify the chip: without an operation, and for `Operation::is_flash_name` and `Operation::srp0`.
     Probe,
     /// `--flash-size`: print the size of the chip.
     FlashSize,
@@ -126,8 +120,7 @@ pub enum Task<'a> {
     WpStatus,
     /// `--wp-list`: list the ranges that can be protected.
     WpList,
-    /// `-r FILE`: read the chip into the named file. For `--backup FILE` of a program for hardware the task is the
-    /// same, and `Operation::is_backup` is true.
+    /// `-r FILE`, or `--backup FILE` (`Operation::is_backup`): read the chip into the named file.
     Read {
         file: &'a str,
         regions: Option<Regions<'a>>,
@@ -148,8 +141,7 @@ pub enum Task<'a> {
 /// The regions to which an operation is limited: a layout, and the names of the included regions.
 #[derive(Clone, Copy)]
 pub struct Regions<'a> {
-    /// `-l FILE`, or for a program for hardware `--fmap-file FILE` or `--ifd-file FILE`: the name of the file with the
-    /// layout. `None` with `--fmap` or `--ifd` of a program for hardware: the layout is read from the chip.
+    /// The file that `-l`, `--fmap-file` or `--ifd-file` names, or `None` if the layout is read from the chip.
     pub layout: Option<&'a str>,
     /// The form of the layout.
     pub form: LayoutForm,
@@ -162,8 +154,7 @@ pub struct Regions<'a> {
 pub enum LayoutForm {
     /// `-l` of flashnor: lines `START:END NAME`.
     Lines,
-    /// `-l` of a program for hardware: lines of words `START:END` and `NAME`, with any blanks around them, as in
-    /// flashrom.
+    /// `-l` of a program for hardware: lines `START:END NAME` with any blanks between and around, as in flashrom.
     Words,
     /// `--fmap-file` and `--fmap`: an image or the bytes of the chip, with an FMAP.
     Fmap,
@@ -197,14 +188,12 @@ pub enum Wanted<'a> {
     Range { start: u32, len: u32 },
 }
 
-/// What is done with the journal of a change: it is written into a file, or a rehearsal restores the chip from it in
-/// memory.
+/// What is done with the journal of a change.
 #[derive(Drop)]
 pub enum JournalUse<'a> {
     /// `--journal FILE`: write the journal into the named file.
     Journal { file: &'a str },
-    /// `--rehearse N,N,..`: rehearse the change. The first number of `stops` is the number of transactions after which
-    /// the change is stopped. Each further number is the number of transactions after which one of the following
-    /// restores is stopped. The last restore isn't stopped.
+    /// `--rehearse N,N,..`: rehearse the change, and restore the chip in memory. The change stops after the first
+    /// number of transactions and each restore after the next; the last restore isn't stopped.
     Rehearse { stops: ArrayVec<u64, MOST_STOPS> },
 }

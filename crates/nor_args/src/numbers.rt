@@ -22,8 +22,8 @@ pub fn read_polls(text: &str) -> Option<u16>
     u16::try_from(polls).ok()
 }
 
-/// Parses a start and a length with a comma between them, each in the form that `read_place` accepts. Returns `None`
-/// for any other text.
+/// Parses a start and a length with a comma between them, or returns `None`. Each is hexadecimal after `0x`, else
+/// decimal.
 pub fn read_range(text: &str) -> Option<(u32, u32)>
     ensures { result ≡ range_of text.now }
 {
@@ -31,9 +31,8 @@ pub fn read_range(text: &str) -> Option<(u32, u32)>
     Some((read_place(start)?, read_place(len)?))
 }
 
-/// Parses a clock: a number in the form that `read_number` accepts, of hertz. If `k` or `M` follows the number, in
-/// either case as in flashrom, it is multiplied by 1,000 or 1,000,000. Returns `None` for any other text, for 0 Hz, and
-/// for more than 4,294,967,295 Hz.
+/// Parses a clock: a number of hertz, or of kHz or MHz if `k` or `M` follows it, in either case as in flashrom. Returns
+/// `None` for any other text, for 0 Hz, and for more than 4,294,967,295 Hz.
 pub fn read_clock(text: &str) -> Option<u32>
     ensures { result ≡ clock_of text.now }
 {
@@ -42,7 +41,6 @@ pub fn read_clock(text: &str) -> Option<u32>
     if hertz == 0 { None } else { Some(hertz) }
 }
 
-// Splits a clock into the text of its number and its unit in hertz.
 fn clock_parts(text: &str) -> (&str, u64)
     ensures { (result.0.now ≡ (clock_parts text.now).0) × (result.1 ≡ (clock_parts text.now).1) }
 {
@@ -55,15 +53,12 @@ fn clock_parts(text: &str) -> (&str, u64)
     }
 }
 
-// Returns the text before `unit`, or `None` if the text doesn't end with it.
 fn before_unit<'a>(text: &'a str, unit: &str) -> Option<&'a str>
     ensures { option_map (λ front. front.now) result ≡ before_unit unit.now text.now }
 {
     text.strip_suffix(unit)
 }
 
-// Parses an address or a length: either `0x` and 1 to 8 hexadecimal digits of either case, or 1 to 10 decimal digits
-// with a value that fits in a `u32`. Returns `None` for any other text.
 fn read_place(text: &str) -> Option<u32>
     ensures { result ≡ number_or_length text.now }
 {
@@ -74,7 +69,6 @@ fn read_place(text: &str) -> Option<u32>
     u32::try_from(place).ok()
 }
 
-// Parses 1 to `most` digits to the base `radix`, with a value of at most `greatest`. Returns `None` for any other text.
 fn read_numeral(text: &str, radix: u32, most: usize, greatest: u64) -> Option<u64>
     requires { (2 ≤ radix) × (radix ≤ 36) }
     ensures { result ≡ numeral radix most greatest text.now }
@@ -90,8 +84,7 @@ fn read_numeral(text: &str, radix: u32, most: usize, greatest: u64) -> Option<u6
     }
 }
 
-// True if each byte of `text` is a digit to the base `radix`, also if `text` is empty. This test excludes the leading
-// plus sign that `from_str_radix` accepts.
+// True for an empty text, too. In contrast to `from_str_radix`, this accepts no leading plus sign.
 fn has_digits(text: &str, radix: u32) -> bool
     requires { (2 ≤ radix) × (radix ≤ 36) }
     ensures { result ≡ list_all (λ digit. is_digit digit radix) text.now }

@@ -12,7 +12,6 @@ use std::alloc::{AllocError, Global};
 
 mod hardware;
 
-// The name, the version and the texts of flashnor's help.
 const FLASHNOR: Help = Help {
     program: "flashnor",
     version: "1.0",
@@ -85,16 +84,12 @@ The manual page, flashnor(8), says what to do about each fault.";
 
 // An option: how it is written, and its line in the help.
 struct Choice {
-    // The letter of the option, such as `r` in `-r`. An option without a letter is written with its long name in every
-    // program.
+    // The letter of the option. Every program gives an option without a letter its long name.
     letter: Option<char>,
-    // The option's ID for `clap`, and its long name, such as `read` in `--read`. In flashnor only options without a
-    // letter have a long name.
+    // The option's ID for `clap`, and its long name. In flashnor only options without a letter have a long name.
     name: &'static str,
-    // The placeholder of the option's value in the help. An option without a placeholder is a flag, which takes no
-    // value.
+    // The placeholder of the option's value in the help; a flag has none.
     value: Option<&'static str>,
-    // The description of the option in the help.
     help: &'static str,
 }
 
@@ -210,8 +205,7 @@ static CHOICES: [Choice; 18] = [
     },
 ];
 
-/// Returns the `clap` command that parses the arguments of flashnor, without the program's name. Fails only if memory
-/// runs out.
+/// Returns the `clap` command for flashnor's arguments without the program's name. Fails only if memory runs out.
 pub fn make_options<'a>(alloc: Global) -> Result<Command<'a>, AllocError>
     ensures { IfOk result (λ command. app_of command ≡ options) }
 {
@@ -232,10 +226,8 @@ pub struct Help {
     pub notes: &'static str,
 }
 
-/// Returns the `clap` command of a program for hardware. Its options are those of flashnor except `--rehearse`, which
-/// needs an emulated chip. It also has the options that only programs for hardware have, and `-R`, which prints the
-/// version. Each option with a letter has a long name, too, as in flashrom: `-r` is also
-/// `--read`, and `-h` is also `--help`. Fails only if memory runs out.
+/// Returns the `clap` command of a program for hardware: flashnor's options except `--rehearse`, its own options, and
+/// `-R`. Each option has a long name, too, as in flashrom. Fails only if memory runs out.
 pub fn make_hardware_options<'a>(alloc: Global, help: Help) -> Result<Command<'a>, AllocError>
     ensures { IfOk result (λ command. app_of command ≡ hardware_options help.program.now) }
 {
@@ -245,8 +237,6 @@ pub fn make_hardware_options<'a>(alloc: Global, help: Help) -> Result<Command<'a
     versioned.arg(hardware_help_option(alloc))
 }
 
-// Adds the option of each row of `choices` to `command`, in the order of the table, except the options that a program
-// for hardware lacks. Each added option has its form for hardware (`hardware_option`).
 fn add_hardware_choices<'a>(
     alloc: Global,
     command: Command<'a>,
@@ -263,15 +253,12 @@ fn add_hardware_choices<'a>(
     Ok(longer)
 }
 
-// True if a program for hardware has the option with the ID `name`: all options except `--rehearse`.
 fn is_for_hardware(name: &str) -> bool
     ensures { result ≡ is_for_hardware name.now }
 {
     name != "rehearse"
 }
 
-// Returns the `clap` command of the program that `help` describes, without options. `clap`'s own help option is
-// disabled.
 fn new_command<'a>(alloc: Global, help: Help) -> Command<'a>
     ensures { app_of result ≡ no_options_of help.program.now }
 {
@@ -282,7 +269,6 @@ fn new_command<'a>(alloc: Global, help: Help) -> Command<'a>
         .after_help(help.notes)
 }
 
-// Returns the `clap` command of a program for hardware, without options. `clap`'s own version option is disabled.
 fn new_hardware_command<'a>(alloc: Global, help: Help) -> Command<'a>
     ensures { app_of result ≡ no_hardware_options_of help.program.now }
 {
@@ -291,14 +277,12 @@ fn new_hardware_command<'a>(alloc: Global, help: Help) -> Command<'a>
         .disable_version_flag(true)
 }
 
-// Returns the table `CHOICES`. Its rows describe the options that the specification lists as `most_rules`.
 fn choices() -> &'static [Choice; 18]
     ensures { map chosen result.now ≡ most_rules }
 {
     &CHOICES
 }
 
-// Adds the option of each row of `choices` to `command`, in the order of the table.
 fn add_choices<'a>(
     alloc: Global,
     command: Command<'a>,
@@ -314,7 +298,6 @@ fn add_choices<'a>(
 }
 
 impl Choice {
-    // Returns the option that this row describes: an option that takes a value, or a flag.
     fn option<'a>(&self, alloc: Global) -> Arg<'a>
         ensures { IsOption (chosen self.now) result }
     {
@@ -325,8 +308,7 @@ impl Choice {
         }
     }
 
-    // Returns an option with this row's name, letter and help. The caller must still set whether the option takes a
-    // value.
+    // The caller must still set whether the option takes a value.
     fn named<'a>(&self, alloc: Global) -> Arg<'a>
         ensures { IsOption (named self.now) result }
     {
@@ -338,8 +320,7 @@ impl Choice {
     }
 }
 
-// Returns the option `-R`, which prints the version. Its ID can't be `version`, because that is the ID of `clap`'s own
-// version option.
+// The option's ID can't be `version`, because that is the ID of `clap`'s own version option.
 fn version_option<'a>(alloc: Global) -> Arg<'a>
     ensures { IsOption version_rule result }
 {

@@ -23,8 +23,7 @@ impl Emulated {
     ghost use Rattle.nor_probe.specs.Table.{emulated_named};
     ghost use Rattle.nor_args.specs.Programmer.{IsConfigOfEmulated};
 
-    /// Returns the chip with this value of `emulate=`: `TINY64`, or the name of a chip of the table. Returns `None` for
-    /// any other name.
+    /// Returns the chip with this value of `emulate=`, or `None` for any other name.
     pub fn named(name: &str) -> Option<Emulated>
         ensures { option_map (λ chip. chip.part) result ≡ emulated_named name.now }
     {
@@ -56,8 +55,7 @@ impl Emulated {
     }
 }
 
-/// The programmer that the value of `-p` describes: `dummy:` and then settings `key=value`, separated by commas, in any
-/// order, each key at most once. `emulate=` is required. A field is `None` if its key is missing.
+/// The value of `-p`: `dummy:` and settings `key=value` in any order, each key at most once. `emulate=` is required.
 #[derive(Clone, Copy)]
 pub struct Programmer<'a> {
     /// `emulate=NAME`: the chip to emulate.
@@ -74,18 +72,16 @@ pub struct Programmer<'a> {
     pub unique: Option<[u8; 8]>,
     /// `busy=N`: the number of polls that show BUSY after each program, erase or status write.
     pub busy: Option<u16>,
-    /// `power=HH`: each stop is a power failure. Each byte of the page that is being programmed, or of the block that
-    /// is being erased, then becomes this byte. A status write in progress is undone if this byte is even, and
-    /// completed if it is odd.
+    /// `power=HH`: each stop is a power failure. Each byte of the page or block in work then becomes HH; a status write
+    /// in progress is completed if HH is odd, and undone if it is even.
     pub power: Option<u8>,
 }
 
 impl<'a> Programmer<'a> {
     ghost use Rattle.nor_args.specs.Programmer.{is_programmer_text, IsProgrammer};
 
-    /// Parses the value of `-p`. A setting ends at the next comma, and its key at the first `=`. Returns `None` if the
-    /// text doesn't begin with `dummy:`, has a setting with an unknown key or a wrong value, has a key twice, or lacks
-    /// `emulate=`.
+    /// Parses the value of `-p`: a setting ends at the next comma, its key at the first `=`. Returns `None` without
+    /// `dummy:` or `emulate=`, for an unknown key, for a wrong value, and for a key that occurs twice.
     pub fn read(text: &'a str) -> Option<Programmer<'a>>
         ensures { MatchOption result (is_programmer_text text.now ≡ false) (IsProgrammer text.now) }
     {

@@ -94,8 +94,7 @@ pub enum Flaw {
 impl Flaw {
     ghost use Rattle.nor_args.specs.Reasons.{flaw_by};
 
-    /// Returns the flaw of a setting that has a flaw. `known` says whether the setting's key is known, and `valid` says
-    /// whether the key is known and may have the setting's value.
+    /// Returns the flaw of a setting that has one: `known` for its key, `valid` for its key and its value.
     pub fn of(known: bool, valid: bool) -> Flaw
         ensures { result ≡ flaw_by known valid }
     {
@@ -110,8 +109,7 @@ impl Flaw {
 /// The reason of a usage fault. The number at each variant is the number of this fault.
 #[derive(Clone, Copy)]
 pub enum Reason<'a> {
-    /// 1 and 10: there is no reason, because `clap`'s message contains it (fault 1), or because memory ran out (fault
-    /// 10).
+    /// 1 and 10: there is no reason, because `clap`'s message contains it, or because memory ran out.
     Unsaid,
     /// 2: `-p` is missing.
     NoProgrammer,
@@ -121,8 +119,8 @@ pub enum Reason<'a> {
     Setting { setting: &'a str, flaw: Flaw },
     /// 3: no setting of `-p` has a flaw, but `emulate=` is missing.
     NoChip,
-    /// 4: the first and the last of the given operations, in the order of the help except that `--flash-name` follows
-    /// `--flash-size`. 7: the first and the last of the given layouts, in the order `-l`, `--fmap-file`, `--ifd-file`,
+    /// 4: the first and the last given operation, in the order of the help except that `--flash-name` follows
+    /// `--flash-size`. 7: the first and the last given layout, in the order `-l`, `--fmap-file`, `--ifd-file`,
     /// `--fmap`, `--ifd`.
     Operations { first: OptionName, last: OptionName },
     /// 5: this value of `--wp-range` isn't a start and a length.

@@ -20,15 +20,13 @@ pub fn is_alone(list: &str, setting: &str) -> bool
     list.split(',').filter(|other| has_key(other, key)).count() <= 1
 }
 
-// Returns whether `setting` has the key `key`.
 fn has_key(setting: &str, key: &str) -> bool
     ensures { result ≡ has_key key.now setting.now }
 {
     split_setting(setting).0 == key
 }
 
-/// Splits a setting at its first `=`, and returns its key and its value. Without an `=`, the whole setting is the key,
-/// and the value is empty.
+/// Splits a setting at its first `=` into key and value. Without an `=`, the value is empty.
 pub fn split_setting(setting: &str) -> (&str, &str)
     ensures { (result.0.now ≡ key_of setting.now) × (result.1.now ≡ value_of setting.now) }
 {

@@ -9,8 +9,7 @@ use arrayvec::ArrayVec;
 /// The greatest number of stops that the value of `--rehearse` may have.
 pub const MOST_STOPS: usize = 64;
 
-/// Parses 1 to 64 stops, separated by commas, each a number in the form that `read_number` accepts. Returns `None` for
-/// any other text.
+/// Parses 1 to 64 numbers (`read_number`) with commas between them. Returns `None` for any other text.
 pub fn read_stops(text: &str) -> Option<ArrayVec<u64, MOST_STOPS>>
     ensures { option_map (λ stops. stops.items) result ≡ stops_of text.now }
 {
@@ -21,8 +20,7 @@ pub fn read_stops(text: &str) -> Option<ArrayVec<u64, MOST_STOPS>>
     Some(stops)
 }
 
-/// Splits `text` at its commas, and returns the first part that `read_number` doesn't accept. Returns `None` if each
-/// part is a number.
+/// Returns the first part between the commas of `text` that isn't a number, or `None` if there is none.
 pub fn first_unread(text: &str) -> Option<&str>
     ensures { option_map (λ part. part.now) result ≡ first_unread text.now }
 {

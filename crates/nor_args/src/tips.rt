@@ -23,9 +23,8 @@ pub enum Program {
     Hardware,
 }
 
-/// Returns an error of the same kind as `error`, whose text has each argument escaped. If an argument is unknown, the
-/// text has a tip of this crate, or none, in place of the tip of `clap`. That tip would name an option that is spelled
-/// alike but may do something else, such as `--rehearse` for `--read`.
+/// Returns `error` with each argument in its text escaped. For an unknown argument, a tip of this crate (or none)
+/// replaces the tip of `clap`, which may name an option that does something else, such as `--rehearse` for `--read`.
 pub fn reword(
     alloc: Global,
     program: Program,
@@ -48,7 +47,6 @@ pub fn reword(
     }
 }
 
-// Returns the message for the unknown argument in the text of `clap`'s error, with a tip if there is one.
 fn message_of_unknown(alloc: Global, program: Program, text: &str) -> Result<String, AllocError> {
     let argument = unknown_in(text);
     let mut message = String::from_str(alloc, "unexpected argument '")?;
@@ -61,8 +59,7 @@ fn message_of_unknown(alloc: Global, program: Program, text: &str) -> Result<Str
     Ok(message)
 }
 
-// Returns the argument in the text of `clap`'s error for an unknown argument. Nothing that follows the argument there
-// contains it, so it ends before the last `AFTER_UNKNOWN`.
+// What follows the argument doesn't contain it, so the argument ends before the last `AFTER_UNKNOWN`.
 fn unknown_in(text: &str) -> &str {
     let rest = text.strip_prefix(BEFORE_UNKNOWN).unwrap_or(text);
     match rest.rsplit_once(AFTER_UNKNOWN) {
@@ -71,8 +68,7 @@ fn unknown_in(text: &str) -> &str {
     }
 }
 
-// Returns the message of `clap`'s error for an unneeded value, with the value escaped. Returns `None` if nothing in the
-// message must be escaped.
+// Returns the message for an unneeded value with the value escaped, or `None` if nothing must be escaped.
 fn message_of_value(alloc: Global, text: &str) -> Result<Option<String>, AllocError> {
     let said = match text.rsplit_once(USAGE) {
         Some((said, _)) => said,
@@ -86,7 +82,7 @@ fn message_of_value(alloc: Global, text: &str) -> Result<Option<String>, AllocEr
     Ok(Some(message))
 }
 
-// Appends `said` to `text`. Each byte of a character that a terminal doesn't show as itself is written as `\xNN`.
+// Writes each byte of a character that a terminal doesn't show as itself as `\xNN`.
 fn push_escaped(text: &mut String, said: &str) -> Result<(), AllocError> {
     for character in said.chars() {
         if is_hidden(character) {
@@ -101,7 +97,6 @@ fn push_escaped(text: &mut String, said: &str) -> Result<(), AllocError> {
     Ok(())
 }
 
-// Returns the tip for an unknown argument, if there is one.
 fn tip_for(program: Program, argument: &str) -> Option<&'static str> {
     match program {
         Program::Flashnor => flashnor_tip(argument),

@@ -1,5 +1,4 @@
-//! Turns arguments into jobs (`request_of`, and `operation_of` for programs for hardware), and defines the usage
-//! faults.
+//! Turns arguments into jobs, and defines the usage faults.
 ghost use Rattle.std.specs.Prelude.{◌≡◌, IfOk, MatchResult, map, string_bytes, true};
 ghost use Rattle.clap.specs.Words.{FailsBy, HasMatchesOf, app_of, fault_of, is_simple_and_free};
 ghost use Rattle.nor_args.specs.Words.{AreWrong, AreWrongForHardware, IsFault, IsHardwareJob, IsJob};
@@ -15,9 +14,8 @@ use std::alloc::{AllocError, Global};
 use std::fmt;
 use thiserror::Error;
 
-/// A usage fault: why the arguments ask for no job. Its message has the number that is given at each variant.
-/// `request_of` returns the first of the faults 1 to 9 that the arguments have; it may return fault 10 for any
-/// arguments.
+/// A usage fault: why the arguments ask for no job. Each variant begins with the number in its message. The first of
+/// the faults 1 to 9 is returned; fault 10 is possible with any arguments.
 #[derive(Debug, Drop, Error)]
 pub enum UsageFault {
     /// 1: `clap` rejects the arguments, or they ask for the help. In a program for hardware also: they ask for the
@@ -29,22 +27,15 @@ pub enum UsageFault {
     Programmer,
     /// 4: more than one operation is given.
     TwoOperations,
-    /// 5: the value of `--wp-range` isn't a start and a length. For a program for hardware also: the value of
-    /// `--progress` isn't a mode, or an option names the file `-`.
+    /// 5: `--wp-range` or `--progress` has a wrong value, or an option of a program for hardware names the file `-`.
     Range,
-    /// 6: a change (`-w`, `-E` or `--wp-range`) is given, but not exactly one of `--journal` and `--rehearse`. Also:
-    /// `--journal` or `--rehearse` is given, but no change.
+    /// 6: a change without exactly one of `--journal` and `--rehearse`, or one of these without a change.
     Journal,
-    /// 7: `-l` or `-i` is given without the other, or both without any of `-r`, `-v`, `-w` and `-E`. A program for
-    /// hardware also has `--fmap-file`, `--ifd-file`, `--fmap` and `--ifd` in place of `-l`; more than one of the five
-    /// is this fault, too.
+    /// 7: a layout without `-i`, `-i` without a layout, both without `-r`, `-v`, `-w` or `-E`, or several layouts.
     Layout,
-    /// 8: `-n` or `--unlock` is given without `-w` or `-E`. For a program for hardware also: `-N` is given without any
-    /// of `-w`, `-E` and `--restore`, `--quick` or `--replaced-chip` without `--restore`, or `--extract-image` without
-    /// `--check-journal`.
+    /// 8: an option without the operation that it needs (see `Reason`).
     Unneeded,
-    /// 9: the value of `--rehearse` isn't 1 to 64 numbers, or both `--rehearse` and a `stop=` of the programmer are
-    /// given.
+    /// 9: the value of `--rehearse` isn't 1 to 64 numbers, or `-p` has a `stop=`, too.
     Stops,
     /// 10: memory ran out.
     Memory,
@@ -110,8 +101,7 @@ impl From<WordsError> for UsageFault {
     }
 }
 
-/// Returns the job that the arguments ask for, or the first usage fault that they have. `words` has the arguments that
-/// follow the program's name. Fault 10, out of memory, may be returned for any arguments.
+/// Returns the job that the arguments after the program's name ask for, or their first usage fault.
 pub fn request_of<'a>(alloc: Global, words: &'a [String]) -> Result<Job<'a>, UsageFault>
     ensures { MatchResult result (IsJob (map string_bytes words.now)) (IsFault (map string_bytes words.now)) }
 {
@@ -136,18 +126,15 @@ pub fn explained_request_of<'a>(
     }
 }
 
-/// Returns the job that the arguments of a program for hardware ask for. `words` has the arguments that follow the
-/// program's name. The options are those that only programs for hardware have, and those of flashnor except
-/// `--rehearse`. The value of `-p` isn't parsed. The values of all `-i` count as one value, with commas between them,
-/// which `names` receives. The name of a chip may be in upper or lower case.
+/// Returns the job that the arguments of a program for hardware ask for. `words` has the arguments after the program's
+/// name; `names` receives the values of all `-i`, with commas between them. The value of `-p` isn't parsed.
 ///
 /// Returns one of these usage faults with its reason:
 ///
 /// - fault 1 if `clap` rejects the arguments, or if they ask for the help or the version
 /// - fault 2 if `-p`, `--check-journal` and `-L` are all missing
-/// - the first of the faults 4 to 8 that the options have, if `--check-journal` or `-L` is given; without them such a
-///   fault is part of the job (`ProgrammerJob::operation`)
-/// - fault 10, out of memory, which may be returned for any arguments
+/// - with `--check-journal` or `-L`, the first of the faults 4 to 8; otherwise it is part of the job (`ProgrammerJob`)
+/// - fault 10 if memory runs out
 pub fn operation_of<'a>(
     alloc: Global,
     help: Help,

@@ -9,8 +9,6 @@ use crate::reasons::OptionName;
 impl Given<'_> {
     ghost use Rattle.nor_args.specs.Given.{texts_of};
 
-    // Returns the first option that names the file `-`, in the order of `file_choices`. Returns `None` if no option
-    // does, and for flashnor.
     pub(super) fn dashed(&self) -> Option<OptionName>
         ensures { result ≡ dashed (texts_of self.now) }
     {
@@ -21,7 +19,6 @@ impl Given<'_> {
         }
     }
 
-    // Returns the first option that names the file `-`, in the order of `file_choices`, or `None` if no option does.
     fn first_dashed(&self) -> Option<OptionName>
         ensures { result ≡ first_given (file_choices (texts_of self.now)) }
     {
@@ -31,7 +28,6 @@ impl Given<'_> {
         }
     }
 
-    // Returns each option that names a file, with whether the file is `-`.
     fn file_choices(&self) -> [(bool, OptionName); 13]
         ensures { result ≡ file_choices (texts_of self.now) }
     {
@@ -53,7 +49,6 @@ impl Given<'_> {
     }
 }
 
-// True if the option has the value `-`.
 fn is_dash(value: Option<&str>) -> bool
     ensures { result ≡ is_dash (option_map (λ text. text.now) value.entry) }
 {
@@ -63,7 +58,6 @@ fn is_dash(value: Option<&str>) -> bool
     }
 }
 
-// True if `-i` names the file `-` for a region.
 fn names_dash(value: Option<&str>) -> bool
     ensures { result ≡ passes_test lists_dash (option_map (λ text. text.now) value.entry) }
 {
@@ -73,14 +67,12 @@ fn names_dash(value: Option<&str>) -> bool
     }
 }
 
-// True if a value of `-i` names the file `-` for a region.
 fn lists_dash(list: &str) -> bool
     ensures { result ≡ lists_dash list.now }
 {
     list.split(',').any(|piece| has_dash(piece))
 }
 
-// True if a part of the value of `-i` names the file `-` for its region.
 fn has_dash(piece: &str) -> bool
     ensures { result ≡ has_dash piece.now }
 {

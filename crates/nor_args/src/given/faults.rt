@@ -17,7 +17,6 @@ use crate::words::UsageFault;
 impl Given<'_> {
     ghost use Rattle.nor_args.specs.Given.{texts_of};
 
-    // Returns the first of the faults 2 to 9 that the options have, if any.
     pub(super) fn fault(&self) -> Option<UsageFault>
         ensures { result ≡ first_fault (usage_faults (texts_of self.now)) }
     {
@@ -42,35 +41,30 @@ impl Given<'_> {
         }
     }
 
-    // Fault 2: true if there is neither `-p` nor `-L`.
     fn lacks_programmer(&self) -> bool
         ensures { result ≡ (not (is_some (texts_of self.now).programmer) && not (texts_of self.now).list) }
     {
         self.programmer.is_none() && !self.list
     }
 
-    // Fault 3: true if the value of `-p` doesn't describe a programmer.
     fn has_wrong_programmer(&self) -> bool
         ensures { result ≡ is_no is_programmer_text (texts_of self.now).programmer }
     {
         self.programmer.is_some() && self.parsed_programmer().is_none()
     }
 
-    // Fault 5: true if `has_wrong_range`, `has_wrong_progress` or `dashed` finds a value that its option can't have.
     fn has_wrong_value(&self) -> bool
         ensures { result ≡ has_wrong_value (texts_of self.now) }
     {
         self.has_wrong_range() || self.has_wrong_progress() || self.dashed().is_some()
     }
 
-    // Fault 5: true if the value of `--wp-range` isn't a start and a length.
     pub(super) fn has_wrong_range(&self) -> bool
         ensures { result ≡ is_no (reads range_of) (texts_of self.now).wp_range }
     {
         self.wp_range.is_some() && self.parsed_range().is_none()
     }
 
-    // Fault 5: true if the value of `--progress` isn't the name of a mode.
     pub(super) fn has_wrong_progress(&self) -> bool
         ensures { result ≡ is_no (reads progress_of) (texts_of self.now).progress }
     {
@@ -80,8 +74,6 @@ impl Given<'_> {
         }
     }
 
-    // Fault 9: true if the value of `--rehearse` isn't a list of stops, or if both `--rehearse` and a `stop=` in `-p`
-    // are given.
     fn has_wrong_stops(&self) -> bool
         ensures { result ≡ (is_no (reads stops_of) (texts_of self.now).rehearse
             || (is_some (texts_of self.now).rehearse && passes_test has_stop (texts_of self.now).programmer)) }
@@ -89,7 +81,6 @@ impl Given<'_> {
         self.rehearse.is_some() && (self.parsed_stops().is_none() || self.has_stop())
     }
 
-    // True if the value of `-p` describes a programmer and has a `stop=`.
     fn has_stop(&self) -> bool
         ensures { result ≡ passes_test has_stop (texts_of self.now).programmer }
     {
@@ -99,7 +90,6 @@ impl Given<'_> {
         }
     }
 
-    // Returns the number of operations that the options ask for.
     fn operations(&self) -> usize
         ensures { result ≡ operations (texts_of self.now) }
     {
@@ -123,30 +113,24 @@ impl Given<'_> {
         asked.iter().filter(|asked| **asked).count()
     }
 
-    // True if `-w` or `-E` is given. Both options change the bytes of the chip.
     pub(super) fn is_new_content(&self) -> bool
         ensures { result ≡ is_new_content (texts_of self.now) }
     {
         self.write.is_some() || self.erase
     }
 
-    // True if `-w`, `-E` or `--wp-range` is given. Each of these options changes the chip, and needs a journal or a
-    // rehearsal.
     pub(super) fn is_change(&self) -> bool
         ensures { result ≡ asks_change (texts_of self.now) }
     {
         self.is_new_content() || self.wp_range.is_some()
     }
 
-    // True if `-r`, `-v`, `-w` or `-E` is given. Each of these options can be limited to regions of the chip.
     fn takes_regions(&self) -> bool
         ensures { result ≡ takes_regions (texts_of self.now) }
     {
         self.read.is_some() || self.verify.is_some() || self.is_new_content()
     }
 
-    // Fault 6: true if a change (`-w`, `-E` or `--wp-range`) is given, but not exactly one of `--journal` and
-    // `--rehearse`. True also if `--journal` or `--rehearse` is given, but no change.
     fn has_wrong_journal(&self) -> bool
         ensures { result ≡ has_wrong_journal (texts_of self.now) }
     {
@@ -157,8 +141,6 @@ impl Given<'_> {
         }
     }
 
-    // Fault 8: true if `-n` or `--unlock` is given without `-w` or `-E`, `-N` without any of `-w`, `-E` and
-    // `--restore`, `--quick` or `--replaced-chip` without `--restore`, or `--extract-image` without `--check-journal`.
     fn has_unneeded(&self) -> bool
         ensures { result ≡ has_unneeded (texts_of self.now) }
     {
@@ -167,23 +149,18 @@ impl Given<'_> {
         ((self.no_verify || self.unlock) && !changes) || unneeded || self.has_unneeded_for_journal()
     }
 
-    // True if `--replaced-chip` is given without `--restore`, or `--extract-image` without `--check-journal`.
     fn has_unneeded_for_journal(&self) -> bool
         ensures { result ≡ has_unneeded_for_journal (texts_of self.now) }
     {
         (self.replaced_chip && self.restore.is_none()) || self.lacks_check()
     }
 
-    // True if `--extract-image` is given without `--check-journal`.
     pub(super) fn lacks_check(&self) -> bool
         ensures { result ≡ lacks_check (texts_of self.now) }
     {
         self.extract_image.is_some() && self.check_journal.is_none()
     }
 
-    // Fault 7: true if a layout (`-l`, `--fmap-file`, `--ifd-file`, `--fmap` or `--ifd`) is given without `-i`, or `-i`
-    // without a layout; if both are given without any of `-r`, `-v`, `-w` and `-E`; or if more than one layout is
-    // given.
     fn has_wrong_regions(&self) -> bool
         ensures { result ≡ has_wrong_regions (texts_of self.now) }
     {
@@ -194,14 +171,12 @@ impl Given<'_> {
         }
     }
 
-    // True if more than one of `-l`, `--fmap-file`, `--ifd-file`, `--fmap` and `--ifd` is given.
     pub(super) fn has_two_layouts(&self) -> bool
         ensures { result ≡ has_two_layouts (texts_of self.now) }
     {
         self.layouts() > 1
     }
 
-    // Returns the number of layouts that the options give.
     fn layouts(&self) -> usize
         ensures { result ≡ how_many (layouts_given (texts_of self.now)) }
     {

@@ -8,8 +8,7 @@ use crate::job::LayoutForm;
 impl<'a> Given<'a> {
     ghost use Rattle.nor_args.specs.Given.{texts_of};
 
-    // Returns the file name of the layout: the value of the first of `-l`, `--fmap-file` and `--ifd-file` that is
-    // given. Returns `None` if none is given: there is no layout, or it is read from the chip.
+    // Returns `None` if there is no layout, or if it is read from the chip.
     pub(super) fn layout_file(&self) -> Option<&'a str>
         ensures { option_map (λ file. file.now) result ≡ layout_file (texts_of self.now) }
     {
@@ -20,14 +19,13 @@ impl<'a> Given<'a> {
         }
     }
 
-    // True if a layout is given, which is read from a file or from the chip.
     pub(super) fn gives_layout(&self) -> bool
         ensures { result ≡ gives_layout (texts_of self.now) }
     {
         self.layout_file().is_some() || self.fmap || self.ifd
     }
 
-    // Returns the form of the layout. The result has a meaning only if exactly one layout is given.
+    // The result has a meaning only if exactly one layout is given.
     pub(super) fn layout_form(&self) -> LayoutForm
         ensures { result ≡ layout_form (texts_of self.now) }
     {

@@ -1,5 +1,4 @@
-//! The names that a program for hardware takes in further forms: those of regions in several options, and that of the
-//! chip in upper or lower case.
+//! What a program for hardware takes in further forms: regions in several options, and a chip's name in any case.
 ghost use Rattle.std.specs.Prelude.{◌≡◌, IfOk, codes, option_map, string_bytes};
 ghost use Rattle.clap.specs.Words.{found_of, rows_of};
 ghost use Rattle.nor_args.specs.Given.{joined_in, text_in};

@@ -15,8 +15,7 @@ use crate::stops::{first_unread, read_stops};
 use crate::words::UsageFault;
 
 impl<'a> Given<'a> {
-    /// Returns `fault` with its reason. The reason says what is wrong if the options have this fault; otherwise it has
-    /// no meaning.
+    /// Returns `fault` with its reason, which has a meaning only if the options have this fault.
     pub fn explained(&self, fault: UsageFault) -> WrongArguments<'a>
         ensures fault { result.fault ≡ fault }
         ensures reason { IsReason (texts_of self.now) fault result.reason }
@@ -25,7 +24,6 @@ impl<'a> Given<'a> {
         WrongArguments { fault, reason }
     }
 
-    // Returns the reason of `fault`. It has a meaning only if the options have this fault.
     fn reason(&self, fault: &UsageFault) -> Reason<'a>
         ensures { IsReason (texts_of self.now) fault.now result }
     {
@@ -61,7 +59,6 @@ impl<'a> Given<'a> {
         }
     }
 
-    // Returns the first given operation in the order of `operation_choices`, or `None` if no operation is given.
     fn first_operation(&self) -> Option<OptionName>
         ensures { result ≡ first_given (operation_choices (texts_of self.now)) }
     {
@@ -71,7 +68,6 @@ impl<'a> Given<'a> {
         }
     }
 
-    // Returns the last given operation in the order of `operation_choices`, or `None` if no operation is given.
     fn last_operation(&self) -> Option<OptionName>
         ensures { result ≡ first_given (reverse (operation_choices (texts_of self.now))) }
     {
@@ -86,8 +82,6 @@ impl<'a> Given<'a> {
         }
     }
 
-    // Returns each operation with whether it is given. The operations are in the order of the help, except that
-    // `--flash-name` follows `--flash-size`.
     fn operation_choices(&self) -> [(bool, OptionName); 15]
         ensures { result ≡ operation_choices (texts_of self.now) }
     {
@@ -160,8 +154,6 @@ impl<'a> Given<'a> {
         }
     }
 
-    // Returns the first of `-w`, `-E` and `--wp-range` that is given. If none is given, the result is `--wp-range`,
-    // too.
     fn change_option(&self) -> OptionName
         ensures { result ≡ change_option (texts_of self.now) }
     {
@@ -188,7 +180,6 @@ impl<'a> Given<'a> {
         }
     }
 
-    // Returns the first given layout in the order of `layout_choices`, or `None` if no layout is given.
     fn first_layout(&self) -> Option<OptionName>
         ensures { result ≡ first_given (layout_choices (texts_of self.now)) }
     {
@@ -198,7 +189,6 @@ impl<'a> Given<'a> {
         }
     }
 
-    // Returns the last given layout in the order of `layout_choices`, or `None` if no layout is given.
     fn last_layout(&self) -> Option<OptionName>
         ensures { result ≡ first_given (reverse (layout_choices (texts_of self.now))) }
     {
@@ -208,8 +198,6 @@ impl<'a> Given<'a> {
         }
     }
 
-    // Returns each option that gives a layout with whether it is given: first those that name a file, then those for a
-    // layout that is read from the chip.
     fn layout_choices(&self) -> [(bool, OptionName); 5]
         ensures { result ≡ layout_choices (texts_of self.now) }
     {
@@ -238,8 +226,6 @@ impl<'a> Given<'a> {
         }
     }
 
-    // Returns the reason of fault 8 for the options that need a journal: `--extract-image`, `--quick` and
-    // `--replaced-chip`.
     fn journal_option_reason(&self) -> Reason<'a>
         ensures { result ≡ journal_option_reason (texts_of self.now) }
     {

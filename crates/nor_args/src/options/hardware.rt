@@ -7,8 +7,7 @@ use crate::options::Choice;
 use clap::{Arg, ArgAction};
 use std::alloc::{AllocError, Global};
 
-// The options that only programs for hardware have, except `-R`, in the order of the help. The help prints them after
-// the options of `CHOICES`, and before `-R` and `-h`.
+// The options that only programs for hardware have, except `-R`, in the order of the help.
 static HARDWARE_CHOICES: [Choice; 16] = [
     Choice {
         letter: None,
@@ -108,7 +107,6 @@ static HARDWARE_CHOICES: [Choice; 16] = [
     },
 ];
 
-// Returns the table `HARDWARE_CHOICES`. Its rows describe the options that the specification lists as `own_rules`.
 pub(super) fn hardware_choices() -> &'static [Choice; 16]
     ensures { map chosen result.now ≡ own_rules }
 {
@@ -125,8 +123,7 @@ impl Choice {
         }
     }
 
-    // Returns the option that this row describes in a program for hardware. `-V` and `-i` may be repeated, as in
-    // flashrom.
+    // `-V` and `-i` may be repeated, as in flashrom.
     pub(super) fn hardware_option<'a>(&self, alloc: Global) -> Result<Arg<'a>, AllocError>
         ensures { IfOk result (IsOption (hardware_form (chosen self.now))) }
     {
@@ -139,8 +136,7 @@ impl Choice {
         }
     }
 
-    // Returns the option that this row describes, which may be repeated, and has the second long name `--image`, as in
-    // flashrom.
+    // The second long name is `--image`, as in flashrom.
     fn repeated_names<'a>(&self, alloc: Global) -> Result<Arg<'a>, AllocError>
         ensures { IfOk result (IsOption (repeated_names (chosen self.now))) }
     {
@@ -149,8 +145,7 @@ impl Choice {
             .alias("image")
     }
 
-    // Returns the option that this row describes, with a long name, which is `--list-supported` for `-L`, as in
-    // flashrom. `--progress` without a mode means `auto`.
+    // The long name of `-L` is `--list-supported`, as in flashrom. `--progress` without a mode means `auto`.
     fn long_option<'a>(&self, alloc: Global) -> Arg<'a>
         ensures { IsOption (long_form (chosen self.now)) result }
     {
@@ -164,7 +159,6 @@ impl Choice {
         }
     }
 
-    // Returns the option that this row describes, with a long name and the help for a program for hardware.
     fn named_in_full<'a>(&self, alloc: Global) -> Arg<'a>
         ensures { IsOption (by_name (chosen self.now)) result }
     {

@@ -4,6 +4,5 @@ use Rattle.clap.specs.Words.{app_of}
 use Rattle.nor_args.specs.Options.{with_choice}
 use Rattle.nor_args.proofs.options.add_choices.Given as goal
 
--- `longer` is the initial command with the options of the first `choice-index` rows appended
 abbrev pub invariant-loop-choice : goal.invariant-loop-choice
 invariant-loop-choice l = app_of l.longer ≡ fold with_choice (app_of l.fn.command) (take l.choice-index l.choices)

@@ -4,8 +4,6 @@ use Rattle.clap.specs.Words.{app_of}
 use Rattle.nor_args.specs.Options.{with_hardware_choice}
 use Rattle.nor_args.proofs.options.add_hardware_choices.Given as goal
 
--- `longer` is the initial command with the options of the first `choice-index` rows appended, except `-L` and
--- `--rehearse`
 abbrev pub invariant-loop-choice : goal.invariant-loop-choice
 invariant-loop-choice l =
     app_of l.longer ≡ fold with_hardware_choice (app_of l.fn.command) (take l.choice-index l.choices)

@@ -3,8 +3,6 @@ use Rattle.nor_args.specs.Text.{pieces_of}
 use Rattle.nor_args.proofs.Listed.{with_stops}
 use Rattle.nor_args.proofs.stops.read_stops.Given as goal
 
--- The stops that were read and the numbers in the remaining pieces are, in this order, the stops of the whole text. At
--- most 64 stops were read.
 abbrev pub invariant-loop-number : goal.invariant-loop-number
 invariant-loop-number l =
     (goal.iterator-loop-number).can_next l.number-iterator
