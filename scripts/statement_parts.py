@@ -81,11 +81,12 @@ NAMES = {
         "`Unknown`, `new` may be anything.",
     "Stopped": "`Stopped`: what a failed transaction returns.",
     "SameNature":
-        "`SameNature old new`: `honest`, `steady`, `unlimited` and, on a well-behaved bus, the chip's `config` are as "
-        "before.",
+        "`SameNature old new`: `honest`, `steady`, `unlimited`, `longer` and, on a well-behaved bus, the chip's "
+        "`config` are as before.",
     "IsHonestFor":
         "`IsHonestFor out n bus`: the bus is well-behaved, and accepts a transaction of this length: `out` has at most "
-        "260 bytes and `n` is at most 4,096, or the bus is `unlimited`. The code never sends or reads more.",
+        "260 bytes and `n` is at most 4,096 + `bus.longer`, or the bus is `unlimited`. The code never sends more than "
+        "260 bytes or reads more than 4,096.",
     "IsGenuine":
         "`IsGenuine config`: for an ID in the table (W25Q64FV, W25Q128FV, no further chip), size, erase types and "
         "block protection are those of its row. Without a row, the chip has no block protection and, if its SFDP is "

@@ -20,6 +20,7 @@ nature_around nature = record {
   honest = nature.honest;
   steady = nature.steady;
   unlimited = nature.unlimited;
+  longer = nature.longer;
   punctual = refl;
   config = nature.config;
 }
@@ -102,6 +103,7 @@ module _ {out : List ℕ} {a b : BusState} {h h' : List Exchange} where
       honest = nature.honest;
       steady = nature.steady;
       unlimited = nature.unlimited;
+      longer = nature.longer;
       punctual = refl;
       config = nature.config;
     };
@@ -117,7 +119,7 @@ module _ (out : List ℕ) (n : ℕ) (wide : Bool) (inside : BusState) (history :
   splits_fits : IsHonestFor out n (splits wide inside history) → IsHonestFor out n inside
   splits_fits fits = record {
     honest = (and_parts inside.honest wide fits.honest).0;
-    fits = elim fits.fits [ inl unlimited ↦ absurd (false≢true unlimited) | inr few ↦ inr few ];
+    fits = elim fits.fits [ inl unlimited ↦ absurd (false≢true unlimited) | inr few ↦ inr (few.0, omega (arith, few.1)) ];
   }
 
   -- If such a bus is well-behaved for a transaction, the transaction is within the limits of the bus inside.
@@ -170,6 +172,7 @@ transfers_splits out before answer a b h h' wide wide' sends receives is same ou
             ∙ ap (λ (wide : Bool). a.honest && wide) same;
         steady = nature.steady;
         unlimited = refl;
+        longer = refl;
         punctual = nature.punctual;
         config = λ honest. nature.config (and_parts a.honest wide honest).0;
       };

@@ -204,6 +204,7 @@ transfers_ahead out before answer a b h h' longest longest' outcome same nature 
     honest = ap (λ (n : ℕ). takes_blocks n b) same ∙ takes_same longest a b nature;
     steady = nature.steady;
     unlimited = nature.unlimited;
+    longer = nature.longer;
     punctual = refl;
     config = λ honest. nature.config (and_parts a.honest (a.unlimited || nat_le longest 4096) honest).0;
   };

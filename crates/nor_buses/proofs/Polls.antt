@@ -14,7 +14,7 @@ use Rattle.nor_buses.proofs.ReadsKeep.{same_chip, read_made, stops_then, keeps_t
 -- A short transaction fits every well-behaved bus.
 pub fits_short : {out : List ℕ} {n : ℕ} {state : BusState} → length out ≤ 260 → n ≤ 4096 → state.honest ≡ true
     → IsHonestFor out n state
-fits_short sends reads honest = record { honest = honest; fits = inr (sends, reads) }
+fits_short sends reads honest = record { honest = honest; fits = inr (sends, omega (arith, reads)) }
 
 -- ---- a chip that is ready
 
@@ -134,6 +134,7 @@ quiet_then {old} {mid} {new} first last = record {
     honest = last.nature.honest ∙ first.nature.honest;
     steady = last.nature.steady ∙ first.nature.steady;
     unlimited = last.nature.unlimited ∙ first.nature.unlimited;
+    longer = last.nature.longer ∙ first.nature.longer;
     punctual = last.nature.punctual ∙ first.nature.punctual;
     config = λ honest. last.nature.config (first.nature.honest ∙ honest) ∙ first.nature.config honest;
   };
@@ -175,7 +176,7 @@ quiet_made {out} {answer} {old} {mid} {new} first whole made = made_then made re
 
 -- No transaction changes nothing.
 pub nature_none : {state : BusState} → SameNature state state
-nature_none = record { honest = refl; steady = refl; unlimited = refl; punctual = refl; config = λ honest. refl }
+nature_none = record { honest = refl; steady = refl; unlimited = refl; longer = refl; punctual = refl; config = λ honest. refl }
 
 -- A list of one byte, of which the byte is known.
 bare : (out : List ℕ) (opcode : ℕ) → slice_index out 0 ≡ opcode → 1 ≤ length out → length out < 2

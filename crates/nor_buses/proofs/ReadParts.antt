@@ -26,6 +26,7 @@ nature_then old mid new one two = record {
   honest = two.honest ∙ one.honest;
   steady = two.steady ∙ one.steady;
   unlimited = two.unlimited ∙ one.unlimited;
+  longer = two.longer ∙ one.longer;
   punctual = two.punctual ∙ one.punctual;
   config = λ honest. two.config (one.honest ∙ honest) ∙ one.config honest;
 }
@@ -45,7 +46,7 @@ fits_less out other m n old new nature short less fits = record {
   honest = nature.honest ∙ fits.honest;
   fits = elim fits.fits [
     | inl unlimited ↦ inl (nature.unlimited ∙ unlimited)
-    | inr few ↦ inr (short, omega (arith, less, few.1))
+    | inr few ↦ inr (short, omega (arith, less, few.1, nature.longer))
   ];
 }
 

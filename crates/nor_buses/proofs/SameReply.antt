@@ -187,6 +187,6 @@ fits_again out m n old new nature same fits = record {
   honest = nature.honest ∙ fits.honest;
   fits = elim fits.fits [
     | inl unlimited ↦ inl (nature.unlimited ∙ unlimited)
-    | inr short ↦ inr (short.0, rw same short.1)
+    | inr short ↦ inr (short.0, rw (same, nature.longer) short.1)
   ];
 }

@@ -33,6 +33,7 @@ beside inside history = record (unknown_bus history) {
   worn = inside.worn;
   steady = inside.steady;
   unlimited = inside.unlimited;
+  longer = inside.longer;
   further = inside.further;
 }
 

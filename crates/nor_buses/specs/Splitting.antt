@@ -36,6 +36,7 @@ splits wide inside history = record (beside inside history) {
   left = inside.left;
   punctual = inside.punctual;
   unlimited = false;
+  longer = 0;
 }
 
 -- The state of the bus (`splits`).

@@ -24,6 +24,7 @@ sim_state bus = record {
   worn = λ s. slice_index_or bus.worn s false;
   steady = is_none bus.fill && is_none bus.torn;
   unlimited = true;
+  longer = 0;
   punctual = true;
   polled_ready = polled_ready_in bus.history.exchanges;
   further = false;

@@ -78,7 +78,7 @@ poll_fits bus honest = record { honest = honest; fits = inr (omega arith, omega 
 -- every well-behaved bus accepts a transaction that only reads (`IsReading`) and receives at most 4,096 bytes
 pub read_fits : (out asked : List ℕ) (bus : BusState) → IsReading out → length asked ≤ 4096 → bus.honest ≡ true
     → IsHonestFor out (length asked) bus
-read_fits out asked bus is short honest = record { honest = honest; fits = inr (is.short, short) }
+read_fits out asked bus is short honest = record { honest = honest; fits = inr (is.short, omega (arith, short)) }
 
 -- One transaction that only reads satisfies `OnlyReads` with a bound of 1, whether it succeeds or the bus stops at it.
 pub read_leaves : {T E : Type 0} (outcome : Result T E) (out answer : List ℕ) (old new : BusState) → IsReading out

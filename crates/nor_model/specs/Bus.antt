@@ -33,6 +33,8 @@ pub record BusState : Type 0 where
   pub steady : Bool
   -- On a well-behaved bus: whether the bus takes transactions of any length.
   pub unlimited : Bool
+  -- On a well-behaved bus that isn't unlimited: how many bytes more than 4,096 a transaction may read.
+  pub longer : ℕ
   -- On a well-behaved bus: whether it stops only if no transaction is left. Any other well-behaved bus may stop at any
   -- transaction, and `left` means nothing. Clauses and comments that count transactions (as in "no transaction is
   -- left", or "too few were left") are about punctual buses, even if a comment doesn't say so.
@@ -42,22 +44,25 @@ pub record BusState : Type 0 where
   -- Whether the chip may be of a further type, which only programs for real chips know. Never on a well-behaved bus.
   pub further : Bool
 
--- Holds if a call did not change whether the bus is well-behaved, steady, unlimited or punctual. On a well-behaved bus,
--- the chip's configuration (its ID, size, SFDP and all else that no command changes) must also be as before the call.
+-- Holds if a call did not change whether the bus is well-behaved, steady, unlimited or punctual, nor how many bytes a
+-- transaction may read. On a well-behaved bus, the chip's configuration (its ID, size, SFDP and all else that no command
+-- changes) must also be as before the call.
 pub record SameNature (old new : BusState) : Type 0 where
   pub honest : new.honest ≡ old.honest
   pub steady : new.steady ≡ old.steady
   pub unlimited : new.unlimited ≡ old.unlimited
+  pub longer : new.longer ≡ old.longer
   pub punctual : new.punctual ≡ old.punctual
   pub config : old.honest ≡ true → new.chip.config ≡ old.chip.config
 
 -- Holds for every sequence of transactions, on every bus. The transactions don't change whether the bus is
--- well-behaved, steady, unlimited or punctual. On a well-behaved bus they don't change the chip's configuration. The
--- history continues the earlier one, and no allowance was set.
+-- well-behaved, steady, unlimited or punctual, nor how many bytes a transaction may read. On a well-behaved bus they
+-- don't change the chip's configuration. The history continues the earlier one, and no allowance was set.
 pub record KeepsNature (old new : BusState) : Type 0 where
   pub honest : new.honest ≡ old.honest
   pub steady : new.steady ≡ old.steady
   pub unlimited : new.unlimited ≡ old.unlimited
+  pub longer : new.longer ≡ old.longer
   pub punctual : new.punctual ≡ old.punctual
   pub config : old.honest ≡ true → new.chip.config ≡ old.chip.config
   pub history : Continues old.history new.history
@@ -65,10 +70,10 @@ pub record KeepsNature (old new : BusState) : Type 0 where
 
 -- Holds if the bus is well-behaved and takes a transaction that sends `out` and reads `replies` bytes. An unlimited bus
 -- takes every transaction. Any other bus takes those that send at most 260 bytes (a page program) and read at most
--- 4,096 (a sector).
+-- 4,096 bytes (a sector) and `longer` bytes more.
 pub record IsHonestFor (out : List ℕ) (replies : ℕ) (bus : BusState) : Type 0 where
   pub honest : bus.honest ≡ true
-  pub fits : (bus.unlimited ≡ true) ⊎ ((length out ≤ 260) × (replies ≤ 4096))
+  pub fits : (bus.unlimited ≡ true) ⊎ ((length out ≤ 260) × (replies ≤ 4096 + bus.longer))
 
 -- The effect of a transaction on what every bus records. The transaction is added to the history, with its reply or as
 -- one at which the bus stopped. `out` is added to `sent`, unless it is empty or begins with a quiet opcode (a read, or
@@ -165,6 +170,7 @@ unknown_bus history = record {
   worn = λ s. false;
   steady = false;
   unlimited = false;
+  longer = 0;
   punctual = false;
   polled_ready = polled_ready_in history;
   further = false;

@@ -27,8 +27,8 @@ impl std::error::Error for Stopped {}
 /// one of its own. Clauses that count transactions are about punctual buses.
 ///
 /// On an *unlimited* well-behaved bus this holds for every transaction. On any other well-behaved bus it holds for
-/// transactions that send at most 260 bytes (a page program) and read at most 4,096 (a sector). For a longer
-/// transaction on such a bus, `transfer` promises only `nature` and `records` of `Transfers`.
+/// transactions that send at most 260 bytes (a page program) and read at most 4,096 bytes (a sector) and `longer` bytes
+/// more. For a longer transaction on such a bus, `transfer` promises only `nature` and `records` of `Transfers`.
 ///
 /// If a *steady* well-behaved bus stops, it sends no byte of the transaction and keeps the chip's power. Any other
 /// well-behaved bus that stops may have sent the first bytes of the transaction: none, some or all. Such a bus may also
@@ -36,8 +36,9 @@ impl std::error::Error for Stopped {}
 ///
 /// A faulty bus, which isn't well-behaved, may do anything that `nature` and `records` allow, because these two hold
 /// for every bus. `nature` says that a transaction doesn't change whether a bus is well-behaved, steady, unlimited or
-/// punctual; `allow` doesn't change this either. `records` says that the bus records each transaction with its reply,
-/// and in `polled_ready` whether the last poll that received a reply byte showed that the chip is ready.
+/// punctual, nor how many bytes it may read; `allow` doesn't change this either. `records` says that the bus records
+/// each transaction with its reply, and in `polled_ready` whether the last poll that received a reply byte showed that
+/// the chip is ready.
 pub trait Bus {
     ghost state: { Self → BusState };
 

@@ -27,6 +27,7 @@ over_port port history = record {
   worn = port.device.worn;
   steady = false;
   unlimited = false;
+  longer = 0;
   punctual = true;
   polled_ready = polled_ready_in history;
   further = false;

@@ -85,6 +85,7 @@ same_nature keeps =
       honest = keeps.honest;
       steady = keeps.steady;
       unlimited = keeps.unlimited;
+      longer = keeps.longer;
       punctual = keeps.punctual;
       config = keeps.config;
     }
