@@ -10,15 +10,12 @@ use Rattle.nor_geometry.proofs.Verdicts.{count_below-insert}
 use Rattle.nor_driver.specs.Reads.{IsSectorOf}
 use Rattle.nor_apply.specs.Change.{only, byte_of}
 
--- If `k` is below `n` and passes the test, the number of passing numbers below `k` is less than the number of those
--- below `n`.
 pub count_below-next : (n k : ℕ) (test : ℕ → Bool) → k < n → test k ≡ true → count_below k test + 1 ≤ count_below n test
 count_below-next n k test below passes =
     let all : k + 1 + (n - (k + 1)) ≡ n = omega arith in
     let parts = rw all at (count_below-add (k + 1) (n - (k + 1)) test) in
     omega (arith, parts, count_below-with k test passes)
 
--- If `s` is `sector`, it is in the set `only sector`.
 pub only-here : {sector s : ℕ} → s ≡ sector → only sector s ≡ true
 only-here same = grind (arith, nat_tests)
 
@@ -31,8 +28,6 @@ sector_count-only sector below =
     count_below-insert 4096 sector (λ _. false) (only sector) below refl (λ s. sym (or-false (only sector s)))
     ∙ ap (λ (n : ℕ). n + 1) (count_below-none 4096 (λ _. false) none)
 
--- If `bytes` are the bytes of a sector of `content`, `byte_of` gives the byte of `content` at each address of the
--- sector.
 pub shown_byte : (sector a : ℕ) (bytes : List ℕ) (content : ℕ → ℕ) → a / 4096 ≡ sector
     → ((i : ℕ) → i < 4096 → slice_index bytes i ≡ content (4096 * sector + i)) → byte_of sector bytes a ≡ content a
 shown_byte sector a bytes content in_sector shown =

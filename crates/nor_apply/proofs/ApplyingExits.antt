@@ -34,13 +34,11 @@ use Rattle.nor_apply.proofs.ApplyingInTurn.{raised_few, Numbers, SoFar, EndsInEr
 
 -- ---- the first three parts
 
--- The numbers of operations before the last status write, with these numbers of erases and page programs. They include
--- one status write, if an unlock was requested.
 abbrev pub lifting : (unlock : Bool) → (erases programs : ℕ) → Numbers
 lifting unlock erases programs =
     record { erases = erases; programs = programs; status_writes = if unlock then 1 else 0 }
 
--- `SoFar` after the first part of `apply`, which clears the protection bits if an unlock was requested (`unlock`).
+-- The bus's state after the unlock, if one was requested.
 abbrev pub LiftedIf : Changes → (ℕ → ℕ) → (old now : BusState) → (transactions : ℕ) → (unlock : Bool) → Type 0
 LiftedIf changes wanted old now transactions unlock =
     SoFar changes wanted old.chip.bytes old.worn (if unlock then 0 else code_read changes) (lifting unlock 0 0) 0
@@ -67,7 +65,7 @@ module _ (changes : Changes) (wanted : ℕ → ℕ) (old : BusState) where
       subst (LiftedIf changes wanted old new (0 + sent)) (sym is)
       (code_written nothing leaves (λ can. can.writable (rw is refl)) does (grind arith))
 
--- `SoFar` after the first two parts of `apply`: the unlock, if it was requested, and the erases of the raised sectors.
+-- The bus's state after the unlock, if one was requested, and the erases of the raised sectors.
 abbrev pub Erased : Changes → (ℕ → ℕ) → (erases : ℕ) → (old now : BusState) → (transactions : ℕ) → Type 0
 Erased changes wanted erases old =
     SoFar changes wanted (once_erased (raised_in changes) old.chip.bytes) (λ s. old.worn s || raised_in changes s)
@@ -108,8 +106,7 @@ module _ {changes : Changes} {wanted : ℕ → ℕ} {old mid new : BusState} {se
       let is = so.intermediate honest can in
       intermediate_changed is (does.done (honest_now so.ran honest) (can_erase_all can is)))
 
--- `SoFar` after the first three parts of `apply`: the unlock, if it was requested, the erases of the raised sectors and
--- the programs of the touched sectors.
+-- The bus's state after the unlock, if one was requested, the erases and the programs.
 abbrev pub Programmed : Changes → (ℕ → ℕ) → (erases programs : ℕ) → (old now : BusState) → (transactions : ℕ) → Type 0
 Programmed changes wanted erases programs old =
     SoFar changes wanted
@@ -160,13 +157,10 @@ times_sent-append is (out ∷ later) earlier = counted_sum (is out) _ _ _ (times
     counted_sum true sum m n same = omega arith
     counted_sum false sum m n same = same
 
--- If a list has as many transactions that pass a test as its earlier part, no transaction in its later part passes the
--- test.
 none_added : (is : List ℕ → Bool) (later earlier : Sent)
     → times_sent is (later ++ earlier) ≡ times_sent is earlier → times_sent is later ≡ 0
 none_added is later earlier same = let sum = times_sent-append is later earlier in omega arith
 
--- If some transaction in the later part of a list passes a test, some transaction in the whole list does.
 has_sent-left : (is : List ℕ → Bool) (later earlier : Sent) → has_sent is later ≡ true
     → has_sent is (later ++ earlier) ≡ true
 has_sent-left is [] earlier has = absurd (true≢false (sym has))
@@ -177,7 +171,6 @@ has_sent-left is (out ∷ later) earlier has = elim (or_cases _ _ has) [
 
 -- ---- the last status write
 
--- a timeout of the last status write names address 0
 pub last_names : (changes : Changes) → writes_code changes ≡ true → (error : OperationError) → NamesTimeout 0 error
     → NamesChange changes error
 last_names changes writes Stopped names = tt
@@ -194,8 +187,7 @@ pub record Parts (changes : Changes) (wanted : ℕ → ℕ) (old free mid made :
   pub programs_leave : LeavesPrograms (touched_in changes) (raised_in changes) wanted mid made
   pub program : DoesPrograms (touched_in changes) (raised_in changes) wanted mid made programs
 
--- Holds after all parts of `apply` succeeded, with `transactions` transactions. The bus was in the state `made` before
--- the last status write. If that status write isn't needed, it was left out.
+-- Holds after all parts of `apply` succeeded. The bus was in the state `made` before the last status write.
 pub record Ended (changes : Changes) (wanted : ℕ → ℕ) (erases programs : ℕ) (old made new : BusState)
     (transactions : ℕ) : Type 0 where
   pub exactly : SendsExactly 0 0 (if writes_code changes then 1 else 0) made new
@@ -214,7 +206,6 @@ module _ {changes : Changes} {wanted : ℕ → ℕ} {old free mid made : BusStat
       (sent + erases.transactions + programs.transactions)
   third = programmed second parts.programs_leave parts.program
 
-  -- Lemmas about the end without a status write (`not_written`) and about the end with one.
   pub not_written : {all : ℕ} → writes_code changes ≡ false
       → all ≡ sent + erases.transactions + programs.transactions
       → Ended changes wanted erases.count programs.count old made made all
@@ -259,7 +250,6 @@ module _ {changes : Changes} {wanted : ℕ → ℕ} {old free mid made : BusStat
     }
 
   module _ {new : BusState} {all : ℕ} (ended : Ended changes wanted erases.count programs.count old made new all) where
-    -- all erases were sent before the programs and the last status write
     erased_first : ErasesFirst (raised_in changes) old new
     erased_first =
         let lift = parts.lift.ran.exactly in let erase = parts.erase.targeted in
@@ -282,7 +272,6 @@ module _ {changes : Changes} {wanted : ℕ → ℕ} {old free mid made : BusStat
     applied_fits =
         omega (arith, ended.so.ran.tallies.few, parts.erase.fewer, parts.program.fewer, raised_few changes parts.inside, one_most changes.unlock, one_most (writes_code changes))
 
-    -- the number of all transactions fits in 64 bits
     pub few_sent : all < 18446744073709551616
     few_sent = omega (arith, applied_fits, count_below-most 4096 (touched_in changes))
 

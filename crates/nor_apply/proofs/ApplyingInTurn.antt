@@ -23,8 +23,6 @@ use Rattle.nor_apply.proofs.InTurn.{Ran, ran_part, ran_one, ran_after, honest_no
 use Rattle.nor_apply.proofs.Changing.{change_then}
 use Rattle.nor_apply.proofs.ApplyingSteps.{IsIntermediate, can_write, code_change, intermediate_code}
 
--- ---- numbers of sectors
-
 one_fewer : (b c : Bool) → (b ≡ true → c ≡ true) → (if b then 1 else 0) ≤ (if c then 1 else 0)
 one_fewer b c wider = grind arith
 
@@ -36,9 +34,6 @@ pub raised_few : (changes : Changes) → ((s : ℕ) → raised_in changes s ≡ 
     → sector_count (raised_in changes) ≤ sector_count (touched_in changes)
 raised_few changes inside = count_below-fewer 4096 (raised_in changes) (touched_in changes) inside
 
--- ---- a part that follows other parts
-
--- The numbers of erases, page programs and status writes that were sent, and their sum.
 pub record Numbers : Type 0 where
   pub erases : ℕ
   pub programs : ℕ
@@ -50,10 +45,8 @@ all_of n = n.erases + n.programs + n.status_writes
 abbrev pub sending_these : Changes → Numbers → Limits
 sending_these changes n = sending changes n.erases n.programs n.status_writes
 
--- Holds after some parts of the changes succeeded, with `transactions` transactions. They sent exactly these numbers of
--- operations, and at most `readings` reads. On a well-behaved bus, if `CanApply` held at the start, the parts changed
--- the chip only as `MayChange` allows. The chip then has the bytes `bytes` and the protection bits `code`, and the
--- sectors recorded as erased are `worn`.
+-- Holds after some parts of the changes succeeded. The chip then has the bytes `bytes` and the protection bits `code`,
+-- and the sectors recorded as erased are `worn`.
 pub record SoFar (changes : Changes) (wanted bytes : ℕ → ℕ) (worn : ℕ → Bool) (code : ℕ) (numbers : Numbers)
     (readings : ℕ) (old now : BusState) (transactions : ℕ) : Type 0 where
   pub ran : Ran (sending_these changes numbers) readings old now
@@ -62,7 +55,6 @@ pub record SoFar (changes : Changes) (wanted bytes : ℕ → ℕ) (worn : ℕ �
       → MayChange (touched_in changes) (raised_in changes) wanted old now
   pub intermediate : old.honest ≡ true → CanApply changes wanted old.chip → IsIntermediate bytes worn code old now
 
--- Holds if two clauses of `apply` are true for an exit with this error: `LeavesApply` and `OperationFails`.
 abbrev pub EndsInError : (changes : Changes) (wanted : ℕ → ℕ) (old new : BusState) → OperationError → Type 0
 EndsInError changes wanted old new error =
     LeavesApply changes wanted old new × OperationFails (most_applied (sector_count (touched_in changes))) old new error
@@ -70,8 +62,6 @@ EndsInError changes wanted old new error =
 module _ {changes : Changes} {wanted bytes : ℕ → ℕ} {worn : ℕ → Bool} {code : ℕ} {numbers : Numbers}
     {readings : ℕ} {old mid : BusState} {sent : ℕ}
     (so : SoFar changes wanted bytes worn code numbers readings old mid sent) where
-  -- Lemmas about the next part. The premise `follows` says that, on a well-behaved bus, if `CanApply` held at the start
-  -- of all changes, the part can be carried out (`Can`), and changes the chip only as `MayChange` allows.
   module _ {part : ℕ} {limits : Limits} {Can : Chip → Type 0} {May : BusState → BusState → Type 0} {new : BusState}
       (leaves : Leaves part limits Can May mid new)
       (follows : old.honest ≡ true → CanApply changes wanted old.chip → Can mid.chip
@@ -103,8 +93,6 @@ module _ {changes : Changes} {wanted bytes : ℕ → ℕ} {worn : ℕ → Bool} 
       intermediate = intermediate;
     }
 
-  -- Lemmas about a status write as the next part. The premise `writable` says that the status of the chip can be
-  -- written if `CanApply` held at the start.
   module _ {code' : ℕ} {new : BusState} (leaves : LeavesOperation (status_write changes.status code') mid new)
       (writable : CanApply changes wanted old.chip → is_writable old.chip ≡ true) where
     pub code_then : old.honest ≡ true → CanApply changes wanted old.chip → CanWriteStatus changes.status mid.chip

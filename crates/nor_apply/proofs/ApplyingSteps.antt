@@ -21,17 +21,14 @@ use Rattle.nor_apply.specs.Applying.{touched_in, raised_in, writes_code, CanAppl
 use Rattle.nor_apply.proofs.Kept.{code_cleared, coded_again, fixed_coded, locked_same, coded_from_status, writable_same}
 use Rattle.nor_apply.proofs.Changing.{can_after, status_change}
 
--- The protection bits that were read (`code_read`), and those during the erases and programs (`code_once`). After an
--- unlock `code_once` is 0, and otherwise it is `code_read`.
+-- The protection bits that were read (`code_read`), and those during the erases and programs (`code_once`).
 abbrev pub code_read : Changes → ℕ
 code_read changes = code_of (kept_in (bytes_of changes.status))
 
 abbrev pub code_once : Changes → ℕ
 code_once changes = if changes.unlock then 0 else code_read changes
 
--- Holds for a state between two steps, if the chip has the bytes `bytes`, the sectors recorded as erased are `worn`,
--- and the protection bits are `code`. All other non-volatile status bits are as they were, the chip is idle, and its
--- write enable latch is set only if it was set before.
+-- Holds for a state between two steps.
 pub record IsIntermediate (bytes : ℕ → ℕ) (worn : ℕ → Bool) (code : ℕ) (old new : BusState) : Type 0 where
   pub config : new.chip.config ≡ old.chip.config
   pub byte : (a : ℕ) → new.chip.bytes a ≡ bytes a
@@ -40,8 +37,6 @@ pub record IsIntermediate (bytes : ℕ → ℕ) (worn : ℕ → Bool) (code : �
   pub idle : new.chip.busy ≡ 0
   pub latch : new.chip.latch ≡ true → old.chip.latch ≡ true
 
--- If erases or programs follow an intermediate state, the next state has the target bytes `w` at the addresses `p`, and
--- the sectors `e` as additional erased sectors.
 pub intermediate_changed : {p e worn : ℕ → Bool} {w bytes : ℕ → ℕ} {code : ℕ} {old mid new : BusState}
     → IsIntermediate bytes worn code old mid → HasMade p w e mid new
     → IsIntermediate (λ a. if p a then w a else bytes a) (λ s. worn s || e s) code old new
@@ -50,11 +45,9 @@ intermediate_changed is has = grind (arith, is.byte, has.bytes, is.wear, has.wor
 and_byte : (w : ℕ) → w < 256 → bit_and w 255 ≡ w
 and_byte w small = omega (arith, and_mask w 8)
 
--- if no status write is needed at the end, the protection bits already have their target values
 pub code_spared : (changes : Changes) → writes_code changes ≡ false → code_once changes ≡ changes.code
 code_spared changes spared = grind (arith, nat_tests)
 
--- If `CanApply` holds for a chip, the protection bits that were read are the chip's.
 kept_read : {changes : Changes} {wanted : ℕ → ℕ} {chip : Chip} → CanApply changes wanted chip
     → with_code (code_read changes) chip.kept ≡ chip.kept
 kept_read {changes = changes} {chip = chip} can =
@@ -64,15 +57,11 @@ module _ {changes : Changes} {wanted : ℕ → ℕ} {old : BusState} (can : CanA
   pub intermediate_first : IsIntermediate old.chip.bytes old.worn (code_read changes) old old
   intermediate_first = let kept = kept_read can in search (sym kept)
 
-  -- ---- a status write, at the start or at the end
-
   module _ {code : ℕ} {bytes : ℕ → ℕ} {worn : ℕ → Bool} {mid : BusState}
       (writable : is_writable old.chip ≡ true) (is : IsIntermediate bytes worn code old mid) where
     fixed : fixed_of mid.chip.kept ≡ fixed_of old.chip.kept
     fixed = ap fixed_of is.kept ∙ fixed_coded code old.chip.kept
 
-    -- In each state between two steps, the chip accepts a status write. The chip is idle, its status isn't locked, and
-    -- its bits that are never changed have the values that were read.
     pub can_write : CanWriteStatus changes.status mid.chip
     can_write =
         let lock = locked_same old.chip.kept mid.chip.kept fixed in
@@ -90,11 +79,8 @@ module _ {changes : Changes} {wanted : ℕ → ℕ} {old : BusState} (can : CanA
         let kept = has.kept ∙ again in
         grind (arith, has.bytes, is.byte, has.worn, is.wear, kept)
 
-  -- ---- the premises of erases and programs
-
   module _ {bytes : ℕ → ℕ} {worn : ℕ → Bool} {mid : BusState} (is : IsIntermediate bytes worn (code_once changes) old mid) where
-    -- Between the unlock and the last status write, no address in a touched sector is protected. Without an unlock,
-    -- `CanApply` says so; after an unlock, all protection bits are clear.
+    -- Without an unlock, `CanApply` says that no address is protected; after an unlock, all protection bits are clear.
     free : (a : ℕ) → touched_in changes (a / 4096) ≡ true → is_protected mid.chip a ≡ false
     free a touched =
         let before = kept_read can in let cleared = code_cleared old.chip.kept in
@@ -113,8 +99,6 @@ module _ {changes : Changes} {wanted : ℕ → ℕ} {old : BusState} (can : CanA
       → IsIntermediate (once_erased (raised_in changes) old.chip.bytes) worn (code_once changes) old mid
       → CanProgramAll (touched_in changes) (raised_in changes) wanted mid.chip
   can_program_all is = let touched = can_touched is in grind (arith, is.byte, and_byte, can.bytes, can.falls)
-
-  -- ---- after the last status write
 
   pub applied : {new : BusState}
       → IsIntermediate

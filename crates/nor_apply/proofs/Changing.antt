@@ -1,5 +1,4 @@
--- Lemmas about a change that consists of successive parts. If a relation for every exit, or one for success, holds for
--- each of two successive parts, it holds for both together.
+-- If a relation for every exit, or one for success, holds for each of two successive parts, it holds for both together.
 use Rattle.std.proofs.Common.{◌≡◌, ℕ, ◌/◌, ◌⊎◌, inl, true, false, true≢false, arith, ◌∙◌, sym, ap}
 use Rattle.std.specs.Prelude.{Bool, ◌||◌, if◌then◌else◌}
 use Rattle.std.proofs.lemmas.Bool.{false_from_ne_true}
@@ -11,8 +10,6 @@ use Rattle.nor_driver.specs.StatusWrites.{MayWriteStatus, fixed_of}
 use Rattle.nor_apply.specs.Within.{is_writable, IsWithin, addresses_of}
 use Rattle.nor_apply.specs.Change.{CanChange, MayChange, HasMade, HasChanged}
 use Rattle.nor_apply.proofs.Kept.{fixed_coded, writable_same}
-
--- ---- how far a chip may differ from the original one (`IsWithin`)
 
 pub within_then : (p : ℕ → Bool) (first : Chip) (mid new : BusState) → IsWithin p first mid → IsWithin p mid.chip new
     → IsWithin p first new
@@ -34,7 +31,6 @@ within_then p first mid new before after =
           };
     }
 
--- If `b` implies `c`, and `c` is false, then `b` is false. So an element outside a set is outside each smaller set.
 pub narrower : {b c : Bool} → (b ≡ true → c ≡ true) → c ≡ false → b ≡ false
 narrower {b} wider out = false_from_ne_true b (λ is. true≢false (sym (wider is) ∙ out))
 
@@ -49,8 +45,6 @@ within_wider p q first state wider within = record {
       let runs = within.runs loses works in search (runs.inside, runs.status);
 }
 
--- If a chip is idle, has the configuration and non-volatile status bits of `first`, and has the bytes of `first` at all
--- addresses outside `p`, then `IsWithin` holds for `p`.
 pub idle_within : {p : ℕ → Bool} {first : Chip} {state : BusState} → state.chip.config ≡ first.config
     → ((a : ℕ) → p a ≡ false → state.chip.bytes a ≡ first.bytes a) → state.chip.kept ≡ first.kept → state.chip.busy ≡ 0
     → IsWithin p first state
@@ -60,33 +54,23 @@ pub same_within : (p : ℕ → Bool) (first : Chip) (state : BusState) → IsSam
     → IsWithin p first state
 same_within p first state same idle = idle_within same.config (λ a out. same.bytes a) same.kept idle
 
--- ---- sectors that can be changed (`CanChange`)
-
--- Let the sectors `t'` be a subset of `t`. If the sectors `t` of the chip `old` can be changed, the sectors `t'` of
--- `new` can be changed, provided that `new` is idle and has the same configuration and non-volatile status bits.
 pub can_after : {t t' : ℕ → Bool} {old : Chip} (new : Chip) → ((s : ℕ) → t' s ≡ true → t s ≡ true) → CanChange t old
     → new.config ≡ old.config → new.kept ≡ old.kept → new.busy ≡ 0 → CanChange t' new
 can_after {old} new within can config kept idle =
     grind (arith, within, can.inside, can.free, is_protected-same old new config kept)
 
--- ---- the relation for every exit (`MayChange`)
-
--- If the chip is the same as before, is idle, and no sector was erased, `MayChange` holds for any sectors.
 pub same_change : {t r : ℕ → Bool} {w : ℕ → ℕ} {old new : BusState} → IsSame old.chip new.chip → new.chip.busy ≡ 0
     → ((s : ℕ) → new.worn s ≡ old.worn s) → MayChange t r w old new
 same_change {t} {old} {new} same idle worn =
     search (same_within (addresses_of t) old.chip new same idle, same.bytes, inl)
 
--- If `MayChange` holds for each of two successive parts, it holds for both together. The premise is that the bus is
--- steady between the parts if and only if it was steady at the start.
+-- `MayChange` holds for two successive parts together if it holds for each, and the first one keeps a steady bus steady.
 pub change_then : {t r : ℕ → Bool} {w : ℕ → ℕ} {old mid new : BusState} → mid.steady ≡ old.steady
     → MayChange t r w old mid → MayChange t r w mid new → MayChange t r w old new
 change_then {t} {old} {mid} {new} steadily before after =
     let within = within_then (addresses_of t) old.chip mid new before.within after.within in
     grind (arith, within, before.gentle, after.gentle, before.worn, after.worn)
 
--- `MayChange` stays true for more touched sectors `t'`, more raised sectors `r'` and other target bytes `w'`. In the
--- sectors that `t` has and `r'` doesn't have, `w'` must equal `w`.
 pub change_as : {t r t' r' : ℕ → Bool} {w w' : ℕ → ℕ} {old new : BusState} → ((s : ℕ) → t s ≡ true → t' s ≡ true)
     → ((s : ℕ) → r s ≡ true → r' s ≡ true) → ((a : ℕ) → r' (a / 4096) ≡ false → t (a / 4096) ≡ true → w a ≡ w' a)
     → MayChange t r w old new → MayChange t' r' w' old new
@@ -94,16 +78,11 @@ change_as {t} {t' = t'} {old} {new} more raised wanted change =
     let within = within_wider (addresses_of t) (addresses_of t') old.chip new (λ a. more (a / 4096)) change.within in
     grind (arith, within, raised, wanted, change.gentle, change.within.bytes, change.worn)
 
--- If the status of a chip can be written (`is_writable`), `MayChange` holds for any sectors after a status write, even
--- after an interrupted one.
 pub status_change : {t r : ℕ → Bool} {w : ℕ → ℕ} {code : ℕ} {old new : BusState} → is_writable old.chip ≡ true
     → MayWriteStatus code old new → MayChange t r w old new
 status_change {code = code} {old = old} writable wrote =
     grind (arith, wrote.bytes, wrote.runs, wrote.worn, fixed_coded code old.chip.kept)
 
--- ---- the relation for success (`HasMade`)
-
--- If `b` decides whether the byte `x` is the target byte or the old byte, then `x` is one of these two.
 pub either_byte : (b : Bool) {x old wanted : ℕ} → x ≡ (if b then wanted else old) → (x ≡ old) ⊎ (x ≡ wanted)
 either_byte b is = grind arith
 
@@ -119,7 +98,6 @@ pub made_none : {p e : ℕ → Bool} {w : ℕ → ℕ} (state : BusState) → ((
     → state.chip.busy ≡ 0 → HasMade p w e state state
 made_none state none spared idle = grind (arith, none, spared, or-false)
 
--- `HasMade` stays true if its set of addresses and its set of erased sectors are replaced by equal sets.
 pub made_same : {p p' e e' : ℕ → Bool} {w : ℕ → ℕ} {old new : BusState} → ((a : ℕ) → p a ≡ p' a)
     → ((s : ℕ) → e s ≡ e' s) → HasMade p w e old new → HasMade p' w e' old new
 made_same {w = w} {old = old} same spared has =
@@ -127,9 +105,6 @@ made_same {w = w} {old = old} same spared has =
     let worn = λ (s : ℕ). has.worn s ∙ ap (λ (b : Bool). old.worn s || b) (spared s) in
     assumption
 
--- If `HasMade` holds for each of two successive parts, it holds for both together, with the addresses and the erased
--- sectors of both. At the addresses of the second part, its target bytes `v` must equal the target bytes `w` of the
--- whole.
 pub made_then : {p q t e f g : ℕ → Bool} {v w : ℕ → ℕ} {old mid new : BusState} → ((a : ℕ) → t a ≡ (p a || q a))
     → ((s : ℕ) → g s ≡ (e s || f s)) → ((a : ℕ) → q a ≡ true → v a ≡ w a)
     → HasMade p w e old mid → HasMade q v f mid new → HasMade t w g old new

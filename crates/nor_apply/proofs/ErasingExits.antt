@@ -32,8 +32,7 @@ use Rattle.nor_apply.proofs.InTurn.{ran_leaves, honest_now, Listed, listed_after
 use Rattle.nor_apply.proofs.Changing.{can_after, change_then, made_may, made_same, made_then}
 use Rattle.nor_apply.proofs.Targeting.{unit_targets}
 
--- Holds if the erase `unit` may be in the plan for `set` on a chip of `total` sectors. Such a chip can carry out this
--- erase (`IsErase`), which erases at least one sector, and only sectors of the set.
+-- Holds if the erase `unit` may be in the plan for `set` on a chip of `total` sectors.
 record IsOfPlan (kinds : Kinds) (total : ℕ) (set : ℕ → Bool) (unit : Erase) : Type 0 where
   pub is : IsErase kinds total unit
   pub some : 1 ≤ sectors_in total unit.unit
@@ -44,7 +43,6 @@ record IsOfPlan (kinds : Kinds) (total : ℕ) (set : ℕ → Bool) (unit : Erase
 some_sectors : (total : ℕ) (unit : EraseBlock) → 1 ≤ total → 1 ≤ sectors_in total unit
 some_sectors total unit some = grind arith
 
--- If no address in the `n` sectors of an erase block is protected, the block as a whole isn't protected.
 free_unit : (chip : Chip) (from n : ℕ) → 1 ≤ n
     → ((a : ℕ) → from ≤ a / 4096 → a / 4096 < from + n → is_protected chip a ≡ false)
     → is_block_protected chip (4096 * from) (4096 * n) ≡ false
@@ -58,7 +56,6 @@ in_unit : (total s : ℕ) (unit : Erase) → unit.sector ≤ s → s < unit.sect
     → erases_sector total s unit ≡ true
 in_unit total s unit low high = and_from _ _ (le-leb _ _ low) (lt-ltb _ _ high)
 
--- On a chip of at most 4,096 sectors, the command of an aligned erase targets each sector that the erase covers.
 block_named : (total s : ℕ) (unit : Erase) → total ≤ 4096 → is_aligned unit.unit unit.sector ≡ true
     → erases_sector total s unit ≡ true → is_sector_named unit s ≡ true
 block_named total s unit most aligned erased = named_by total s unit.unit unit.sector most aligned erased
@@ -77,9 +74,6 @@ module _ {kinds : Kinds} {size : ℕ} {set done : ℕ → Bool} {unit : Erase} {
   sectors_same : sectors_of mid.chip ≡ size / 4096
   sectors_same = rw (has.config, can.sized.same) refl
 
-  -- If `CanEraseAll` held at the start, and the earlier erases of the plan succeeded, the next erase can be carried
-  -- out. By `HasMade`, the earlier erases left an idle chip, and didn't change configuration and non-volatile status
-  -- bits.
   can_erase : CanErase unit mid.chip
   can_erase =
       let able = can_after mid.chip (λ s is. is) can.can has.config has.kept has.idle in
@@ -120,13 +114,11 @@ pub record ErasesSoFar (kinds : Kinds) (size : ℕ) (set : ℕ → Bool) (units 
 
 module _ {kinds : Kinds} {size : ℕ} {set : ℕ → Bool} {units left : List Erase} {old mid : BusState} {tally : Tally}
     (so : ErasesSoFar kinds size set units left old mid tally) where
-  -- a sector that one of the erases `units` covers is in the set
   erased_inside : (s : ℕ) → erased_by (size / 4096) units s ≡ true → set s ≡ true
   erased_inside s erased =
       sym (so.covers.union s)
       ∙ rw (← so.listed.split, list_any-append (erases_sector (size / 4096) s) units left, erased) refl
 
-  -- Lemmas for the exit at which every planned erase was sent.
   module _ (none : left ≡ []) where
     pub does_ended : DoesErases set kinds size old mid tally
     does_ended =
@@ -150,7 +142,6 @@ module _ {kinds : Kinds} {size : ℕ} {set : ℕ → Bool} {units left : List Er
         ran_leaves so.listed.ran (grind (arith, does_ended.fewer)) (omega (arith, does_ended.fewer))
         (λ honest can. made_may (λ a. erased_inside (a / 4096)) erased_inside (so.done honest can))
 
-  -- Lemmas for the point at which `unit` is the next erase to be sent.
   module _ {unit : Erase} {rest : List Erase} (next : left ≡ unit ∷ rest) where
     pub few_units : tally.count < 4096
     few_units = omega (arith, listed_fewer so.listed next, so.few, count_below-most 4096 set)
@@ -180,7 +171,6 @@ module _ {kinds : Kinds} {size : ℕ} {set : ℕ → Bool} {units left : List Er
         unit_targets unit.unit unit.sector size set s of_plan.is.aligned
         (λ k low high. of_plan.inside k (in_unit (size / 4096) k unit low high))
 
-    -- A timeout names the first address of the erase block, which is in a sector of the set.
     names_unit : (error : OperationError) → NamesTimeout (4096 * unit.sector) error → NamesTimeoutIn set error
     names_unit error returned =
         let inside = of_plan.inside unit.sector in

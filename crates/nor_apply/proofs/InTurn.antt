@@ -18,16 +18,13 @@ use Rattle.nor_apply.specs.Spending.{Tallies}
 
 -- ---- parts that succeeded
 
--- Holds after a part of a change succeeded. The part sent exactly the numbers of operations in `limits`, and only
--- operations that `limits` allows. `tally` counts its operations and transactions, with at most `readings` reads
--- (`Tallies`).
+-- Holds after a part of a change succeeded. It sent exactly the numbers of operations in `limits`.
 pub record Ran (limits : Limits) (readings : ℕ) (old new : BusState) (tally : Tally) : Type 0 where
   pub nature : KeepsNature old new
   pub sends : SendsWithin limits old new
   pub exactly : SendsExactly limits.erases limits.programs limits.status_writes old new
   pub tallies : Tallies readings old new tally
 
--- Holds if these limits allow no erase, page program or status write.
 abbrev pub AllowsNone : Limits → Type 0
 AllowsNone limits = (limits.erases ≡ 0) × (limits.programs ≡ 0) × (limits.status_writes ≡ 0)
 
@@ -48,14 +45,11 @@ ran_none {limits} state none = record {
   };
 }
 
--- If a part succeeded and sent exactly `e` erases, `p` page programs and `w` status writes, `Ran` holds with these
--- numbers as its limits.
 pub ran_part : {most r e p w : ℕ} {limits : Limits} {Can : Chip → Type 0} {May : BusState → BusState → Type 0}
     {old new : BusState} {tally : Tally} → Leaves most limits Can May old new → SendsExactly e p w old new
     → Tallies r old new tally → Ran (record limits { erases = e; programs = p; status_writes = w }) r old new tally
 ran_part leaves exactly tallies = let sends = sends_exactly leaves.sends exactly in search arith
 
--- If a single operation succeeded, `Ran` holds for it as a part without reads.
 pub ran_one : {e p w sent : ℕ} {limits : Limits} {Can : Chip → Type 0} {May : BusState → BusState → Type 0}
     {old new : BusState} → Leaves most_operation limits Can May old new → SendsExactly e p w old new
     → EndsWaiting old new sent → Ran (record limits { erases = e; programs = p; status_writes = w }) 0 old new
@@ -116,14 +110,12 @@ module _ {limits : Limits} {r : ℕ} {old mid : BusState} {done : Tally} (ran : 
   pub honest_now : old.honest ≡ true → mid.honest ≡ true
   honest_now honest = ran.nature.honest ∙ honest
 
-  -- If the next part returned an error, `OperationFails` holds for the parts so far and the next one together.
   pub fails_after : {part most : ℕ} {new : BusState} {error : OperationError} → OperationFails part mid new error
       → done.transactions + part ≤ most → OperationFails most old new error
   fails_after fails fits =
       grind (arith, ran.nature.honest, ran.nature.punctual, ran.tallies.sent, fails.stopped, fails.ran_out)
 
   module _ {Can : Chip → Type 0} {May : BusState → BusState → Type 0} where
-    -- `Leaves` holds for the parts so far.
     pub ran_leaves : {most : ℕ} {all : Limits} → IsPartOf limits all → done.transactions ≤ most
         → (old.honest ≡ true → Can old.chip → May old mid) → Leaves most all Can May old mid
     ran_leaves {all = all} part fits may = record {
@@ -132,7 +124,6 @@ module _ {limits : Limits} {r : ℕ} {old mid : BusState} {done : Tally} (ran : 
       reached = may;
     }
 
-    -- At each exit of the next part, `Leaves` holds for the parts so far and the next one together.
     pub leaves_after : {part most : ℕ} {second all : Limits} {Can' : Chip → Type 0}
         {May' : BusState → BusState → Type 0} {new : BusState} → Leaves part second Can' May' mid new
         → AreParts limits second all → done.transactions + part ≤ most
@@ -181,8 +172,6 @@ module _ {A : Type 0} {all done left : List A} {limits : ℕ → Limits} {old mi
     pub listed_fewer : tally.count + 1 ≤ length all
     listed_fewer = omega (arith, ap length listed_split, length-append done (x ∷ rest), listed.count)
 
-    -- If the next operation returned an error, `OperationFails` holds for the operations so far and the next one
-    -- together.
     pub listed_fails : {most : ℕ} {new : BusState} {error : OperationError}
         → OperationFails most_operation mid new error → most_operation * length all ≤ most
         → OperationFails most old new error
@@ -190,14 +179,12 @@ module _ {A : Type 0} {all done left : List A} {limits : ℕ → Limits} {old mi
 
     module _ {one : Limits} {Can : Chip → Type 0} {May : BusState → BusState → Type 0} {new : BusState}
         (leaves : Leaves most_operation one Can May mid new) where
-      -- At each exit of the next operation, `Leaves` holds for the operations so far and the next one together.
       pub listed_after : {most : ℕ} {limits' : Limits} {Can' : Chip → Type 0} {May' : BusState → BusState → Type 0}
           → AreParts (limits tally.count) one limits' → most_operation * length all ≤ most
           → (old.honest ≡ true → Can' old.chip → Can mid.chip × (May mid new → May' old new))
           → Leaves most limits' Can' May' old new
       listed_after parts fits follows = leaves_after listed.ran leaves parts (omega (arith, listed_fewer)) follows
 
-      -- If the next operation, for the element `x`, succeeded, `Listed` holds with `x` as one of the done elements.
       pub listed_more : {sent e p w : ℕ} {more : Tally}
           → IsSum (limits tally.count) (record one { erases = e; programs = p; status_writes = w }) (limits more.count)
           → SendsExactly e p w mid new → EndsWaiting mid new sent → more.count ≡ tally.count + 1

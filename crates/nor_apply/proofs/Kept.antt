@@ -7,8 +7,6 @@ use Rattle.nor_model.specs.Guard.{code_of}
 use Rattle.nor_driver.specs.StatusWrites.{fixed_of, with_code}
 use Rattle.nor_apply.specs.Within.{is_writable}
 
--- ---- a change of the protection bits
-
 pub fixed_coded : (code : ℕ) (kept : KeptBits) → fixed_of (with_code code kept) ≡ fixed_of kept
 fixed_coded code kept =
     let low : (32 * (kept.one / 32) + code % 32) / 32 ≡ kept.one / 32 = omega arith in
@@ -21,12 +19,9 @@ coded_again code later kept =
     let high : (64 * (code / 32) + kept.two % 64) % 64 ≡ kept.two % 64 = omega arith in
     rw (low, high) refl
 
--- If the protection bits of `kept` are replaced by 0, `code_of` returns 0.
 pub code_cleared : (kept : KeptBits) → code_of (with_code 0 kept) ≡ 0
 code_cleared kept = omega arith
 
--- If the bits that are never changed agree in `kept` and in the two bytes `status`, then `kept` with the protection
--- bits of `status` equals the non-volatile bits of `status`.
 pub coded_from_status : (status : List ℕ) (kept : KeptBits) → fixed_of kept ≡ fixed_of (kept_in status)
     → with_code (code_of (kept_in status)) kept ≡ kept_in status
 coded_from_status status kept fixed =
@@ -35,9 +30,6 @@ coded_from_status status kept fixed =
     let high : 64 * (code_of (kept_in status) / 32) + kept.two % 64 ≡ slice_index status 1 % 128 = omega arith in
     rw (low, high) refl
 
--- ---- whether the status is locked
-
--- If the bits that are never changed agree in `x` and `y`, then both statuses are locked, or neither is.
 pub locked_same : (x y : KeptBits) → fixed_of y ≡ fixed_of x → is_locked y ≡ is_locked x
 locked_same x y fixed =
     let two = ap (λ (f : ℕ × ℕ). f.1) fixed in

@@ -1,6 +1,5 @@
--- Lemmas about the page programs of a sector. There is one for each span: the bytes of a page from the first to the
--- last one that differs from its target. The lemmas state the state between two programs, the number of programs, and
--- each exit.
+-- Lemmas about the page programs of a sector, one for each span: the bytes of a page from the first to the last one
+-- that differs from its target.
 use Rattle.std.proofs.Common.{◌≡◌, ◌<◌, ◌≤◌, ◌+◌, ◌-◌, ◌*◌, ◌/◌, ◌⊎◌, inl, inr, ◌∙◌, ℕ, Bool, true, List, [], ◌∷◌, ◌++◌, length, take, drop, slice_index, refl, ap, arith, length-take, length-drop, ◌||◌, zero, suc}
 use Rattle.std.specs.Prelude.{◌&&◌, ◌||◌, nat_le, nat_lt, bit_and, if◌then◌else◌, ◌==◌, not, min, count_by}
 use Rattle.std.specs.Int.Bits.{and_self}
@@ -35,12 +34,9 @@ use Rattle.nor_apply.specs.Spending.{NamesTimeoutIn}
 use Rattle.nor_apply.proofs.InTurn.{ran_leaves, honest_now, Listed, listed_after, listed_fails, listed_more, listed_all, listed_next, listed_fewer}
 use Rattle.nor_apply.proofs.Targeting.{named_in}
 
--- True if the address `a` is in one of these spans of the sector.
 abbrev pub in_spans : ℕ → List PageSpan → ℕ → Bool
 in_spans sector spans a = spanned_by spans (a - 4096 * sector) && only sector (a / 4096)
 
--- Holds if the bytes of these spans of a sector are the target bytes, and all else is as `HasMade` says: all other
--- bytes are as they were, and no sector was erased.
 abbrev pub HasFilled : ℕ → List ℕ → List PageSpan → (old new : BusState) → Type 0
 HasFilled sector wanted spans old new = HasMade (in_spans sector spans) (byte_of sector wanted) none old new
 
@@ -49,21 +45,16 @@ HasFilled sector wanted spans old new = HasMade (in_spans sector spans) (byte_of
 abbrev part : List ℕ → PageSpan → List ℕ
 part wanted span = take (span.last + 1 - span.first) (drop span.first wanted)
 
--- Let `now` be the old or the target byte. If turning the old byte into the target byte takes no bit from 0 to 1, then
--- `now` ANDed with the target byte is the target byte.
 fallen : {now old wanted : ℕ} → (now ≡ old) ⊎ (now ≡ wanted) → bit_and wanted old ≡ wanted → bit_and now wanted ≡ wanted
 fallen {old} {wanted} (inl same) falls = rw (same, and_comm old wanted) falls
 fallen {wanted} (inr made) falls = rw made (and_self wanted)
 
 -- ---- the next span
 
--- All addresses of the page that contains the address `4096 * sector + first` are in the sector `sector`.
 page_inside : (sector first a : ℕ) → first < 4096 → is_in_page (4096 * sector + first) a ≡ true
     → only sector (a / 4096) ≡ true
 page_inside sector first a below page = grind (arith, nat_tests)
 
--- After a program, even an interrupted one, `MayChange` holds for a sector. The premises are that the page lies in this
--- sector, and that the complete program would leave each byte as it was or as the target byte.
 span_change : (sector at : ℕ) (sent : List ℕ) (wanted : ℕ → ℕ) (now new : BusState)
     → ((a : ℕ) → is_in_page at a ≡ true → only sector (a / 4096) ≡ true)
     → ((a : ℕ) → (programmed at sent now.chip.bytes a ≡ now.chip.bytes a)
@@ -84,7 +75,6 @@ module _ {sector : ℕ} {old wanted : List ℕ} {span : PageSpan} (spanned : Spa
   length-part : length (part wanted span) ≡ span.last + 1 - span.first
   length-part = omega (arith, length-take {A = ℕ}, length-drop {A = ℕ}, below_end)
 
-  -- The addresses that the program of a span changes are exactly those of the span.
   sent_addresses : (a : ℕ) → (nat_le (4096 * sector + span.first) a
       && nat_lt a (4096 * sector + span.first + length (part wanted span))) ≡ in_spans sector (span ∷ []) a
   sent_addresses a =
@@ -94,7 +84,6 @@ module _ {sector : ℕ} {old wanted : List ℕ} {span : PageSpan} (spanned : Spa
 
   module _ (spans : List PageSpan) {first now : BusState} (can : CanProgramSpans sector old wanted first.chip)
       (filled : HasFilled sector wanted spans first now) where
-    -- If `CanProgramSpans` held at the start, and other spans were programmed since, the chip can program this span.
     can_span : CanProgram (4096 * sector + span.first) (length (part wanted span)) now.chip
     can_span =
         let able = can_after now.chip (λ s is. is) can.can filled.config filled.kept filled.idle in
@@ -104,7 +93,6 @@ module _ {sector : ℕ} {old wanted : List ℕ} {span : PageSpan} (spanned : Spa
         let long = length-part in
         grind (arith, spanned.is.order, nat_tests)
 
-    -- At each address of the span, the chip's byte ANDed with the byte that is sent is the target byte.
     span_falls : (a : ℕ) → in_spans sector (span ∷ []) a ≡ true
         → bit_and (now.chip.bytes a) (slice_index (part wanted span) (a - (4096 * sector + span.first)))
         ≡ byte_of sector wanted a
@@ -124,7 +112,6 @@ module _ {sector : ℕ} {old wanted : List ℕ} {span : PageSpan} (spanned : Spa
         (can.falls (a - 4096 * sector) (omega arith)) in
         rw sent (fallen (either_byte (in_spans sector spans a) (filled.bytes a)) falls)
 
-    -- The program gives the span's addresses the target bytes, and leaves all other bytes as they were.
     span_bytes : (a : ℕ) → programmed (4096 * sector + span.first) (part wanted span) now.chip.bytes a
         ≡ (if in_spans sector (span ∷ []) a then byte_of sector wanted a else now.chip.bytes a)
     span_bytes a = rw (sent_addresses a) (elim (cases_Bool (in_spans sector (span ∷ []) a)) [
@@ -145,9 +132,6 @@ module _ {sector : ℕ} {old wanted : List ℕ} {span : PageSpan} (spanned : Spa
           ∙ and-or_distrib_right (spanned_by spans (a - 4096 * sector)) _ _ in
           made_then joined (λ s. refl) (λ a is. refl) filled made
 
-      -- If the spans `spans` were programmed since `first`, and the program of `span` was then sent, even if it was
-      -- interrupted, `MayChange` holds from `first` to `new`. The premise is that the bus is steady at `now` if and only
-      -- if it was steady at `first`.
       span_may : now.steady ≡ first.steady → MayProgram (4096 * sector + span.first) (part wanted span) now new
           → MayChange (only sector) none (byte_of sector wanted) first new
       span_may steadily may =
@@ -156,7 +140,6 @@ module _ {sector : ℕ} {old wanted : List ℕ} {span : PageSpan} (spanned : Spa
           (λ a. page_inside sector span.first a (omega (arith, below_end, spanned.is.order)))
           (λ a. either_byte (in_spans sector (span ∷ []) a) (span_bytes a)) may)
 
--- After all spans were programmed, the sector has its target bytes, since the bytes outside the spans had them already.
 filled_all : {sector : ℕ} {old wanted : List ℕ} {spans : List PageSpan} {first new : BusState} → length old ≡ 4096
     → AreSpans old wanted spans → CanProgramSpans sector old wanted first.chip → HasFilled sector wanted spans first new
     → HasChanged (only sector) (byte_of sector wanted) none first new
@@ -177,14 +160,11 @@ filled_all {sector} {old} {wanted} {spans} {first} {new} whole are can filled =
 
 -- ---- the number of spans
 
--- Some number in a range passes a test if and only if the test passes at some distance from the start of the range.
 any_of_range : (test : ℕ → Bool) (from m n at : ℕ) → at ≡ from + m
     → list_any test (range_with_len at n) ≡ list_any (λ i. test (from + i)) (range_with_len m n)
 any_of_range test from m zero at place = refl
 any_of_range test from m (suc n) at place = rw (place, any_of_range test from (m + 1) n (from + m + 1) (omega arith)) refl
 
--- If `old` has the chip's bytes of a sector, a page differs from its target in `old` if and only if it does on the
--- chip.
 page_same : (content : ℕ → ℕ) (sector : ℕ) (old wanted : List ℕ) → length old ≡ 4096 → IsSectorOf content sector old
     → (page : ℕ) → page < 16 → page_differs old wanted page
     ≡ is_page_other content (byte_of sector wanted) (16 * sector + page)
@@ -237,7 +217,6 @@ pub record SpansSoFar (sector : ℕ) (old wanted : List ℕ) (spans left : List 
 
 module _ {sector : ℕ} {old wanted : List ℕ} {spans left : List PageSpan} {first now : BusState} {tally : Tally}
     (so : SpansSoFar sector old wanted spans left first now tally) where
-  -- Lemmas for the exit at which every span was programmed.
   module _ (none : left ≡ []) where
     pub does_ended : DoesSector 0 (CanProgramSpans sector old wanted) sector wanted first now tally
     does_ended =
@@ -256,7 +235,6 @@ module _ {sector : ℕ} {old wanted : List ℕ} {spans left : List PageSpan} {fi
         ran_leaves so.listed.ran (grind (arith, does_ended.fewer)) (omega (arith, does_ended.fewer))
         (λ honest can. changed_may (does_ended.done honest can))
 
-  -- Lemmas for the point at which `span` is the next span to be programmed.
   module _ {span : PageSpan} {rest : List PageSpan} (next : left ≡ span ∷ rest) where
     spanned : Spanned sector old wanted span
     spanned = record {
@@ -265,7 +243,6 @@ module _ {sector : ℕ} {old wanted : List ℕ} {spans left : List PageSpan} {fi
       is = listed_next so.listed next (IsSpan old wanted) so.are.each;
     }
 
-    -- Fewer than 16 spans were programmed so far, with at most 983,070 transactions.
     pub few_spans : (tally.count ≤ 15) × (tally.transactions ≤ 983070)
     few_spans = omega (arith, listed_fewer so.listed next, so.are.count, pages_most old wanted so.whole)
 
@@ -276,7 +253,6 @@ module _ {sector : ℕ} {old wanted : List ℕ} {spans left : List PageSpan} {fi
         let at = named_in 1 ((4096 * sector + span.first) / 4096) s (omega arith) (omega arith) named in
         only-here (omega arith)
 
-    -- A timeout names an address in the sector.
     names_address : (error : OperationError) → NamesTimeout (4096 * sector + span.first) error → NamesTimeoutIn (only sector) error
     names_address error returned =
         let last = below_end spanned in

@@ -30,7 +30,6 @@ use Rattle.nor_apply.proofs.Changing.{can_after, change_then, change_as, made_ma
 
 module _ {sector : ℕ} {erased : Bool} {bytes bytes' : List ℕ} {reads : ℕ} {first mid : BusState}
     (loads : LoadsOk sector erased bytes bytes' first mid reads) where
-  -- Loading a sector takes at most one transaction, and sends no operation.
   loads_ran : Ran (programming (only sector) 0) 1 first mid (record { count = 0; transactions = reads })
   loads_ran =
       let read = loads.honest_reads in
@@ -52,8 +51,6 @@ module _ {sector : ℕ} {erased : Bool} {bytes bytes' : List ℕ} {reads : ℕ} 
 
   module _ {wanted : List ℕ} (blank : (i : ℕ) → i < 4096 → slice_index bytes i ≡ 255) (honest : first.honest ≡ true)
       (can : CanProgramSector sector wanted erased first.chip) where
-    -- On a well-behaved bus, if `CanProgramSector` held and the buffer was filled with FFh, loading leaves the chip as
-    -- it was, and the buffer has the sector's bytes.
     has_loaded : HasMade (λ a. false) (byte_of sector wanted) none first mid × IsSectorOf mid.chip.bytes sector bytes'
     has_loaded =
         let rested = loads.honest_reads.rested honest in
@@ -111,7 +108,6 @@ module _ {sector : ℕ} {erased : Bool} {bytes bytes' : List ℕ} {reads : ℕ} 
 
 -- ---- one sector after another
 
--- True for the touched sectors below `n`.
 abbrev pub before : (ℕ → Bool) → ℕ → ℕ → Bool
 before touched n s = touched s && nat_lt s n
 
@@ -122,10 +118,7 @@ before_more touched n is s = grind (arith, nat_tests)
 before_skip : (touched : ℕ → Bool) (n : ℕ) → touched n ≡ false → (s : ℕ) → before touched n s ≡ before touched (n + 1) s
 before_skip touched n free s = grind (arith, nat_tests)
 
--- Holds after the touched sectors below `n` were programmed. No erase or status write was sent, and the programs target
--- only touched sectors (`SendsWithin` states this exactly). The number of reads is at most the number of touched
--- sectors below `n`. On a well-behaved bus, if `CanProgramAll` held at the start, these sectors have the target bytes,
--- and one program was sent for each of their pages that differed from its target.
+-- Holds after the touched sectors below `n` were programmed.
 pub record SectorsSoFar (touched raised : ℕ → Bool) (wanted : ℕ → ℕ) (n : ℕ) (first now : BusState)
     (tally : Tally) : Type 0 where
   pub ran : Ran (programming touched tally.count) (count_below n touched) first now tally
@@ -144,8 +137,6 @@ sectors_none {touched} {wanted = wanted} state = record {
   counted = λ honest can. sym (count_below-zero (is_programmed touched state.chip.bytes wanted));
 }
 
--- The number of pages below sector `n + 1` that need a program is the number below sector `n` plus, if sector `n` is
--- touched, the number in sector `n`.
 pages_more : (touched : ℕ → Bool) (content wanted : ℕ → ℕ) (n : ℕ) (is : Bool) → touched n ≡ is
     → count_below (16 * (n + 1)) (is_programmed touched content wanted)
     ≡ count_below (16 * n) (is_programmed touched content wanted)
@@ -158,7 +149,6 @@ pages_more touched content wanted n is same =
     (λ page. is && is_page_other content wanted (16 * n + page))
     (λ page small. let sector : (16 * n + page) / 16 ≡ n = omega arith in rw (sector, same) refl))
 
--- Whether a page differs from the target depends only on the bytes and target bytes of this page.
 page_same : (page : ℕ) {now before wanted wanted' : ℕ → ℕ} → ((a : ℕ) → a / 256 ≡ page → now a ≡ before a)
     → ((a : ℕ) → a / 256 ≡ page → wanted a ≡ wanted' a)
     → is_page_other now wanted page ≡ is_page_other before wanted' page
@@ -168,12 +158,9 @@ page_same page {now} {before} {wanted} {wanted'} same same_wanted =
     any_below-same 256 (λ i. is_other (now (at i)) (wanted (at i))) (λ i. is_other (before (at i)) (wanted' (at i)))
     (λ i below. rw (same (at i) (omega arith), same_wanted (at i) (omega arith)) refl)
 
--- If sector `n`, below 4,096, is touched, the number of touched sectors below `n` is less than the number of all
--- touched sectors.
 pub room : (touched : ℕ → Bool) (n : ℕ) → n < 4096 → touched n ≡ true → count_below n touched + 1 ≤ sector_count touched
 room touched n below is = count_below-next 4096 n touched below is
 
--- Holds if sector `n` is touched and below 4,096, and its target bytes are `bytes`.
 pub record IsTouched (touched : ℕ → Bool) (wanted : ℕ → ℕ) (n : ℕ) (bytes : List ℕ) : Type 0 where
   pub is : touched n ≡ true
   pub below : n < 4096
@@ -184,8 +171,6 @@ module _ {touched raised : ℕ → Bool} {wanted : ℕ → ℕ} {n : ℕ} {first
   pub few_sectors : n < 4096 → (tally.count ≤ 65520) × (tally.transactions ≤ 4294053855)
   few_sectors below = omega (arith, count_below-most n touched)
 
-  -- If sector `n` isn't touched, and `SectorsSoFar` holds for the sectors below `n`, it also holds for those below `n +
-  -- 1`.
   pub sectors_skip : touched n ≡ false → SectorsSoFar touched raised wanted (n + 1) first now tally
   sectors_skip free =
       let count = count_below-without n touched free in
@@ -211,8 +196,6 @@ module _ {touched raised : ℕ → Bool} {wanted : ℕ → ℕ} {n : ℕ} {first
 
     module _ {erased : Bool} {new : BusState} (erased_is : erased ≡ raised n)
         (leaves : LeavesSector most_sector (CanProgramSector n bytes erased) n bytes now new) where
-      -- On a well-behaved bus, if `CanProgramAll` held at the start, sector `n` still has the bytes that it had at the
-      -- start.
       module _ (honest : first.honest ≡ true) (can : CanProgramAll touched raised wanted first.chip) where
         still_old : (a : ℕ) → only n (a / 4096) ≡ true → now.chip.bytes a ≡ first.chip.bytes a
         still_old a here =

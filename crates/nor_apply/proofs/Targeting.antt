@@ -7,8 +7,6 @@ use Rattle.nor_driver.specs.Units.{sectors_in, is_aligned}
 use Rattle.nor_plan.proofs.Units.{holds_run-at, holds_run-from}
 use Rattle.nor_apply.specs.Spending.{may_target}
 
--- ---- sectors that may be targeted (`may_target`)
-
 pub target_here : (sectors : ℕ → Bool) (size s : ℕ) → sectors s ≡ true → may_target sectors size s ≡ true
 target_here sectors size s is = rw is refl
 
@@ -21,22 +19,15 @@ pub target_split : (sectors : ℕ → Bool) (size s : ℕ) → may_target sector
     → (sectors s ≡ true) ⊎ ((size / 4096 ≤ s) × ((k : ℕ) → k < size / 4096 → sectors k ≡ true))
 target_split sectors size s may = grind (arith, holds_run-at sectors 0 (size / 4096), nat_tests)
 
--- If the erases and programs of a set of sectors may target the sector `s` (`may_target`), those of a larger set may
--- target `s`, too.
 pub target_wider : (sectors more : ℕ → Bool) (size s : ℕ) → ((k : ℕ) → sectors k ≡ true → more k ≡ true)
     → may_target sectors size s ≡ true → may_target more size s ≡ true
 target_wider sectors more size s wider may =
     grind (arith, target_split sectors size s may, wider, target_here more size s, target_past_end more size s)
 
--- ---- erase blocks
-
--- The command for an aligned block of `n` sectors targets only sectors of this block.
 pub named_in : (n sector s : ℕ) → 1 ≤ n → sector % n ≡ 0 → is_in_targeted (block_targeted n sector) s ≡ true
     → (sector ≤ s) × (s < sector + n)
 named_in n sector s some aligned named = grind (arith, nat_tests)
 
--- Let an aligned erase block lie in `set` on a chip of this size. The command for this block targets only sectors that
--- the erases and programs of `set` may target (`may_target`).
 pub unit_targets : (unit : EraseBlock) (sector size : ℕ) (set : ℕ → Bool) (s : ℕ) → is_aligned unit sector ≡ true
     → ((k : ℕ) → sector ≤ k → k < sector + sectors_in (size / 4096) unit → set k ≡ true)
     → is_in_targeted (block_targeted (sectors_in 4096 unit) sector) s ≡ true → may_target set size s ≡ true

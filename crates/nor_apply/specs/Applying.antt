@@ -23,34 +23,28 @@ use Rattle.nor_apply.specs.Change.{IsSized, MayChange}
 use Rattle.nor_apply.specs.Erasing.{is_erase_of}
 use Rattle.nor_apply.specs.Spending.{Tallies, may_target}
 
--- True for the sectors that the changes touch.
 abbrev pub touched_in : Changes → ℕ → Bool
 touched_in changes = has changes.touched
 
--- True for the sectors that the changes raise.
 abbrev pub raised_in : Changes → ℕ → Bool
 raised_in changes = has changes.raised
 
--- True if the status is written at the end. This is so if the present protection bits (those in the status that was
--- read or, after an unlock, 0) differ from the target bits.
+-- True if the present protection bits (0 after an unlock) differ from the target bits, so that they must be written.
 abbrev pub writes_code : Changes → Bool
 writes_code changes = not ((if changes.unlock then 0 else code_of (kept_in (bytes_of changes.status))) == changes.code)
 
--- the number of status writes that the changes need: one for an unlock, and one at the end if `writes_code` is true
+-- the number of status writes: one for an unlock, and one at the end if `writes_code` is true
 abbrev pub status_writes : Changes → ℕ
 status_writes changes = (if changes.unlock then 1 else 0) + (if writes_code changes then 1 else 0)
 
--- True if the changes ask for a status write of the bytes `one` and `two`. Such a write either clears all protection
--- bits at the start, or writes the target protection bits at the end. The other bits are as in the status that was
--- read, except that BUSY, WEL and (for target bits below 64) SUS are clear.
+-- True if the changes ask for a status write of the bytes `one` and `two`: one that clears the protection bits, or one
+-- that writes the target bits. Both clear BUSY and WEL, and leave the other bits as they were read.
 abbrev pub is_status_asked : Changes → (one two : ℕ) → Bool
 is_status_asked changes one two =
     (changes.unlock && is_status_with_code changes.status 0 one two)
     || (writes_code changes && is_status_with_code changes.status changes.code one two)
 
--- The limits of these changes, with the given bounds on the numbers of erases, page programs and status writes. Erases
--- and programs may target the touched sectors and, if these are the whole chip, sectors past its end (`may_target`).
--- The only status writes allowed are those for which the changes ask.
+-- The limits of these changes. The only status writes allowed are those for which the changes ask.
 abbrev pub sending : Changes → (erases programs status_writes : ℕ) → Limits
 sending changes erases programs status_writes = record {
   sectors = may_target (touched_in changes) changes.size;
@@ -60,26 +54,19 @@ sending changes erases programs status_writes = record {
   status_writes = status_writes;
 }
 
--- The limits of all changes together. The bound on erases is the number of raised sectors, and the bound on page
--- programs is sixteen times the number of touched sectors. The bound on status writes is the number that the changes
--- need.
+-- The limits of all changes together: at most one erase and sixteen page programs for each sector.
 abbrev pub most_sent : Changes → Limits
 most_sent changes =
     sending changes (sector_count (raised_in changes)) (16 * sector_count (touched_in changes)) (status_writes changes)
 
--- Holds if the changes fit each other. The touched sectors lie below `size`, which is at most 16 MiB. The raised
--- sectors are touched, and the target protection bits are a number below 64.
+-- Holds if the changes fit each other and a chip of at most 16 MiB.
 pub record AreConsistent (changes : Changes) : Type 0 where
   pub inside : LiesBelow changes.touched (changes.size / 4096)
   pub raised : (s : ℕ) → raised_in changes s ≡ true → touched_in changes s ≡ true
   pub small : changes.size ≤ 16777216
   pub six_bits : changes.code < 64
 
--- Holds if the changes can be made to this chip. The chip is idle, and has the size, the erase types and the
--- non-volatile status bits that `changes` names. The touched sectors lie on the chip. Unless all protection bits are
--- cleared first, no address in these sectors is protected. If the changes need a status write, the chip has block
--- protection and its status isn't locked (`is_writable`). The raised sectors are touched, the target bytes of touched
--- sectors are below 256, and in a touched sector that isn't raised no bit has to go from 0 to 1.
+-- Holds if the changes can be made to this chip.
 pub record CanApply (changes : Changes) (wanted : ℕ → ℕ) (chip : Chip) : Type 0 where
   pub idle : chip.busy ≡ 0
   pub sized : IsSized changes.size changes.kinds chip
@@ -92,10 +79,7 @@ pub record CanApply (changes : Changes) (wanted : ℕ → ℕ) (chip : Chip) : T
   pub falls : (a : ℕ) → touched_in changes (a / 4096) ≡ true → raised_in changes (a / 4096) ≡ false
       → bit_and (wanted a) (chip.bytes a) ≡ wanted a
 
--- The effect, on a well-behaved bus, of all changes together, if they could be made (`CanApply`) and succeeded. The
--- touched sectors have the target bytes, the protection bits have their target values, and the raised sectors were
--- erased. All other bytes and non-volatile status bits are as they were, the chip is idle, and its write enable latch
--- is set only if it was set before.
+-- The effect on a well-behaved bus if the changes could be made (`CanApply`) and succeeded.
 pub record HasApplied (changes : Changes) (wanted : ℕ → ℕ) (old new : BusState) : Type 0 where
   pub config : new.chip.config ≡ old.chip.config
   pub bytes : (a : ℕ) → new.chip.bytes a ≡ (if touched_in changes (a / 4096) then wanted a else old.chip.bytes a)
@@ -109,19 +93,14 @@ pub record HasApplied (changes : Changes) (wanted : ℕ → ℕ) (old new : BusS
 abbrev pub most_applied : ℕ → ℕ
 most_applied touched = touched + most_operation * (17 * touched + 2)
 
--- Holds at every exit of `apply`. On every bus, erases and programs target only touched sectors and, if these are the
--- whole chip, sectors past its end. The status writes and the numbers of operations, too, are within the limits
--- `most_sent` (`SendsWithin`). On a well-behaved bus at most `most_applied` transactions are carried out. If `CanApply`
--- held at the start on such a bus, the chip changes only as `MayChange` allows.
+-- Holds at every exit of `apply`.
 abbrev pub LeavesApply : Changes → (wanted : ℕ → ℕ) → (old new : BusState) → Type 0
 LeavesApply changes wanted =
     Leaves (most_applied (sector_count (touched_in changes))) (most_sent changes) (CanApply changes wanted)
     (MayChange (touched_in changes) (raised_in changes) wanted)
 
--- Holds if, since `old`, each of these sectors was the target of an erase, and all erases were sent before the first
--- page program. The transactions that were sent since `old` and may modify a chip are those in `erasing`, followed by
--- those in `later`; each list has its last transaction first. No page program is in `erasing`, and no erase is in
--- `later`.
+-- Holds if each of these sectors was the target of an erase, and all erases were sent before the first page program.
+-- `erasing` and `later` are the modifying commands since `old`, the last one first.
 pub record ErasesFirst (sectors : ℕ → Bool) (old new : BusState) : Type 0 where
   pub erasing : Sent
   pub later : Sent
@@ -130,12 +109,8 @@ pub record ErasesFirst (sectors : ℕ → Bool) (old new : BusState) : Type 0 wh
   pub unprogrammed : programs_of erasing ≡ 0
   pub unerased : erases_of later ≡ 0
 
--- Holds if `apply` succeeded with the counts `work`. On every bus exactly these numbers of erases and page programs
--- were sent, and the status writes that the changes need. An erase was sent for each raised sector before anything was
--- programmed (`ErasesFirst`). The number of transactions includes at most one read for each touched sector (`Tallies`).
--- The number of erases is the length of the planned list of erases (`planned`). On a well-behaved bus, if `CanApply`
--- held at the start, the changes are complete, and one program was sent for each page of a touched sector that differed
--- from the target after the erases.
+-- Holds if `apply` succeeded with the counts `work`. One program was sent for each page of a touched sector that
+-- differed from the target after the erases.
 pub record DoesApply (changes : Changes) (wanted : ℕ → ℕ) (old new : BusState) (work : Work) : Type 0 where
   pub erases : work.erases ≡ length (planned changes.kinds (changes.size / 4096) (raised_in changes))
   pub fewer_erases : work.erases ≤ sector_count (raised_in changes)

@@ -1,5 +1,5 @@
--- The effect of a change of some sectors, at every exit and after success. A set of sectors is a Boolean function of
--- the sector number. Bytes may change only in touched sectors, and only raised sectors may be erased.
+-- The effect of a change of some sectors, at every exit and after success. Bytes may change only in touched sectors,
+-- and only raised sectors may be erased.
 use Rattle.std.specs.Prelude.{◌≡◌, ◌≤◌, ◌+◌, ◌-◌, ◌*◌, ◌/◌, ◌==◌, ◌||◌, ◌⊎◌, ℕ, Bool, true, false, List, slice_index, bit_and, if◌then◌else◌}
 use Rattle.nor_model.specs.Chip.{Chip}
 use Rattle.nor_model.specs.Guard.{is_protected}
@@ -7,14 +7,11 @@ use Rattle.nor_model.specs.Bus.{BusState}
 use Rattle.nor_model.specs.declared.config.Kinds.{Kinds}
 use Rattle.nor_apply.specs.Within.{IsWithin, addresses_of}
 
--- Holds if these sectors of the chip can be changed: the chip is idle, the sectors lie on it, and none of their
--- addresses is protected.
 pub record CanChange (sectors : ℕ → Bool) (chip : Chip) : Type 0 where
   pub idle : chip.busy ≡ 0
   pub inside : (s : ℕ) → sectors s ≡ true → 4096 * s + 4096 ≤ chip.config.size
   pub free : (a : ℕ) → sectors (a / 4096) ≡ true → is_protected chip a ≡ false
 
--- Holds if the chip has this size and these erase types.
 pub record IsSized (size : ℕ) (kinds : Kinds) (chip : Chip) : Type 0 where
   pub same : chip.config.size ≡ size
   pub same_kinds : chip.config.kinds ≡ kinds
@@ -23,19 +20,15 @@ pub record IsSized (size : ℕ) (kinds : Kinds) (chip : Chip) : Type 0 where
 abbrev pub OnlyFalls : (sectors : ℕ → Bool) → (wanted content : ℕ → ℕ) → Type 0
 OnlyFalls sectors wanted content = (a : ℕ) → sectors (a / 4096) ≡ true → bit_and (wanted a) (content a) ≡ wanted a
 
--- The effect, on a well-behaved bus and at every exit, of a change that the chip can carry out. The chip differs from
--- the chip at the start only as `IsWithin` allows. So bytes outside the touched sectors, and the bits that are never
--- changed, are as they were. The protection bits are as they were if they couldn't be written. On a steady bus each
--- byte of a sector that isn't raised is the old or the target byte. Only raised sectors were erased.
+-- The effect, on a well-behaved bus and at every exit, of a change that the chip can carry out. On a steady bus each
+-- byte of a sector that isn't raised is the old or the target byte.
 pub record MayChange (touched raised : ℕ → Bool) (wanted : ℕ → ℕ) (old new : BusState) : Type 0 where
   pub within : IsWithin (addresses_of touched) old.chip new
   pub gentle : old.steady ≡ true → (a : ℕ) → raised (a / 4096) ≡ false
       → (new.chip.bytes a ≡ old.chip.bytes a) ⊎ (new.chip.bytes a ≡ wanted a)
   pub worn : (s : ℕ) → raised s ≡ false → new.worn s ≡ old.worn s
 
--- The effect, on a well-behaved bus, of a change that the chip can carry out and that succeeded. The bytes at
--- `addresses` are the target bytes, and the sectors in `erased` were erased. All other bytes and the non-volatile
--- status bits are as they were, the chip is idle, and its write enable latch is set only if it was set before.
+-- The effect, on a well-behaved bus, of a change of these addresses that succeeded.
 pub record HasMade (addresses : ℕ → Bool) (wanted : ℕ → ℕ) (erased : ℕ → Bool) (old new : BusState) : Type 0 where
   pub config : new.chip.config ≡ old.chip.config
   pub bytes : (a : ℕ) → new.chip.bytes a ≡ (if addresses a then wanted a else old.chip.bytes a)
@@ -44,15 +37,12 @@ pub record HasMade (addresses : ℕ → Bool) (wanted : ℕ → ℕ) (erased : �
   pub idle : new.chip.busy ≡ 0
   pub latch : new.chip.latch ≡ true → old.chip.latch ≡ true
 
--- the effect `HasMade`, for all addresses in `sectors`
 abbrev pub HasChanged : (sectors : ℕ → Bool) → (wanted : ℕ → ℕ) → (erased : ℕ → Bool) → (old new : BusState) → Type 0
 HasChanged sectors = HasMade (addresses_of sectors)
 
--- FFh, the byte at every address after an erase
 abbrev pub blank : ℕ → ℕ
 blank a = 255
 
--- True for the sector with the number `sector`, and for no other sector.
 abbrev pub only : (sector s : ℕ) → Bool
 only sector s = s == sector
 

@@ -12,36 +12,28 @@ use Rattle.nor_geometry.specs.Counts.{sector_count}
 use Rattle.nor_apply.specs.Change.{CanChange, IsSized, MayChange, HasChanged, blank}
 use Rattle.nor_apply.specs.Spending.{Tallies, may_target}
 
--- True if a transaction that sends the bytes `out` is an erase that targets this sector.
 abbrev pub is_erase_of : (sector : ℕ) → (out : List ℕ) → Bool
 is_erase_of sector out = begins_erase out && targets out sector
 
--- Holds if, since `old`, each of these sectors was the target of an erase. `later` has all transactions that were sent
--- since `old` and may modify a chip, the last one first.
+-- Holds if each of these sectors was the target of an erase since `old`. `later` has the modifying commands since then,
+-- the last one first.
 pub record SendsErases (sectors : ℕ → Bool) (old new : BusState) : Type 0 where
   pub later : Sent
   pub added : new.sent ≡ later ++ old.sent
   pub each : (s : ℕ) → sectors s ≡ true → has_sent (is_erase_of s) later ≡ true
 
--- Holds if the sectors can be changed (`CanChange`), and the chip has this size and these erase types.
 pub record CanEraseAll (sectors : ℕ → Bool) (kinds : Kinds) (size : ℕ) (chip : Chip) : Type 0 where
   pub can : CanChange sectors chip
   pub sized : IsSized size kinds chip
 
--- Holds at every exit of the erases. On every bus the number of erases is at most the number of sectors. The erases
--- target only these sectors and, if these are the whole chip, sectors past its end (`SendsWithin` states this exactly).
--- On a well-behaved bus the number of transactions carried out is at most 65,538 times the number of sectors. If
--- `CanEraseAll` held at the start on such a bus, the chip changes only as `MayChange` allows: the bytes of these
--- sectors may have any value.
+-- Holds at every exit of the erases.
 abbrev pub LeavesErases : (sectors : ℕ → Bool) → Kinds → (size : ℕ) → (old new : BusState) → Type 0
 LeavesErases sectors kinds size =
     Leaves (most_operation * sector_count sectors) (erasing (may_target sectors size) (sector_count sectors))
     (CanEraseAll sectors kinds size) (MayChange sectors sectors blank)
 
--- Holds after the erases succeeded. On every bus exactly `tally.count` erases were sent, which is the length of the
--- planned list, and each of the sectors was targeted. On a well-behaved bus, if `CanEraseAll` held at the start, all
--- bytes of the sectors are FFh, and everything else is as `HasChanged` says. The theorem `fewest_is_least` of nor_plan
--- states that no shorter list erases exactly these sectors, if they lie on a chip of at most 4,096 sectors.
+-- Holds after the erases succeeded. The theorem `fewest_is_least` of nor_plan states that no shorter list erases
+-- exactly these sectors, if they lie on a chip of at most 4,096 sectors.
 pub record DoesErases (sectors : ℕ → Bool) (kinds : Kinds) (size : ℕ) (old new : BusState)
     (tally : Tally) : Type 0 where
   pub count : tally.count ≡ length (planned kinds (size / 4096) sectors)

@@ -17,39 +17,31 @@ use Rattle.nor_apply.specs.Spending.{Tallies}
 
 -- ---- one sector
 
--- A bound on the transactions of a sector's page programs: an operation for each of its sixteen pages.
 abbrev pub most_pages : ℕ
 most_pages = 16 * most_operation
 
--- A bound on the transactions for programming one sector: one read, and the page programs.
+-- A bound on the transactions for programming one sector: one read, and an operation for each of its sixteen pages.
 abbrev pub most_sector : ℕ
 most_sector = 1 + most_pages
 
--- Holds if the sector can be changed (`CanChange`), has the bytes `old` on the chip, and needs no bit to go from 0 to
--- 1.
 pub record CanProgramSpans (sector : ℕ) (old wanted : List ℕ) (chip : Chip) : Type 0 where
   pub can : CanChange (only sector) chip
   pub shown : IsSectorOf chip.bytes sector old
   pub falls : (i : ℕ) → i < 4096 → bit_and (slice_index wanted i) (slice_index old i) ≡ slice_index wanted i
 
--- Holds if the sector can be changed (`CanChange`), and needs no bit to go from 0 to 1. If `erased` is set, all bytes
--- of the sector are FFh.
 pub record CanProgramSector (sector : ℕ) (wanted : List ℕ) (erased : Bool) (chip : Chip) : Type 0 where
   pub can : CanChange (only sector) chip
   pub blank : erased ≡ true → (a : ℕ) → a / 4096 ≡ sector → chip.bytes a ≡ 255
   pub falls : OnlyFalls (only sector) (byte_of sector wanted) chip.bytes
 
--- Holds at every exit of a call that programs one sector. On every bus at most sixteen programs were sent, all of them
--- in this sector (`SendsWithin` states this exactly). On a well-behaved bus at most `most` transactions were carried
--- out. If `Can` held at the start on such a bus, the chip changes only as `MayChange` allows, and no sector is erased.
+-- Holds at every exit of a call that programs one sector with at most `most` transactions.
 abbrev pub LeavesSector : (most : ℕ) → (Can : Chip → Type 0) → (sector : ℕ) → (wanted : List ℕ) → (old new : BusState)
     → Type 0
 LeavesSector most Can sector wanted =
     Leaves most (programming (only sector) 16) Can (MayChange (only sector) none (byte_of sector wanted))
 
--- Holds after a call that programs one sector succeeded, with at most `readings` reads. On a well-behaved bus, if `Can`
--- held at the start, the sector has its target bytes, and one program was sent for each of its pages that differed from
--- the target bytes.
+-- Holds after a call with at most `readings` reads programmed one sector. One program was sent for each of its pages
+-- that differed from the target bytes.
 pub record DoesSector (readings : ℕ) (Can : Chip → Type 0) (sector : ℕ) (wanted : List ℕ) (old new : BusState)
     (tally : Tally) : Type 0 where
   pub fewer : tally.count ≤ 16
@@ -59,9 +51,8 @@ pub record DoesSector (readings : ℕ) (Can : Chip → Type 0) (sector : ℕ) (w
   pub counted : old.honest ≡ true → Can old.chip
       → tally.count ≡ count_below 16 (λ page. is_page_other old.chip.bytes (byte_of sector wanted) (16 * sector + page))
 
--- Holds after a sector was loaded into a buffer, whose bytes were `bytes` before and are `bytes'` now. If the sector
--- was erased, no read was sent, and the buffer is as it was. Otherwise one read was sent. Nothing else was sent. On a
--- well-behaved bus with an idle chip that has this sector, the buffer then has the chip's bytes.
+-- Holds after a sector was loaded into a buffer, whose bytes were `bytes` before and are `bytes'` now. An erased sector
+-- isn't read, and the buffer stays as it was.
 pub record LoadsOk (sector : ℕ) (erased : Bool) (bytes bytes' : List ℕ) (old new : BusState) (reads : ℕ) : Type 0 where
   pub reads_once : reads ≡ (if erased then 0 else 1)
   pub added : AddsTransactions reads reads old.history new.history
@@ -72,24 +63,18 @@ pub record LoadsOk (sector : ℕ) (erased : Bool) (bytes bytes' : List ℕ) (old
 
 -- ---- all touched sectors
 
--- Holds if the touched sectors can be changed (`CanChange`), all bytes of the raised ones among them are FFh, and no
--- bit of a touched sector has to go from 0 to 1.
 pub record CanProgramAll (touched raised : ℕ → Bool) (wanted : ℕ → ℕ) (chip : Chip) : Type 0 where
   pub can : CanChange touched chip
   pub blank : (a : ℕ) → touched (a / 4096) ≡ true → raised (a / 4096) ≡ true → chip.bytes a ≡ 255
   pub falls : OnlyFalls touched wanted chip.bytes
 
--- Holds at every exit of the programs. On every bus the number of programs is at most sixteen times the number of
--- touched sectors, and the programs target only touched sectors (`SendsWithin` states this exactly). On a well-behaved
--- bus, if `CanProgramAll` held at the start, the chip changes only as `MayChange` allows. If the bus is also steady,
--- each byte is the old or the target byte.
+-- Holds at every exit of the programs.
 abbrev pub LeavesPrograms : (touched raised : ℕ → Bool) → (wanted : ℕ → ℕ) → (old new : BusState) → Type 0
 LeavesPrograms touched raised wanted =
     Leaves (most_sector * sector_count touched) (programming touched (16 * sector_count touched))
     (CanProgramAll touched raised wanted) (MayChange touched none wanted)
 
--- Holds after the programs succeeded. On a well-behaved bus, if `CanProgramAll` held at the start, the touched sectors
--- have the target bytes, and one program was sent for each of their pages that differed from the target bytes.
+-- Holds after the programs succeeded. One program was sent for each page that differed from the target bytes.
 pub record DoesPrograms (touched raised : ℕ → Bool) (wanted : ℕ → ℕ) (old new : BusState) (tally : Tally) : Type 0 where
   pub fewer : tally.count ≤ 16 * sector_count touched
   pub exactly : SendsExactly 0 tally.count 0 old new

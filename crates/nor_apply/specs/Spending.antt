@@ -11,24 +11,19 @@ use Rattle.nor_driver.specs.Polls.{AddsTransactions}
 use Rattle.nor_plan.specs.Planned.{holds_run}
 use Rattle.nor_apply.specs.declared.tally.Tally.{Tally}
 
--- True if the erases and programs of these sectors, on a chip of this size, may target the sector `s`. Either `s` is
--- one of these sectors. Or these sectors are the whole chip and `s` is past its end. The reason is that a chip erase
--- (C7h) has no address, and so counts as targeting all 4,096 sectors that an address can lie in.
+-- True if the erases and programs of these sectors may target the sector `s`: it is one of them, or they are the whole
+-- chip and `s` is past its end. A chip erase (C7h) has no address, and so counts as targeting all 4,096 sectors that an
+-- address can lie in.
 abbrev pub may_target : (sectors : ℕ → Bool) → (size s : ℕ) → Bool
 may_target sectors size s = sectors s || (nat_le (size / 4096) s && holds_run sectors 0 (size / 4096))
 
--- Holds for every stop, and for a timeout that names an address in one of these sectors.
 abbrev pub NamesTimeoutIn : (ℕ → Bool) → OperationError → Type 0
 NamesTimeoutIn sectors Stopped = ⊤
 NamesTimeoutIn sectors (Timeout address) = sectors (address / 4096) ≡ true
 
--- Holds after a part of the changes succeeded, with `tally.count` operations and at most `readings` reads. On every bus
--- exactly `tally.transactions` transactions were sent. These are at least 3 for each operation. They are at most 3 for
--- each operation, one for each read, and polls that showed BUSY (`AddsTransactions`). With these polls, they are at
--- most 65,538 for each operation and one for each read. If `polled_ready` was true before the part (the last poll
--- showed that the chip is ready), it is true after the part, too. If `tally.count` is 0, no transaction that may modify
--- a chip was sent. On a well-behaved bus `tally.transactions` fewer transactions are left, and a chip that was idle is
--- idle again.
+-- Holds after a part of the changes succeeded, with `tally.count` operations and at most `readings` reads. Each
+-- operation takes at least 3 transactions, and at most 65,538 including polls that showed BUSY. If `tally.count` is 0,
+-- no modifying command was sent.
 pub record Tallies (readings : ℕ) (old new : BusState) (tally : Tally) : Type 0 where
   pub least : 3 * tally.count ≤ tally.transactions
   pub few : tally.transactions ≤ readings + most_operation * tally.count

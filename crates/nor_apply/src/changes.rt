@@ -32,8 +32,7 @@ pub struct Changes {
 }
 
 impl Changes {
-    /// Returns whether the protection bits must be written at the end. This is so if the present bits (those of
-    /// `status` or, after an unlock, 0) differ from the target bits.
+    /// Returns whether the present protection bits (0 after an unlock) differ from the target bits.
     fn writes_code(&self) -> bool
         ensures { result ≡ writes_code self.now }
     {
@@ -42,7 +41,7 @@ impl Changes {
     }
 }
 
-/// The numbers of erases and page programs that were sent, and the number of all transactions of the changes.
+/// The numbers of erases and page programs that were sent, and of all transactions including polls and reads.
 #[derive(Clone, Copy, Debug, PartialEq, Eq)]
 pub struct Work {
     pub erases: u32,
@@ -50,27 +49,17 @@ pub struct Work {
     pub transactions: u64,
 }
 
-/// Changes the touched sectors to the bytes of `source` and the protection bits to `changes.code`. `apply` first clears
-/// the protection bits if `changes.unlock` is set. Then it erases the raised sectors with the fewest erases, and
-/// programs those pages of the touched sectors that still differ from `source`. At the end it writes the protection
-/// bits, if they differ from the target bits.
+/// Changes the touched sectors to the bytes of `source`, and the protection bits to `changes.code`: clears the
+/// protection bits if `changes.unlock` is set, erases the raised sectors with the fewest erases, programs the pages
+/// that still differ from `source`, and writes the protection bits if they differ from the target bits.
 ///
-/// The changes must fit each other (`AreConsistent`): the touched sectors lie below `changes.size`, which is at most 16
-/// MiB; every raised sector is touched; and `changes.code` is below 64. `source` must have every touched sector. On any
-/// bus, erases and programs target only touched sectors and, if these are the whole chip, addresses past its end.
+/// The changes must be consistent (`AreConsistent`), and `source` must have every touched sector. On any bus, erases
+/// and programs target only touched sectors and, if these are the whole chip, addresses past its end. On a well-behaved
+/// bus, after success the changes are complete if `CanApply` held at the start.
 ///
-/// On a well-behaved bus, after success the changes are complete if `CanApply` held at the start. `CanApply` requires
-/// that the touched sectors lie on the chip and every raised sector is touched. It also requires:
-///
-/// - The chip is idle, and has the size, the erase types and the non-volatile status bits that `changes` names.
-/// - If a status write is needed, the chip has block protection and its status isn't locked.
-/// - If `unlock` isn't set, no address in a touched sector is protected.
-/// - The target bytes of touched sectors are below 256.
-/// - In touched sectors that aren't raised, no bit has to go from 0 to 1.
-///
-/// Returns `Stopped` if the bus stopped. Returns `Timeout` if the chip stayed busy for 65,536 polls; the error's
-/// address is in a touched sector or, after a status write, 0. On a well-behaved bus there is no timeout. On any bus
-/// nothing is sent after the transaction at which the bus stopped, or after the last of these polls.
+/// Returns `Stopped` if the bus stopped, and `Timeout` if the chip stayed busy for 65,536 polls; the error's address is
+/// in a touched sector or, after a status write, 0. On a well-behaved bus there is no timeout. Nothing is sent after an
+/// error.
 pub fn apply<B: Bus, S: Source>(
     bus: &mut B,
     source: &S,

@@ -15,13 +15,11 @@ use nor_plan::{SectorSet, erases};
 /// Erases the raised sectors of a chip of `size` bytes that has the erase types `kinds`, with the fewest erases.
 /// Returns the numbers of erases and transactions.
 ///
-/// The sectors must lie below `size`, which is at most 16 MiB. On a well-behaved bus, after success the sectors are
-/// FFh, provided that at the start the chip was idle, had this size and these erase types, and protected none of the
-/// sectors.
+/// The sectors must lie below `size`, which is at most 16 MiB. On a well-behaved bus, after success the sectors are FFh
+/// if `CanEraseAll` held at the start.
 ///
 /// Returns `Stopped` if the bus stopped, and `Timeout` with an address in the set if the chip stayed busy for 65,536
-/// polls. On a well-behaved bus there is no timeout. On any bus nothing is sent after the transaction at which the bus
-/// stopped, or after the last of these polls.
+/// polls. On a well-behaved bus there is no timeout. Nothing is sent after an error.
 pub fn erase_all<B: Bus>(
     bus: &mut B,
     raised: &SectorSet,

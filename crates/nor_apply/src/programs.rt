@@ -19,13 +19,10 @@ use nor_plan::{SectorSet, spans};
 /// Programs the touched sectors, in ascending order, with the bytes of `source`, which must have every touched sector.
 /// Pages that already have these bytes are left out. A raised sector is not read: it was erased, so its bytes are taken
 /// to be FFh. Returns the number of programs, and the number of transactions including reads. On a well-behaved bus,
-/// after success the touched sectors have the target bytes if `CanProgramAll` held at the start: the chip was idle and
-/// contained the touched sectors, none of their addresses was protected, the raised ones were FFh, and no bit had to go
-/// from 0 to 1.
+/// after success the touched sectors have the target bytes if `CanProgramAll` held at the start.
 ///
 /// Returns `Stopped` if the bus stopped, and `Timeout` with an address in a touched sector if the chip stayed busy for
-/// 65,536 polls. On a well-behaved bus there is no timeout. On any bus nothing is sent after the transaction at which
-/// the bus stopped, or after the last of these polls.
+/// 65,536 polls. On a well-behaved bus there is no timeout. Nothing is sent after an error.
 pub fn program_all<B: Bus, S: Source>(
     bus: &mut B,
     source: &S,
@@ -53,8 +50,7 @@ pub fn program_all<B: Bus, S: Source>(
     Ok(tally)
 }
 
-// Programs the pages of a sector that differ from their target bytes. If `erased` is set, the sector is not read, and
-// its bytes are taken to be FFh.
+// Programs the pages that differ from `wanted`. If `erased` is set, the sector is taken to be FFh and isn't read.
 fn program_sector<B: Bus>(
     bus: &mut B,
     sector: u32,
@@ -78,7 +74,6 @@ fn program_sector<B: Bus>(
     })
 }
 
-// Reads a sector into `bytes`, unless `erased` is set. Returns the number of transactions, 0 or 1.
 fn load<B: Bus>(
     bus: &mut B,
     sector: u32,

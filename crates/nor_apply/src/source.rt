@@ -3,13 +3,12 @@ ghost use Rattle.std.specs.Prelude.{◌≡◌, ◌<◌, ◌+◌, ◌*◌, ℕ, B
 
 use nor_geometry::SECTOR_LEN;
 
-/// A source of target bytes for some sectors, for example an image or the records of a journal. A sector has 4,096
-/// bytes. Contracts see the bytes by address.
+/// A source of target bytes for some sectors, for example an image or the records of a journal.
 pub trait Source {
     // True for the sectors whose bytes the source has.
     ghost has: { Self → ℕ → Bool };
 
-    // The target byte at an address in a sector that the source has.
+    // The target byte at an address in such a sector.
     ghost wanted: { Self → ℕ → ℕ };
 
     /// Returns the 4,096 target bytes of a sector that the source has.

@@ -24,7 +24,6 @@ use Rattle.nor_read.proofs.Onward.{read_after}
 use Rattle.nor_read.proofs.Whole.{Sends, find_errors, sends_probe, sends_on, fails, report_of, reported}
 use Rattle.nor_read.proofs.Whole.{rested_on, size_of, open_after, has_name, is_taken, is_passed}
 
--- Holds if all promises of `verify` are kept by a call with this result.
 pub record Verified (named : Option ChipName) (included : Option (List Span)) (image : List ℕ) (old new : BusState)
     (result : Result Report Refusal) : Type 0 where
   pub always : VerifyAlways named included image old new result
@@ -43,8 +42,6 @@ module _ (named : Option ChipName) (included : Option (List Span)) (image : List
       → Verified named included image old new (Err refusal)
   refused refusal sends is last replies errors own = search sends.own
 
-  -- An error of the probe is one that `verify` may return. On a modelled bus this error has the meaning that
-  -- `VerifyErrors` states.
   unfound_errors : (old new : BusState) (refusal : Refusal) → IdentificationErrors most_probe named old new refusal
       → IsVerifyRefusal refusal × VerifyEnds old.history new.history refusal
       × HasReadBack included image old.history new.history (Err refusal) × (IsModelled old → VerifyErrors named included image old new refusal)
@@ -60,7 +57,6 @@ module _ (named : Option ChipName) (included : Option (List Span)) (image : List
       refused refusal (sends_probe only_reads) own.0 own.1 own.2
       (find_errors (most_read 16777216) named old new refusal (omega arith) errors) own.3
 
-  -- Lemmas about the exits after a chip was found.
   module _ {old mid : BusState} {probed : Probed} (found : HasFound named old mid probed)
       (only_reads : OnlyReads most_probe old mid) where
     pub other_size : length image ≢ probed.found.size
@@ -80,11 +76,8 @@ module _ (named : Option ChipName) (included : Option (List Span)) (image : List
           let halt = fails found only_reads out in
           refused Stopped (sends_on found only_reads after) tt halt.last tt halt.largest halt.own
 
-      -- Lemmas about the exits after all sectors were compared.
       module _ (whole : length image ≡ probed.found.size) (fits : FitsInto included probed.found.size)
           {compared : Compared} (all : ComparesBelow included image probed.found.size (probed.found.size / 4096) mid new compared) where
-        -- On a modelled bus, `compared.first` is the first included address at which the image differs from the chip as
-        -- it was before the probe. `compared.first` is `None` if there is no such address.
         first_before : (first : Option ℕ) → compared.first ≡ first → IsModelled old
             → FindsFirst included image old.chip.bytes 0 old.chip.config.size first
         first_before first is known =
@@ -96,7 +89,6 @@ module _ (named : Option ChipName) (included : Option (List Span)) (image : List
         at_end : 4096 * (probed.found.size / 4096) ≡ length image
         at_end = let blocks = found.is.part.in_blocks in omega arith
 
-        -- An included address below the length of the image is on the chip that was found.
         read_whole : (a : ℕ) → included_below included (length image) a ≡ true
             → (a < 4096 * (probed.found.size / 4096)) × (includes included a ≡ true)
         read_whole a inside =

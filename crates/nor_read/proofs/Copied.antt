@@ -32,8 +32,6 @@ copied_none included size state vault = record {
   };
 }
 
--- If `CopiesIf` holds for `m` bytes, and the vault accepts `k` more bytes, `CopiesIf` holds for `m + k` bytes. The
--- premise is that, if `known` holds, the `k` bytes are the next ones of the copy.
 module _ {known : Type 0} {included : Option (List Span)} {content : ℕ → ℕ} {m : ℕ} {vault mid new : VaultState} where
   copies_more : (k count : ℕ) (part : List ℕ) → m + k ≡ count → CopiesIf known included content m vault mid
       → length part ≡ k → new.bytes ≡ mid.bytes ++ part
@@ -56,8 +54,6 @@ module _ {known : Type 0} {included : Option (List Span)} {content : ℕ → ℕ
         ];
       }
 
--- ---- the next piece, after the pieces below `n`
-
 module _ {included : Option (List Span)} {size n reads more : ℕ} {bytes : List ℕ} {old mid new : BusState}
     {vault now : VaultState} (below : n < size / 65536) (long : length bytes ≡ 65536)
     (has : ReadsPieces included size n old mid vault now reads)
@@ -65,7 +61,6 @@ module _ {included : Option (List Span)} {size n reads more : ℕ} {bytes : List
   has_only_read-all : HasOnlyRead (reads + more) old new
   has_only_read-all = has_only_read-then has.honest_reads piece.honest_reads
 
-  -- On a well-behaved bus with an idle chip of this size, the next piece has the bytes of the copy.
   piece_right : IsOpen size old → (i : ℕ) → i < 65536
       → slice_index bytes i ≡ copied included old.chip.bytes (65536 * n + i)
   piece_right is_open i small =
@@ -73,7 +68,6 @@ module _ {included : Option (List Span)} {size n reads more : ℕ} {bytes : List
       let same = now.same in
       rw (same_bytes (has.honest_reads.rested is_open.honest)) at (piece.right now.honest now.idle (omega arith) i small)
 
-  -- If the vault accepts the next piece, `ReadsPieces` holds for `n + 1` pieces.
   pub copied_more : {later : VaultState} → Took now bytes later
       → ReadsPieces included size (n + 1) old new vault later (reads + more)
   copied_more took = record {
@@ -85,8 +79,6 @@ module _ {included : Option (List Span)} {size n reads more : ℕ} {bytes : List
         (took.bytes (has.accepted.telling ∙ telling)) piece_right;
   }
 
-  -- If the vault refuses the next piece, `CopyErrors` holds: error 19 has the number of bytes that a faithful
-  -- (`telling`) vault accepted of all pieces together.
   pub copy_fails : (later : VaultState) (refusal : Refusal) → PutErrors n bytes now later refusal
       → CopyErrors included size old new vault later refusal
   copy_fails later (Output written) errors =

@@ -26,7 +26,6 @@ use Rattle.nor_read.proofs.Onward.{read_after, read_then}
 
 -- ---- one sector
 
--- If a property holds at the address of each byte `i` in a sector, it holds at each address `a` of the sector.
 in_sector : (Holds : ℕ → Type 0) (sector : ℕ) → ((i : ℕ) → i < 4096 → Holds (4096 * sector + i)) → (a : ℕ)
     → 4096 * sector ≤ a → a < 4096 * (sector + 1) → Holds a
 in_sector Holds sector each a above below =
@@ -34,21 +33,18 @@ in_sector Holds sector each a above below =
     let at : 4096 * sector + i ≡ a = omega arith in
     subst Holds at (each i (omega arith))
 
--- Lemmas about the bytes that are compared (`filled`). At included addresses, these are the bytes that were read, and
--- at all other addresses of the sector the bytes of the image.
+-- Lemmas about the bytes that are compared (`filled`): at included addresses those that were read, and at all other
+-- addresses of the sector those of the image.
 module _ (included : Option (List Span)) (image : List ℕ) (sector : ℕ) (bytes filled part : List ℕ)
     (long : length filled ≡ 4096)
     (cut : (i : ℕ) → i < 4096 → slice_index part i ≡ slice_index image (4096 * sector + i))
     (fills : (i : ℕ) → i < 4096 → slice_index filled i
     ≡ (if includes included (4096 * sector + i) then slice_index bytes i else slice_index part i))
     (content : ℕ → ℕ) (read : AreOfSector content sector bytes) where
-  -- At an included address, the compared byte is the byte that was read.
   filled_in : (i : ℕ) → i < 4096 → includes included (4096 * sector + i) ≡ true
       → slice_index filled i ≡ content (4096 * sector + i)
   filled_in i small inside = rw inside at (fills i small) ∙ read i small
 
-  -- If the compared bytes agree with the image below index `most` in the sector, what was read agrees with the image at
-  -- each included address there.
   agree_to : (most : ℕ) → ((i : ℕ) → i < 4096 → i < most → slice_index filled i ≡ slice_index part i) → (a : ℕ)
       → 4096 * sector ≤ a → a < 4096 * (sector + 1) → a < 4096 * sector + most → includes included a ≡ true
       → slice_index image a ≡ content a
@@ -75,14 +71,12 @@ module _ (included : Option (List Span)) (image : List ℕ) (sector : ℕ) (byte
             agree_to first (λ i low before. difference.before i before) a above (omega arith) below;
       }
 
--- If a sector has no included address, any contents agree with the image at each included address of this sector.
 none_differs : (included : Option (List Span)) (image : List ℕ) (content : ℕ → ℕ) (sector : ℕ)
     → NoneInSector (includes included) sector → AgreeIn included image content (4096 * sector) (4096 * (sector + 1))
 none_differs included image content sector none =
     in_sector (λ a. includes included a ≡ true → slice_index image a ≡ content a) sector
     (λ i small inside. let outside = none i small in absurd (cc))
 
--- If a sector has no included address, `ComparesPart` holds, although nothing was sent.
 pub part_skipped : (included : Option (List Span)) (image : List ℕ) (sector : ℕ) (returned : Bool) (state : BusState)
     → returned ≡ false → returned ≡ has_in_sector (includes included) sector
     → MatchBool returned (SomeInSector (includes included) sector) (NoneInSector (includes included) sector)
@@ -103,9 +97,8 @@ part_skipped included image sector false state out test none = record {
   errors = λ honest idle inside. none_differs included image state.chip.bytes sector none;
 }
 
--- Lemmas about a sector that was read and compared. `read_at` states that the first difference, if there is one, has an
--- address in this sector. If the chip of a well-behaved bus was idle and has the sector, the bytes that were compared
--- are the chip's.
+-- Lemmas about a sector that was read and compared. `read_at` states that the first difference, if there is one, is in
+-- this sector.
 module _ (included : Option (List Span)) (image : List ℕ) {bytes : List ℕ} {sector : ℕ} {old new : BusState}
     (only_reads : OnlyReads 1 old new) (reads : ReadsSector sector old new bytes) where
   read_at : (first : Option ℕ) → ((content : ℕ → ℕ) → AreOfSector content sector bytes
@@ -131,7 +124,6 @@ module _ (included : Option (List Span)) (image : List ℕ) {bytes : List ℕ} {
         later = adds_none new.history;
       }
 
-  -- If the reply has 4,096 bytes, `ComparesReply` holds for this read, after any earlier transactions.
   part_replied : (first : Option ℕ) → length bytes ≡ 4096 → ((content : ℕ → ℕ) → AreOfSector content sector bytes
       → FindsFirst included image content (4096 * sector) (4096 * (sector + 1)) first) → (earlier : List Exchange)
       → ComparesReply included image sector (replied reads.answered.out bytes ∷ []) earlier first
@@ -171,8 +163,6 @@ module _ (included : Option (List Span)) (image : List ℕ) (content : ℕ → �
       → AgreeIn included image content from to
   agree_more to low high a above below inside = grind (arith, low, high)
 
-  -- The first difference in two adjacent ranges is the first difference in the first range or, if there is none, the
-  -- first difference in the second range.
   finds_first_more : (to : ℕ) (first second : Option ℕ) → from ≤ mid → mid ≤ to
       → FindsFirst included image content from mid first → FindsFirst included image content mid to second
       → FindsFirst included image content from to (option_or first second)
@@ -181,7 +171,6 @@ module _ (included : Option (List Span)) (image : List ℕ) (content : ℕ → �
       let before = agree_more address agree other.before in search arith
   finds_first_more to (Some address) second low high other more = search arith
 
--- If the contents `one` and `two` agree below `to`, the first difference below `to` is the same for both.
 finds_first_same : (included : Option (List Span)) (image : List ℕ) (to : ℕ) (one two : ℕ → ℕ)
     → ((a : ℕ) → a < to → one a ≡ two a) → (first : Option ℕ) → FindsFirst included image one 0 to first
     → FindsFirst included image two 0 to first
@@ -196,8 +185,6 @@ finds_first_same included image to one two same (Some address) other = record {
       other.before a above below inside ∙ same a (omega (arith, within, below));
 }
 
--- If `ReadsDifference` holds for the first difference of each of two successive steps, it holds for the first
--- difference of both steps together.
 others_more : {old mid new : List Exchange} (first second : Option ℕ) → Continues old mid → AddsSectorReads mid new
     → ReadsDifference old mid first → ReadsDifference mid new second → ReadsDifference old new (option_or first second)
 others_more None None low high has more = tt

@@ -16,14 +16,11 @@ adds_then {old} first second = record {
   each = All-append IsSectorRead second.later first.later second.each first.each;
 }
 
--- If the sector of `address` was read after `mid`, and only reads of sectors followed (`HasReadAt`), the same holds
--- after the earlier history `old`.
 pub read_after : {address : ℕ} {old mid new : List Exchange} → Continues old mid → HasReadAt address mid new
     → HasReadAt address old new
 read_after first has =
     record { at = has.at; read = has.read; since = continues_then first has.since; later = has.later }
 
--- `HasReadAt` stays true after further reads of sectors.
 pub read_then : {address : ℕ} {old mid new : List Exchange} → HasReadAt address old mid → AddsSectorReads mid new
     → HasReadAt address old new
 read_then has more = record { at = has.at; read = has.read; since = has.since; later = adds_then has.later more }

@@ -15,8 +15,6 @@ pub pieced_none : (included : Option (List Span)) (piece : ℕ) (bytes : List �
     → ReadsPiece included piece 0 bytes state state 0
 pieced_none included piece bytes state = grind (arith, has_only_read-none state)
 
--- If `ReadsPiece` holds for the first `k` sectors of a piece, and the next sector is copied, `ReadsPiece` holds for the
--- first `k + 1` sectors.
 module _ {included : Option (List Span)} {piece k reads more : ℕ} {bytes part : List ℕ} {old mid new : BusState} where
   pub pieced_more : (width : ℕ) → k < 16 → width ≡ 4096 → length bytes ≡ 65536 → length part ≡ 4096
       → ReadsPiece included piece k bytes old mid reads

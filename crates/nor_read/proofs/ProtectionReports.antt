@@ -22,7 +22,6 @@ use Rattle.nor_read.specs.Protecting.{IsProtectedRange, IsProtectionRefusal}
 use Rattle.nor_read.specs.Protecting.{ProtectionAlways, ProtectionHonest, ProtectionModelled, ProtectionErrors}
 use Rattle.nor_read.proofs.Whole.{find_errors, find_ends, ran_on, rested_on, has_name, size_of}
 
--- Holds if all promises of `wp_status` are kept by a call with this result.
 pub record HasReported (named : Option ChipName) (old new : BusState) (result : Result Protection Refusal) : Type 0 where
   pub always : ProtectionAlways old new result
   pub honest : old.honest ≡ true → ProtectionHonest named old new result
@@ -32,13 +31,9 @@ lock_read : (one two : ℕ) (kept : KeptBits) → one / 4 ≡ kept.one → two �
     → is_locked (kept_in (one ∷ two ∷ [])) ≡ is_locked kept
 lock_read one two kept low high = grind (arith, nat_tests)
 
--- If `one` is status 1 of an idle chip, then `one` without its two lowest bits, BUSY and WEL, has the chip's
--- non-volatile bits of status 1.
 kept1_read : (old mid : Chip) (one : ℕ) → one ≡ status1_of mid → IsSame old mid → mid.busy ≡ 0 → one / 4 ≡ old.kept.one
 kept1_read old mid one is same idle = let kept = ap (λ (bits : KeptBits). bits.one) same.kept in grind (arith, nat_tests)
 
--- On a chip with block protection, `IsProtectedRange` holds for the range that `IsRangeOf` gives for the chip's size
--- and protection bits.
 range_read : (chip : Chip) (range : Option (ℕ × ℕ)) → chip.config.scheme ≡ true
     → MatchOption range (is_undefined (code_of chip.kept) ≡ true)
     (λ places. IsRangeOf chip.config.size (code_of chip.kept) places.0 places.1)
@@ -53,7 +48,6 @@ module _ (named : Option ChipName) where
       → (IsModelled old → ProtectionErrors named old.chip refusal) → HasReported named old new (Err refusal)
   refused refusal only_reads is last errors own = search
 
-  -- An error of the probe is one that `wp_status` may return. `ProtectionErrors` says nothing about this error.
   unfound_errors : (old new : BusState) (refusal : Refusal) → IdentificationErrors most_probe named old new refusal
       → IsProtectionRefusal refusal × ProtectionErrors named old.chip refusal
   unfound_errors old new (Timeout address) errors = (errors.0, tt)
@@ -67,24 +61,20 @@ module _ (named : Option ChipName) where
       (find_ends most_probe named old new refusal errors)
       (find_errors most_status named old new refusal (omega arith) errors) (λ known. own.1)
 
-  -- Lemmas about the exits after a chip was found.
   module _ {old mid new : BusState} {probed : Probed} (found : HasFound named old mid probed)
       (only_reads : OnlyReads most_probe old mid) (after : OnlyReads 1 mid new) where
     only_reads_all : OnlyReads most_status old new
     only_reads_all = only_reads_within most_status (omega arith) only_reads after
 
-    -- The exit at which the bus stopped at the read of status 2.
     pub stopped : HasStopped 1 mid new → HasReported named old new (Err Stopped)
     stopped out =
         refused Stopped only_reads_all tt out.last (ran_on found only_reads 1 most_status (omega arith) out) (λ known. tt)
 
     module _ {status2 : ℕ} (reads : ReadsStatus2 mid new status2) where
-      -- The exit with error 6, if the chip that was found has no block protection.
       pub plain : probed.found.scheme ≡ false → HasReported named old new (Err NoProtection)
       plain none = refused NoProtection only_reads_all tt tt (rested_on found only_reads (λ is. (reads.read is).rested))
           (λ known. (has_name found only_reads known.honest, sym (found.is.config known).scheme ∙ none))
 
-      -- The exit with a report, if the chip that was found has block protection.
       pub returned : (bytes : List ℕ) (range : Option (ℕ × ℕ)) (locked : Bool) → new.polled_ready ≡ mid.polled_ready
           → probed.found.scheme ≡ true → bytes ≡ probed.found.status1 ∷ status2 ∷ []
           → MatchOption range (is_undefined (code_of (kept_in bytes)) ≡ true)

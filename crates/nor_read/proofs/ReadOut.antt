@@ -21,7 +21,6 @@ use Rattle.nor_read.proofs.Copied.{copies_if}
 use Rattle.nor_read.proofs.Whole.{Sends, find_errors, find_ends, sends_probe, sends_on, fails, report_of, reported}
 use Rattle.nor_read.proofs.Whole.{rested_on, size_of, open_after, is_taken, is_passed}
 
--- Holds if all promises of `read_out` are kept by a call with this result.
 pub record HasReadOut (named : Option ChipName) (included : Option (List Span)) (old new : BusState)
     (vault vault' : VaultState) (result : Result Report Refusal) : Type 0 where
   pub always : ReadOutAlways named included old new vault vault' result
@@ -36,8 +35,6 @@ module _ (named : Option ChipName) (included : Option (List Span)) (vault : Vaul
       → HasReadOut named included old new vault vault' (Err refusal)
   refused refusal sends is last errors own = search sends.own
 
-  -- An error of the probe is one that `read_out` may return. On a modelled bus this error has the meaning that
-  -- `ReadOutErrors` states.
   unfound_errors : (old new : BusState) (refusal : Refusal) → IdentificationErrors most_probe named old new refusal
       → IsReadRefusal vault vault refusal × (IsModelled old → ReadOutErrors named included old new vault vault refusal)
   unfound_errors old new Stopped errors =
@@ -51,7 +48,6 @@ module _ (named : Option ChipName) (included : Option (List Span)) (vault : Vaul
       refused refusal (sends_probe only_reads) own.0 (find_ends most_probe named old new refusal errors)
       (find_errors (most_read 16777216) named old new refusal (omega arith) errors) own.1
 
-  -- Lemmas about the exits after a chip was found.
   module _ {old mid : BusState} {probed : Probed} (found : HasFound named old mid probed)
       (only_reads : OnlyReads most_probe old mid) where
     pub past : ReachesPast included probed.found.size
@@ -61,7 +57,6 @@ module _ (named : Option ChipName) (included : Option (List Span)) (vault : Vaul
 
     module _ {new : BusState} {vault' : VaultState} (fits : FitsInto included probed.found.size)
         (after : OnlyReads (probed.found.size / 4096) mid new) where
-      -- The exits at which the copy ended with an error.
       pub broken : (refusal : Refusal) → CopyErrors included probed.found.size mid new vault vault' refusal
           → HasReadOut named included old new vault vault' (Err refusal)
       broken Stopped errors =
@@ -78,7 +73,6 @@ module _ (named : Option ChipName) (included : Option (List Span)) (vault : Vaul
           })
       broken _ errors = absurd errors
 
-      -- The exit at which the copy is complete.
       pub copied_whole : {reads : ℕ}
           → ReadsPieces included probed.found.size (probed.found.size / 65536) mid new vault vault' reads
           → HasReadOut named included old new vault vault' (Ok (report_of probed reads))

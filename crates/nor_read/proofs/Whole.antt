@@ -20,14 +20,13 @@ use Rattle.nor_request.specs.Errors.{IdentificationErrors, EndsAtError}
 use Rattle.nor_read.specs.Finding.{IsModelled, HasFound, IsNamed, IsPassed, IsTaken}
 use Rattle.nor_read.specs.Finding.{ReportsPart, ReportsReads, ReadingErrors, most_read}
 
--- Holds if no modifying command was sent. On a well-behaved bus the number of transactions is at most the bound
--- `most_read` for the largest chip, and on a modelled bus at most the bound for this chip.
+-- Holds if no modifying command was sent, and the transactions are within the bounds on a well-behaved and modelled
+-- bus.
 pub record Sends (old new : BusState) : Type 0 where
   pub largest : OnlyReads (most_read 16777216) old new
   pub own : IsModelled old → OnlyReads (most_read old.chip.config.size) old new
 
--- Holds after a call was stopped: the bus stopped at the last transaction. On a well-behaved bus fewer transactions
--- were left at the start than the bound for the largest chip, and on a modelled bus fewer than the bound for this chip.
+-- Holds after the bus stopped.
 pub record OperationFails (old new : BusState) : Type 0 where
   pub last : EndsStopped new.history
   pub largest : old.honest ≡ true → RanOut (most_read 16777216) old new
@@ -42,8 +41,6 @@ find_errors most named old new Stopped fits errors honest = λ punctual.
 find_errors most named old new (Timeout address) fits errors honest = absurd (errors.2 honest)
 find_errors most named old new _ fits errors honest = search
 
--- If the probe returned error 12, the bus stopped at the last transaction. If it returned error 13, the last
--- transaction was a poll that showed BUSY. `EndsAtError` says nothing about the probe's other errors.
 pub find_ends : (most : ℕ) (named : Option ChipName) (old new : BusState) (refusal : Refusal)
     → IdentificationErrors most named old new refusal → EndsAtError refusal new.history
 find_ends most named old new Stopped errors = errors.last
@@ -55,12 +52,10 @@ sends_probe only_reads = search (arith, only_reads_more)
 
 -- ---- if a chip is found
 
--- the report of a call that found the chip in `probed` and then read `reads` sectors
 abbrev pub report_of : Probed → (reads : ℕ) → Report
 report_of probed reads =
     record { found = probed.found; touched = 0; erases = 0; programs = 0; transactions = probed.transactions + reads }
 
--- If the fields of a report are those of `report_of`, the report equals `report_of`.
 pub report_is : (probed : Probed) (reads : ℕ) (report : Report) → report.found ≡ probed.found → report.touched ≡ 0
     → report.erases ≡ 0 → report.programs ≡ 0 → report.transactions ≡ probed.transactions + reads
     → report ≡ report_of probed reads
@@ -75,7 +70,6 @@ pub record Reports (named : Option ChipName) (included : Option (List Span)) (ol
   pub reads : old.honest ≡ true → ReportsReads (sectors_included included report.found.size) old new report
   pub config : IsModelled old → IsConfigOf old.chip.config report.found
 
--- If a chip is idle, reads that succeed on a well-behaved bus (`Rested`) don't change any bit of its status 1.
 status1_stays : (old new : BusState) → old.chip.busy ≡ 0 → Rested old new → status1_of new.chip ≡ status1_of old.chip
 status1_stays old new idle rested =
     let latch = rested.idle_latch idle in
@@ -83,7 +77,6 @@ status1_stays old new idle rested =
 
 module _ {named : Option ChipName} {old mid : BusState} {probed : Probed}
     (found : HasFound named old mid probed) (only_reads : OnlyReads most_probe old mid) where
-  -- On a modelled bus, the size that was found is the size of the chip on the bus.
   pub size_of : IsModelled old → probed.found.size ≡ old.chip.config.size
   size_of known = (found.is.config known).size
 
@@ -96,8 +89,6 @@ module _ {named : Option ChipName} {old mid : BusState} {probed : Probed}
             only_reads_within (most_read old.chip.config.size) (omega arith) only_reads after;
       }
 
-  -- Let `most` be a bound on the transactions of the whole call. If a well-behaved bus stopped after the probe, fewer
-  -- than `most` transactions were left at the start.
   pub ran_on : {new : BusState} (n most : ℕ) → most_probe + n ≤ most → HasStopped n mid new → old.honest ≡ true
       → RanOut most old new
   ran_on n most fits out honest punctual =
@@ -107,13 +98,10 @@ module _ {named : Option ChipName} {old mid : BusState} {probed : Probed}
   pub fails : {new : BusState} → HasStopped (probed.found.size / 4096) mid new → OperationFails old new
   fails out = let most = found.is.part.at_most in search (arith, ran_on, size_of, out.last)
 
-  -- On a well-behaved bus, a probe and reads that all succeeded leave contents and non-volatile status bits as they
-  -- were.
   pub rested_on : {new : BusState} → (mid.honest ≡ true → Rested mid new) → old.honest ≡ true → Rested old new
   rested_on {new} rested honest =
       rested_then old mid new (found.rested honest) (rested (only_reads.nature.honest ∙ honest))
 
-  -- On a modelled bus, the chip is idle after the probe, and has the size that was found.
   pub open_after : IsModelled old → IsOpen probed.found.size mid
   open_after known =
       let rested = found.rested known.honest in let size = size_of known in search (arith, found.idle)
@@ -129,7 +117,6 @@ module _ {named : Option ChipName} {old mid : BusState} {probed : Probed}
       → IsPassed named included old.chip.config
   is_passed past known = search (has_name, rw (size_of known) at past)
 
-  -- If a call succeeded, the promises about its report (`Reports`) hold.
   pub reported : {included : Option (List Span)} {new : BusState} {reads : ℕ} → HasOnlyRead reads mid new
       → reads ≡ sectors_included included probed.found.size → Reports named included old new (report_of probed reads)
   reported {included} {new} {reads} honest_reads counted =

@@ -1,5 +1,4 @@
--- Definitions that the calls of this crate share: the chip that was found and its checks, the bounds on the
--- transactions, the report of `read_out` and `verify`, and the errors.
+-- Definitions that the calls of this crate share.
 use Rattle.std.specs.Prelude.{◌≡◌, ◌≤◌, ◌+◌, ◌/◌, ℕ, Bool, true, Option, Ok, List, ⊤}
 use Rattle.nor_model.specs.declared.config.Config.{Config}
 use Rattle.nor_model.specs.Chip.{status1_of}
@@ -23,18 +22,15 @@ use Rattle.nor_request.specs.declared.report.Report.{Report}
 abbrev pub most_status : ℕ
 most_status = 65541
 
--- Holds if `found` describes the chip that was found. On every bus, `found` has the row that applies on this bus or was
--- identified by SFDP (`IsPart`), and has the requested name, if any. On a well-behaved bus, `found` has the chip type
--- that the replies of the chip on the bus show. On a modelled bus, `found` has the configuration of that chip.
+-- Holds if `found` describes the chip that was found. On a modelled bus `found` has the configuration of the chip on
+-- the bus.
 pub record IsFound (named : Option ChipName) (old : BusState) (found : Found) : Type 0 where
   pub part : IsPart old.further found
   pub has_name : IsWanted named found.name
   pub shown : old.honest ≡ true → shown_as old.chip.config ≡ Ok (part_in found)
   pub config : IsModelled old → IsConfigOf old.chip.config found
 
--- Holds after a probe found a chip (`IsFound`). The last poll showed ready, and the probe counted at most 65,540
--- transactions. On a well-behaved bus contents and non-volatile status bits are as before (`Rested`), the chip is idle,
--- status 1 is the chip's own, and the probe counted exactly the transactions that were sent.
+-- Holds after a probe found a chip.
 pub record HasFound (named : Option ChipName) (old new : BusState) (probed : Probed) : Type 0 where
   pub is : IsFound named old probed.found
   pub most : probed.transactions ≤ most_probe
@@ -47,12 +43,10 @@ pub record HasFound (named : Option ChipName) (old new : BusState) (probed : Pro
 
 -- ---- the checks of the chip that was found
 
--- Holds if the chip has the requested name, if any, and some included address is past the end of the chip.
 pub record IsPassed (named : Option ChipName) (included : Option (List Span)) (config : Config) : Type 0 where
   pub is : IsNamed named config
   pub past : ReachesPast included config.size
 
--- Holds if the chip has the requested name, if any, and all included addresses are on the chip.
 pub record IsTaken (named : Option ChipName) (included : Option (List Span)) (config : Config) : Type 0 where
   pub is : IsNamed named config
   pub fits : FitsInto included config.size
@@ -65,41 +59,30 @@ most_read size = most_probe + size / 4096
 
 -- ---- the report
 
--- Holds if the report has a chip with the requested name, if any, counts no change, and counts at most the bound
--- `most_read` of transactions. `read_out` and `verify` promise this on every bus. `further` says whether the bus has
--- further types.
+-- The promises about the report of `read_out` and `verify` on every bus. `further` says whether the bus has further
+-- types.
 pub record ReportsPart (named : Option ChipName) (further : Bool) (report : Report) : Type 0 where
-  -- The chip has the row that applies on this bus, or was identified by SFDP.
   pub part : IsPart further report.found
-  -- The chip has the requested name, if there is one.
   pub has_name : IsWanted named report.found.name
-  -- No sector was touched, and nothing was erased or programmed.
   pub touched : report.touched ≡ 0
   pub erases : report.erases ≡ 0
   pub programs : report.programs ≡ 0
-  -- The number of transactions is at most the bound `most_read` for a chip of this size.
   pub most : report.transactions ≤ most_read report.found.size
 
--- Holds for the report of a call that read `reads` sectors on a well-behaved bus. The report has the chip type that the
--- chip's replies show. Contents and non-volatile status bits are as before the call.
+-- The promises about the report of a call that read `reads` sectors on a well-behaved bus.
 pub record ReportsReads (reads : ℕ) (old new : BusState) (report : Report) : Type 0 where
   -- The reported chip type is the one that the chip shows (`shown_as`).
   pub shown : shown_as old.chip.config ≡ Ok (part_in report.found)
-  -- Contents and non-volatile status bits are as before the call.
   pub rested : Rested old new
-  -- The chip is idle.
   pub idle : new.chip.busy ≡ 0
   -- Status 1 in the report, with all its bits, is what the chip would reply now.
   pub status1 : report.found.status1 ≡ status1_of new.chip
-  -- The report counts the transactions of the probe and of the reads.
   pub count : report.transactions ≡ needed old.chip + reads
-  -- Exactly the reported number of transactions was sent.
   pub fell : Spent report.transactions old new
 
 -- ---- errors
 
--- Holds for error 1, 2, 3 or 12, and for error 13 (a timeout) with address 0. On every bus, only these errors are
--- returned while the chip is identified.
+-- Holds for the errors that may be returned while the chip is identified.
 abbrev pub IsFindRefusal : Refusal → Type 0
 IsFindRefusal NoChip = ⊤
 IsFindRefusal (UnknownChip fault) = ⊤
@@ -108,9 +91,9 @@ IsFindRefusal Stopped = ⊤
 IsFindRefusal (Timeout address) = address ≡ 0
 IsFindRefusal _ = ⊥
 
--- The meaning of errors on a well-behaved bus. Errors 1 to 3 mean what `ProbeErrors` says about the chip. A stop means
--- that fewer than `most` transactions were left at the start, and that none is left. A timeout does not occur. After
--- any error except a stop, contents and non-volatile status bits are as before.
+-- The meaning of errors on a well-behaved bus. A stop means that fewer than `most` transactions were left at the start,
+-- and that none is left. A timeout does not occur. After any error except a stop, contents and non-volatile status bits
+-- are as before.
 abbrev pub ReadingErrors : ℕ → Option ChipName → (old new : BusState) → Refusal → Type 0
 ReadingErrors most named old new NoChip = ProbeErrors named old new Probes.NoChip
 ReadingErrors most named old new (UnknownChip fault) = ProbeErrors named old new (Probes.UnknownChip fault)

@@ -20,8 +20,7 @@ pub record IsProtectedRange (chip : Chip) (start len : ℕ) : Type 0 where
   pub exactly : (a : ℕ) → (is_protected chip a ≡ true) ↔ ((start ≤ a) × (a < start + len))
   pub plain : len ≡ 0 → start ≡ 0
 
--- Holds if the report matches a chip with block protection. The report has the chip's protected range (`None` if the
--- datasheets don't define the chip's protection bits) and size, and says whether the status is locked.
+-- Holds if the report matches a chip with block protection. Its range is `None` if the datasheets don't define one.
 pub record IsProtection (chip : Chip) (protection : Protection) : Type 0 where
   pub scheme : chip.config.scheme ≡ true
   pub protected : MatchOption protection.range (is_undefined (code_of chip.kept) ≡ true)
@@ -31,7 +30,6 @@ pub record IsProtection (chip : Chip) (protection : Protection) : Type 0 where
 
 -- ---- the promises of `wp_status`
 
--- Holds for an error that `wp_status` may return. `wp_status` promises this on every bus.
 abbrev pub IsProtectionRefusal : Refusal → Type 0
 IsProtectionRefusal NoProtection = ⊤
 IsProtectionRefusal refusal = IsFindRefusal refusal
@@ -40,31 +38,22 @@ IsProtectionRefusal refusal = IsFindRefusal refusal
 pub record ProtectionAlways (old new : BusState) (result : Result Protection Refusal) : Type 0 where
   -- No modifying command was sent. On a well-behaved bus at most 65,541 transactions were sent.
   pub only_reads : OnlyReads most_status old new
-  -- After success the reported size is one that a chip may have.
   pub sized : IfOk result (λ protection. is_chip_size protection.size ≡ true)
-  -- An error is one that `wp_status` may return.
   pub refuses : IfErr result IsProtectionRefusal
   -- After error 12 the bus stopped at the last transaction. After error 13 the last transaction was a poll that showed
   -- BUSY.
   pub last_transaction : IfErr result (λ refusal. EndsAtError refusal new.history)
-  -- The call succeeds only if the last poll showed ready.
   pub polled_ready : OnOk result (new.polled_ready ≡ true)
 
 -- The promises of `wp_status` on a well-behaved bus.
 pub record ProtectionHonest (named : Option ChipName) (old new : BusState)
     (result : Result Protection Refusal) : Type 0 where
-  -- After success contents and non-volatile status bits are as before.
   pub rested : OnOk result (Rested old new)
-  -- After success the chip is idle.
   pub idle : OnOk result (new.chip.busy ≡ 0)
-  -- After success the chip has the requested name, if any.
   pub is : OnOk result (IsNamed named old.chip.config)
-  -- An error means what `ReadingErrors` says. After any error except a stop, contents and non-volatile status bits are
-  -- as before.
   pub errors : IfErr result (ReadingErrors most_status named old new)
 
--- The meaning of error 6 on a modelled bus: the chip has the requested name, if any, and no block protection. Nothing
--- is said about the other errors, whose meaning `ReadingErrors` has.
+-- The meaning of error 6 on a modelled bus. `ReadingErrors` has the meaning of the other errors.
 abbrev pub ProtectionErrors : Option ChipName → Chip → Refusal → Type 0
 ProtectionErrors named chip NoProtection = IsNamed named chip.config × (chip.config.scheme ≡ false)
 ProtectionErrors named chip _ = ⊤
@@ -72,7 +61,5 @@ ProtectionErrors named chip _ = ⊤
 -- The promises of `wp_status` on a modelled bus.
 pub record ProtectionModelled (named : Option ChipName) (old : BusState)
     (result : Result Protection Refusal) : Type 0 where
-  -- After success the report matches the chip.
   pub returned : IfOk result (IsProtection old.chip)
-  -- Error 6 means that the chip has no block protection.
   pub errors : IfErr result (ProtectionErrors named old.chip)

@@ -16,8 +16,7 @@ use Rattle.nor_request.specs.declared.report.Report.{Report}
 use Rattle.nor_request.specs.Errors.{EndsAtError}
 use Rattle.nor_read.specs.Finding.{IsPassed, IsTaken, ReportsPart, ReportsReads, IsFindRefusal, ReadingErrors, most_read}
 
--- The byte at address `a` of the copy of a chip. If the address is included, this is the chip's byte, and otherwise
--- FFh.
+-- The byte at address `a` of the copy of a chip.
 abbrev pub copied : Option (List Span) → (ℕ → ℕ) → ℕ → ℕ
 copied included content a = if includes included a then content a else 255
 
@@ -27,8 +26,7 @@ pub record Grows (count : ℕ) (old new : VaultState) : Type 0 where
   pub long : length bytes ≡ count
   pub grown : new.bytes ≡ old.bytes ++ bytes
 
--- Holds if the vault has its earlier bytes and then the first `count` bytes of the copy of a chip with the bytes
--- `content`.
+-- Holds if the vault has its earlier bytes and then the first `count` bytes of the copy of a chip.
 pub record Copies (included : Option (List Span)) (content : ℕ → ℕ) (count : ℕ) (old new : VaultState) : Type 0 where
   pub bytes : List ℕ
   pub long : length bytes ≡ count
@@ -39,22 +37,17 @@ pub record Copies (included : Option (List Span)) (content : ℕ → ℕ) (count
 
 -- Holds if the vault refused nothing and, if it is faithful (`telling`), accepted `count` bytes.
 pub record TakesWhole (count : ℕ) (old new : VaultState) : Type 0 where
-  -- Nothing was refused, and the vault is sealed if and only if it was sealed before.
   pub accepted : Accepted old new
-  -- A faithful (`telling`) vault has `count` bytes more.
   pub grows : old.telling ≡ true → Grows count old new
 
--- Holds if the vault refused one piece. If the vault is faithful (`telling`), it accepted `written` bytes between the
--- two states, including those that it accepted of the refused piece.
+-- Holds if the vault refused one piece. A faithful (`telling`) vault accepted `written` bytes between the two states,
+-- including those of the refused piece.
 pub record TakesPart (written : ℕ) (old new : VaultState) : Type 0 where
-  -- The vault counts one more refusal, and is sealed if and only if it was sealed before.
   pub refused : Refused old new
-  -- A faithful (`telling`) vault has `written` bytes more.
   pub grows : old.telling ≡ true → Grows written old new
 
--- Holds if `read_out` may return this error and leave this vault. `read_out` promises this on every bus. After error 19
--- the vault has refused one piece, and the error has the number of bytes that a faithful (`telling`) vault accepted.
--- After any other error the vault has refused nothing.
+-- Holds if `read_out` may return this error and leave this vault, on every bus. Error 19 has the number of bytes that a
+-- faithful (`telling`) vault accepted.
 abbrev pub IsReadRefusal : (vault vault' : VaultState) → Refusal → Type 0
 IsReadRefusal vault vault' (Output written) = TakesPart written vault vault'
 IsReadRefusal vault vault' RegionOutside = Accepted vault vault'
@@ -63,38 +56,26 @@ IsReadRefusal vault vault' refusal = IsFindRefusal refusal × Accepted vault vau
 -- The promises of `read_out` on every bus and with every vault.
 pub record ReadOutAlways (named : Option ChipName) (included : Option (List Span)) (old new : BusState)
     (vault vault' : VaultState) (result : Result Report Refusal) : Type 0 where
-  -- No modifying command was sent. On a well-behaved bus, the number of transactions is at most the bound `most_read`
-  -- for the largest chip, of 16 MiB.
+  -- On a well-behaved bus, the number of transactions is at most the bound for the largest chip, of 16 MiB.
   pub only_reads : OnlyReads (most_read 16777216) old new
-  -- After success the report has a chip with the requested name, if any, and counts no change.
   pub reports : IfOk result (ReportsPart named old.further)
-  -- After success no included address is past the end of the chip that was found.
   pub fits : IfOk result (λ report. FitsInto included report.found.size)
-  -- After success the vault has refused nothing. A faithful (`telling`) vault has accepted one byte for each address of
-  -- the chip that was found.
+  -- After success a faithful (`telling`) vault has accepted one byte for each address of the chip that was found.
   pub whole : IfOk result (λ report. TakesWhole report.found.size vault vault')
-  -- An error is one that `read_out` may return. Error 19 has the number of bytes that a faithful (`telling`) vault
-  -- accepted.
   pub refuses : IfErr result (IsReadRefusal vault vault')
   -- After error 12 the bus stopped at the last transaction. After error 13 the last transaction was a poll that showed
   -- BUSY.
   pub last_transaction : IfErr result (λ refusal. EndsAtError refusal new.history)
-  -- The call succeeds only if the last poll showed ready.
   pub polled_ready : OnOk result (new.polled_ready ≡ true)
 
 -- The promises of `read_out` on a well-behaved bus.
 pub record ReadOutHonest (named : Option ChipName) (included : Option (List Span)) (old new : BusState)
     (result : Result Report Refusal) : Type 0 where
-  -- After success one read was sent for each sector with an included address, contents and non-volatile status bits are
-  -- as before, and the chip is idle.
+  -- After success one read was sent for each sector with an included address, and the chip is unchanged and idle.
   pub reports : IfOk result (λ report. ReportsReads (sectors_included included report.found.size) old new report)
-  -- An error means what `ReadingErrors` says. After any error except a stop, contents and non-volatile status bits are
-  -- as before.
   pub errors : IfErr result (ReadingErrors (most_read 16777216) named old new)
 
--- The meaning of error 19 (the vault refused a piece) on a modelled bus. The chip has the requested name, if any, all
--- included addresses are on it, and `written` is at most its size. A faithful (`telling`) vault has its bytes from
--- before the call and then the first `written` bytes of the copy.
+-- The meaning of error 19 (the vault refused a piece) on a modelled bus.
 pub record BreaksOff (named : Option ChipName) (included : Option (List Span)) (written : ℕ) (old : BusState)
     (vault vault' : VaultState) : Type 0 where
   pub taken : IsTaken named included old.chip.config
@@ -112,22 +93,19 @@ ReadOutErrors named included old new vault vault' _ = ⊤
 -- The promises of `read_out` on a modelled bus.
 pub record ReadOutModelled (named : Option ChipName) (included : Option (List Span)) (old new : BusState)
     (vault vault' : VaultState) (result : Result Report Refusal) : Type 0 where
-  -- No modifying command was sent. The number of transactions is at most the bound `most_read` for a chip of this size.
   pub only_reads : OnlyReads (most_read old.chip.config.size) old new
-  -- After success the chip type in the report has the chip's configuration.
+  -- After success the report has the configuration of the chip on the bus.
   pub config : IfOk result (λ report. IsConfigOf old.chip.config report.found)
   -- After success a faithful (`telling`) vault has its earlier bytes and then the whole copy: the chip's bytes at the
   -- included addresses, and FFh at all others.
   pub copy : IfOk result (λ report. vault.telling ≡ true
       → Copies included old.chip.bytes old.chip.config.size vault vault')
-  -- Error 5 means that an included address isn't on the chip, and error 12 that too few transactions were left. Error
-  -- 19 has the number of bytes of the copy that a faithful (`telling`) vault accepted.
   pub errors : IfErr result (ReadOutErrors named included old new vault vault')
 
 -- ---- the copy: in pieces of sixteen sectors, and each piece sector by sector
 
--- Holds after one sector of the copy was made. One transaction was sent if the sector has an included address, and
--- otherwise none. On a well-behaved bus with an idle chip that has this sector, `bytes` are the bytes of the copy.
+-- Holds after one sector of the copy was made, with at most one transaction. On a well-behaved bus with an idle chip
+-- that has this sector, `bytes` are the bytes of the copy.
 pub record ReadsPart (included : Option (List Span)) (sector : ℕ) (bytes : List ℕ) (old new : BusState)
     (reads : ℕ) : Type 0 where
   pub counted : reads ≡ (if has_in_sector (includes included) sector then 1 else 0)
@@ -135,9 +113,8 @@ pub record ReadsPart (included : Option (List Span)) (sector : ℕ) (bytes : Lis
   pub right : old.honest ≡ true → old.chip.busy ≡ 0 → 4096 * (sector + 1) ≤ old.chip.config.size
       → AreOfSector (copied included old.chip.bytes) sector bytes
 
--- Holds after the first `n` of a piece's sixteen sectors were copied. One transaction was sent for each of these
--- sectors that has an included address. On a well-behaved bus with an idle chip that has the whole piece, the first
--- `4096 * n` bytes of `bytes` are those of the copy.
+-- Holds after the first `n` of a piece's sixteen sectors were copied to `bytes`, which are right on a well-behaved bus
+-- with an idle chip that has the whole piece.
 pub record ReadsPiece (included : Option (List Span)) (piece n : ℕ) (bytes : List ℕ) (old new : BusState)
     (reads : ℕ) : Type 0 where
   pub counted : count_below (16 * piece + n) (has_in_sector (includes included))
@@ -147,15 +124,14 @@ pub record ReadsPiece (included : Option (List Span)) (piece n : ℕ) (bytes : L
   pub right : old.honest ≡ true → old.chip.busy ≡ 0 → 65536 * (piece + 1) ≤ old.chip.config.size
       → (i : ℕ) → i < 4096 * n → slice_index bytes i ≡ copied included old.chip.bytes (65536 * piece + i)
 
--- Holds if the vault has its earlier bytes and then `count` more bytes. If `known` holds, these bytes are the first
--- `count` bytes of the copy of a chip with the bytes `content`.
+-- Holds if the vault has `count` more bytes, which, if `known` holds, are the first ones of the copy.
 pub record CopiesIf (known : Type 0) (included : Option (List Span)) (content : ℕ → ℕ) (count : ℕ)
     (old new : VaultState) : Type 0 where
   pub grows : Grows count old new
   pub right : known → (a : ℕ) → a < count → slice_index grows.bytes a ≡ copied included content a
 
--- Holds after the pieces below `n` were made and appended to the vault, which refused nothing. On a well-behaved bus
--- with an idle chip of this size, a faithful (`telling`) vault has its earlier bytes and then these pieces of the copy.
+-- Holds after the pieces below `n` were appended to the vault. On a well-behaved bus with an idle chip of this size, a
+-- faithful (`telling`) vault has its earlier bytes and then these pieces of the copy.
 pub record ReadsPieces (included : Option (List Span)) (size n : ℕ) (old new : BusState) (vault vault' : VaultState)
     (reads : ℕ) : Type 0 where
   pub counted : reads ≡ count_below (16 * n) (has_in_sector (includes included))
@@ -165,7 +141,7 @@ pub record ReadsPieces (included : Option (List Span)) (size n : ℕ) (old new :
   pub copy : vault.telling ≡ true → CopiesIf (IsOpen size old) included old.chip.bytes (65536 * n) vault vault'
 
 -- Holds after the vault refused a piece of the copy. A faithful (`telling`) vault accepted `written` bytes of all
--- pieces together. On a well-behaved bus with an idle chip of this size, these are the first bytes of the copy.
+-- pieces together.
 pub record BreaksCopy (included : Option (List Span)) (size written : ℕ) (old new : BusState)
     (vault vault' : VaultState) : Type 0 where
   pub rested : old.honest ≡ true → Rested old new
@@ -173,16 +149,15 @@ pub record BreaksCopy (included : Option (List Span)) (size written : ℕ) (old 
   pub took : TakesPart written vault vault'
   pub copy : IsOpen size old → vault.telling ≡ true → Copies included old.chip.bytes written vault vault'
 
--- The meaning of an error of the copy. After a stop the vault has refused nothing, and the bus stopped at the last
--- transaction. On a well-behaved bus fewer transactions were left at the start than a chip of `size` bytes has sectors.
--- After error 19 `BreaksCopy` holds.
+-- The meaning of an error of the copy. After a stop on a well-behaved bus, fewer transactions were left at the start
+-- than a chip of `size` bytes has sectors.
 abbrev pub CopyErrors : Option (List Span) → ℕ → (old new : BusState) → (vault vault' : VaultState) → Refusal → Type 0
 CopyErrors included size old new vault vault' Stopped = HasStopped (size / 4096) old new × Accepted vault vault'
 CopyErrors included size old new vault vault' (Output written) = BreaksCopy included size written old new vault vault'
 CopyErrors included size old new vault vault' _ = ⊥
 
--- The meaning of an error when the piece with the index `piece` is appended. `written` counts the bytes of the earlier
--- pieces, 65,536 each, and the bytes that a faithful (`telling`) vault accepted of this piece.
+-- The meaning of an error when the piece with the index `piece` is appended. `written` counts 65,536 bytes for each
+-- earlier piece, and the bytes that a faithful (`telling`) vault accepted of this piece.
 abbrev pub PutErrors : ℕ → List ℕ → (old new : VaultState) → Refusal → Type 0
 PutErrors piece bytes old new (Output written) =
     (kept : ℕ) × (written ≡ 65536 * piece + kept) × PutRefused old bytes kept new

@@ -1,4 +1,4 @@
-//! The parts that the calls of this crate share: they find the chip, and make the report of `read_out` and `verify`.
+//! Finds the chip, and makes the report of `read_out` and `verify`.
 ghost use Rattle.std.specs.Prelude.{◌≡◌, ◌≤◌, ◌+◌, IfOk, IfErr};
 ghost use Rattle.nor_driver.specs.OnlyReads.{OnlyReads};
 ghost use Rattle.nor_probe.specs.Found.{most_probe};
@@ -24,7 +24,7 @@ pub fn find<B: Bus>(bus: &mut B, named: Option<ChipName>) -> Result<Probed, Refu
 }
 
 /// Returns the report of a call that found the chip in `probed` and then read `reads` sectors. `probed` must count at
-/// most 65,540 transactions. The report counts no touched sectors, erases or programs.
+/// most 65,540 transactions.
 pub fn report(probed: Probed, reads: u32) -> Report
     requires { probed.transactions ≤ most_probe }
     ensures found { result.found ≡ probed.found }

@@ -25,8 +25,7 @@ pub struct Protection {
 /// name. On a modelled bus the returned values are proved to be the chip's own.
 ///
 /// Returns error 1 (no chip), 2 (unknown chip), 3 (other name), 6 (the chip has no block protection), 12 (the bus
-/// stopped) or 13 (the chip stayed busy; not on a well-behaved bus). On any bus, nothing is sent after the bus stopped,
-/// or after the poll for which error 13 is returned.
+/// stopped) or 13 (the chip stayed busy; not on a well-behaved bus). Nothing is sent after error 12 or 13 occurs.
 pub fn wp_status<B: Bus>(bus: &mut B, named: Option<ChipName>) -> Result<Protection, Refusal>
     ensures always { ProtectionAlways (B.state bus.old) (B.state bus.new) result }
     ensures honest { (B.state bus.old).honest ≡ true

@@ -19,18 +19,17 @@ use nor_request::{Refusal, Report};
 // The length of one piece of the copy: sixteen sectors.
 const PIECE_LEN: usize = 65_536;
 
-/// Appends a copy of the whole chip to `out`. The copy has the chip's byte at each included address, and FFh at all
-/// other addresses. If `included` is `None`, all addresses are included. The call reads each sector that has an
-/// included address once, in ascending order. The vault must be unsealed, and the call does not seal it.
+/// Appends a copy of the whole chip to `out`: the chip's byte at each included address (at every address if `included`
+/// is `None`), and FFh at all others. Reads each sector that has an included address once, in ascending order. The
+/// vault must be unsealed, and the call does not seal it.
 ///
-/// If the bus is modelled and `out` is faithful (`telling`: it holds exactly the bytes that it accepted), success
-/// leaves this copy in `out`, after the bytes that `out` held before. On a well-behaved bus success leaves the chip's
-/// contents and non-volatile status bits as they were.
+/// If the bus is modelled and `out` is faithful (`telling`), success leaves this copy in `out`, after the bytes that
+/// `out` held before. On a well-behaved bus success leaves the chip's contents and non-volatile status bits as they
+/// were.
 ///
 /// Returns error 1 (no chip), 2 (unknown chip), 3 (other name), 5 (an included address isn't on the chip), 12 (the bus
-/// stopped) or 19 (the vault failed). Returns 13 (the chip stayed busy) only if the bus isn't well-behaved. Error 19
-/// has the number of bytes that a faithful (`telling`) vault accepted during this call. On any bus, nothing is sent
-/// after the bus stopped, or after the poll for which error 13 is returned.
+/// stopped), 13 (the chip stayed busy; not on a well-behaved bus) or 19 (the vault failed). Error 19 has the number of
+/// bytes that a faithful vault accepted during this call. Nothing is sent after error 12 or 13 occurs.
 pub fn read_out<B: Bus, V: Vault>(
     bus: &mut B,
     included: Option<&Ranges>,
@@ -53,7 +52,6 @@ pub fn read_out<B: Bus, V: Vault>(
     Ok(report(probed, reads))
 }
 
-// Appends a copy of a chip of `size` bytes to a vault, piece by piece. Returns how many sectors were read.
 fn copy_all<B: Bus, V: Vault>(
     bus: &mut B,
     included: Option<&Ranges>,
@@ -77,8 +75,7 @@ fn copy_all<B: Bus, V: Vault>(
     Ok(reads)
 }
 
-// Writes the piece with the index `piece`, which has sixteen sectors of the copy, to `bytes`. Returns the number of
-// transactions.
+// Writes the sixteen sectors of this piece to `bytes`, and returns the number of transactions.
 fn read_piece<B: Bus>(
     bus: &mut B,
     included: Option<&Ranges>,
@@ -100,8 +97,7 @@ fn read_piece<B: Bus>(
     Ok(reads)
 }
 
-// Writes one sector of the copy to `bytes`. Returns the number of transactions: 1, or 0 if the sector has no included
-// address.
+// Writes one sector of the copy to `bytes`, and returns the number of transactions, 0 or 1.
 fn read_part<B: Bus>(
     bus: &mut B,
     included: Option<&Ranges>,
@@ -124,8 +120,8 @@ fn read_part<B: Bus>(
     Ok(1)
 }
 
-// Appends a piece of the copy to the vault, which has accepted the `piece` earlier pieces. Error 19 has the number of
-// bytes of the copy that a faithful (`telling`) vault accepted, including the earlier pieces.
+// Appends a piece to the vault, which has accepted the `piece` earlier pieces. Error 19 counts the bytes that a
+// faithful vault accepted, including the earlier pieces.
 fn put_piece<V: Vault>(out: &mut V, piece: u32, bytes: &[u8; PIECE_LEN]) -> Result<(), Refusal>
     requires reachable { piece < 256 }
     requires unsealed { (V.state out.old).sealed ≡ false }

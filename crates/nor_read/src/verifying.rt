@@ -16,22 +16,22 @@ use nor_plan::bounds;
 use nor_probe::ChipName;
 use nor_request::{Refusal, Report};
 
-// The result of a comparison: the first included address that differs, if any, and how many sectors were read.
+// The first included address that differs, if any, and the number of sectors that were read.
 #[derive(Clone, Copy)]
 struct Compared {
     first: Option<u32>,
     reads: u32,
 }
 
-/// Compares the chip with an image at the included addresses. If `included` is `None`, all addresses are included. The
-/// call reads each sector that has an included address once, in ascending order, even after it found a difference. On
-/// any bus success means that the replies to these reads have the image's byte at each included address (`read_back`).
-/// On a modelled bus the chip then has these bytes.
+/// Compares the chip with an image at the included addresses (at every address if `included` is `None`). Reads each
+/// sector that has an included address once, in ascending order, even after it found a difference. On any bus success
+/// means that the replies to these reads have the image's byte at each included address. On a modelled bus the chip
+/// then has these bytes.
 ///
-/// Returns error 1 (no chip), 2 (unknown chip), 3 (other name), 4 (the image isn't as long as the chip) or 5 (an
-/// included address isn't on the chip). Returns 12 if the bus stopped, 13 if the chip stayed busy (not on a
-/// well-behaved bus), and 14 with the first included address at which the bytes that were read and the image differ. On
-/// any bus, nothing is sent after the bus stopped, or after the poll for which error 13 is returned.
+/// Returns error 1 (no chip), 2 (unknown chip), 3 (other name), 4 (the image isn't as long as the chip), 5 (an included
+/// address isn't on the chip), 12 (the bus stopped), 13 (the chip stayed busy; not on a well-behaved bus), or 14 with
+/// the first included address at which the bytes that were read and the image differ. Nothing is sent after error 12 or
+/// 13 occurs.
 pub fn verify<B: Bus>(
     bus: &mut B,
     image: &[u8],
@@ -63,8 +63,6 @@ pub fn verify<B: Bus>(
     }
 }
 
-// Compares a chip of `size` bytes with the image at the included addresses, sector by sector. Returns the first
-// included address that differs, if any, and how many sectors were read.
 fn compare_all<B: Bus>(
     bus: &mut B,
     image: &[u8],
@@ -90,7 +88,6 @@ fn compare_all<B: Bus>(
     Ok(Compared { first, reads })
 }
 
-// Compares one sector with the image at the included addresses. The sector is read only if it has an included address.
 fn compare_part<B: Bus>(
     bus: &mut B,
     image: &[u8],
@@ -116,9 +113,8 @@ fn compare_part<B: Bus>(
     Ok(Compared { first, reads: 1 })
 }
 
-// Returns the first included address of the sector at which `bytes`, read from the chip, differ from the image. Returns
-// `None` if there is no such address. Overwrites the bytes at addresses that aren't included with the bytes of the
-// image.
+// Returns the first included address at which `bytes`, read from the chip, differ from the image, if any. Overwrites
+// the bytes at other addresses with those of the image, so that one comparison of whole sectors is enough.
 fn first_other(
     image: &[u8],
     included: Option<&Ranges>,

@@ -21,9 +21,6 @@ whole_alike one other s (Some b) same whole = record {
   same = λ i below. whole.same i below ∙ sym (same i below);
 }
 
--- `HasPutSectors` says that the writer was given a header and the records of exactly the sectors in `saved`, which are
--- below the bound `n`. It stays true if the bytes `one` are replaced by bytes that are the same in each saved sector,
--- `saved` by an equal set, or `n` by a higher bound.
 pub put_alike : {V : Type 0} {state : V → VaultState} {writer : Writer V} {head : Content} {one other : ℕ → ℕ}
     {saved more : ℕ → Bool} {n m : ℕ}
     → ((s i : ℕ) → saved s ≡ true → i < 4096 → other (4096 * s + i) ≡ one (4096 * s + i))
@@ -41,10 +38,8 @@ put_alike {one = one} {other = other} {saved = saved} {more = more} same equal a
   next = let next = put.next in omega arith;
 }
 
--- Holds between the start of a loop that writes records (`old`) and a later point of it (`new`). The writer has the
--- same vault, which has refused nothing since. If the writer had been given only a header for this size, it has now
--- been given that header and the records of the sectors in `saved`, with the bytes `read`. These sectors are below `n`.
--- If the bus is well-behaved, and its chip is idle and of this size, `read` has the chip's bytes in these sectors.
+-- Holds between the start of a loop that writes records (`old`) and a later point (`new`), which has written the
+-- records of the sectors in `saved`, all below `n`, with the bytes `read`.
 pub record HasJournalled {V : Type 0} (state : V → VaultState) (old new : Writer V) (size : ℕ) (bus : BusState)
     (read : ℕ → ℕ) (saved : ℕ → Bool) (n : ℕ) : Type 0 where
   pub same_vault : (vault_of new).ghost_name ≡ (vault_of old).ghost_name
@@ -64,27 +59,19 @@ journalled_none blank = record {
   put = λ head sized put. put_alike (λ s i is below. refl) blank (omega arith) put;
 }
 
--- ---- consequences of `HasJournalled`
-
 module _ {V : Type 0} {state : V → VaultState} {old new : Writer V} {size n : ℕ} {bus : BusState} {read : ℕ → ℕ}
     {saved : ℕ → Bool} (was : HasJournalled state old new size bus read saved n) where
-  -- If the journal had only its header at the start, for this size, it now has the records of exactly the sectors in
-  -- `saved`, with the bytes `read`.
   pub replied_on : {head : Content} {other : ℕ → ℕ} {m : ℕ} → n ≤ m → head.size ≡ size
       → HasPutSectors state old head other none 0 → HasPutSectors state new head read saved m
   replied_on {head = head} above sized put =
       put_alike (λ s i is below. refl) (λ s. refl) above
       (was.put head sized (put_alike (λ s i is. absurd (true≢false (sym is))) (λ s. refl) (omega arith) put))
 
-  -- If the journal had only its header at the start, and the bus is well-behaved with an idle chip of this size, the
-  -- journal now has the records of exactly the sectors in `saved`, with the chip's bytes.
   pub kept_on : {head : Content} {other : ℕ → ℕ} {m : ℕ} → n ≤ m → IsOpen size bus → head.size ≡ size
       → HasPutSectors state old head other none 0 → HasPutSectors state new head bus.chip.bytes saved m
   kept_on above known sized put =
       put_alike (was.shown known) (λ s. refl) (omega arith) (replied_on above sized put)
 
-  -- `HasJournalled` stays true if the bound `n` is replaced by a higher one, `saved` by an equal set, and `read` by
-  -- bytes that are the same in each saved sector.
   pub journalled_later : {m : ℕ} {other : ℕ → Bool} {reread : ℕ → ℕ} → n ≤ m → ((s : ℕ) → other s ≡ saved s)
       → ((s i : ℕ) → saved s ≡ true → i < 4096 → reread (4096 * s + i) ≡ read (4096 * s + i))
       → HasJournalled state old new size bus reread other m
@@ -96,7 +83,6 @@ module _ {V : Type 0} {state : V → VaultState} {old new : Writer V} {size n : 
     put = λ head sized put. put_alike same equal above (replied_on (omega arith) sized put);
   }
 
-  -- After the record of sector `n` was written, `HasJournalled` holds with this sector and the bound `n + 1`.
   pub journalled_more : {last : Writer V} {more : ℕ → Bool} {bytes : List ℕ} → n < size / 4096
       → (vault_of last).ghost_name ≡ (vault_of new).ghost_name
       → Accepted (vault_seen state new) (vault_seen state last)

@@ -39,13 +39,10 @@ use Rattle.nor_request.specs.Request.{wanted}
 
 -- ---- what a scan has written to the journal
 
--- The bytes of a faithful vault (`telling`) are a prefix of the bytes that the writer was given.
 put_begins : {V : Type 0} {state : V → VaultState} {writer : Writer V} {c : Content} → HasWritten state writer c
     → (vault_seen state writer).telling ≡ true → StartsWith (front c) (vault_seen state writer).bytes
 put_begins {c = c} written faithful = rw (written.put.held faithful) (take_all (length (front c)) (front c) (omega arith))
 
--- If the sectors below `n` are marked correctly, and the writer was given the records of the marked sectors, these are
--- the records of the touched sectors below `n`.
 module _ {V : Type 0} {state : V → VaultState} {writer : Writer V} {head : Content} {chip target_bytes : ℕ → ℕ} {n : ℕ}
     {scanned : Scanned} (right : AreRight target_bytes chip (sectors_below n) scanned)
     (kept : HasPutSectors state writer head chip (has scanned.touched) n) where
@@ -55,8 +52,6 @@ module _ {V : Type 0} {state : V → VaultState} {writer : Writer V} {head : Con
   pub kept_below : {total : ℕ} → n ≤ total → HasKeptBelow state writer head chip (is_touched chip target_bytes) total
   kept_below inside = record { bound = n; inside = inside; kept = kept_touched }
 
--- After an error between two records, a faithful vault (`telling`) has the header and complete records, which are a
--- prefix of the whole journal.
 pub cut_between : {V : Type 0} {state : V → VaultState} {writer : Writer V} {head : Content} {chip : ℕ → ℕ}
     {touched : ℕ → Bool} (size : ℕ) → head.size ≡ size → HasKeptBelow state writer head chip touched (size / 4096)
     → HoldsCut (vault_seen state writer) head chip touched (size / 4096)
@@ -65,9 +60,8 @@ cut_between {head = head} {chip = chip} {touched = touched} size sized below = �
     rw (← sized) (begins_whole head chip touched kept.content below.bound _ kept.same kept.saves kept.next
     (rw sized inside) (put_begins kept.written faithful))
 
--- After a refusal within the record of the touched sector `n`, a faithful vault (`telling`) holds a prefix of the
--- following bytes: the header, the earlier records and this record. These bytes are a prefix of the whole journal, so
--- the vault's bytes are a prefix of the journal, too.
+-- After a refusal within the record of sector `n`, a faithful vault (`telling`) has a prefix of the header, the earlier
+-- records and this record, and these are a prefix of the whole journal.
 pub cut_in_record : {V : Type 0} {state : V → VaultState} {writer : Writer V} {head : Content} {chip : ℕ → ℕ} {n : ℕ}
     {bytes : List ℕ} (vault : VaultState) (touched : ℕ → Bool) (size : ℕ)
     (kept : HasPutSectors state writer head chip (λ s. nat_lt s n && touched s) n) → head.size ≡ size
@@ -84,7 +78,6 @@ cut_in_record {state = state} {writer = writer} {head = head} {chip = chip} {n =
 
 -- ---- a chip with this identification
 
--- True for the sectors that the request touches on this chip.
 abbrev touched_of : Request → (image : List ℕ) → Chip → (s : ℕ) → Bool
 touched_of request image chip = is_touched chip.bytes (wanted request image chip)
 
@@ -99,16 +92,13 @@ begins_touched : (request : Request) (image bytes : List ℕ) (chip : Chip)
 begins_touched request image bytes chip =
     subst (λ (set : ℕ → Bool). IsJournalPrefix (header_of chip) chip.bytes set bytes) (only_touched request image chip)
 
--- the header with these status bytes, and with the ID, unique ID and size that were read
 abbrev pub head_read : Identity → (status : List ℕ) → Content
 head_read identity status = empty_content identity.found.id (Some identity.unique) status identity.found.size
 
 module _ {chip : Chip} {identity : Identity} {old : BusState} (is : IsIdentityOf chip identity) (shows : HasIdleChip chip old) where
-  -- The chip on the bus has the same bytes as `chip`.
   pub same_bytes : old.chip.bytes ≡ chip.bytes
   same_bytes = fun_ext shows.same.bytes
 
-  -- The bus is well-behaved, with an idle chip of the size that was identified.
   pub is_open : IsOpen identity.found.size old
   is_open = record {
     honest = shows.honest;
@@ -116,7 +106,6 @@ module _ {chip : Chip} {identity : Identity} {old : BusState} (is : IsIdentityOf
     same = ap (λ (config : Config). config.size) shows.same.config ∙ sym is.config.size;
   }
 
-  -- The sectors that the scan marked are those that the request touches and raises on this chip.
   module _ {request : Request} {image image' : List ℕ} {new : BusState} {scanned : Scanned}
       (scans : Scans request identity.found.size image image' old new scanned) where
     pub touched_right : (s : ℕ) → has scanned.touched s ≡ is_touched chip.bytes (wanted request image chip) s
@@ -128,8 +117,7 @@ module _ {chip : Chip} {identity : Identity} {old : BusState} (is : IsIdentityOf
         ∙ only_inside (is_raised chip.bytes (wanted request image chip)) (chip.config.size / 4096) s
         (raised_past request image chip.config.size chip.bytes s (sized_bounds chip.config).blocks)
 
-  -- The header that is made from the identification is the header of the chip's journal. The premise that status 2 is
-  -- below 128 holds for the chip of each well-behaved bus (`IsChip`).
+  -- The premise that status 2 is below 128 holds for the chip of each well-behaved bus (`IsChip`).
   pub head_same : {status : List ℕ} → old.chip.kept.two < 128 → status ≡ kept_read identity
       → head_read identity status ≡ header_of chip
   head_same {status = status} small read =
@@ -139,8 +127,8 @@ module _ {chip : Chip} {identity : Identity} {old : BusState} (is : IsIdentityOf
       let high : identity.status2 % 128 ≡ chip.kept.two = omega arith in
       cc
 
--- Holds if the writer was given exactly the header of the chip on the bus. The premises are that the bus is
--- well-behaved, and that its chip is idle and has this identification.
+-- Holds if the writer was given exactly the header of the chip on the bus, provided that the bus is well-behaved, and
+-- that its chip is idle and has this identification.
 abbrev pub PutsHead : {V : Type 0} → (V → VaultState) → Writer V → Identity → BusState → Type 0
 PutsHead state writer identity old = (chip : Chip) → IsIdentityOf chip identity → HasIdleChip chip old
     → HasPutSectors state writer (header_of chip) old.chip.bytes none 0
@@ -153,23 +141,18 @@ head_put {state = state} {writer = writer} identity old reaches read written = �
     (HasKept-none state writer identity.found.id (Some identity.unique) _ identity.found.size old.chip.bytes none 0
     written (λ s. refl))
 
--- Holds if `promise` holds for each header with this size that the writer was given. The premises are that the bus is
+-- Holds if `promise` holds for each header with this size that the writer was given, provided that the bus is
 -- well-behaved, and that its chip is idle and has this size.
 abbrev pub FromHead : {V : Type 0} → (V → VaultState) → Writer V → (size : ℕ) → BusState → (Content → Type 0) → Type 0
 FromHead state writer size old promise = IsOpen size old → (head : Content) → head.size ≡ size
     → HasPutSectors state writer head old.chip.bytes none 0 → promise head
 
--- If `FromHead` states a promise for each header, and the writer was given the header of the chip's journal
--- (`PutsHead`), the promise holds for that header.
 pub from_head : {V : Type 0} {state : V → VaultState} {writer : Writer V} {identity : Identity} {old : BusState}
     {promise : Content → Type 0} → PutsHead state writer identity old
     → FromHead state writer identity.found.size old promise → (chip : Chip) → IsIdentityOf chip identity → HasIdleChip chip old
     → promise (header_of chip)
 from_head puts promised chip is shows = promised (is_open is shows) (header_of chip) (sym is.config.size) (puts chip is shows)
 
--- An error of the check after the scan is the verdict on the request, the lowest error that applies. The premises are
--- those of `JudgesChip`: the bus is well-behaved, its chip is idle and has this identification, and none of the errors
--- 1 to 8 applies.
 pub judged_errors : {request : Request} {identity : Identity} {image image' : List ℕ} {old new : BusState}
     {scanned : Scanned} (code : ℕ) (refusal : Refusal) → Scans request identity.found.size image image' old new scanned
     → IsScanRefusal refusal
@@ -183,8 +166,6 @@ judged_errors code _ scans is judges = absurd is
 
 -- ---- an incomplete journal, after an error
 
--- After a refusal within the header, `SaveCuts` holds: if the bus was well-behaved, and its chip was idle and had this
--- identification, a faithful vault holds a prefix of the chip's journal. It holds a prefix of the header here.
 pub cut_in_head : (request : Request) (image : List ℕ) (seen vault : VaultState) {identity : Identity} {status : List ℕ}
     {old : BusState} → (old.honest ≡ true → IsChip old.chip) → status ≡ kept_read identity
     → IsContent (head_read identity status) → HoldsPrefix seen (front (head_read identity status)) → seen ≡ vault
@@ -201,9 +182,6 @@ cut_in_head request image seen vault reaches read content holds same =
 
 module _ {V : Type 0} {state : V → VaultState} {first : Writer V} {identity : Identity} {old : BusState}
     (request : Request) (image : List ℕ) (vault : VaultState) (puts : PutsHead state first identity old) where
-  -- After an error within the scan, `SaveCuts` holds: if the bus was well-behaved, and its chip was idle and had this
-  -- identification, a faithful vault holds a prefix of the chip's journal. This follows from `HoldsCut`, which the scan
-  -- ensures for each header.
   pub cut_in_scan : (seen : VaultState) → FromHead state first identity.found.size old (λ head.
       HoldsCut seen head old.chip.bytes (is_touched old.chip.bytes (wanted_at request image identity.found.size
       old.chip.bytes)) (identity.found.size / 4096)) → seen ≡ vault → SaveCuts request identity image old vault
@@ -211,9 +189,6 @@ module _ {V : Type 0} {state : V → VaultState} {first : Writer V} {identity : 
       begins_touched request image seen.bytes chip
       (rw (same_bytes is shows, is.config.size) at (from_head puts promised chip is shows faithful)))
 
-  -- After an error of the scan other than 11, `SaveBegins` holds: if the bus was well-behaved, and its chip was idle
-  -- and had this identification, a faithful vault holds the header and complete records of the chip's journal. This
-  -- follows from `HasKeptBelow`, which the scan ensures for each header.
   pub begins_scan : {last : Writer V} {refusal : Refusal} → FromHead state first identity.found.size old (λ head.
       refusal ≢ Vault → HasKeptBelow state last head old.chip.bytes (is_touched old.chip.bytes (wanted_at request image
       identity.found.size old.chip.bytes)) (identity.found.size / 4096)) → vault_seen state last ≡ vault
@@ -230,14 +205,11 @@ module _ {V : Type 0} {state : V → VaultState} {first : Writer V} {identity : 
         is = kept.written.put.held faithful;
       })
 
--- Lemmas about the writer after a scan that succeeded, and before the vault is sealed.
 module _ {V : Type 0} {state : V → VaultState} {first last : Writer V} {request : Request} {identity : Identity}
     {image image' : List ℕ} {old new : BusState} {scanned : Scanned} (puts : PutsHead state first identity old)
     (scans : Scans request identity.found.size image image' old new scanned)
     (keeps : FromHead state first identity.found.size old (λ head. HasPutSectors state last head old.chip.bytes
     (has scanned.touched) (identity.found.size / 4096))) where
-  -- If the bus was well-behaved, and its chip was idle and had this identification, the writer was given the chip's
-  -- header and the records of exactly the touched sectors.
   pub all_put : (chip : Chip) → IsIdentityOf chip identity → HasIdleChip chip old → HasPutSectors state last (header_of chip)
       chip.bytes (is_touched chip.bytes (wanted request image chip)) (identity.found.size / 4096)
   all_put chip is shows = rw (same_bytes is shows, fun_ext (touched_right is shows scans)) at

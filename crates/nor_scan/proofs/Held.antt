@@ -1,6 +1,4 @@
--- Lemmas about the status that an identification read. Each chip with this identification has the protection bits of
--- that status, and the chip's status is locked if and only if that status is locked. No sector past the end of a chip
--- is protected.
+-- Lemmas about the status that an identification read, which decides protection and lock of each such chip.
 use Rattle.std.proofs.Common.{◌≡◌, ◌≤◌, ◌∷◌, [], ℕ, ◌+◌, ◌-◌, ◌*◌, ◌/◌, false, refl, arith}
 use Rattle.std.proofs.lemmas.Bool.Decides.{nat_tests}
 use Rattle.nor_model.specs.Chip.{Chip, KeptBits, is_locked, kept_in}

@@ -27,19 +27,16 @@ use Rattle.nor_scan.proofs.Planned.{untouched}
 
 -- ---- the checks of the code, in order
 
--- Holds if, for a write or an erase, the image is as long as the chip, and each included address is on the chip.
 pub record FitsChip (request : Request) (image : ℕ) (chip : Chip) : Type 0 where
   pub image_size : is_data request.what ≡ true → image ≡ chip.config.size
   pub regions : is_data request.what ≡ true → ¬ ReachesPast request.included chip.config.size
 
--- Holds if the chip has block protection or the request isn't for a protection range, and if the protection bits of a
--- chip with block protection are defined.
 pub record FitsProtection (request : Request) (chip : Chip) : Type 0 where
   pub scheme : is_data request.what ≡ false → chip.config.scheme ≡ true
   pub defined : chip.config.scheme ≡ true → is_undefined (code_of chip.kept) ≡ false
 
--- Holds if the check against the identification, for an image of `image` bytes, fails with this error on the chip. For
--- each error, the formula also states those earlier checks that passed and that the proof needs.
+-- Holds if the check against the identification fails with this error. For each error the formula also states the
+-- earlier checks that passed, as far as the proof needs them.
 abbrev pub OpeningJudges : Request → (image : ℕ) → Chip → Refusal → Type 0
 OpeningJudges request image chip (ImageSize size len) =
     (is_data request.what ≡ true) × (size ≡ chip.config.size) × (len ≡ image) × (image ≢ chip.config.size)
@@ -51,13 +48,11 @@ OpeningJudges request image chip UndefinedProtection =
 OpeningJudges request image chip RangeNotOffered = FitsProtection request chip × AsksForNone request.what chip
 OpeningJudges request image chip _ = ⊥
 
--- Holds if the check against the identification finds no error, and `code` has the target protection bits.
 pub record OpeningPasses (request : Request) (image : ℕ) (chip : Chip) (code : ℕ) : Type 0 where
   pub fits : FitsChip request image chip
   pub protection : FitsProtection request chip
   pub is_wanted : IsWantedCode request.what chip code
 
--- Holds if the check against the touched sectors fails with this error on the chip.
 abbrev pub ScanJudges : Request → (code : ℕ) → (touched : ℕ → Bool) → Chip → Refusal → Type 0
 ScanJudges request code touched chip StatusLocked =
     (is_locked chip.kept ≡ true) × NeedsStatus request.what request.unlock code touched chip
@@ -65,9 +60,6 @@ ScanJudges request code touched chip (Protected address) =
     (request.unlock ≡ false) × (sector : ℕ) × (address ≡ 4096 * sector) × IsLeastProtected touched chip sector
 ScanJudges request code touched chip _ = ⊥
 
--- Holds if the check against the touched sectors passes. If the status is locked, it needs no write. Protection is
--- lifted (`unlock`) only if the request allows it and a touched sector is protected. If protection isn't lifted, no
--- touched sector is protected.
 pub record ScanPasses (request : Request) (code : ℕ) (touched : ℕ → Bool) (chip : Chip) (unlock : Bool) : Type 0 where
   pub lifts : unlock ≡ true → (request.unlock ≡ true) × SomeProtected touched chip
   pub free : unlock ≡ false → NoneProtected touched chip
@@ -75,7 +67,6 @@ pub record ScanPasses (request : Request) (code : ℕ) (touched : ℕ → Bool) 
 
 -- ---- the request
 
--- A request for a range that no defined protection bits protect exactly (`AsksForNone`) isn't a write or an erase.
 asks_for_range : (what : What) (chip : Chip) → AsksForNone what chip → is_data what ≡ false
 asks_for_range (WpRange start len) chip none = refl
 asks_for_range _ chip none = absurd none
@@ -84,7 +75,6 @@ none_or_code : (what : What) (chip : Chip) (code : ℕ) → AsksForNone what chi
 none_or_code (WpRange start len) chip code none wanted = none code wanted.defined wanted.protects
 none_or_code _ chip code none wanted = none
 
--- If `x` and `y` both are the least defined protection bits for a range, they are equal.
 one_least : (size start len x y : ℕ) → IsLeastCode size start len x → IsLeastCode size start len y → x ≡ y
 one_least size start len x y first second =
     let above = λ (lower : x < y). second.least x lower first.defined first.protects in
@@ -97,7 +87,6 @@ needs_same (WpRange start len) unlock x y touched chip first second needs =
     rw (one_least _ _ _ x y first second) at needs
 needs_same _ unlock x y touched chip first second needs = needs
 
--- A request that touches a sector is a write or an erase.
 pub touched_data : (request : Request) (image : List ℕ) (chip : Chip) (s : ℕ)
     → is_touched chip.bytes (wanted request image chip) s ≡ true → is_data request.what ≡ true
 unfolding is_touched
@@ -105,19 +94,16 @@ touched_data request image chip s touched = true_from_ne_false (is_data request.
     both_ways (is_touched chip.bytes (wanted request image chip) s)
     (rw range (untouched chip.bytes chip.bytes s (λ i below. refl))) touched)
 
--- A write or an erase without `unlock` needs no status write.
 needs_unlock : (what : What) (unlock : Bool) (code : ℕ) (touched : ℕ → Bool) (chip : Chip) → is_data what ≡ true
     → unlock ≡ false → ¬ NeedsStatus what unlock code touched chip
 needs_unlock (WpRange start len) unlock code touched chip about_bytes off needs = absurd cc
 needs_unlock _ unlock code touched chip about_bytes off needs = let on = needs.0 in absurd cc
 
--- If protection is lifted only for a request that sets `unlock`, it isn't lifted for a request that doesn't.
 never_lifted : (unlock lifted : Bool) → (lifted ≡ true → unlock ≡ true) → unlock ≡ false → lifted ≡ false
 never_lifted unlock lifted asked off = grind arith
 
 -- ---- no error with a lower number applies
 
--- Holds if no error with a number below `n` applies, and `n` is at most 9.
 pub record IsClear (request : Request) (image : List ℕ) (chip : Chip) (n : ℕ) : Type 0 where
   pub few : n ≤ 9
   pub there : 1 < n → shown_as chip.config ≢ Err Probes.NoChip
@@ -179,8 +165,6 @@ module _ {request : Request} {image : List ℕ} {chip : Chip} where
 
 -- ---- the errors of the check against the touched sectors
 
--- If `found` is the first protected sector among the touched ones, or `None` if there is none, then some touched sector
--- is protected if and only if `found` isn't `None`.
 pub some_protected-found : (touched : ℕ → Bool) (chip : Chip) (found : Option ℕ)
     → MatchOption found (NoneProtected touched chip) (IsLeastProtected touched chip)
     → MatchBool (is_some found) (SomeProtected touched chip) (NoneProtected touched chip)
@@ -188,24 +172,18 @@ some_protected-found touched chip None none = none
 some_protected-found touched chip (Some s) least = record { sector = s; held = least.is }
 
 module _ (request : Request) (image : List ℕ) (chip : Chip) where
-  -- True for the sectors that the request touches on this chip.
   abbrev touches : (s : ℕ) → Bool
   touches = is_touched chip.bytes (wanted request image chip)
 
-  -- Let the identification accept the request with the target protection bits `code`. If the request needs a status
-  -- write for some target protection bits, it needs one for `code`.
   needs_code : {code : ℕ} → IdentityAccepts request image chip code → NeedsStatusWrite request image chip
       → NeedsStatus request.what request.unlock code touches chip
   needs_code accepts needs = needs_same request.what _ needs.0 _ _ chip needs.1 accepts.is_wanted needs.2
 
-  -- A request without `unlock` that touches a protected sector needs no status write.
   never_needed : (s : ℕ) → request.unlock ≡ false → is_touched_protected touches chip s ≡ true → ¬ NeedsStatusWrite request image chip
   never_needed s off held needs =
       let touched = (and_parts (touches s) (is_block_protected chip (4096 * s) 4096) held).0 in
       needs_unlock request.what request.unlock needs.0 _ chip (touched_data request image chip s touched) off needs.2
 
-  -- No error with a number below `n` applies. The premises state this for errors 1 to 8, for error 9 if `n` is above 9,
-  -- and for error 10 if `n` is above 10.
   scan_first : (n : ℕ) (refusal : Refusal) → NoneHoldsTo 8 request image chip
       → (9 < n → ¬ RefusalHolds request image chip StatusLocked)
       → (10 < n → (address : ℕ) → ¬ RefusalHolds request image chip (Protected address))

@@ -24,13 +24,11 @@ use Rattle.nor_geometry.specs.Below.{any_below}
 use Rattle.nor_geometry.proofs.Counting.{any_below-all}
 use Rattle.nor_geometry.proofs.Verdicts.{any_below-decided}
 
--- For a write or an erase, the request may change an address of the chip if and only if this address is included.
 pub may_change-included : (request : Request) (size a : ℕ) → is_data request.what ≡ true → a < size → is_requested request size a ≡ includes request.included a
 may_change-included request size a about_bytes below =
     ap (λ (b : Bool). b && (nat_lt a size && includes request.included a)) about_bytes
     ∙ ap (λ (b : Bool). b && includes request.included a) (lt-ltb a size below)
 
--- At an address that the request may not change, the target byte is the present byte.
 pub wanted-kept : (request : Request) (image : List ℕ) (size : ℕ) (content : ℕ → ℕ) (a : ℕ) → is_requested request size a ≡ false → wanted_at request image size content a ≡ content a
 wanted-kept request image size content a fixed = ap (λ (b : Bool). if b then target request.what image a else content a) fixed
 
@@ -40,8 +38,6 @@ other a b differ = not_from_false (a == b) (ne_eqb a b differ)
 as_wanted : (a b : ℕ) → a ≡ b → is_other a b ≡ false
 as_wanted a b same = not_from_true (a == b) (eq-eqb a b same)
 
--- For a plan that is right for a sector, `touched` says whether some byte of the sector differs from the target, and
--- `raised` whether some bit must go from 0 to 1.
 verdicts : (here target_bytes : ℕ → ℕ) (plan : SectorPlan) → IsPlan here target_bytes 4096 plan
     → (plan.touched ≡ any_below 4096 (λ i. is_other (here i) (target_bytes i)))
     × (plan.raised ≡ any_below 4096 (λ i. must_rise (here i) (target_bytes i)))
@@ -58,7 +54,6 @@ pub planned : (content target_bytes : ℕ → ℕ) (sector : ℕ) (plan : Sector
 unfolding is_touched is_raised
 planned content target_bytes sector plan = verdicts (λ i. content (4096 * sector + i)) (λ i. target_bytes (4096 * sector + i)) plan
 
--- If all bytes of a sector equal the target bytes, the sector is neither touched (`untouched`) nor raised (`unraised`).
 pub untouched : (content target_bytes : ℕ → ℕ) (sector : ℕ) → ((i : ℕ) → i < 4096 → target_bytes (4096 * sector + i) ≡ content (4096 * sector + i)) → is_touched content target_bytes sector ≡ false
 unfolding is_touched
 untouched content target_bytes sector same = any_below-all 4096 _ (λ i below. as_wanted _ _ (sym (same i below)))
@@ -68,8 +63,6 @@ unfolding is_raised
 unraised content target_bytes sector same = any_below-all 4096 _
     (λ i below. as_wanted _ _ (ap (bit_and (target_bytes (4096 * sector + i))) (sym (same i below)) ∙ and_self _))
 
--- Let the size of the chip be a multiple of 64 KiB. In a sector past the end of the chip, each target byte is the
--- present byte.
 past_kept : (request : Request) (image : List ℕ) (size : ℕ) (content : ℕ → ℕ) (s : ℕ) → size % 65536 ≡ 0 → size / 4096 ≤ s
     → (i : ℕ) → i < 4096 → wanted_at request image size content (4096 * s + i) ≡ content (4096 * s + i)
 past_kept request image size content s blocks past i below =
@@ -101,15 +94,11 @@ module _ (request : Request) (image : List ℕ) (size : ℕ) (content : ℕ → 
   pub raised_inside : is_raised content (wanted_at request image size content) s ≡ true → s < size / 4096
   raised_inside = inside_from (is_raised content (wanted_at request image size content)) (size / 4096) s raised_past
 
--- For a write, the target byte at address `a` is the image's byte. The premises say that the request is a write or an
--- erase, and isn't an erase.
 pub target-write : (what : What) (image : List ℕ) (a : ℕ) → is_data what ≡ true → (what ≡ Erase → ⊥) → slice_index image a ≡ target what image a
 target-write Write image a about_bytes other = refl
 target-write Erase image a about_bytes other = absurd (other refl)
 target-write (WpRange start len) image a about_bytes other = absurd (let d = about_bytes in cc)
 
--- Proves `ScansSector`, the clause of `scan_sector`, from what its parts ensure: the read, the fill with FFh, the
--- copying of excluded bytes, and the comparison.
 pub scans_sector : (request : Request) (size sector : ℕ) (included : Option (List Span)) (part filled part' bytes : List ℕ) (old new : BusState) (plan : SectorPlan)
     → is_data request.what ≡ true → 4096 * sector + 4096 ≤ size → included ≡ request.included → length bytes ≡ 4096 → length part' ≡ 4096
     → ((image : List ℕ) (a i : ℕ) → i < 4096 → slice_index part i ≡ slice_index image a → slice_index filled i ≡ target request.what image a)

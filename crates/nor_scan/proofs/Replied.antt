@@ -16,11 +16,8 @@ use Rattle.nor_driver.specs.ReadBack.{bytes_read}
 use Rattle.nor_driver.proofs.ReadBack.{names_other}
 use Rattle.nor_scan.specs.Replied.{IsIdentifiedBy}
 
--- ---- reads of sectors
-
 module _ (n : ℕ) {old new : List Exchange} {bytes : List ℕ}
     (answered : Answered (names 0x03 (4096 * n)) old new bytes) where
-  -- A read of sector `n` doesn't change `bytes_read` in any other sector.
   pub read_others : (s i : ℕ) → s ≢ n → i < 4096 → bytes_read new (4096 * s + i) ≡ bytes_read old (4096 * s + i)
   read_others s i other below =
       let here : (4096 * s + i) / 4096 ≡ s = omega (arith, below) in
@@ -28,7 +25,6 @@ module _ (n : ℕ) {old new : List Exchange} {bytes : List ℕ}
       ((answered_keeps answered).same (names 0x03 (4096 * ((4096 * s + i) / 4096)))
       (names_other 0x03 (4096 * n) (4096 * ((4096 * s + i) / 4096)) (λ same. other (omega (arith, same, here)))))
 
-  -- After a read of sector `n` whose reply has 4,096 bytes, `bytes_read` has the bytes of this reply in sector `n`.
   pub read_whole : length bytes ≡ 4096 → IsWholeSector (bytes_read new) n bytes
   read_whole long = record {
     whole = long;
@@ -40,8 +36,6 @@ module _ (n : ℕ) {old new : List Exchange} {bytes : List ℕ}
 
   pub read_keeps : KeepsReplies (begins_with 0x03) old new
   read_keeps = keeps_replies_less (answered_keeps answered) (names_begins 0x03 (4096 * n))
-
--- ---- the identification
 
 pub identified_by : {further : Bool} {probed : Probed} {old new : BusState} {identity : Identity}
     → IsFoundBy further old.history probed.found → ReadsRest probed old new identity
@@ -57,8 +51,6 @@ identified_by found rest =
       unique = answered_last rest.read_unique;
     }
 
--- `IsIdentifiedBy` stays true if the history continues, provided that only the last replies to transactions that begin
--- with 03h differ.
 pub identified_later : {further : Bool} {old new : List Exchange} {identity : Identity} → Continues old new
     → KeepsReplies (begins_with 0x03) old new → IsIdentifiedBy further old identity
     → IsIdentifiedBy further new identity

@@ -34,18 +34,14 @@ use Rattle.nor_model.proofs.Sizes.{is_chip_size-in_blocks}
 use Rattle.nor_layout.specs.declared.ranges.Span.{Span}
 use borrow.Rule.Slice.PartMut.{put_mid}
 
--- Holds if the contents `one` and `two` agree in the sectors below `n`.
 abbrev pub AgreeBelow : (n : ℕ) → (one two : ℕ → ℕ) → Type 0
 AgreeBelow n one two = (s i : ℕ) → s < n → i < 4096 → one (4096 * s + i) ≡ two (4096 * s + i)
 
--- Holds if the address `a` is in a sector below `n` that has an included address.
 abbrev pub IsIncludedBelow : Request → (n a : ℕ) → Type 0
 IsIncludedBelow request n a = (a / 4096 < n) × (has_in_sector (includes request.included) (a / 4096) ≡ true)
 
 -- Holds if the sectors below `n` with an included address were scanned, and no byte of the image from sector `n` on was
--- changed. For each content that agrees with what was read, the sectors are marked correctly, and the image has the
--- target bytes of the touched sectors. On a well-behaved bus whose chip was idle at the start and has this size, both
--- statements are also true for the chip's bytes.
+-- changed.
 pub record HasScanned (request : Request) (size n : ℕ) (image image' : List ℕ) (old new : BusState)
     (scanned : Scanned) : Type 0 where
   pub marks : AreMarks n scanned
@@ -63,9 +59,8 @@ pub record HasScanned (request : Request) (size n : ℕ) (image image' : List �
 
 -- ---- marking a sector as touched or raised
 
--- `seen` says whether sector `s` was seen, and `old` whether `s` was seen and passes a test. Suppose that sector `n` is
--- seen now, too, and that it passes the test if and only if `verdict` is true. Then `more` says whether `s` was seen,
--- and `new` whether `s` was seen and passes the test.
+-- `seen` says whether sector `s` was seen, and `old` whether `s` was seen and passes a test. If sector `n` is seen now,
+-- too, and passes the test if and only if `verdict` is true, then `more` and `new` say the same of `s` afterwards.
 tested : (n s : ℕ) (test : ℕ → Bool) (seen more : Bool) {verdict old new : Bool} → verdict ≡ test n → more ≡ ((s == n) || seen)
     → old ≡ (seen && test s) → new ≡ ((verdict && (s == n)) || old) → new ≡ (more && test s)
 tested n s test seen more is one was inserted = grind (arith, nat_tests)
@@ -73,8 +68,6 @@ tested n s test seen more is one was inserted = grind (arith, nat_tests)
 below_more : (n s : ℕ) → sectors_below (n + 1) s ≡ ((s == n) || sectors_below n s)
 below_more n s = grind (arith, nat_tests)
 
--- If the sectors in `seen` are marked correctly, and sector `n` is then marked by a plan that is right, the sectors in
--- `seen` and `n` are marked correctly.
 pub right_more : {wanted content : ℕ → ℕ} {seen more : ℕ → Bool} {n : ℕ} {plan : SectorPlan} {old new : Scanned}
     → (plan.touched ≡ is_touched content wanted n) × (plan.raised ≡ is_raised content wanted n)
     → ((s : ℕ) → more s ≡ ((s == n) || seen s)) → HasMarked n plan old new → AreRight wanted content seen old
@@ -99,8 +92,6 @@ counted n plan old new false is below are marked =
     λ s low. sym (rw is at (marked.touched s)) in
     omega (arith, are.count, count_below-same 4096 (has old.touched) (has new.touched) same)
 
--- Let `n` be below 4,096, let `AreMarks` hold for `n`, and let a plan for sector `n` say that it is raised only if it
--- also says that it is touched. After this sector is marked, `AreMarks` holds for `n + 1`.
 pub marks_more : (n : ℕ) (plan : SectorPlan) (old new : Scanned) → n < 4096
     → (plan.raised ≡ true → plan.touched ≡ true) → AreMarks n old → HasMarked n plan old new → AreMarks (n + 1) new
 marks_more n plan old new below needed are marked = record {
@@ -109,7 +100,6 @@ marks_more n plan old new below needed are marked = record {
   count = marked.count ∙ counted n plan old new plan.touched refl below are marked;
 }
 
--- If `plan` says that sector `n` is touched, marking it adds exactly sector `n` to the touched sectors.
 pub marked_more : (n : ℕ) (plan : SectorPlan) (old new : Scanned) → plan.touched ≡ true → HasMarked n plan old new
     → HasOneMore (has old.touched) n (has new.touched)
 marked_more n plan old new touched marked = record {
@@ -117,22 +107,18 @@ marked_more n plan old new touched marked = record {
   others = λ s other. rw (marked.touched s, touched, ne_eqb s n other);
 }
 
--- If `plan` says that sector `n` isn't touched, marking it doesn't change the set of touched sectors.
 pub marked_none : (n : ℕ) (plan : SectorPlan) (old new : Scanned) → plan.touched ≡ false → HasMarked n plan old new
     → (s : ℕ) → has new.touched s ≡ has old.touched s
 marked_none n plan old new untouched marked s = rw untouched at (marked.touched s)
 
 -- ---- the loop, from sector to sector
 
--- Holds if the request is a write or an erase, and sector `n` is on a chip of this size (at most 16 MiB). `verdict`
--- says whether this sector has an included address.
 pub record IsAt (request : Request) (size n : ℕ) (verdict : Bool) : Type 0 where
   pub about_bytes : is_data request.what ≡ true
   pub below : n < size / 4096
   pub small : size ≤ 16777216
   pub included : has_in_sector (includes request.included) n ≡ verdict
 
--- The conditions of `IsAt` follow from the bound and the test of the loop of `scan_all`.
 pub is_at : {request : Request} {size n sectors : ℕ} {included : Option (List Span)} {test verdict : Bool}
     → is_chip_size size ≡ true → (0 < sectors → (is_data request.what ≡ true) × (sectors ≡ size / 4096))
     → n < sectors → included ≡ request.included → test ≡ has_in_sector (includes included) n → test ≡ verdict
@@ -146,7 +132,6 @@ is_at {size = size} sized targets within same is so =
       included = rw (← same) (sym is ∙ so);
     }
 
--- `HasScanned` holds before the first sector.
 pub nothing_scanned : (request : Request) (size : ℕ) (image : List ℕ) (state : BusState) (scanned : Scanned)
     → IsBlank scanned → HasScanned request size 0 image image state state scanned
 nothing_scanned request size image state scanned blank = record {
@@ -175,7 +160,6 @@ nothing_scanned request size image state scanned blank = record {
 
 module _ {request : Request} {size n : ℕ} {image image' : List ℕ} {old mid : BusState} {scanned : Scanned}
     (was : HasScanned request size n image image' old mid scanned) where
-  -- If sector `n` has no included address and is skipped, `HasScanned` holds for `n + 1`.
   pub skipped : IsAt request size n false → NoneInSector (includes request.included) n
       → HasScanned request size (n + 1) image image' old mid scanned
   skipped at excluded =
@@ -217,7 +201,6 @@ module _ {request : Request} {size n : ℕ} {image image' : List ℕ} {old mid :
   same_before : IsOpen size old → mid.chip.bytes ≡ old.chip.bytes
   same_before is_open = same_bytes (was.honest_reads.rested is_open.honest)
 
-  -- Lemmas about the state after sector `n` was read and its part of the image was filled.
   module _ {width : ℕ} {part' bytes : List ℕ} {plan : SectorPlan} {new : BusState} (at : IsAt request size n true)
       (scans : ScansSector request size n (take width (drop (4096 * n) image')) part' bytes mid new plan)
       (exact : width ≡ 4096) where
@@ -225,24 +208,18 @@ module _ {request : Request} {size n : ℕ} {image image' : List ℕ} {old mid :
         → slice_index (take width (drop (4096 * n) image')) i ≡ slice_index image (4096 * n + i)
     of_image i below = cut_out image' (4096 * n) width i exact below ∙ was.rest (4096 * n + i) (omega arith)
 
-    -- On a well-behaved bus with an idle chip of this size, the plan is right for the chip as it was before the scan.
     pub planned_before : IsOpen size old
         → (plan.touched ≡ is_touched old.chip.bytes (wanted_at request image size old.chip.bytes) n)
         × (plan.raised ≡ is_raised old.chip.bytes (wanted_at request image size old.chip.bytes) n)
     planned_before is_open = rw (same_before is_open)
         at (scans.planned mid.chip.bytes (scans.shown (later is_open)) image of_image)
 
-    -- On a well-behaved bus with an idle chip of this size, the bytes that were read are those of the chip as it was
-    -- before the scan.
     pub read_before : length bytes ≡ 4096 → IsOpen size old → IsWholeSector old.chip.bytes n bytes
     read_before long is_open = record {
       whole = long;
       same = rw (same_before is_open) at (scans.shown (later is_open)).byte;
     }
 
-    -- Let `content` agree in the sectors up to and including `n` with what was read. Then it agrees in the sectors
-    -- below `n` with what was read before sector `n` (`agree_before`), and it has the bytes that were read from sector
-    -- `n`.
     agree_before : (content : ℕ → ℕ) → AgreeBelow (n + 1) content (bytes_read new.history)
         → AgreeBelow n content (bytes_read mid.history)
     agree_before content same s i below small = same s i (omega arith) small
@@ -254,7 +231,6 @@ module _ {request : Request} {size n : ℕ} {image image' : List ℕ} {old mid :
       byte = λ i small. (read_whole n scans.answered long).same i small ∙ sym (same n i (omega arith) small);
     }
 
-    -- After sector `n` was scanned, `HasScanned` holds for `n + 1`.
     pub scanned_more : {next : Scanned} → HasMarked n plan scanned next → length part' ≡ 4096
         → length bytes ≡ 4096 → length image' ≡ size
         → HasScanned request size (n + 1) image (put_mid (4096 * n) width image' part') old new next
@@ -295,7 +271,6 @@ module _ {request : Request} {size n : ℕ} {image image' : List ℕ} {old mid :
           rest = λ a above. put.outside a (λ same. absurd (omega arith)) ∙ was.rest a (omega arith);
         }
 
-  -- If sector `n` has an included address, fewer sectors were read before it than the scan reads in all.
   pub room : IsAt request size n true → scanned.reads < scanned_sectors request size
   room at =
       let test = has_in_sector (includes request.included) in
@@ -309,8 +284,6 @@ module _ {request : Request} {size n : ℕ} {image image' : List ℕ} {old mid :
         count_below-add (n + 1) (size / 4096 - (n + 1)) test,
       ))
 
-  -- `Scans` follows from `HasScanned`. The premises are that all sectors that the request scans were read, and that the
-  -- counts and the marks (`AreMarks`, `AreRight`) are those of the whole chip.
   scans_of : HaveBeenRead (IsScanned request size) old.history mid.history → scanned.count ≤ scanned.reads → AreMarks (size / 4096) scanned
       → scanned.reads ≡ scanned_sectors request size
       → AreRight (wanted_at request image size (bytes_read mid.history)) (bytes_read mid.history)
@@ -321,7 +294,6 @@ module _ {request : Request} {size n : ℕ} {image image' : List ℕ} {old mid :
       let filled = was.filled (bytes_read mid.history) (λ s i below small. refl) in
       search (was.honest_reads.rested, was.honest_reads.sent, was.merged)
 
-  -- For a write or an erase, `Scans` holds when the loop has reached the end of the chip.
   pub all_scanned : is_data request.what ≡ true → n ≡ size / 4096 → scanned.count ≤ scanned.reads
       → Scans request size image image' old mid scanned
   all_scanned about_bytes end few =
@@ -329,7 +301,6 @@ module _ {request : Request} {size n : ℕ} {image image' : List ℕ} {old mid :
       (rw (← end) (was.replied (bytes_read mid.history) (λ s i below small. refl)))
       (λ is_open. rw (← end) (was.right is_open))
 
-  -- For a protection range, `Scans` holds before the first sector, since there is nothing to scan.
   pub none_to_scan : is_data request.what ≡ false → n ≡ 0 → scanned.count ≤ scanned.reads
       → Scans request size image image' old mid scanned
   none_to_scan other at_first few =

@@ -24,17 +24,12 @@ use Rattle.nor_scan.specs.SavedWhole.{BeginsWholeChip}
 use Rattle.nor_scan.proofs.Begun.{put_alike}
 use Rattle.nor_scan.proofs.Cuts.{head_read, head_same, same_bytes as chip_bytes, PutsHead, FromHead, from_head}
 
--- ---- the loop over the sectors
-
--- The set of the sectors below `n + 1` is that of the sectors below `n` with `n` added.
 pub one_below : (n : ℕ) → HasOneMore (sectors_below n) n (sectors_below (n + 1))
 one_below n = record {
   here = grind (arith, nat_tests);
   others = λ s other. grind (arith, nat_tests);
 }
 
--- Let earlier reads lead from `old` to `mid`. On a well-behaved bus with an idle chip of this size, the bytes that were
--- read from sector `n` are those that the chip had in `old`.
 pub read_first : {reads size n : ℕ} {old mid : BusState} {bytes : List ℕ} → HasOnlyRead reads old mid
     → (mid.honest ≡ true → mid.chip.busy ≡ 0 → 4096 * (n + 1) ≤ mid.chip.config.size → IsSectorOf mid.chip.bytes n bytes)
     → length bytes ≡ 4096 → 4096 * (n + 1) ≤ size → IsOpen size old → IsWholeSector old.chip.bytes n bytes
@@ -45,12 +40,9 @@ read_first was shown long inside known =
       same = rw (same_bytes (was.rested known.honest)) at (shown later.honest later.idle (omega arith)).byte;
     }
 
--- If `n` is at most `total`, a sector is below `n` and below `total` if and only if it is below `n`.
 below_total : (n total : ℕ) → n ≤ total → (s : ℕ) → (nat_lt s n && sectors_below total s) ≡ sectors_below n s
 below_total n total within s = grind (arith, nat_tests)
 
--- If the writer was given the records of the sectors below `n`, these are the records of the sectors below `total` that
--- are also below `n`.
 pub put_below : {V : Type 0} {state : V → VaultState} {writer : Writer V} {head : Content} {chip : ℕ → ℕ} {n total : ℕ}
     → n ≤ total → HasPutSectors state writer head chip (sectors_below n) n
     → HasPutSectors state writer head chip (λ s. nat_lt s n && sectors_below total s) n
@@ -62,8 +54,6 @@ pub kept_whole : {V : Type 0} {state : V → VaultState} {writer : Writer V} {he
     → HasKeptBelow state writer head chip (sectors_below total) total
 kept_whole {n = n} within put = record { bound = n; inside = within; kept = put_below within put }
 
--- ---- an incomplete journal, after an error
-
 all_below : (total : ℕ) → (λ (s : ℕ). nat_lt s total && sectors_below total s) ≡ sectors_below total
 all_below total = fun_ext (λ s. below_total total total (omega arith) s)
 
@@ -73,8 +63,6 @@ cut_whole : {head : Content} {chip : ℕ → ℕ} {bytes : List ℕ} (total : �
 cut_whole {head = head} {chip = chip} {bytes = bytes} total =
     subst (λ (set : ℕ → Bool). IsJournalPrefix head chip set bytes) (all_below total)
 
--- After an error within the header, `BeginsWholeChip` holds: if the bus was well-behaved, and its chip was idle and had
--- this identification, a faithful vault holds a prefix of the chip's journal. It holds a prefix of the header here.
 pub whole_in_head : (seen vault : VaultState) {identity : Identity} {status : List ℕ} {old : BusState}
     → (old.honest ≡ true → IsChip old.chip) → status ≡ kept_read identity
     → IsContent (head_read identity status) → HoldsPrefix seen (front (head_read identity status)) → seen ≡ vault
@@ -90,9 +78,6 @@ whole_in_head seen vault reaches read content holds same = rw (← same) (λ fai
 
 module _ {V : Type 0} {state : V → VaultState} {first : Writer V} {identity : Identity} {old : BusState}
     (puts : PutsHead state first identity old) where
-  -- After an error within the sectors, `BeginsWholeChip` holds: if the bus was well-behaved, and its chip was idle and
-  -- had this identification, a faithful vault holds a prefix of the chip's journal. This follows from `HoldsCut`, which
-  -- the loop ensures for each header.
   pub whole_in_sectors : (seen vault : VaultState) → FromHead state first identity.found.size old (λ head.
       HoldsCut seen head old.chip.bytes (sectors_below (identity.found.size / 4096)) (identity.found.size / 4096))
       → seen ≡ vault → BeginsWholeChip identity old vault
@@ -100,7 +85,6 @@ module _ {V : Type 0} {state : V → VaultState} {first : Writer V} {identity : 
       cut_whole (chip.config.size / 4096)
       (rw (chip_bytes is shows, is.config.size) at (from_head puts promised chip is shows faithful)))
 
-  -- After the last sector, the writer was given the chip's header and the records of all the chip's sectors.
   pub all_sectors : {last : Writer V} → FromHead state first identity.found.size old (λ head. HasPutSectors state last
       head old.chip.bytes (sectors_below (identity.found.size / 4096)) (identity.found.size / 4096))
       → (chip : _) → IsIdentityOf chip identity → HasIdleChip chip old

@@ -14,13 +14,9 @@ use Rattle.nor_probe.specs.Found.{needed, part_in, IsPart, IsWanted, IsConfigOf}
 use Rattle.nor_scan.specs.declared.identity.Identity.{Identity}
 use Rattle.nor_scan.specs.Replied.{IsIdentifiedBy}
 
--- the greatest number of transactions of an identification: at most 65,540 for a probe, and one read each of status 2
--- and of the unique ID
 abbrev pub most_identity : ℕ
 most_identity = 65542
 
--- the number of transactions that the identification of this chip needs: those of a probe, and one read each of status
--- 2 and of the unique ID
 abbrev pub needed_to_identify : Chip → ℕ
 needed_to_identify chip = needed chip + 2
 
@@ -28,10 +24,8 @@ needed_to_identify chip = needed chip + 2
 abbrev pub status_read : Identity → List ℕ
 status_read identity = identity.found.status1 ∷ identity.status2 ∷ []
 
--- Holds after the reads of status 2 and the unique ID succeeded. On every bus the two values are the replies to these
--- two reads, no other transaction was sent, and the chip that was found is the one in `probed`. On a well-behaved bus
--- contents and non-volatile status bits are unchanged, and status 2 is the chip's. If the chip was idle, the unique ID
--- is the chip's, too.
+-- Holds after the reads of status 2 and the unique ID succeeded. The unique ID is known to be the chip's only if the
+-- chip of a well-behaved bus was idle.
 pub record ReadsRest (probed : Probed) (old new : BusState) (identity : Identity) : Type 0 where
   pub found : identity.found ≡ probed.found
   pub between : List Exchange
@@ -44,12 +38,8 @@ pub record ReadsRest (probed : Probed) (old new : BusState) (identity : Identity
   pub status2 : old.honest ≡ true → identity.status2 ≡ old.chip.kept.two
   pub unique : old.honest ≡ true → old.chip.busy ≡ 0 → identity.unique ≡ unique_of old.chip.config
 
--- Holds after an identification that succeeded. On every bus the chip that was found has the row that applies on this
--- bus or was identified by SFDP (`IsPart`), and it has the requested name, if any. The values in `identity` are those
--- that the bus replied (`IsIdentifiedBy`), and the last poll showed ready. On a well-behaved bus the contents and
--- non-volatile status bits are unchanged, and the chip is idle. On such a bus ID, status and unique ID are the chip's
--- own, and the number of transactions is the one that the chip needs (`needed_to_identify`). The size, erase types and
--- block protection that were found are known to be the chip's own only on a modelled bus.
+-- Holds after an identification that succeeded. Size, erase types and block protection that were found are known to be
+-- the chip's own only on a modelled bus.
 pub record ReadsIdentity (named : Option ChipName) (old new : BusState) (identity : Identity) : Type 0 where
   pub part : IsPart old.further identity.found
   pub replied : IsIdentifiedBy old.further new.history identity

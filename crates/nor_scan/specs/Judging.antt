@@ -28,9 +28,8 @@ IsIdentityRefusal UndefinedProtection = ⊤
 IsIdentityRefusal RangeNotOffered = ⊤
 IsIdentityRefusal _ = ⊥
 
--- Holds if `code` has the protection bits that a session leaves on the chip. For a protection range these are the least
--- defined value that protects exactly this range on a chip of the size that was found. For a write or an erase they are
--- the bits that were read.
+-- Holds if `code` has the protection bits that a session leaves on the chip: for a protection range the least defined
+-- value that protects exactly this range, otherwise the bits that were read.
 abbrev pub IsFoundCode : What → Identity → ℕ → Type 0
 IsFoundCode (WpRange start len) identity code = IsLeastCode identity.found.size start len code
 IsFoundCode _ identity code = code ≡ code_of (kept_in (status_read identity))
@@ -41,36 +40,32 @@ IsScanRefusal StatusLocked = ⊤
 IsScanRefusal (Protected address) = ⊤
 IsScanRefusal _ = ⊥
 
--- Holds if protection is lifted only for a request that sets `unlock`, and only if some sector is touched.
 abbrev pub Lifts : Request → SectorSet → Bool → Type 0
 Lifts request touched unlock = unlock ≡ true → (request.unlock ≡ true) × HasSome touched
 
 -- ---- for each chip with this identification
 
--- Holds if the check against the identification accepts only what it should. If it returns the protection bits `code`,
--- then `IdentityAccepts` holds with `code`. This is required for each image of `len` bytes, and for each chip that has
--- this identification and the requested name, if any.
+-- Holds if the check against the identification returns protection bits only if `IdentityAccepts` holds with them, for
+-- each image of `len` bytes and each chip that has this identification and the requested name, if any.
 abbrev pub AcceptsIdentity : Request → ℕ → Identity → Result ℕ Refusal → Type 0
 AcceptsIdentity request len identity judged = (chip : Chip) (image : List ℕ) → IsIdentityOf chip identity
     → IsNamed request.named chip.config → length image ≡ len → IfOk judged (IdentityAccepts request image chip)
 
--- Holds if the check against the identification returns only right errors. If it returns an error, this error is the
--- verdict on the request. This is required for each image of `len` bytes, and for each chip that has this
--- identification and the requested name, if any.
+-- Holds if an error of the check against the identification is the verdict on the request, for each image of `len`
+-- bytes and each chip that has this identification and the requested name, if any.
 abbrev pub RefusesIdentity : Request → ℕ → Identity → Result ℕ Refusal → Type 0
 RefusesIdentity request len identity judged = (chip : Chip) (image : List ℕ) → IsIdentityOf chip identity
     → IsNamed request.named chip.config → length image ≡ len → IfErr judged (IsVerdict request image chip)
 
--- Holds if `found` is the first touched sector with a protected address, or `None` if there is no such sector. This is
--- required for each chip with this identification.
+-- Holds if `found` is the first touched sector with a protected address, or `None` if there is none, on each chip with
+-- this identification.
 abbrev pub FindsProtected : (ℕ → Bool) → Identity → Option ℕ → Type 0
 FindsProtected touched identity found =
     (chip : Chip) → IsIdentityOf chip identity
     → MatchOption found (NoneProtected touched chip) (IsLeastProtected touched chip)
 
--- Holds if `needed` is true if and only if the request, with the target protection bits `code`, needs a status write.
--- This is required for each chip with this identification, and for each set of touched sectors that fits
--- `is_touched_protected`: this flag must be true if and only if one of these sectors is protected.
+-- Holds if `needed` says whether the request needs a status write, on each chip with this identification and for each
+-- set of touched sectors that fits `is_touched_protected`.
 abbrev pub FindsNeed : Request → Identity → Bool → ℕ → Bool → Type 0
 FindsNeed request identity is_touched_protected code needed = (chip : Chip) (touched : ℕ → Bool)
     → IsIdentityOf chip identity
@@ -78,22 +73,21 @@ FindsNeed request identity is_touched_protected code needed = (chip : Chip) (tou
     → MatchBool needed (NeedsStatus request.what request.unlock code touched chip)
     (¬ NeedsStatus request.what request.unlock code touched chip)
 
--- Holds if `promise` holds for each chip and image with three properties. The chip has this identification, and
--- `IdentityAccepts` holds with the protection bits `code`. The sectors that the request touches on the chip are exactly
--- those in `touched`.
+-- Holds if `promise` holds for each chip with this identification and each image, provided that `IdentityAccepts` holds
+-- with `code` and the request touches exactly the sectors in `touched`.
 abbrev pub OfTouched : Request → Identity → ℕ → (ℕ → Bool) → (List ℕ → Chip → Type 0) → Type 0
 OfTouched request identity code touched promise = (chip : Chip) (image : List ℕ) → IsIdentityOf chip identity
     → IdentityAccepts request image chip code
     → ((s : ℕ) → touched s ≡ is_touched chip.bytes (wanted request image chip) s) → promise image chip
 
--- Holds if the check against the touched sectors accepts only what it should. If it returns whether to lift protection,
--- then `ScanAccepts` holds with that value, for each chip and image that `OfTouched` describes.
+-- Holds if the check against the touched sectors returns whether to lift protection only if `ScanAccepts` holds with
+-- that value, for each chip and image that `OfTouched` describes.
 abbrev pub AcceptsScan : Request → Identity → ℕ → (ℕ → Bool) → Result Bool Refusal → Type 0
 AcceptsScan request identity code touched judged =
     OfTouched request identity code touched (λ image chip. IfOk judged (ScanAccepts request image chip))
 
--- Holds if the check against the touched sectors returns only right errors. If it returns an error, this error is the
--- verdict on the request, for each chip and image that `OfTouched` describes.
+-- Holds if an error of the check against the touched sectors is the verdict on the request, for each chip and image
+-- that `OfTouched` describes.
 abbrev pub RefusesScan : Request → Identity → ℕ → (ℕ → Bool) → Result Bool Refusal → Type 0
 RefusesScan request identity code touched judged =
     OfTouched request identity code touched (λ image chip. IfErr judged (IsVerdict request image chip))

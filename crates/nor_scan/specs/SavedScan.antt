@@ -19,15 +19,12 @@ use Rattle.nor_scan.specs.Judging.{Lifts}
 use Rattle.nor_scan.specs.Saving.{IsIdentityOf, HasIdleChip, header_of}
 use Rattle.nor_scan.specs.Verdict.{IsVerdict, IdentityAccepts, ScanAccepts}
 
--- Holds for the vault before and after `save`. After success the vault is sealed; after an error it is sealed if and
--- only if it was sealed before. After error 11 its number of refusals is one higher (modulo 2^64), and otherwise as it
--- was. The vault is faithful if and only if it was so before.
+-- Holds for the vault before and after `save`, which seals it only if it succeeds.
 abbrev pub SavePuts : Result SavedScan Refusal → (old new : VaultState) → Type 0
 SavePuts (Ok saved) old new = Completed old new
 SavePuts (Err Vault) old new = Refused old new
 SavePuts (Err _) old new = Accepted old new
 
--- Holds if the bytes are the encoding of a journal.
 pub record IsJournal (bytes : List ℕ) : Type 0 where
   pub content : Content
   pub is : IsContent content
@@ -41,15 +38,12 @@ pub record IsJournalOf (head : Content) (sectors : ℕ → Bool) (bytes : List �
   pub head_same : SameHeader head content
   pub saved : (s : ℕ) → is_saved content s ≡ sectors s
 
--- Holds if the vault isn't sealed, isn't faithful (`telling`), or has the encoding of a journal. `save` promises this
--- on every bus.
+-- Holds if the vault isn't sealed, isn't faithful (`telling`), or has the encoding of a journal.
 abbrev pub HoldsJournal : VaultState → Type 0
 HoldsJournal vault = vault.sealed ≡ true → vault.telling ≡ true → IsJournal vault.bytes
 
--- Holds if the result of a `save` that succeeded is right for this chip. The marked sectors are those that the request
--- touches and raises on the chip, and the image has the target bytes of the touched sectors. If `IdentityAccepts` holds
--- with `code`, then `ScanAccepts` holds with `saved.unlock`. A faithful vault (`telling`) has a journal of the chip
--- that saves exactly the touched sectors.
+-- Holds if the result of a `save` that succeeded is right for this chip: the marked sectors, the image, whether
+-- protection is lifted, and the journal in a faithful vault (`telling`).
 pub record HasSavedChip (request : Request) (code : ℕ) (image image' : List ℕ)
     (chip : Chip) (vault : VaultState) (saved : SavedScan) : Type 0 where
   pub touched : (s : ℕ) → has saved.scanned.touched s ≡ is_touched chip.bytes (wanted request image chip) s
@@ -60,8 +54,8 @@ pub record HasSavedChip (request : Request) (code : ℕ) (image image' : List �
   pub journal : vault.telling ≡ true
       → JournalSaves (header_of chip) chip.bytes (is_touched chip.bytes (wanted request image chip)) vault.bytes
 
--- Holds after `save` succeeded. Protection is lifted only as `Lifts` says, and `Scans` holds. If the bus was
--- well-behaved, and its chip was idle and had this identification, the result is right for that chip (`HasSavedChip`).
+-- Holds after `save` succeeded. If the bus was well-behaved, and its chip was idle and had this identification, the
+-- result is right for that chip (`HasSavedChip`).
 pub record HasSaved (request : Request) (identity : Identity) (code : ℕ) (image image' : List ℕ)
     (old new : BusState) (vault : VaultState) (saved : SavedScan) : Type 0 where
   pub lifts : Lifts request saved.scanned.touched saved.unlock
@@ -69,17 +63,15 @@ pub record HasSaved (request : Request) (identity : Identity) (code : ℕ) (imag
   pub chip : (chip : Chip) → IsIdentityOf chip identity → HasIdleChip chip old
       → HasSavedChip request code image image' chip vault saved
 
--- Holds if the error is the verdict on the request for the chip on the bus. The premises are that the bus is
--- well-behaved, that its chip is idle and has this identification, and that none of the errors 1 to 8 applies
--- (`IdentityAccepts`).
+-- Holds if the error is the verdict on the request for the chip on the bus, provided that the bus is well-behaved, its
+-- chip is idle and has this identification, and none of the errors 1 to 8 applies (`IdentityAccepts`).
 abbrev pub JudgesChip : Request → Identity → ℕ → List ℕ → BusState → Refusal → Type 0
 JudgesChip request identity code image old refusal =
     (chip : Chip) → IsIdentityOf chip identity → HasIdleChip chip old → IdentityAccepts request image chip code
     → IsVerdict request image chip refusal
 
 -- Holds if `save` may return this error. Error 12 means that the bus stopped at the last transaction; on a well-behaved
--- bus fewer transactions were left than the scan needs. Errors 9 and 10 are the verdict on the request, under the
--- premises of `JudgesChip`. `SavePuts` describes error 11 (the vault failed).
+-- bus fewer transactions were left than the scan needs.
 abbrev pub SaveErrors : Request → Identity → ℕ → List ℕ → (old new : BusState) → Refusal → Type 0
 SaveErrors request identity code image old new Stopped =
     HasStopped (scanned_sectors request identity.found.size) old new
@@ -89,8 +81,7 @@ SaveErrors request identity code image old new (Protected address) =
     JudgesChip request identity code image old (Protected address)
 SaveErrors request identity code image old new _ = ⊥
 
--- Holds if the bytes are this header of a journal, followed by the records of exactly the touched sectors below some
--- bound. The records have the bytes that these sectors have in `old`.
+-- Holds if the bytes are this header of a journal, and the records of exactly the touched sectors below some bound.
 pub record HasWholeRecords (head : Content) (old : ℕ → ℕ) (touched : ℕ → Bool) (bytes : List ℕ) : Type 0 where
   pub content : Content
   pub bound : ℕ
@@ -98,17 +89,15 @@ pub record HasWholeRecords (head : Content) (old : ℕ → ℕ) (touched : ℕ �
   pub saves : Saves old (λ s. nat_lt s bound && touched s) content
   pub is : bytes ≡ front content
 
--- Holds if a faithful vault (`telling`) has what it may have after any error of `save`, even after 11. If the bus was
--- well-behaved, and its chip was idle and had this identification, the vault has a prefix of the journal of exactly the
--- chip's touched sectors.
+-- Holds if a faithful vault (`telling`) has a prefix of the chip's journal, as after any error of `save`. The premises
+-- are that the bus was well-behaved, and that its chip was idle and had this identification.
 abbrev pub SaveCuts : Request → Identity → List ℕ → BusState → VaultState → Type 0
 SaveCuts request identity image old vault = vault.telling ≡ true
     → (chip : Chip) → IsIdentityOf chip identity → HasIdleChip chip old
     → IsJournalPrefix (header_of chip) chip.bytes (is_touched chip.bytes (wanted request image chip)) vault.bytes
 
--- Holds if a faithful vault (`telling`) has what it may have after an error of `save` other than 11. If the bus was
--- well-behaved, and its chip was idle and had this identification, the vault has the header of the chip's journal,
--- followed by the records of the touched sectors below some bound.
+-- Holds if a faithful vault (`telling`) has the header and complete records of the chip's journal, as after an error of
+-- `save` other than 11, with the same premises as `SaveCuts`.
 abbrev pub SaveBegins : Request → Identity → List ℕ → BusState → VaultState → Refusal → Type 0
 SaveBegins request identity image old vault refusal = refusal ≢ Vault → vault.telling ≡ true
     → (chip : Chip) → IsIdentityOf chip identity → HasIdleChip chip old

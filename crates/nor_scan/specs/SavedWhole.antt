@@ -18,16 +18,14 @@ HasWholeChip identity old vault = vault.telling ≡ true
     → (chip : Chip) → IsIdentityOf chip identity → HasIdleChip chip old
     → JournalSaves (header_of chip) chip.bytes (sectors_below (chip.config.size / 4096)) vault.bytes
 
--- Holds if a faithful vault (`telling`) has a prefix of the journal of every sector of the chip on the bus. The
--- premises are that the bus is well-behaved, and that its chip is idle and has this identification.
+-- Holds if a faithful vault (`telling`) has a prefix of such a journal, with the same premises as `HasWholeChip`.
 abbrev pub BeginsWholeChip : Identity → BusState → VaultState → Type 0
 BeginsWholeChip identity old vault = vault.telling ≡ true
     → (chip : Chip) → IsIdentityOf chip identity → HasIdleChip chip old
     → IsJournalPrefix (header_of chip) chip.bytes (sectors_below (chip.config.size / 4096)) vault.bytes
 
 -- Holds if saving a whole chip may return this error and leave this vault. Error 12 means that the bus stopped at the
--- last transaction; the vault refused nothing, and on a well-behaved bus fewer than `most` transactions were left.
--- After error 11 the vault has refused one call. In both cases the vault is sealed if and only if it was sealed before.
+-- last transaction, and after error 11 the vault has refused one call.
 abbrev pub SaveWholeErrors : (most : ℕ) → (old new : BusState) → (vault vault' : VaultState) → Refusal → Type 0
 SaveWholeErrors most old new vault vault' Stopped = HasStopped most old new × Accepted vault vault'
 SaveWholeErrors most old new vault vault' Vault = Refused vault vault'

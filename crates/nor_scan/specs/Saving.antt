@@ -12,16 +12,14 @@ use Rattle.nor_scan.specs.declared.identity.Identity.{Identity}
 use Rattle.nor_request.specs.declared.request.What.{What}
 use Rattle.nor_request.specs.declared.request.What.TheVariants.{WpRange}
 
--- Holds if `chip` has this identification. The chip is known (`IsKnown`), and the identification has the chip's ID,
--- size, erase types, block protection, non-volatile status bits and unique ID.
+-- Holds if `chip` is known (`IsKnown`) and has this identification.
 pub record IsIdentityOf (chip : Chip) (identity : Identity) : Type 0 where
   pub config : IsConfigOf chip.config identity.found
   pub one : identity.found.status1 / 4 ≡ chip.kept.one
   pub two : identity.status2 ≡ chip.kept.two
   pub unique : identity.unique ≡ unique_of chip.config
 
--- Holds if the bus is well-behaved, and its chip is idle and the same as `chip`: it has the same configuration,
--- contents and non-volatile status bits.
+-- Holds if the bus is well-behaved, and its chip is idle and the same as `chip`.
 pub record HasIdleChip (chip : Chip) (state : BusState) : Type 0 where
   pub honest : state.honest ≡ true
   pub idle : state.chip.busy ≡ 0
@@ -36,26 +34,22 @@ AsksForNone _ chip = ⊥
 
 -- ---- the touched sectors
 
--- True if the sector is touched and has a protected address.
 abbrev pub is_touched_protected : (touched : ℕ → Bool) → Chip → (s : ℕ) → Bool
 is_touched_protected touched chip s = touched s && is_block_protected chip (4096 * s) 4096
 
--- Holds if `s` is the first sector that is touched and has a protected address.
 pub record IsLeastProtected (touched : ℕ → Bool) (chip : Chip) (s : ℕ) : Type 0 where
   pub is : is_touched_protected touched chip s ≡ true
   pub least : (t : ℕ) → t < s → is_touched_protected touched chip t ≡ false
 
--- Holds if no touched sector has a protected address.
 abbrev pub NoneProtected : (touched : ℕ → Bool) → Chip → Type 0
 NoneProtected touched chip = (s : ℕ) → is_touched_protected touched chip s ≡ false
 
--- Holds if some touched sector has a protected address.
 pub record SomeProtected (touched : ℕ → Bool) (chip : Chip) : Type 0 where
   pub sector : ℕ
   pub held : is_touched_protected touched chip sector ≡ true
 
--- Holds if a status write is needed. For a protection range this is so if the target protection bits `code` differ from
--- the chip's. For a write or an erase it is so if `unlock` is set and a touched sector is protected.
+-- Holds if a status write is needed: for a protection range if the target bits `code` differ from the chip's, otherwise
+-- if `unlock` is set and a touched sector is protected.
 abbrev pub NeedsStatus : What → (unlock : Bool) → (code : ℕ) → (touched : ℕ → Bool) → Chip → Type 0
 NeedsStatus (WpRange start len) unlock code touched chip = code ≢ code_of chip.kept
 NeedsStatus _ unlock code touched chip = (unlock ≡ true) × SomeProtected touched chip
@@ -66,13 +60,12 @@ NeedsStatus _ unlock code touched chip = (unlock ≡ true) × SomeProtected touc
 abbrev pub kept_read : Identity → List ℕ
 kept_read identity = (identity.found.status1 / 4 * 4) ∷ (identity.status2 % 128) ∷ []
 
--- the header of the journal that is written after this identification, with the ID, unique ID, non-volatile status bits
--- and size that were found
+-- the header of the journal that is written after this identification
 abbrev pub header_found : Identity → Content
 header_found identity =
     empty_content identity.found.id (Some identity.unique) (kept_read identity) identity.found.size
 
--- the header of a journal of this chip, with the chip's ID, unique ID, non-volatile status bits and size
+-- the header of a journal of this chip
 abbrev pub header_of : Chip → Content
 header_of chip =
     empty_content (id_of chip.config) (Some (unique_of chip.config)) ((4 * chip.kept.one) ∷ chip.kept.two ∷ [])

@@ -24,48 +24,41 @@ use Rattle.nor_scan.specs.declared.scanning.Scanned.{Scanned}
 use Rattle.nor_request.specs.Request.{is_data, target, is_requested, scanned_sectors}
 use Rattle.nor_layout.specs.Sectors.{includes, has_in_sector}
 
--- The target byte at address `a` of a chip with this size and content. If the request may change this address, it is
--- the image's byte (for a write) or FFh (for an erase). Otherwise it is the byte of `content`.
+-- The target byte at address `a` of a chip with this size and content: the image's byte (for a write) or FFh (for an
+-- erase) if the request may change this address, otherwise the byte of `content`.
 abbrev pub wanted_at : Request → (image : List ℕ) → (size : ℕ) → (content : ℕ → ℕ) → (a : ℕ) → ℕ
 wanted_at request image size content a = if is_requested request size a then target request.what image a else content a
 
--- Holds if the sector was added to the touched sectors if its plan says that it is touched, and to the raised sectors
--- if its plan says that it is raised. `reads` is one higher, and `count` is one higher if the plan says that the sector
--- is touched.
+-- Holds if `new` records the plan of this sector and one more read.
 pub record HasMarked (sector : ℕ) (plan : SectorPlan) (old new : Scanned) : Type 0 where
   pub touched : (s : ℕ) → has new.touched s ≡ ((plan.touched && (s == sector)) || has old.touched s)
   pub raised : (s : ℕ) → has new.raised s ≡ ((plan.raised && (s == sector)) || has old.raised s)
   pub count : new.count ≡ old.count + (if plan.touched then 1 else 0)
   pub reads : new.reads ≡ old.reads + 1
 
--- Holds if no sector is marked, and none was read.
 pub record IsBlank (scanned : Scanned) : Type 0 where
   pub touched : (s : ℕ) → has scanned.touched s ≡ false
   pub raised : (s : ℕ) → has scanned.raised s ≡ false
   pub count : scanned.count ≡ 0
   pub reads : scanned.reads ≡ 0
 
--- Holds if all touched sectors are below `n`, all raised sectors are touched, and `count` is the number of touched
--- sectors. A scan ensures this on every bus.
+-- Holds if the marks and `count` fit each other. A scan ensures this on every bus.
 pub record AreMarks (n : ℕ) (scanned : Scanned) : Type 0 where
   pub below : (s : ℕ) → has scanned.touched s ≡ true → s < n
   pub inside : (s : ℕ) → has scanned.raised s ≡ true → has scanned.touched s ≡ true
   pub count : scanned.count ≡ sector_count (has scanned.touched)
 
--- Holds if the sectors in `seen` are marked correctly: as touched if and only if some byte differs from the target, and
--- as raised if and only if some bit must go from 0 to 1. No sector outside `seen` is marked.
+-- Holds if exactly those sectors in `seen` are marked that are touched or raised.
 pub record AreRight (wanted content : ℕ → ℕ) (seen : ℕ → Bool) (scanned : Scanned) : Type 0 where
   pub touched : (s : ℕ) → has scanned.touched s ≡ (seen s && is_touched content wanted s)
   pub raised : (s : ℕ) → has scanned.raised s ≡ (seen s && is_raised content wanted s)
 
--- True if `s` is below `n`.
 abbrev pub sectors_below : (n s : ℕ) → Bool
 sectors_below n s = nat_lt s n
 
--- Holds after one sector was scanned. On every bus `bytes` is the reply to the only transaction, a read of this sector,
--- and a raised sector is touched. For each content that has `bytes` in this sector, the plan is right, and the sector's
--- part of the image has the target bytes afterwards (`part'`). On a well-behaved bus with an idle chip of this size,
--- `bytes` are the chip's bytes.
+-- Holds after one sector was scanned. `bytes` is the reply to the only transaction; the plan, and the image's part
+-- afterwards (`part'`), are right for each content that has these bytes. On a well-behaved bus with an idle chip of
+-- this size they are the chip's bytes.
 pub record ScansSector (request : Request) (size sector : ℕ) (part part' bytes : List ℕ)
     (old new : BusState) (plan : SectorPlan) : Type 0 where
   pub needed : plan.raised ≡ true → plan.touched ≡ true
@@ -81,16 +74,14 @@ pub record ScansSector (request : Request) (size sector : ℕ) (part part' bytes
       → (plan.touched ≡ is_touched content (wanted_at request image size content) sector)
       × (plan.raised ≡ is_raised content (wanted_at request image size content) sector)
 
--- Holds if the address `a` is in a sector that a session scans. For a write or an erase this is a sector of the chip
--- with an included address; for a protection range there is no such sector.
+-- Holds if the address `a` is in a sector that a session scans: for a write or an erase a sector of the chip with an
+-- included address, for a protection range none.
 abbrev pub IsScanned : Request → (size : ℕ) → (a : ℕ) → Type 0
 IsScanned request size a = (is_data request.what ≡ true) × (a / 4096 < size / 4096)
     × (has_in_sector (includes request.included) (a / 4096) ≡ true)
 
--- Holds after each sector with an included address was scanned (none for a protection range). The sectors are marked
--- correctly (`AreRight`), and the image has the target bytes of the touched sectors. On every bus this is true for the
--- bytes that were read. On a well-behaved bus with an idle chip of this size it is also true for the chip's bytes.
--- Other clauses of `scan_all` describe the journal.
+-- Holds after each sector with an included address was scanned. The marks and the target bytes are right for the bytes
+-- that were read and, on a well-behaved bus with an idle chip of this size, for the chip's bytes.
 pub record Scans (request : Request) (size : ℕ) (image image' : List ℕ) (old new : BusState)
     (scanned : Scanned) : Type 0 where
   pub marks : AreMarks (size / 4096) scanned
@@ -109,15 +100,13 @@ pub record Scans (request : Request) (size : ℕ) (image image' : List ℕ) (old
   pub merged : IsOpen size old → (a : ℕ) → has scanned.touched (a / 4096) ≡ true
       → slice_index image' a ≡ wanted_at request image size old.chip.bytes a
 
--- Holds if a scan may return this error. Error 12 means that the bus stopped at the last transaction; on a well-behaved
--- bus fewer than `most` transactions were left. Error 11 means that the vault failed.
+-- Holds if a scan may return this error. Error 12 means that the bus stopped at the last transaction.
 abbrev pub ScanErrors : ℕ → (old new : BusState) → Refusal → Type 0
 ScanErrors most old new Stopped = HasStopped most old new
 ScanErrors most old new Vault = ⊤
 ScanErrors most old new _ = ⊥
 
--- Holds for the vault before and after a scan. After error 11 its number of refusals is one higher (modulo 2^64), and
--- otherwise as it was. Whether the vault is faithful, and whether it is sealed, doesn't change.
+-- Holds for the vault before and after a scan, which doesn't seal it.
 abbrev pub ScanPuts : {T : Type 0} → Result T Refusal → (old new : VaultState) → Type 0
 ScanPuts (Err Vault) old new = Refused old new
 ScanPuts _ old new = Accepted old new
@@ -129,7 +118,7 @@ HoldsCut vault head old touched total = vault.telling ≡ true
     → IsJournalPrefix head old (λ s. nat_lt s total && touched s) vault.bytes
 
 -- Holds if the writer was given exactly this header and, for some bound of at most `total`, the records of the touched
--- sectors below this bound. The records have the bytes that these sectors have in `old`.
+-- sectors below this bound.
 pub record HasKeptBelow {V : Type 0} (state : V → VaultState) (writer : Writer V) (head : Content) (old : ℕ → ℕ)
     (touched : ℕ → Bool) (total : ℕ) : Type 0 where
   pub bound : ℕ

@@ -15,7 +15,6 @@ use Rattle.nor_request.specs.Refusal.{refusal_number}
 use Rattle.nor_request.specs.Request.{is_data, IsWantedCode, wanted}
 use Rattle.nor_scan.specs.Saving.{AsksForNone, NeedsStatus, IsLeastProtected, NoneProtected, SomeProtected}
 
--- Holds if a session with this request needs a status write on the chip.
 abbrev pub NeedsStatusWrite : Request → (image : List ℕ) → Chip → Type 0
 NeedsStatusWrite request image chip = (code : ℕ) × IsWantedCode request.what chip code
     × NeedsStatus request.what request.unlock code (is_touched chip.bytes (wanted request image chip)) chip
@@ -54,15 +53,13 @@ abbrev pub NoneHoldsTo : (number : ℕ) → Request → (image : List ℕ) → C
 NoneHoldsTo number request image chip =
     (refusal : Refusal) → refusal_number refusal ≤ number → ¬ RefusalHolds request image chip refusal
 
--- Holds if the check against the identification accepts the request: none of the errors 1 to 8 applies, and `code` has
--- the target protection bits.
+-- Holds if none of the errors 1 to 8 applies, and `code` has the target protection bits.
 pub record IdentityAccepts (request : Request) (image : List ℕ) (chip : Chip) (code : ℕ) : Type 0 where
   pub clear : NoneHoldsTo 8 request image chip
   pub is_wanted : IsWantedCode request.what chip code
 
--- Holds if the check against the touched sectors accepts the request too, so that no error applies. `unlock` says
--- whether protection is lifted. It is lifted only if the request allows this and a touched sector is protected. If it
--- isn't lifted, no touched sector is protected.
+-- Holds if no error applies. `unlock` says whether protection is lifted: only if the request allows this and a touched
+-- sector is protected.
 pub record ScanAccepts (request : Request) (image : List ℕ) (chip : Chip) (unlock : Bool) : Type 0 where
   pub accepted : IsAccepted request image chip
   pub lifts : unlock ≡ true

@@ -1,5 +1,4 @@
-//! The identification at the start of a session, restore or backup: it finds the chip, and reads status 2 and the
-//! unique ID. A restore finds the chip by itself, and then calls only `read_on`.
+//! The identification at the start of a session, restore or backup.
 ghost use Rattle.std.specs.Prelude.{◌≡◌, ◌<◌, ◌≤◌, true, IfOk, IfErr, OnErr, IsTrue};
 ghost use Rattle.nor_model.specs.Size.{is_chip_size};
 ghost use Rattle.nor_driver.specs.OnlyReads.{OnlyReads, HasStopped};
@@ -32,9 +31,8 @@ pub fn identify<B: Bus>(bus: &mut B, named: Option<ChipName>) -> Result<Identity
     Ok(identity)
 }
 
-/// Completes the identification of the chip that was found: reads status 2 and the unique ID, with two transactions.
-/// `probed` must be like the result of a probe: its size is one that a chip may have, and it counts at most 65,540
-/// transactions.
+/// Reads status 2 and the unique ID of the chip that a probe found, with two transactions. `probed` must have a size
+/// that a chip may have, and count at most 65,540 transactions.
 ///
 /// Returns `Stopped` if the bus stopped; on a well-behaved bus this means that fewer than two transactions were left.
 pub fn read_on<B: Bus>(bus: &mut B, probed: Probed) -> Result<Identity, Stopped>

@@ -1,5 +1,4 @@
-//! The checks of a request, against the identification and against the touched sectors. They decide whether the request
-//! is accepted, and otherwise with which error it is refused.
+//! The checks of a request, against the identification and against the touched sectors.
 ghost use Rattle.std.specs.Prelude.{◌≡◌, ◌<◌, ◌≤◌, ◌*◌, ◌==◌, ℕ, Bool, true, false, length, IfOk, IfErr, IfSome, IfNone, MatchOption, MatchBool};
 ghost use Rattle.nor_model.specs.Chip.{Chip, kept_in};
 ghost use Rattle.nor_model.specs.Guard.{is_undefined, protected_by, code_of};
@@ -65,8 +64,7 @@ pub fn judge_identity(request: &Request, identity: &Identity, image: usize) -> R
     }
 }
 
-/// Returns the first sector of `touched` that has a protected address, according to the status that was read. Returns
-/// `None` if no sector of `touched` has a protected address.
+/// Returns the first sector of `touched` that has a protected address, according to the status that was read.
 #[tactic(auto, using(crate::proofs::Held::code_same))]
 pub fn first_protected(touched: &SectorSet, identity: &Identity) -> Option<u32>
     ensures held { FindsProtected (has touched.now) identity.now result }
@@ -87,9 +85,6 @@ pub fn first_protected(touched: &SectorSet, identity: &Identity) -> Option<u32>
     None
 }
 
-// Returns true if the status registers must be written. For a protection range this is so if the target protection bits
-// `code` differ from the bits that were read. For a write or an erase it is so if `unlock` is set and a touched sector
-// is protected (`is_touched_protected`).
 fn needs_status(
     request: &Request,
     identity: &Identity,
@@ -107,9 +102,8 @@ fn needs_status(
 /// Checks a request against the touched sectors. `code` is the result of `judge_identity`. Returns whether protection
 /// must be lifted.
 ///
-/// Returns error 9 if the status registers must be written and are locked. Otherwise returns error 10 if a touched
-/// sector is protected and the request doesn't unlock; this error has the address of the first protected sector of
-/// `touched`.
+/// Returns error 9 if the status registers must be written and are locked. Otherwise returns error 10, with the address
+/// of the first protected touched sector, if a touched sector is protected and the request doesn't unlock.
 #[tactic(auto, using(crate::proofs::OneVerdict::scan_judged, crate::proofs::OneVerdict::scan_accepted))]
 pub fn judge_scan(
     request: &Request,

@@ -27,23 +27,18 @@ pub struct SavedScan {
 
 /// Scans the chip, writes the touched sectors to the vault, checks the request against them, and seals the vault.
 /// `vault` must be empty and unsealed; for a write or an erase `image` must be as long as the chip that was found.
-/// `code` is the result of `judge_identity`.
+/// `code` is the result of `judge_identity`. No modifying command is sent.
 ///
-/// No modifying command is sent. After success on any bus, a faithful vault (`telling`: it holds what it accepted)
-/// holds a journal of exactly the sectors in `scanned.touched`. Its header is the one that `identity` gives, and each
-/// record has the bytes of the last reply to a read of its sector. If the bus is well-behaved, and its chip is idle and
-/// is the one that `identity` describes, these sectors are the ones that the request touches on this chip. In that case
-/// success also sets the image's touched sectors to the target bytes.
+/// After success on any bus, a faithful vault (`telling`) holds a journal of exactly the sectors in `scanned.touched`.
+/// Each record has the bytes of the last reply to a read of its sector. If the bus is well-behaved, and its chip is
+/// idle and is the one that `identity` describes, these are the sectors that the request touches on this chip, and the
+/// image's touched sectors have the target bytes.
 ///
 /// Returns error 9 (the status registers must be written and are locked), 10 (a touched sector is protected, and the
-/// request doesn't unlock), 11 (the vault failed) or 12 (the bus stopped). Error 9 or 10 is the lowest error that
-/// applies to the request if the bus is well-behaved, its chip is idle and is the one that `identity` describes, and
-/// none of the errors 1 to 8 applies. If the chip has the requested name or none is requested, `judge_identity` has
-/// checked the last condition.
-///
-/// After an error the vault is unsealed. If the vault is faithful, the bus is well-behaved, and its chip is idle and is
-/// the one that `identity` describes, the vault holds a prefix of the chip's journal. After an error other than 11 that
-/// prefix ends after the header or a complete record.
+/// request doesn't unlock), 11 (the vault failed) or 12 (the bus stopped). On such a bus, error 9 or 10 is the lowest
+/// error that applies if none of the errors 1 to 8 does. After an error the vault is unsealed. On such a bus a faithful
+/// vault then holds a prefix of the chip's journal, which after an error other than 11 ends after the header or a
+/// record.
 pub fn save<B: Bus, V: Vault>(
     bus: &mut B,
     vault: &mut V,

@@ -1,5 +1,4 @@
-//! Reads the sectors of a chip before anything is changed, finds the sectors that a session will touch, and writes them
-//! to the journal.
+//! Reads the sectors of a chip before anything is changed, and writes those that a session will touch to the journal.
 ghost use Rattle.std.specs.Prelude.{◌≡◌, ◌≢◌, ◌<◌, ◌≤◌, ◌+◌, ◌*◌, ◌/◌, ℕ, Bool, true, false, length, IfOk, IfErr, OnOk, OnErr, IsTrue};
 ghost use Rattle.nor_model.specs.Size.{is_chip_size};
 ghost use Rattle.nor_model.specs.History.{KeepsReplies, begins_with};
@@ -22,10 +21,9 @@ use nor_model::{Bus, Stopped};
 use nor_plan::{Plan, SectorPlan, SectorSet};
 use nor_request::{Refusal, Request, What};
 
-/// The result of a scan. A sector is touched if some byte in it differs from the target, and raised if it must be
-/// erased. `count` is the number of touched sectors, and `reads` the number of sectors that were read.
-///
-/// A rewrite scans nothing: it marks every saved sector as touched and raised, and both numbers count these sectors.
+/// The result of a scan: the touched and the raised sectors, the number of touched sectors (`count`), and the number of
+/// sectors that were read (`reads`). A rewrite scans nothing: it marks every saved sector as touched and raised, and
+/// both numbers count these sectors.
 #[derive(Clone, Copy)]
 pub struct Scanned {
     pub touched: SectorSet,
@@ -66,10 +64,8 @@ impl Scanned {
     }
 }
 
-/// Scans one sector for a write or an erase. Reads the sector into `bytes`, and sets `part`, the sector's part of the
-/// image, to the target bytes. For an erase it first fills `part` with FFh. Then, at each address that may not change,
-/// it sets `part` to the sector's byte. Returns the sector's plan, which says whether a byte must change and whether
-/// this needs an erase. Returns `Stopped` if the bus stopped.
+/// Reads one sector into `bytes`, sets `part`, the sector's part of the image, to the target bytes, and returns the
+/// sector's plan. Returns `Stopped` if the bus stopped.
 ///
 /// `part` must have 4,096 bytes, and the sector must be on a chip of `size` bytes, at most 16 MiB.
 fn scan_sector<B: Bus>(
@@ -97,14 +93,12 @@ fn scan_sector<B: Bus>(
     Ok(Plan::of(&*bytes, &*part))
 }
 
-/// Reads each sector with an included address, in ascending order, and sets the sector's part of the image to the
-/// target bytes. For an erase it first fills this part with FFh. Then, at each address that may not change, it sets the
-/// image to the sector's byte. Writes the touched sectors to the journal. For a protection range no sector is read.
+/// Reads each sector with an included address, in ascending order, sets the sector's part of the image to the target
+/// bytes, and writes the touched sectors to the journal. At an address that may not change, the target byte is the
+/// sector's byte. For a protection range no sector is read.
 ///
 /// `size` must be one that a chip may have; for a write or an erase the image must be as long. The vault must be
-/// unsealed.
-///
-/// Returns error 11 (the vault failed) or 12 (the bus stopped).
+/// unsealed. Returns error 11 (the vault failed) or 12 (the bus stopped).
 pub fn scan_all<B: Bus, V: Vault>(
     bus: &mut B,
     writer: &mut Writer<'_, V>,

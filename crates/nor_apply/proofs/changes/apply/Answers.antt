@@ -5,7 +5,7 @@ use Rattle.nor_apply.proofs.ApplyingExits.{Lifted, Parts, Ended, lifted, not_lif
 use Rattle.nor_apply.proofs.changes.apply.Goals.{After-erase_all, In_ok-programmed, Joined-writes_code, then-changes+in_ok-status_transactions, else-changes, then-writes_code+in_ok-status_transactions-2, else-writes_code}
 use Rattle.nor_apply.proofs.changes.apply.Goals as goal
 
--- `Lifted` before the erases: after the unlock, or without one.
+-- The bus's state before the erases: after the unlock, or without one.
 lifted_here : (g : _) (c : After-erase_all g) → Lifted c.args.changes.now (g.S.Source.wanted c.args.source.now)
     (g.B.Bus.state c.args.bus.now) (g.B.Bus.state c.if-changes.bus) c.if-changes.status_transactions
 lifted_here g c = elim c.if-changes.branch [
@@ -30,7 +30,6 @@ returns-in_err-programmed g c =
     c.in_ok-erased.ensures.does.fewer c.in_err-programmed.ensures.fails in
     grind (arith, common_steps, ends_in_error)
 
--- The effects and results of the parts before the last status write (`Parts`), after all these parts succeeded.
 all_done : (g : _) (c : In_ok-programmed g) → Lifted c.args.changes.now (g.S.Source.wanted c.args.source.now)
     (g.B.Bus.state c.args.bus.now) (g.B.Bus.state c.if-changes.bus) c.if-changes.status_transactions
     → Parts c.args.changes.now (g.S.Source.wanted c.args.source.now)
@@ -62,7 +61,7 @@ returns-in_err-status_transactions-2 g c =
       names = rw (p.1, p.2) names;
     }
 
--- `Ended` at the end: after the last status write, or without one.
+-- The bus's state at the end: after the last status write, or without one.
 ended : (g : _) (c : Joined-writes_code g) (parts : Parts c.args.changes.now (g.S.Source.wanted c.args.source.now)
     (g.B.Bus.state c.args.bus.now) (g.B.Bus.state c.if-changes.bus) (g.B.Bus.state c.erase_all.new.bus)
     (g.B.Bus.state c.program_all.new.bus) c.if-changes.status_transactions c.in_ok-erased.erased c.in_ok-programmed.programmed)

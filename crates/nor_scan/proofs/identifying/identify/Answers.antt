@@ -41,7 +41,6 @@ returns-clause-identifies g c =
       exact = grind (arith, common_steps);
     }
 
--- If a probe on a well-behaved bus was stopped, fewer transactions were left than the identification of the chip needs.
 probe_stopped : (named : Option ChipName) (old new : BusState) (fault : ProbeFault) → ProbeErrors named old new fault
     → old.punctual ≡ true → of_probe fault ≡ Stopped → old.left < needed_to_identify old.chip
 probe_stopped named old new Probes.Stopped errors punctual is = let below = (errors.0 punctual).below in omega arith
