@@ -65,8 +65,8 @@ CheckRefuses changes wanted old new _ = ⊥
 abbrev pub HasBytes : (sectors : ℕ → Bool) → (wanted : ℕ → ℕ) → Chip → Type 0
 HasBytes sectors wanted chip = (a : ℕ) → sectors (a / 4096) ≡ true → chip.bytes a ≡ wanted a
 
--- Holds at every exit of the changes and their check. The numbers of operations are within the limits `most_sent`. A
--- sector or a pair of status bytes outside the limits occurs only if it had occurred before the changes, too.
+-- Holds at every exit of the changes and their check. The numbers of operations are within the limits `most_sent`.
+-- Targets and status bytes outside these limits are allowed if they had occurred before the changes.
 abbrev pub LeavesChange : Changes → (wanted : ℕ → ℕ) → (old new : BusState) → Type 0
 LeavesChange changes wanted =
     Leaves (most_changed changes) (most_sent changes) (CanApply changes wanted)

@@ -12,7 +12,8 @@ use Rattle.nor_geometry.specs.Counts.{sector_count}
 use Rattle.nor_plan.specs.Content.{is_touched, is_raised, once_erased, is_programmed}
 use Rattle.nor_request.specs.declared.report.Report.{Report}
 
--- Holds if no shorter list of erase blocks than one of `erases` blocks covers exactly the raised sectors of the chip.
+-- Holds if `erases` is the length of the shortest list of erase blocks that covers exactly the raised sectors of the
+-- chip.
 abbrev pub AreFewestErases : Config → (old wanted : ℕ → ℕ) → (erases : ℕ) → Type 0
 AreFewestErases config old wanted erases = IsLeastLength config.kinds (config.size / 4096) (is_raised old wanted) erases
 

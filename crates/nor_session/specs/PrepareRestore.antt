@@ -68,22 +68,26 @@ IsDeviceRefusal OtherUnit = ⊤
 IsDeviceRefusal StatusDiffers = ⊤
 IsDeviceRefusal _ = ⊥
 
--- Holds if the journal fits each chip that has this identification, if status 2 of the chip is in range.
+-- Holds if the journal fits each chip that has this identification, and whose non-volatile bits of status 2 are below
+-- 128.
 abbrev pub FitsIdentity : Content → Identity → Type 0
 FitsIdentity journal identity =
     (chip : Chip) → chip.kept.two < 128 → IsIdentityOf chip identity → FitsJournal journal chip
 
--- Holds if `shown` says whether the status bits that a restore can't write are the journal's, on each such chip.
+-- Holds if `shown` says whether the status bits that a restore can't write are the journal's, on each chip that
+-- `FitsIdentity` describes.
 abbrev pub ShowsFixed : Content → Identity → Bool → Type 0
 ShowsFixed journal identity shown = (chip : Chip) → chip.kept.two < 128 → IsIdentityOf chip identity
     → MatchBool shown (FitsStatus journal chip) (¬ FitsStatus journal chip)
 
--- Holds if the check of the unique ID and the status bits accepts only chips that the journal fits.
+-- Holds if the check of the unique ID and the status bits accepts only chips that the journal fits, among those with
+-- this identification and the journal's ID and size.
 abbrev pub AcceptsDevice : Content → Identity → Result Unit Refusal → Type 0
 AcceptsDevice journal identity judged = (chip : Chip) → chip.kept.two < 128 → IsIdentityOf chip identity
     → IsOfType journal chip.config → OnOk judged (FitsJournal journal chip)
 
--- Holds if the check of the unique ID and the status bits returns only the error of the first failed check.
+-- Holds if the check of the unique ID and the status bits returns only the error of the first failed check, for each
+-- such chip.
 abbrev pub RefusesDevice : Content → Identity → Result Unit Refusal → Type 0
 RefusesDevice journal identity judged = (choice : Choice) (chip : Chip) → chip.kept.two < 128
     → IsIdentityOf chip identity → IsOfType journal chip.config → IfErr judged (RestoreJudges choice journal chip)
@@ -104,7 +108,8 @@ PrepareErrors choice journal most old new refusal = IsRefusedFor choice journal 
 
 -- ---- the scan
 
--- Holds after a sector was read. The plan turns contents with the bytes `bytes` into contents with the bytes `saved`.
+-- Holds after a sector was read. The plan says what must change to turn contents with the bytes `bytes` into contents
+-- with the bytes `saved`.
 pub record PlansSaved (sector : ℕ) (saved bytes : List ℕ) (old new : BusState) (plan : SectorPlan) : Type 0 where
   pub small : (k : ℕ) → slice_index saved k < 256
   pub read : ReadsSector sector old new bytes

@@ -166,7 +166,8 @@ IsRestoreRefusal refusal = list_any (λ n. refusal_number refusal == n) (12 ∷ 
 
 -- ---- on a modelled bus
 
--- Holds if a restore may return this error on a modelled bus: the verdict, or 12 because the bus ran out.
+-- Holds if a restore may return this error on a modelled bus: the verdict, or 12 because too few transactions were
+-- left.
 abbrev pub ErrorsBy : Choice → Content → (old new : BusState) → Refusal → Type 0
 ErrorsBy choice journal old new Stopped = RanOut (most_of (length journal.saved)) old new
 ErrorsBy choice journal old new refusal = IsRestoreVerdict choice journal old.chip refusal
@@ -204,7 +205,8 @@ pub record AlwaysBy (choice : Choice) (journal : Content) (old new : BusState)
   -- On a well-behaved bus, the number of transactions is then at most that of identifying and scanning the largest
   -- chip.
   pub only_reads : IfErr result (λ refusal. IsCheckedFirst refusal → OnlyReads (most_reads 4096) old new)
-  -- after success the erases and page programs in the report are those that were sent
+  -- after success the counts of the report are within their bounds, and its erases and page programs are those that
+  -- were sent
   pub bounded : IfOk result (IsWithinCounts (choice.reads (length journal.saved)) (length journal.saved) 2 true)
   pub reported : IfOk result (λ report. SendsCounted report.erases report.programs old new)
   pub changing : IfOk result (CountsChanges (choice.reads (length journal.saved)) 2 true old new)

@@ -95,8 +95,8 @@ pub record WritesOnly (IsCode : (code : ℕ) → Type 0) (journal : Content) (on
   pub clear1 : one % 4 ≡ 0
   pub clear2 : two < 128
 
--- Holds if the modifying commands that `calls` calls with the same journal sent fit this journal. A sector, a pair of
--- status bytes or an unknown transaction that doesn't fit the journal is allowed if it had been sent before the calls.
+-- Holds if the modifying commands that `calls` calls with the same journal sent fit this journal. Targets, status bytes
+-- and unknown transactions that don't fit the journal are allowed if they had occurred before the calls.
 pub record SendsSaved (IsCode : ℕ → Type 0) (calls : ℕ) (journal : Content) (old new : BusState) : Type 0 where
   pub targeted : (s : ℕ) → (is_targeted new.sent s ≡ is_targeted old.sent s)
       ⊎ ((is_saved journal s ≡ true) ⊎ IsPastChipEnd journal s)
@@ -172,8 +172,8 @@ HonestErrors most IsEarly old new refusal = IsEarly refusal → IsSame old.chip 
 
 -- ---- on a modelled bus
 
--- Holds if a session may return this error on a modelled bus: the verdict on the request, 11 if the vault failed, or 12
--- if the bus ran out.
+-- Holds if a session may return this error on a modelled bus: the verdict on the request, 11 because the vault failed,
+-- or 12 because too few transactions were left.
 abbrev pub SessionErrors : Request → List ℕ → (old new : BusState) → (vault vault' : VaultState) → Refusal → Type 0
 SessionErrors request image old new vault vault' Vault = CountsRefusal vault vault'
 SessionErrors request image old new vault vault' Stopped = RanOut (most_of (old.chip.config.size / 4096)) old new
@@ -297,7 +297,8 @@ pub record SessionModelled (request : Request) (image : List ℕ) (old new : Bus
       → (vault'.bytes ≡ [])
       ⊎ HasWholeRecords (header_of old.chip) old.chip.bytes
       (is_touched old.chip.bytes (wanted request image old.chip)) vault'.bytes)
-  -- after error 11 the vault may end within a record
+  -- after any error, even 11, an unsealed faithful vault is empty, or holds a prefix of the only journal that the
+  -- session can write
   pub cut : vault'.sealed ≡ false → vault'.telling ≡ true
       → OnErr result (HoldsBegun request image old.chip vault'.bytes)
   pub undo : vault'.sealed ≡ true → CanBeUndone request image old new vault'

@@ -31,7 +31,7 @@ pub fn power_lost_restores_original()
 {}
 
 /// If a session on a modelled bus sealed a `telling` vault, the journal in this vault saves no sector that a locked
-/// status protects. So a `rewrite` from it has no error but a stop, if it can restore the chip on a modelled bus.
+/// status protects. So the only possible error of a `rewrite` from it is a stop, if it can restore the chip.
 pub fn session_can_be_rewritten()
     ensures { (request : Request) (image : List ℕ) (old new : BusState) (journal : Content)
         → LeavesJournal request image old new journal → CanBeRewritten journal old.chip }

@@ -101,7 +101,8 @@ fn later(stops: &[u64]) -> &[u64]
     stops.get(1..).unwrap_or(&[])
 }
 
-// Returns whether the session ended. If the bus stopped, this is `false` if there is a first stop, and error 12 if not.
+// Runs the session with the first stop as its allowance or, without stops, with `most_needed`. Returns whether it
+// ended; without stops, a bus that stopped is error 12.
 fn stopped_session<B: Meter>(
     bus: &mut B,
     vault: &mut MemVault,
@@ -128,7 +129,8 @@ fn stopped_session<B: Meter>(
     }
 }
 
-// Returns the number of restores, error 15 if `text` isn't a journal, or an error of `restore_in_turn`.
+// Reads `text` as a journal, and runs restores from it. Returns their number, error 15 if `text` isn't a journal, or an
+// error of `restore_in_turn`.
 fn undo<B: Meter>(bus: &mut B, text: &[u8], stops: &[u64]) -> Result<u32, Refusal>
     requires few { length stops.now ≤ 64 }
     ensures { LeavesUndo text.now stops.now (B.state bus.old) (B.state bus.new) result }
@@ -166,7 +168,7 @@ fn restore_in_turn<B: Meter>(
     Err(Refusal::Stopped)
 }
 
-// Returns whether the restore ended rather than being stopped, or any error of the restore other than 12.
+// Runs a restore with this allowance. Returns `false` if the bus stopped, and any error other than 12.
 fn ends_under<B: Meter>(bus: &mut B, journal: &Journal<'_>, allowance: u64) -> Result<bool, Refusal>
     ensures leaves { LeavesRestores journal.now 1 (B.state bus.old) (B.state bus.new) }
     ensures allowed { (B.state bus.new).allowances ≡ allowance ∷ (B.state bus.old).allowances }
