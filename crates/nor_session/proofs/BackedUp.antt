@@ -20,16 +20,12 @@ use Rattle.nor_session.specs.Bounds.{most_reads}
 
 module _ {named : Option ChipName} {identity : Identity} {old mid : BusState}
     (only_reads : OnlyReads most_identity old mid) (opens : ReadsIdentity named old mid identity) where
-  -- on a modelled bus, after the identification the chip is idle, and as it was before
   pub is_shown : IsModelled old → HasIdleChip old.chip mid
   is_shown is = let rested = opens.rested is.honest in let idle = opens.idle is.honest in search rules
 
-  -- if at most one transaction for each sector of the chip that was found follows the identification, the transactions
-  -- of both are within the bound for the largest chip
   pub reads_all : {new : BusState} → OnlyReads (identity.found.size / 4096) mid new → OnlyReads (most_reads 4096) old new
   reads_all more = let most = opens.part.at_most in only_reads_within (most_reads 4096) (omega arith) only_reads more
 
-  -- if the reads of a backup on a modelled bus succeeded, the chip is the same as before the backup (`IsSame`)
   pub same_after : {reads : ℕ} {new : BusState} → IsModelled old → HasOnlyRead reads mid new → IsSame old.chip new.chip
   same_after {new = new} is has =
       same_then old.chip mid.chip new.chip (opens.rested is.honest).unchanged.same
@@ -40,7 +36,6 @@ module _ {named : Option ChipName} {identity : Identity} {old mid : BusState}
       let idle = opens.idle is.honest in
       let busy = (has.rested (only_reads.nature.honest ∙ is.honest)).unchanged.busy in omega arith
 
-  -- on a modelled bus, an error of `save_whole` means for the backup what `BackupErrors` says
   pub whole_errors : (new : BusState) (vault vault' : VaultState) (refusal : Refusal) → IsModelled old
       → SaveWholeErrors (identity.found.size / 4096) mid new vault vault' refusal
       → BackupErrors (most_reads (old.chip.config.size / 4096)) named old new refusal
@@ -51,14 +46,12 @@ module _ {named : Option ChipName} {identity : Identity} {old mid : BusState}
   whole_errors new vault vault' Vault is errors = tt
   whole_errors new vault vault' _ is errors = absurd errors
 
--- after an error of `save_whole`, `BackupReturns` holds for the vault
 pub whole_returns : (most : ℕ) (old new : BusState) (vault vault' : VaultState) (refusal : Refusal)
     → SaveWholeErrors most old new vault vault' refusal → BackupReturns vault vault' refusal
 whole_returns most old new vault vault' Stopped errors = errors.1
 whole_returns most old new vault vault' Vault errors = errors
 whole_returns most old new vault vault' _ errors = absurd errors
 
--- if `save_whole` returned error 12, the last transaction is the one at which the bus stopped
 pub whole_last : (most : ℕ) (old new : BusState) (vault vault' : VaultState) (refusal : Refusal)
     → SaveWholeErrors most old new vault vault' refusal → EndsAtError refusal new.history
 whole_last most old new vault vault' Stopped errors = errors.0.last

@@ -22,10 +22,6 @@ use Rattle.nor_session.specs.Backup.{SavesWholeChip, IsBackupOf, writable_addres
 use Rattle.nor_session.specs.Headline.{SavesChip, CanRestore, CanRestoreFrom, open_addresses}
 use Rattle.nor_session.proofs.RestoresOriginal.{saves_chip}
 
--- ---- the sectors that a journal saves
-
--- If the records of `saved` have ascending sector numbers from `least` on and below `sectors`, each sector `s` that has
--- a record is below `sectors`.
 record_below : (sectors least : ℕ) (saved : List SavedSector) (s : ℕ) → AreRising sectors least saved
     → is_some (saved_in saved s) ≡ true → s < sectors
 unfolding saved_in
@@ -34,14 +30,9 @@ record_below sectors least (first ∷ rest) s rising is =
     let place = rising.0.place in let later = record_below sectors (first.number + 1) rest s rising.2 in
     grind (arith, nat_tests)
 
--- a sector that a valid journal saves lies on a chip of the journal's size
 saved_below : (journal : Content) (s : ℕ) → IsContent journal → is_saved journal s ≡ true → s < journal.size / 4096
 saved_below journal s is = record_below (journal.size / 4096) 0 journal.saved s is.saved
 
--- ---- the laws
-
--- If the journal saves the chip `first`, each of its open addresses (`open_addresses`) is an address that a restore can
--- write (`writable_addresses`).
 open_writable : (journal : Content) (first : Chip) (a : ℕ) → SavesChip journal first
     → open_addresses journal first a ≡ true → writable_addresses first a ≡ true
 open_writable journal first a saves is =
@@ -50,8 +41,6 @@ open_writable journal first a saves is =
     let size = saves.kind.size in let blocks = (sized_bounds first.config).blocks in
     and_from (nat_lt a first.config.size) _ (lt-ltb a first.config.size (omega arith)) parts.1
 
--- If `backup` saves the whole chip `first`, each address that a restore can write is one of the backup's open
--- addresses.
 writable_open : (backup : Content) (first : Chip) (a : ℕ) → SavesWholeChip backup first
     → writable_addresses first a ≡ true → open_addresses backup first a ≡ true
 writable_open backup first a whole is =
@@ -84,10 +73,6 @@ read_is_backup first bytes journal backup is read =
     (one_text kept.content journal [] [] kept.is is (ap (λ (t : List ℕ). t ++ []) (sym kept.same ∙ read))).0
     backup.saves
 
--- ---- a backup that succeeded
-
--- If the bytes are a journal with the header of a chip and all the chip's sectors, they are a backup of that chip
--- (`IsBackupOf`).
 pub is_backup : (first : Chip) (bytes : List ℕ) → IsChip first
     → JournalSaves (header_of first) first.bytes (sectors_below (first.config.size / 4096)) bytes
     → IsBackupOf bytes first
@@ -103,7 +88,6 @@ is_backup first bytes chip kept =
       };
     }
 
--- A backup of the known chip `first` can restore `first` on a bus whose chip is idle and still the same (`IsSame`).
 pub backup_restorable : (first : Chip) (bytes : List ℕ) (state : BusState) → IsKnown first.config
     → IsBackupOf bytes first → IsSame first state.chip → state.chip.busy ≡ 0 → CanRestoreFrom bytes first state
 backup_restorable first bytes state known backup same idle = record {

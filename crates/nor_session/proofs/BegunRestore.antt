@@ -1,6 +1,5 @@
--- The proof of the law `begun_restores_original`. After a session on a modelled bus, an unsealed `telling` vault is
--- empty, or holds a prefix of the only journal that the session can write. No journal is a prefix of another. So if the
--- vault's bytes are a journal, they are that journal.
+-- The proof of the law `begun_restores_original`. No journal is a prefix of another. So if an unsealed vault's bytes
+-- are a journal, they are the only one that the session can write.
 use Rattle.std.proofs.Common.{◌≡◌, ◌∙◌, ℕ, List, sym, inl, inr}
 use Rattle.nor_model.specs.Bus.{BusState}
 use Rattle.nor_model.specs.Chip.{IsChip, IsSame}

@@ -59,8 +59,6 @@ module _ {choice : Choice} {journal : Content} {identity : Identity} {scanned : 
   rested_all honest =
       rested_then old mid new (read.opens.rested honest) (read.scans.honest_reads.rested (read.only_reads.nature.honest ∙ honest))
 
-  -- on a modelled bus, the touched and raised sectors of the scan are those that `choice` gives for the chip as it was
-  -- before the restore
   marks_old : IsModelled old
       → (has scanned.touched ≡ choice.touched journal old.chip.bytes)
       × (has scanned.raised ≡ choice.raised journal old.chip.bytes)
@@ -86,7 +84,6 @@ module _ {choice : Choice} {journal : Content} {identity : Identity} {scanned : 
 
 -- ---- the changes can be made (`CanApply`)
 
--- if the journal fits the chip and a status write is needed, the chip has block protection
 scheme_for : (journal : Content) (touched : ℕ → Bool) (chip : Chip) → FitsJournal journal chip
     → NeedsStatusWith journal touched chip → chip.config.scheme ≡ true
 scheme_for journal touched chip fits (inr some) = held_scheme touched chip some

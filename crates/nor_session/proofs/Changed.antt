@@ -21,16 +21,12 @@ use Rattle.nor_apply.specs.Applying.{touched_in, raised_in, status_writes, write
 use Rattle.nor_apply.proofs.ApplyingInTurn.{raised_few}
 use Rattle.nor_session.specs.Changing.{touched_count, HasBytes, DoesCheck, DoesChange}
 
--- ---- the number of transactions and erases
-
 pub two_writes : (changes : Changes) → status_writes changes ≤ 2
 two_writes changes = grind (arith, nat_tests)
 
--- if the changes lift no protection, and write no protection bits at the end, they need no status write
 pub no_write : (changes : Changes) → ¬ ((changes.unlock || writes_code changes) ≡ true) → status_writes changes ≤ 0
 no_write changes never = grind (arith, nat_tests)
 
--- if the changes lift no protection, they need at most one status write
 pub write_once : (changes : Changes) → changes.unlock ≡ false → status_writes changes ≤ 1
 write_once changes off = grind (arith, nat_tests)
 
@@ -41,23 +37,17 @@ writes_other changes off writes same = grind (arith, nat_tests)
 pub touched_most : (changes : Changes) → touched_count changes ≤ 4096
 touched_most changes = count_below-most 4096 (touched_in changes)
 
--- If every raised sector is touched and the changes succeeded, the number of their transactions is at most the bound
--- for the largest chip.
 pub fits_work : (changes : Changes) (wanted : ℕ → ℕ) (old new : BusState) (work : Work) → ((s : ℕ) → raised_in changes s ≡ true → touched_in changes s ≡ true)
     → DoesApply changes wanted old new work → work.transactions ≤ most_applied 4096
 fits_work changes wanted old new work inside does =
     let most = touched_most changes in let raised = raised_few changes inside in let writes = two_writes changes in
     omega arith
 
--- If the sectors lie on the chip, and `count` is the number of planned erases for them (`fewest_erases`), then `count`
--- is the least possible number of erases for them.
 pub fewest_at : (config : Config) (sectors : ℕ → Bool) (count : ℕ) → ((s : ℕ) → sectors s ≡ true → s < config.size / 4096)
     → count ≡ fewest_erases config.kinds (config.size / 4096) sectors → IsLeastLength config.kinds (config.size / 4096) sectors count
 fewest_at config sectors count below is =
     let most = (sized_bounds config).small in
     subst (IsLeastLength config.kinds (config.size / 4096) sectors) (sym is) (fewest_least config.kinds (config.size / 4096) sectors (omega arith) below)
-
--- ---- the result of the changes and of their check
 
 rest_applied : (changes : Changes) (wanted : ℕ → ℕ) (old mid new : BusState) → HasApplied changes wanted old mid → Rested mid new → HasApplied changes wanted old new
 rest_applied changes wanted old mid new applied rested =

@@ -30,8 +30,6 @@ pub stops : {sector : ℕ} (wanted : List ℕ) {old new : BusState} → sector <
     → CheckErrors (only sector) (byte_of sector wanted) old new Stopped
 stops {sector} wanted below out = rw (sector_count-only sector below) out
 
--- After a read of the sector `sector`, the last transaction is a read of the sector that contains the address
--- `4096 * sector + first` (`EndsReading`), if `first` is below 4,096.
 ends_reading : (sector : ℕ) (old new : BusState) (bytes : List ℕ) (first : ℕ) → first < 4096
     → Answered (names 0x03 (4096 * sector)) old.history new.history bytes
     → EndsReading (4096 * sector + first) new.history
@@ -44,7 +42,6 @@ ends_reading sector old new bytes first below answered =
 
 module _ {sector : ℕ} {bytes : List ℕ} {old new : BusState} (long : length bytes ≡ 4096)
     (reads : ReadsSector sector old new bytes) where
-  -- on a well-behaved bus, if the sector can be checked (`CanCheck`), the bytes that were read are the chip's
   replied : old.honest ≡ true → CanCheck (only sector) old.chip → IsSectorOf old.chip.bytes sector bytes
   replied honest can = let inside = can.inside sector (only-here refl) in reads.replied honest can.idle (omega arith)
 
@@ -78,8 +75,7 @@ read_whole {bytes = bytes} reads long is = record { bytes = bytes; answered = re
 
 -- ---- sector by sector
 
--- Holds after each sector of the set `sectors` that is below `n` was read once, and its reply had the target bytes. On
--- a well-behaved bus, if `CanCheck` held at the start, the chip's bytes in these sectors are the target bytes.
+-- Holds after each sector of the set `sectors` that is below `n` was read once, and its reply had the target bytes.
 pub record HasChecked (sectors : ℕ → Bool) (wanted : ℕ → ℕ) (n : ℕ) (old new : BusState) (sent : ℕ) : Type 0 where
   pub honest_reads : HasOnlyRead sent old new
   pub added : AddsTransactions sent sent old.history new.history
@@ -102,11 +98,9 @@ checked_none {t} state = record {
 }
 
 module _ {t : ℕ → Bool} {w : ℕ → ℕ} {n sent : ℕ} {old mid : BusState} (has : HasChecked t w n old mid sent) where
-  -- if sector `n` isn't in the set `t`, each address in a sector of `t` lies in another sector than `n`
   elsewhere : t n ≡ false → (a : ℕ) → t (a / 4096) ≡ true → a / 4096 ≢ n
   elsewhere not a hit here = both_ways (t n) not (rw here at hit)
 
-  -- if sector `n` isn't in the set `t`, `HasChecked` holds below `n + 1`, too
   pub checked_without : t n ≡ false → HasChecked t w (n + 1) old mid sent
   checked_without not = record {
     honest_reads = has.honest_reads;
@@ -122,15 +116,12 @@ module _ {t : ℕ → Bool} {w : ℕ → ℕ} {n sent : ℕ} {old mid : BusState
 
   module _ (is : t n ≡ true) (bytes : List ℕ)
       (are : (i : ℕ) → i < 4096 → slice_index bytes i ≡ w (4096 * n + i)) where
-    -- on a well-behaved bus, if `CanCheck` held at the start for all sectors of `t`, it holds for sector `n` after the
-    -- sectors below `n` were read
     can_one : (honest : old.honest ≡ true) → CanCheck t old.chip → CanCheck (only n) mid.chip
     can_one honest can = grind (arith, has.honest_reads.rested honest, can.inside, nat_tests)
 
     wanted_at : (a : ℕ) → a / 4096 ≡ n → byte_of n bytes a ≡ w a
     wanted_at a here = shown_byte n a bytes w here are
 
-    -- the reads of the sectors up to and including sector `n`, the last one first
     module _ {new : List Exchange} {Is : List ℕ → Type 0} (back : ReadsWhole n Is mid.history new) where
       abbrev reads_more : AddsSectorReads old.history new
       reads_more = record {
@@ -141,7 +132,6 @@ module _ {t : ℕ → Bool} {w : ℕ → ℕ} {n sent : ℕ} {old mid : BusState
             (record { sector = n; bytes = back.bytes; reads = back.answered.asks; replied = refl }) has.reads.each;
       }
 
-      -- each byte of `t` in a sector below `n` was read as its target byte
       before_as : (a : ℕ) → a / 4096 < n → t (a / 4096) ≡ true → IsReadAs (w a) reads_more.later a
       before_as a below hit =
           let was = has.each a below hit in
@@ -151,7 +141,6 @@ module _ {t : ℕ → Bool} {w : ℕ → ℕ} {n sent : ℕ} {old mid : BusState
             same = ap (λ (reply : List ℕ). slice_index reply (a % 4096)) read ∙ was.same;
           }
 
-      -- the last reply to a read of sector `n` has 4,096 bytes, and has the byte of each address in this sector
       here_whole : (a : ℕ) → a / 4096 ≡ n → length (sector_read reads_more.later a) ≡ 4096
       here_whole a here = ap (λ (l : List ℕ). length l) (read_here {n = n} back.answered.out back.bytes back.answered.asks has.reads.later a here) ∙ back.whole
 
@@ -186,8 +175,6 @@ module _ {t : ℕ → Bool} {w : ℕ → ℕ} {n sent : ℕ} {old mid : BusState
           same = grind (arith, does.same, can_one, wanted_at, has.same, nat_tests);
         }
 
-    -- if the reply for sector `n` first differs from the target at index `first`, the address of that byte is the first
-    -- one in the sectors of `t` whose byte was read otherwise than its target byte (`ReadsOther`)
     pub checked_other : {new : List Exchange} {first : ℕ}
         → ReadsWhole n (λ reply. IsFirstDifference reply bytes first) mid.history new
         → ReadsOther (addresses_of t) w (4096 * n + first) old.history new
@@ -207,8 +194,6 @@ module _ {t : ℕ → Bool} {w : ℕ → ℕ} {n sent : ℕ} {old mid : BusState
           ];
         }
 
-    -- If the verification of sector `n` returned an error, `CheckErrors` holds for the whole set `t` with the same
-    -- error (`failed_errors`).
     module _ (below : n < 4096) where
       fewer : sent + 1 ≤ sector_count t
       fewer = omega (arith, count_below-next 4096 n t below is, has.counted)
@@ -247,7 +232,6 @@ module _ {t : ℕ → Bool} {w : ℕ → ℕ} {n sent : ℕ} {old mid : BusState
         failed_replies new fault replies,
       )
 
--- After all sectors of `t` were read with their target bytes, `ReadsBack` holds for the addresses in `t`.
 pub all_checked : {t : ℕ → Bool} {w : ℕ → ℕ} {sent : ℕ} {old new : BusState} → HasChecked t w 4096 old new sent
     → ((s : ℕ) → t s ≡ true → s < 4096) → ReadsBack (addresses_of t) w old.history new.history
 all_checked has below = record {

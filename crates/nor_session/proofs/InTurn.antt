@@ -25,7 +25,6 @@ use Rattle.nor_session.proofs.WrittenBack.{read_back, read_kept, session_over}
 
 -- ---- the chip is already the one that the journal saves
 
--- If the journal saves the chip as it is now, a restore's target byte at each address is the chip's own byte.
 as_saved : (journal : Content) (first chip : Chip) (a : ℕ) → SavesChip journal first → IsSame first chip → restored journal chip.bytes a ≡ chip.bytes a
 as_saved journal first chip a saves same = search (arith, saved_byte-is)
 
@@ -45,8 +44,7 @@ changes_nothing journal first old new report saves same done =
     let untouched = λ (s : ℕ). none_touched journal first old.chip s saves same in
     let never = never_needed journal first old.chip saves same in
     let touched = done.reported.sectors ∙ count_below-none 4096 _ (λ s below. untouched s) in
-    -- There are no raised sectors, so the empty list of erases covers exactly the raised sectors. The report has the
-    -- least number of erases, so it counts none.
+    -- The report has the least number of erases, and the empty list of erases covers exactly the raised sectors: none.
     let least = done.reported.erases.least [] record {
       units = λ k any below. absurd (omega arith);
       union = λ s. sym (none_raised journal first old.chip s saves same);
@@ -63,9 +61,8 @@ changes_nothing journal first old new report saves same done =
 
 -- ---- one session after the other
 
--- Holds if the journal saves the original chip `first`, and if `chip` has the same configuration and the same bytes at
--- all addresses that a restore can't write. An operation may be in progress. After a restore of `chip` from the journal
--- that succeeds, the chip is the original one (`restored_same`).
+-- Holds if the journal saves the original chip `first`, and `chip` has the same configuration and the same bytes at all
+-- addresses that a restore can't write. A restore of `chip` that succeeds then leaves the original chip.
 record CanRestoreChip (journal : Content) (first chip : Chip) : Type 0 where
   saves : SavesChip journal first
   config : chip.config ≡ first.config
@@ -74,12 +71,9 @@ record CanRestoreChip (journal : Content) (first chip : Chip) : Type 0 where
 can_restore_chip : (journal : Content) (first : Chip) (state : BusState) → CanRestore journal first state → CanRestoreChip journal first state.chip
 can_restore_chip journal first state can = record { saves = can.saves; config = can.within.config; bytes = can.within.bytes }
 
--- If `CanRestoreChip` holds for the chip `new`, it holds for each chip `taken` that is the same (`IsSame`), since it
--- depends only on configuration and bytes.
 can_restore_same : (journal : Content) (first new taken : Chip) → CanRestoreChip journal first new → IsSame new taken → CanRestoreChip journal first taken
 can_restore_same journal first new taken can same = search arith
 
--- the proof of the law `power_lost_restores_original`
 pub lost_can_restore : (journal : Content) (first : Chip) (old new : BusState) → CanRestore journal first old → LosesPower old new → CanRestore journal first new
 lost_can_restore journal first old new can loses = record {
   known = can.known;
@@ -87,19 +81,13 @@ lost_can_restore journal first old new can loses = record {
   within = lost_within (open_addresses journal first) first old new loses.known loses.lost can.within;
 }
 
--- Let a journal be able to restore the original chip on the bus `new` (`CanRestore`). If the chip then kept its bytes
--- and status bits, or lost its power, `CanRestoreChip` holds for the chip that is left.
 can_restore_kept : (journal : Content) (first : Chip) (new taken : BusState) → CanRestore journal first new → MayLosePower new taken → CanRestoreChip journal first taken.chip
 can_restore_kept journal first new taken can (inl same) = can_restore_same journal first new.chip taken.chip (can_restore_chip journal first new can) same
 can_restore_kept journal first new taken can (inr loses) = can_restore_chip journal first taken (lost_can_restore journal first new taken can loses)
 
--- After a session that left its journal, this journal can restore the original chip (`left_can_restore`).
--- `CanRestoreChip` holds for the chip with which the next run starts (`left_taken`).
 left_can_restore : (request : Request) (image : List ℕ) (old new : BusState) (journal : Content) → LeavesJournal request image old new journal → CanRestore journal old.chip new
 left_can_restore request image old new journal left = search (arith, read_back)
 
--- If the status of the original chip is locked, no sector that the journal of a session saves is protected on the
--- original chip (`CanBeRewritten`).
 pub left_rewritable : (request : Request) (image : List ℕ) (old new : BusState) (journal : Content)
     → LeavesJournal request image old new journal → CanBeRewritten journal old.chip
 left_rewritable request image old new journal left = λ locked s.
@@ -115,22 +103,16 @@ left_taken request image old new taken journal left (inl kept) =
     can_restore_kept journal old.chip new taken (left_can_restore request image old new journal left) kept
 left_taken request image old new taken journal left (inr over) = search (arith, can_restore_chip, session_over)
 
--- `CanRestoreChip` holds for the journal of a session and the chip on the bus `taken` in two cases: a run can start on
--- `taken` after the session (`IsTakenUp`), or the journal can restore the original chip on `taken` (`CanRestore`).
 left_reached : (request : Request) (image : List ℕ) (old new taken : BusState) (journal : Content) → LeavesJournal request image old new journal
     → IsTakenUp old new taken ⊎ CanRestore journal old.chip taken → CanRestoreChip journal old.chip taken.chip
 left_reached request image old new taken journal left (inl up) = left_taken request image old new taken journal left up
 left_reached request image old new taken journal left (inr can) = can_restore_chip journal old.chip taken can
 
--- If `CanRestoreChip` holds for the chip at the start of a restore that succeeds, the chip after the restore is the
--- original one.
 restored_same : (journal : Content) (first : Chip) (old new : BusState) (report : Report) → CanRestoreChip journal first old.chip → IsRestored journal old new report → IsSame first new.chip
 restored_same journal first old new report can done = search (arith, same_as_original)
 
 -- ---- two sessions, one after the other
 
--- If `IsWithin` holds for the bus `old`, and the chip on the bus `new` is idle and has the same bytes and status bits,
--- `IsWithin` holds for `new`.
 idle_again : (p : ℕ → Bool) (first : Chip) (old new : BusState) → IsWithin p first old → IsSame old.chip new.chip → new.chip.busy ≡ 0 → IsWithin p first new
 idle_again p first old new within same idle =
     let fixed = ap fixed_of same.kept ∙ within.fixed in

@@ -24,9 +24,6 @@ use Rattle.nor_scan.proofs.OneVerdict.{touched_data}
 use Rattle.nor_scan.specs.Saving.{NeedsStatus, NoneProtected, SomeProtected, is_touched_protected}
 use Rattle.nor_scan.specs.Verdict.{IsNamed, IsAccepted}
 
--- ---- the chip type
-
--- If the result `shown` of an identification is neither "no chip" nor "unknown chip", it is a chip type.
 part_shown : (undriven : Bool) (listed : Option Part) (with_id : List ℕ) (says : Result Geometry SfdpFault)
     (shown : Result Part ProbeFault)
     → shown ≡ (if undriven then Err Probes.NoChip else listed_or (part_by_sfdp with_id says) listed)
@@ -41,8 +38,6 @@ wanted_or_other : (named : Option ChipName) (name : ChipName) → IsWanted named
 wanted_or_other None name = inl tt
 wanted_or_other (Some wanted) name = grind arith
 
--- If a request is accepted for a chip, the chip is identified as some chip type, and has the requested name, if there
--- is one.
 pub accepted_named : (request : Request) (image : List ℕ) (chip : Chip) → IsAccepted request image chip
     → IsNamed request.named chip.config
 accepted_named request image chip accepted =
@@ -53,9 +48,6 @@ accepted_named request image chip accepted =
       | inr other ↦ absurd (accepted OtherName (record { part = shown.0; shown = shown.1; other = other }))
     ]
 
--- ---- the touched sectors
-
--- If no number is the least one that passes a test, no number passes the test.
 none_least : (test : ℕ → Bool) → ((s : ℕ) → test s ≡ true → ((t : ℕ) → t < s → test t ≡ false) → ⊥)
     → (n s : ℕ) → s < n → test s ≡ false
 none_least test never zero s below = absurd (omega arith)
@@ -63,14 +55,12 @@ none_least test never (suc n) s below =
     let before = none_least test never n in
     below_more (λ k. test k ≡ false) n before (false_from_ne_true (test n) (λ hit. never n hit before)) s (omega arith)
 
--- A write or an erase with `unlock` set needs a status write if a touched sector is protected.
 needs_lift : (what : What) (unlock : Bool) (touched : ℕ → Bool) (chip : Chip) → is_data what ≡ true → unlock ≡ true
     → SomeProtected touched chip
     → IsWantedCode what chip (code_of chip.kept) × NeedsStatus what unlock (code_of chip.kept) touched chip
 needs_lift (WpRange start len) unlock touched chip is lifts some = absurd cc
 needs_lift _ unlock touched chip is lifts some = (refl, (lifts, some))
 
--- If a request is accepted for a chip whose status is locked, no touched sector is protected.
 pub accepted_free : (request : Request) (image : List ℕ) (chip : Chip) → IsAccepted request image chip
     → is_locked chip.kept ≡ true → NoneProtected (is_touched chip.bytes (wanted request image chip)) chip
 accepted_free request image chip accepted locked s =

@@ -21,7 +21,6 @@ pub some_or_none : (found : Option ℕ) (touched : ℕ → Bool) (chip : Chip) �
 some_or_none (Some s) touched chip held = inl refl
 some_or_none None touched chip held = inr held
 
--- If no touched sector is protected, and the chip's protection bits are the journal's, no status write is needed.
 pub none_needed : (journal : Content) (touched : ℕ → Bool) (chip : Chip) (found : Option ℕ) → MatchOption found (NoneProtected touched chip) (IsLeastProtected touched chip) → is_some found ≡ false
     → code_of chip.kept ≡ code_of (kept_in journal.status) → ¬ NeedsStatusWith journal touched chip
 none_needed journal touched chip (Some s) held is code needs = absurd cc
@@ -29,7 +28,6 @@ none_needed journal touched chip None held is code (inl differs) = differs code
 none_needed journal touched chip None held is code (inr some) =
     both_ways (is_touched_protected touched chip some.sector) (held some.sector) some.held
 
--- If some touched sector is protected, the chip has block protection.
 pub held_scheme : (touched : ℕ → Bool) (chip : Chip) → SomeProtected touched chip → chip.config.scheme ≡ true
 held_scheme touched chip some = true_from_ne_false chip.config.scheme (λ none.
     let s = some.sector in
@@ -38,15 +36,12 @@ held_scheme touched chip some = true_from_ne_false chip.config.scheme (λ none.
     (and_parts (touched s) (is_block_protected chip (4096 * s) 4096) some.held).1)
 
 module _ {old new : Chip} (same : IsSame old new) where
-  -- If no touched sector of `old` is protected, and `new` is the same chip (`IsSame`), each address on the chip in a
-  -- touched sector is unprotected in `new`.
   pub free_address : (touched : ℕ → Bool) (a : ℕ) → NoneProtected touched old → touched (a / 4096) ≡ true
       → a < old.config.size → is_protected new a ≡ false
   free_address touched a none hit below =
       let free = none (a / 4096) in
       is_protected-same old new same.config same.kept a ∙ is_protected-sector old a below (rw hit at free)
 
-  -- If a chip has block protection and its status isn't locked, its protection bits can be written.
   pub writable_for : old.config.scheme ≡ true → ¬ (is_locked old.kept ≡ true) → is_writable new ≡ true
   writable_for scheme unlocked =
       writable_same old new same.config (ap fixed_of same.kept)

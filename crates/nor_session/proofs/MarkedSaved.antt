@@ -17,7 +17,6 @@ use Rattle.nor_scan.proofs.Scans.{marks_more}
 use Rattle.nor_session.specs.PrepareRestore.{MarksSaved, plan_of_rewritten}
 use Rattle.nor_session.proofs.Rescanned.{saved_before, later_marks, more_before, small_byte}
 
--- Holds after the first `i` saved sectors were marked as touched and raised, and no other sector was.
 pub record HasMarkedFirst (journal : Content) (i : ℕ) (scanned : Scanned) : Type 0 where
   pub marks : AreMarks (least_after 0 (take i journal.saved)) scanned
   pub reads : scanned.reads ≡ i

@@ -1,5 +1,4 @@
--- Lemmas about the address that a timeout or a mismatch of a session or restore names. The address is in a sector that
--- the journal saves or, for a timeout, it may be 0.
+-- The address that a timeout or a mismatch names is in a saved sector or, for a timeout, it may be 0.
 use Rattle.std.proofs.Common.{ℕ, ◌≡◌, ◌≤◌, ◌/◌, ◌∙◌, true, List, arith, inl, inr}
 use Rattle.nor_model.specs.Bus.{BusState}
 use Rattle.nor_journal.specs.Text.{Content, IsContent, text}
@@ -19,15 +18,12 @@ use Rattle.nor_session.specs.Session.{SavesSector, NamesSector, NamesAddress}
 use Rattle.nor_session.specs.Restore.{Choice}
 use Rattle.nor_session.specs.PrepareRestore.{PrepareErrors}
 
--- No error of `save` is a timeout or a mismatch.
 pub save_names : (request : Request) (identity : Identity) (code : ℕ) (image : List ℕ) (old new : BusState) (refusal : Refusal)
     → SaveErrors request identity code image old new refusal → NamesSector (λ sector. ⊥) refusal
 save_names request identity code image old new (Timeout address) errors = absurd errors
 save_names request identity code image old new (Mismatch address) errors = absurd errors
 save_names request identity code image old new _ errors = tt
 
--- An error of `save` has a number from 9 to 12: the checks of the touched sectors return 9 and 10, the vault causes 11,
--- and 12 is a stop.
 pub save_number : (request : Request) (identity : Identity) (code : ℕ) (image : List ℕ) (old new : BusState) (refusal : Refusal)
     → SaveErrors request identity code image old new refusal → (9 ≤ refusal_number refusal) × (refusal_number refusal ≤ 12)
 save_number request identity code image old new StatusLocked errors = (omega arith, omega arith)
@@ -36,15 +32,11 @@ save_number request identity code image old new Vault errors = (omega arith, ome
 save_number request identity code image old new Stopped errors = (omega arith, omega arith)
 save_number request identity code image old new _ errors = absurd errors
 
--- The checks of the request against the identification send no transaction, so none of their errors is a timeout or a
--- mismatch.
 pub judged_names : (refusal : Refusal) → IsIdentityRefusal refusal → NamesSector (λ sector. ⊥) refusal
 judged_names (Timeout address) is = absurd is
 judged_names (Mismatch address) is = absurd is
 judged_names _ is = tt
 
--- If an error of the changes satisfies `NamesTouchedSector`, and `IsSuch` holds for all touched sectors, the error
--- satisfies `NamesSector IsSuch`.
 pub change_names : {IsSuch : ℕ → Type 0} (changes : Changes) (refusal : Refusal)
     → ((s : ℕ) → touched_in changes s ≡ true → IsSuch s) → NamesTouchedSector changes refusal
     → NamesSector IsSuch refusal
@@ -53,8 +45,6 @@ change_names changes (Timeout address) such (inr touched) = inr (such (address /
 change_names changes (Mismatch address) such touched = such (address / 4096) touched
 change_names changes _ such names = tt
 
--- If the journal of a sealed faithful vault saves all touched sectors, an error of the changes names an address that
--- `NamesAddress` allows.
 pub work_names : (changes : Changes) (head : Content) (vault : VaultState) (refusal : Refusal) → vault.sealed ≡ true
     → (vault.telling ≡ true → IsJournalOf head (touched_in changes) vault.bytes)
     → NamesTouchedSector changes refusal → NamesAddress vault refusal
@@ -66,15 +56,11 @@ work_names changes head vault refusal sealed saves names = record {
       (record { content = journal.content; is = journal.is; same = journal.same }, journal.saved s ∙ touched)) names;
 }
 
--- ---- a restore
-
--- Before the first change of a restore, a timeout names address 0, and no mismatch occurs.
 pub prepare_names : (choice : Choice) (journal : Content) (most : ℕ) (old new : BusState) (refusal : Refusal) → PrepareErrors choice journal most old new refusal → NamesSector (λ sector. is_saved journal sector ≡ true) refusal
 prepare_names choice journal most old new (Timeout address) errors = inl errors.0
 prepare_names choice journal most old new (Mismatch address) errors = absurd (let judged = errors.judged in cc)
 prepare_names choice journal most old new _ errors = tt
 
--- If an error names an address in a sector that the journal saves, this sector is one that the journal's bytes save.
 pub saved_names : (journal : Content) (bytes : List ℕ) (refusal : Refusal) → IsContent journal → bytes ≡ text journal → NamesSector (λ sector. is_saved journal sector ≡ true) refusal → NamesSector (λ sector. SavesSector sector bytes) refusal
 saved_names journal bytes (Timeout address) is same (inl at) = inl at
 saved_names journal bytes (Timeout address) is same (inr saved) = inr (record { content = journal; is = is; same = same }, saved)

@@ -27,8 +27,6 @@ use Rattle.nor_session.specs.declared.prepare_restore.PreparedRestore.{PreparedR
 use Rattle.nor_session.proofs.Targeting.{AreOfJournal, change_sends}
 use Rattle.nor_session.proofs.Ready.{Ready, changes_of, lifts_none}
 
--- ---- the status in the header of a journal
-
 kept_fixed : (identity : Identity) → fixed_of (kept_in (kept_read identity)) ≡ fixed_of (kept_in (status_read identity))
 kept_fixed identity =
     let first : identity.found.status1 / 4 * 4 / 4 / 32 ≡ identity.found.status1 / 4 / 32 = omega arith in
@@ -38,10 +36,6 @@ kept_fixed identity =
 kept_code : (identity : Identity) → code_of (kept_in (kept_read identity)) ≡ code_of (kept_in (status_read identity))
 kept_code identity = omega arith
 
--- ---- a session
-
--- If a journal has the header of this identification, the session's target protection bits are a value that the session
--- may write (`IsWrittenCode`).
 found_written : (what : What) (identity : Identity) (journal : Content) (code : ℕ) → SameHeader (header_found identity) journal
     → IsFoundCode what identity code → IsWrittenCode what journal code
 found_written (WpRange start len) identity journal code same is =
@@ -50,8 +44,6 @@ found_written _ identity journal code same is =
     let status = ap (λ (c : Content). c.status) same in
     inr (is ∙ sym (kept_code identity) ∙ ap (λ (bytes : List ℕ). code_of (kept_in bytes)) status)
 
--- If protection is lifted, the session may write the protection bits 0, because only a write or an erase lifts
--- protection.
 lifted_written : (what : What) (journal : Content) (lifted : Bool) → (is_data what ≡ false → lifted ≡ false)
     → lifted ≡ true → IsWrittenCode what journal 0
 lifted_written (WpRange start len) journal lifted none lifts = absurd (true≢false (sym lifts ∙ none refl))
@@ -88,8 +80,6 @@ module _ {request : Request} {identity : Identity} {status : Status} {code : ℕ
     change_sends old unsent leaves _ journal.content (session_of_journal journal),
   )
 
--- ---- a restore
-
 pub restore_of_journal : {choice : Choice} {journal : Content} {old mid : BusState} {prepared : PreparedRestore}
     → IsPreparedRestore choice journal old mid prepared → AreOfJournal (IsSavedCode journal) journal prepared.changes
 restore_of_journal is = record {
@@ -102,10 +92,6 @@ restore_of_journal is = record {
   code = inr is.code;
 }
 
--- ---- the report
-
--- The work counts the erases and page programs that were sent from `mid`, where the changes began, to `new`. If no
--- modifying command was sent from `old` to `mid`, these are also those that were sent from `old` to `new`.
 pub counted : {changes : _} {wanted : ℕ → ℕ} {verify : Bool} (old : BusState) {mid new : BusState} {work : Work}
     → mid.sent ≡ old.sent → DoesChange changes wanted verify mid new work
     → SendsCounted work.erases work.programs old new

@@ -14,7 +14,6 @@ use Rattle.nor_session.specs.Headline.{IsOfType}
 use Rattle.nor_session.specs.Restore.{IsOfOtherDevice, FitsStatus, Choice, NeedsStatusBy, RestoreHolds, checked_in_order, index_in, IsRestoreVerdict, IsRestorable}
 use Rattle.nor_session.specs.PrepareRestore.{RestoreJudges, RestoreAccepts}
 
--- Holds if none of the first `n` errors in `checked_in_order` applies.
 record IsClear (choice : Choice) (journal : Content) (chip : Chip) (n : ℕ) : Type 0 where
   there : 0 < n → shown_as chip.config ≢ Err Probes.NoChip
   named : 1 < n → IsNamed None chip.config

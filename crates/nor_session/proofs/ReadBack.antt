@@ -47,7 +47,6 @@ module _ (changes : Changes) (wanted : ℕ → ℕ) (verify : Bool) where
       → FitsReadBack changes wanted verify old new (Ok work)
   check_passed old new sent work replies = λ verifies. (old, continues_refl old, replies)
 
-  -- `FitsReadBack` holds for every error of `apply`, since none of them is a mismatch
   pub apply_failed : (old new : List Exchange) (error : OperationError)
       → FitsReadBack changes wanted verify old new (Err (of_operation error))
   apply_failed old new Operations.Stopped = tt
@@ -60,8 +59,6 @@ module _ (changes : Changes) (wanted : ℕ → ℕ) (verify : Bool) where
   read_back_later old mid new (Err (Mismatch address)) first fits = (fits.0, continues_then first fits.1, fits.2)
   read_back_later old mid new (Err _) first fits = tt
 
--- `ReadsBack` and `ReadsOther` (`other_target`) stay true if the target `one` is replaced by a target `two` that has
--- the same bytes at these addresses.
 back_target : (addresses : ℕ → Bool) (one two : ℕ → ℕ) {old new : List Exchange}
     → ((a : ℕ) → addresses a ≡ true → one a ≡ two a) → ReadsBack addresses one old new → ReadsBack addresses two old new
 back_target addresses one two same back = record {
@@ -81,9 +78,6 @@ other_target addresses one two address same other = record {
       let was = other.before a below hit in record { whole = was.whole; same = was.same ∙ same a hit };
 }
 
--- Let `mid` be the history at the point at which a restore chose its touched sectors. If `FitsReadBack` holds for the
--- changes from `mid` on, `RestoreReadsBack` holds for the whole restore: after success (`restore_read_back`) and after
--- an error (`restore_read_other`).
 pub restore_read_back : (choice : Choice) (journal : Content) (changes : Changes) (old mid new : List Exchange)
     → HaveBeenRead (IsLeft choice journal (bytes_read mid)) old mid
     → ((s : ℕ) → has changes.touched s ≡ choice.touched journal (bytes_read mid) s) → (work : Work) (report : Report)
@@ -108,7 +102,6 @@ restore_read_other choice journal changes old mid new since touched (Mismatch ad
 )
 restore_read_other choice journal changes old mid new since touched _ fits = tt
 
--- `RestoreReadsBack` holds for every error before the first change, since none of them is a mismatch.
 pub prepare_read_back : (choice : Choice) (journal : Content) (most : ℕ) (old new : BusState) (refusal : Refusal)
     → PrepareErrors choice journal most old new refusal
     → RestoreReadsBack choice journal old.history new.history (Err refusal)
@@ -118,9 +111,6 @@ prepare_read_back choice journal most old new _ errors = tt
 -- ---- a session
 
 module _ (request : Request) (image : List ℕ) where
-  -- Let `mid` be the state at the end of a session's scan. If `FitsReadBack` holds for the changes from `mid` on,
-  -- `SessionReadsBack` holds for the whole session: after an error (`session_read_other`) and after success
-  -- (`session_read_back`).
   pub session_read_other : (kept : Scanned) (size : ℕ) (image' : List ℕ) (changes : Changes)
       (old opened mid new : BusState) → Continues old.history opened.history → Continues opened.history mid.history
       → Scans request size image image' opened mid kept → ((s : ℕ) → has changes.touched s ≡ has kept.touched s)
@@ -172,7 +162,6 @@ module _ (request : Request) (image : List ℕ) where
         ),
       )
 
-  -- `SessionReadsBack` holds for every error of `save`, since none of them is a mismatch
   pub save_read_back : (identity : Identity) (code : ℕ) (bytes : List ℕ) (old new : BusState) (one two : List Exchange)
       (refusal : Refusal) → SaveErrors request identity code bytes old new refusal
       → SessionReadsBack request image one two (Err refusal)

@@ -37,8 +37,6 @@ use Rattle.nor_session.specs.Changing.{read_back, most_changed, DoesChange}
 use Rattle.nor_session.specs.Session.{most_status_writes, IsWithinBound, CountsChanges}
 use Rattle.nor_session.proofs.Changed.{two_writes, write_once}
 
--- the changes of a session for a chip with this identification and status, the result `kept` of its scan, and the
--- target protection bits
 abbrev pub changes_of : Identity → SavedScan → Status → ℕ → Changes
 changes_of identity kept status code =
     record {
@@ -105,7 +103,6 @@ spends_only_reads fits only_reads =
 
 -- ---- the number of status writes
 
--- If the scan of a request marked a sector `s` as touched, the request is for a write or an erase.
 pub touched_data : (request : Request) (size : ℕ) {scanned : Scanned} (s : ℕ) → size ≤ 16777216
     → AreMarks (size / 4096) scanned → scanned.count ≤ scanned.reads → scanned.reads ≡ scanned_sectors request size
     → has scanned.touched s ≡ true → is_data request.what ≡ true
@@ -122,7 +119,6 @@ writes_by _ unlock lifted writes two lifts none one = let zero = none refl in gr
 
 module _ {request : Request} {identity : Identity} {status : Status} {code : ℕ} {kept : SavedScan} {old mid : BusState}
     (is : Ready request identity status code kept old mid) where
-  -- if the transactions of the changes are within `most_changed`, those of the whole session are within `most_of`
   pub spends_ready : {new : BusState} → Spends (most_changed (changes_of identity kept status code)) mid new
       → Spends (most_of (scanned_sectors request identity.found.size)) old new
   spends_ready {new} spends = record {
@@ -140,7 +136,6 @@ module _ {request : Request} {identity : Identity} {status : Status} {code : ℕ
       let sent = is.honest_reads.sent honest punctual in
       let out = ran (is.honest_reads.nature.punctual ∙ punctual) in omega arith
 
-  -- if the request is for a protection range, no protection is lifted
   pub lifts_none : is_data request.what ≡ false → kept.unlock ≡ false
   lifts_none other = false_from_ne_true kept.unlock (λ lifted.
       let some = (is.lifts lifted).1 in
@@ -159,7 +154,6 @@ module _ {request : Request} {identity : Identity} {status : Status} {code : ℕ
 
 -- ---- the report
 
--- After success, the report is within the bound for `most` status writes, if the changes need at most `most` of them.
 pub bounded_by : (request : Request) (identity : Identity) (status : Status) (code : ℕ) (kept : SavedScan) (old mid new : BusState) (wanted : ℕ → ℕ) (verify : Bool) (work : Work) (sent most : ℕ) → sent ≡ kept.scanned.reads
     → Ready request identity status code kept old mid → status_writes (changes_of identity kept status code) ≤ most
     → DoesChange (changes_of identity kept status code) wanted verify mid new work
@@ -170,8 +164,6 @@ bounded_by request identity status code kept old mid new wanted verify work sent
     = ap (λ (n : ℕ). if verify then n else 0) is.marks.count in
     omega arith
 
--- After success, only the transactions that `CountsChanges` allows were sent, if the changes need at most `most` status
--- writes.
 pub counts_changes : (request : Request) (identity : Identity) (status : Status) (code : ℕ) (kept : SavedScan) (old mid new : BusState) (wanted : ℕ → ℕ) (verify : Bool) (work : Work) (sent most : ℕ) → sent ≡ kept.scanned.reads
     → Ready request identity status code kept old mid → status_writes (changes_of identity kept status code) ≤ most
     → DoesChange (changes_of identity kept status code) wanted verify mid new work

@@ -32,7 +32,6 @@ use Rattle.nor_session.proofs.Ready.{scanned_most, scanned_few}
 
 -- ---- what the identification says about the chip as it was before the identification
 
--- The non-volatile bits of status 1 are those above BUSY and WEL.
 kept_one : (status1 one : ℕ) (chip : Chip) → status1 ≡ status1_of chip → chip.kept.one ≡ one → status1 / 4 ≡ one
 kept_one status1 one chip read kept = grind (arith, nat_tests)
 
@@ -51,8 +50,6 @@ pub is_opening : (request : Request) (identity : Identity) (old mid : BusState) 
     → ReadsIdentity request.named old mid identity → IsIdentityOf old.chip identity
 is_opening request identity old mid = opening_of
 
--- On a well-behaved bus, if the chip was idle before the identification, the status 1 that was read is the chip's
--- status 1 at that time, including BUSY and WEL.
 pub status1_if_idle : (named : Option ChipName) (identity : Identity) (old mid : BusState) → old.honest ≡ true → ReadsIdentity named old mid identity → old.chip.busy ≡ 0 → identity.found.status1 ≡ status1_of old.chip
 status1_if_idle named identity old mid honest opens idle =
     let rested = opens.rested honest in let latch = rested.idle_latch idle in
@@ -62,8 +59,6 @@ pub shows : (request : Request) (identity : Identity) (old mid : BusState) → I
 shows request identity old mid is only_reads opens =
     let rested = opens.rested is.honest in let idle = opens.idle is.honest in search rules
 
--- On a well-behaved bus, if the non-volatile bits of status 2 are in range (below 128) after the identification, they
--- were in range before it.
 pub small_first : {named : Option ChipName} {identity : Identity} {old mid : BusState} → old.honest ≡ true
     → ReadsIdentity named old mid identity → mid.chip.kept.two < 128 → old.chip.kept.two < 128
 small_first honest opens small =
@@ -72,7 +67,6 @@ small_first honest opens small =
 pub named : (request : Request) (identity : Identity) (old mid : BusState) → IsModelled old → ReadsIdentity request.named old mid identity → IsNamed request.named old.chip.config
 named request identity old mid is opens = record { part = part_in identity.found; shown = opens.shown is.honest; wanted = opens.wanted }
 
--- The bound `most_of` for the scanned sectors is at most the bound for all sectors of the chip.
 pub most_sized : (request : Request) {config : Config} {found : Found} → IsConfigOf config found
     → most_of (scanned_sectors request found.size) ≤ most_of (config.size / 4096)
 most_sized request {found = found} is =
@@ -115,8 +109,6 @@ save_errors request image identity code old mid new vault vault' (Protected addr
     errors old.chip (opening_of is opens) (shows request identity old mid is only_reads opens) accepts
 save_errors request image identity code old mid new vault vault' _ is only_reads opens accepts rose errors = absurd errors
 
--- On a modelled bus, if the scan was stopped, fewer transactions were left at the start than the identification and
--- this scan need together.
 pub save_early : (request : Request) (image : List ℕ) (identity : Identity) (code : ℕ) (old mid new : BusState)
     → IsModelled old → OnlyReads most_identity old mid → ReadsIdentity request.named old mid identity
     → SaveErrors request identity code image mid new Stopped
@@ -126,7 +118,6 @@ save_early request image identity code old mid new is only_reads opens errors pu
     let count = opens.count is.honest punctual in
     let exact = opens.exact is.honest in rw (← (opens.genuine is).size) (omega arith)
 
--- If `save` returned error 12, the last transaction is the one at which the bus stopped.
 pub save_last : (request : Request) (identity : Identity) (code : ℕ) (image : List ℕ) (old new : BusState)
     (refusal : Refusal) → SaveErrors request identity code image old new refusal → EndsAtError refusal new.history
 save_last request identity code image old new Stopped errors = errors.last
@@ -136,7 +127,6 @@ save_last request identity code image old new _ errors = tt
 
 -- ---- the errors of the identification
 
--- If the identification returned error 12 or 13, the last transaction is as `EndsAtError` says.
 pub open_last : (most : ℕ) (named : Option ChipName) (old new : BusState) (refusal : Refusal)
     → IdentificationErrors most named old new refusal → EndsAtError refusal new.history
 open_last most named old new Stopped errors = errors.last

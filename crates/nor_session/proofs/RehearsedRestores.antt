@@ -1,4 +1,4 @@
--- Lemmas about the restores of a rehearsal: one restore with an allowance, restores in turn, and restores from bytes.
+-- Lemmas about the restores of a rehearsal.
 use Rattle.std.proofs.Common.{◌≡◌, ◌<◌, ◌≤◌, ◌+◌, ◌∙◌, ℕ, zero, suc, Bool, List, [], ◌∷◌, ◌++◌, length, drop, slice_index, true, false, refl, ap, sym, add-one, one-add, arith, inl, inr}
 use Rattle.std.specs.Prelude.{Ok, Err, Result, slice_index_or, if◌then◌else◌}
 use Rattle.std.proofs.lemmas.Bool.{cases_eq}
@@ -33,8 +33,6 @@ use Rattle.nor_session.proofs.SavedBytes.{saved_room, saved_count}
 
 -- ---- the allowances
 
--- If the allowances so far are those of the first `n` calls, and the next call gets the next allowance, the allowances
--- are those of the first `n + 1` calls.
 pub allowed_then : (stops : List ℕ) (n : ℕ) (old : List ℕ) {allowance : ℕ} {now new : List ℕ}
     → allowance ≡ slice_index_or stops n (most_of 4096) → now ≡ allowances_of stops n ++ old → new ≡ allowance ∷ now
     → new ≡ allowances_of stops (n + 1) ++ old
@@ -42,24 +40,18 @@ allowed_then stops n old {allowance = allowance} is before by =
     rw add-one
     (by ∙ ap (λ (l : List ℕ). allowance ∷ l) before ∙ ap (λ (a : ℕ). a ∷ (allowances_of stops n ++ old)) is)
 
--- If there are more than `n` stops, the call after the first `n` calls has the stop with index `n` as its allowance.
 pub next_stop : (stops : List ℕ) (n : ℕ) → n < length stops → slice_index stops n ≡ slice_index_or stops n (most_of 4096)
 next_stop stops n inside = sym (get_or_default_zero stops n (most_of 4096) inside)
 
--- If there are at most `n` stops, the call after the first `n` calls has the allowance `most_of 4096`.
 pub last_bound : (stops : List ℕ) (n : ℕ) → length stops ≤ n → {allowance : ℕ} → allowance ≡ most_of 4096
     → allowance ≡ slice_index_or stops n (most_of 4096)
 last_bound stops n past is = is ∙ sym (get_or_past stops n (most_of 4096) past)
 
--- If only the allowance for the session of a rehearsal was set, the allowances are those that `allowances_of` gives for
--- one call.
 pub allowed_first : (stops : List ℕ) {old new : List ℕ} → new ≡ first_allowance stops ∷ old
     → new ≡ allowances_of stops 1 ++ old
 allowed_first [] is = is
 allowed_first (first ∷ later) is = is
 
--- The stop with index `n` among the stops after the first one is the stop with index `n + 1` among all stops. If there
--- is no such stop, both sides are `most_of 4096`.
 later_stop : (stops : List ℕ) (n : ℕ)
     → slice_index_or (drop 1 stops) n (most_of 4096) ≡ slice_index_or stops (suc n) (most_of 4096)
 later_stop [] n = refl
@@ -95,12 +87,10 @@ same_nature_then later earlier = grind (arith, later.config, earlier.config)
 
 -- ---- one restore
 
--- If a modelled bus stays well-behaved, and the configuration of its chip doesn't change, the bus stays modelled.
 pub modelled_at : (old new : BusState) → new.honest ≡ old.honest → new.chip.config ≡ old.chip.config → IsModelled old → IsModelled new
 modelled_at old new honest config modelled =
     record { honest = honest ∙ modelled.honest; genuine = rw config modelled.genuine }
 
--- After an allowance was set, and before any restore, `LeavesRestores` holds for 0 restores.
 allow_leaves : {n : ℕ} (journal : Content) (old new : BusState) → Allows n old new → LeavesRestores journal 0 old new
 allow_leaves journal old new allows =
     search (arith, modelled_at, none_sent, none_written, allows.chip, allows.nature.steady)
@@ -111,15 +101,12 @@ restores_then journal m n most old mid new fits before after =
     let sends = sends_most (IsSavedCode journal) (m + n) most journal old new fits both in
     search (arith, same_nature_then)
 
--- On a well-behaved bus, an error that isn't a stop isn't a timeout either, so it is no error of the bus
--- (`IsNoBusError`).
 pub not_bus_error : (most : ℕ) (IsEarly : Refusal → Type 0) (old new : BusState) (refusal : Refusal) → (refusal ≡ Stopped → ⊥)
     → HonestErrors most IsEarly old new refusal → IsNoBusError refusal
 not_bus_error most IsEarly old new Stopped never errors = absurd (never refl)
 not_bus_error most IsEarly old new (Timeout address) never errors = absurd errors
 not_bus_error most IsEarly old new _ never errors = refl
 
--- Lemmas about one restore that is allowed `n` transactions. `under_leaves` says what the restore leaves at every exit.
 module _ {n : ℕ} {journal : Content} {old mid new : BusState} (allows : Allows n old mid) where
   pub under_leaves : {result : Result Report Refusal} → (IsModelled mid → RestoresOriginal journal mid new result)
       → RestoreAlways journal mid new result → (IsModelled mid → RestoreModelled journal mid new result)
@@ -128,7 +115,6 @@ module _ {n : ℕ} {journal : Content} {old mid new : BusState} (allows : Allows
       restores_then journal 0 1 1 old mid new (omega arith) (allow_leaves journal old mid allows)
       (search (arith, modelled_at, unraised_other, same_nature))
 
-  -- if the restore ended, `RunsRestore` holds
   pub under_ends : (report : Report) → (IsModelled mid → RestoresOriginal journal mid new (Ok report))
       → RestoreAlways journal mid new (Ok report)
       → (mid.honest ≡ true → RestoreHonest journal mid new (Ok report))
@@ -136,7 +122,6 @@ module _ {n : ℕ} {journal : Content} {old mid new : BusState} (allows : Allows
   under_ends report gives always returned promise =
       let leaves = allow_leaves journal old mid allows in search (arith, allows.chip)
 
-  -- if the restore returned an error other than a stop, `StopsRestores` holds
   pub under_refuses : (refusal : Refusal) → (IsModelled mid → RestoresOriginal journal mid new (Err refusal))
       → RestoreAlways journal mid new (Err refusal)
       → (mid.honest ≡ true → RestoreHonest journal mid new (Err refusal)) → (refusal ≡ Stopped → ⊥)
@@ -146,9 +131,7 @@ module _ {n : ℕ} {journal : Content} {old mid new : BusState} (allows : Allows
 
 -- ---- restores in turn
 
--- Holds after `n` restores were run in turn, and all of them were stopped. On a modelled bus the stop of each is below
--- the bound on the transactions of one restore (`most_of`). If `n` is 0, the write enable latch is set only if it was
--- set before. The allowances that were set are those of `n` calls with these stops (`allowances_of`).
+-- Holds after `n` restores were run in turn, and all of them were stopped.
 pub record AreStopped (journal : Content) (stops : List ℕ) (old now : BusState) (n : ℕ) : Type 0 where
   pub leaves : LeavesRestores journal n old now
   pub allowed : now.allowances ≡ allowances_of stops n ++ old.allowances
@@ -158,17 +141,13 @@ pub record AreStopped (journal : Content) (stops : List ℕ) (old now : BusState
 
 module _ {journal : Content} {stops : List ℕ} {old now : BusState} {n : ℕ} (before : AreStopped journal stops old now n)
     (new : BusState) where
-  -- if `LeavesRestores` holds for the next restore alone, `LeavesRestores` holds for all `n + 1` restores together
   pub leaves_more : {most : ℕ} → n + 1 ≤ most → LeavesRestores journal 1 now new → LeavesRestores journal most old new
   leaves_more fits leaves = restores_then journal n 1 _ old now new fits before.leaves leaves
 
-  -- if one more restore was allowed the next stop or, if the stops are used up, `most_of 4096` transactions, the
-  -- allowances are those that `allowances_of` gives for `n + 1` calls
   pub allowed_more : {allowance : ℕ} → allowance ≡ slice_index_or stops n (most_of 4096)
       → new.allowances ≡ allowance ∷ now.allowances → new.allowances ≡ allowances_of stops (n + 1) ++ old.allowances
   allowed_more is by = allowed_then stops n old.allowances is before.allowed by
 
-  -- after one more restore, `AllowsStops` holds for at least one and at most `length stops + 1` calls
   pub tried_more : n ≤ length stops → new.allowances ≡ allowances_of stops (n + 1) ++ old.allowances
       → AllowsStops stops 1 (length stops + 1) old new
   tried_more inside allowed = record { calls = n + 1; some = omega arith; few = omega (arith, inside); is = allowed }
@@ -187,15 +166,12 @@ module _ {journal : Content} {stops : List ℕ} {old now : BusState} {n : ℕ} (
     latch = λ none. absurd (omega arith);
   }
 
-  -- if the restore after the first `n`, which has a stop, ended, `RunsRestores` holds
   pub ended_at : (restores : ℕ) → restores ≡ n + 1 → n < length stops
       → new.allowances ≡ slice_index stops n ∷ now.allowances
       → RunsRestore journal (slice_index stops n) now new true → RunsRestores journal stops old new restores
   ended_at restores is inside by shows =
       let allowed = rw (← is) at (allowed_more (next_stop stops n inside) by) in search arith
 
-  -- if all stops were used, and the next restore, which was allowed `most_of 4096` transactions, ended, `RunsRestores`
-  -- holds
   pub ended_last : (restores : ℕ) {allowance : ℕ} → restores ≡ n + 1 → n ≡ length stops → allowance ≡ most_of 4096
       → new.allowances ≡ allowance ∷ now.allowances → RunsRestore journal allowance now new true
       → RunsRestores journal stops old new restores
@@ -206,20 +182,14 @@ pub tried_less : {stops : List ℕ} {most : ℕ} {old new : BusState} → Allows
     → AllowsStops stops 0 most old new
 tried_less tried = record { calls = tried.calls; some = omega arith; few = tried.few; is = tried.is }
 
--- If `StopsRestores` holds for an error from the state after `n` restores on, it also holds from the state before these
--- restores on.
 pub refuses_before : {journal : Content} {n : ℕ} {old mid new : BusState} (refusal : Refusal)
     → LeavesRestores journal n old mid → StopsRestores journal mid new refusal → StopsRestores journal old new refusal
 refuses_before refusal leaves refuses = search arith
 
--- If a restore that was allowed `most_of 4096` transactions was stopped, `StopsRestores` holds for the stop. On a
--- well-behaved bus such a stop is impossible, if the journal has at most 4,096 sectors.
 pub last_ends : {journal : Content} {now new : BusState} {most : ℕ} → most ≡ most_of 4096
     → RunsRestore journal most now new false → StopsRestores journal now new Stopped
 last_ends {journal = journal} is shows = search (arith, saved_room)
 
--- If `restores` is at least 1, and is at most 1 if the session ended and 0 if it didn't, then the session ended and
--- `restores` is 1.
 unstopped : (restores : ℕ) (ended : Bool) → 1 ≤ restores → restores ≤ (if ended then 1 else 0)
     → (ended ≡ true) × (restores ≡ 1)
 unstopped restores true some most = (refl, omega arith)
@@ -227,12 +197,10 @@ unstopped restores false some most = absurd (omega arith)
 
 -- ---- restores from bytes
 
--- Lemmas about bytes that are the encoding of the valid journal `journal`.
 module _ {bytes : List ℕ} {journal : Content} (is : IsContent journal) (same : bytes ≡ text journal)
     (reads : (head : Content) (chip : ℕ → ℕ) (saved : ℕ → Bool) → JournalSaves head chip saved bytes
     → SameHeader head journal × Saves chip saved journal)
     (old : BusState) where
-  -- if the bytes can restore a chip (`CanUndo`), the journal can restore it (`CanRestore`)
   can_restore_then : (saved : ℕ → Bool) (first : Chip) → CanUndo saved first bytes old → CanRestore journal first old
   can_restore_then saved first can_undo =
       can_restore_read saved first bytes old journal can_undo (reads (header_of first) first.bytes saved can_undo.journal)
@@ -259,8 +227,7 @@ module _ {bytes : List ℕ} {journal : Content} (is : IsContent journal) (same :
     undo_wears modelled saved first can_undo s other = leaves.worn modelled s
         (sym (Saves-set first.bytes saved journal s (saves_all saved first can_undo)) ∙ other)
 
-    -- The modifying commands that the restores sent fit every journal that the bytes encode, since only `journal` has
-    -- this encoding.
+    -- Only `journal` has this encoding.
     pub undo_sends : SendsFromJournal bytes n old new
     undo_sends other =
         rw (is_read bytes (Ok journal) other.content (is, same) tt other.is other.same) at leaves.sends
@@ -276,8 +243,6 @@ module _ {bytes : List ℕ} {journal : Content} (is : IsContent journal) (same :
         refuses.never modelled punctual first (can_restore_then saved first can_undo);
   }
 
--- On a modelled bus, if the session ended and only one restore was run, the write enable latch is set only if it was
--- set before.
 pub latch_alone : {request : Request} {image bytes stops : List ℕ} {allowance : ℕ} {old mid new : BusState}
     {vault : VaultState} {ended : Bool} (restores : ℕ) → RunsSession request image allowance old mid vault ended
     → Undoes bytes stops mid new restores → IsModelled old → IsModelled mid → restores ≤ (if ended then 1 else 0)
@@ -285,7 +250,6 @@ pub latch_alone : {request : Request} {image bytes stops : List ℕ} {allowance 
 latch_alone {ended = ended} restores shows undoes modelled then_modelled few set =
     let (done, one) = unstopped restores ended undoes.some few in shows.latch modelled done (undoes.latch then_modelled one set)
 
--- If the bytes aren't a journal, `RefusesUndo` holds for error 15, since such bytes can't restore any chip.
 pub unread : (bytes : List ℕ) (old new : BusState) (fault : JournalFault) → ((content : Content) → IsContent content → bytes ≡ text content → ⊥)
     → RefusesUndo bytes old new (BadJournal fault)
 unread bytes old new fault never = search arith

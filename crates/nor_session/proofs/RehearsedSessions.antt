@@ -29,15 +29,12 @@ use Rattle.nor_session.proofs.RehearsedRestores.{modelled_at, not_bus_error, all
 
 -- ---- the session
 
--- On a modelled bus, `RehearsalErrors` holds for an error of the session that isn't a stop.
 returned : (request : Request) (image : List ℕ) (old new : BusState) (before after : VaultState) (refusal : Refusal) → (refusal ≡ Stopped → ⊥)
     → SessionErrors request image old new before after refusal → RehearsalErrors request image old.chip before after refusal
 returned request image old new before after Vault never errors = errors
 returned request image old new before after Stopped never errors = absurd (never refl)
 returned request image old new before after _ never errors = errors
 
--- If `RehearsalErrors` holds for an error, its number is at most 11. So on a well-behaved bus, bytes and non-volatile
--- status bits are as they were.
 early : (request : Request) (image : List ℕ) (old new : BusState) (before after : VaultState) (refusal : Refusal) → RehearsalErrors request image old.chip before after refusal
     → (refusal_number refusal ≤ 11) × (HonestErrors (most_of 4096) (λ refusal. refusal_number refusal ≤ 11) old new refusal → IsSame old.chip new.chip)
 early request image old new before after Vault errors = (omega arith, λ same. same (omega arith))
@@ -52,7 +49,6 @@ can_end request image n chip accepted erases fewest enough =
 wanted_bits : (request : Request) (image : List ℕ) (mid new : BusState) (report : Report) → IsDone request image mid new report → HasWantedBits request.what mid.chip new.chip
 wanted_bits request image mid new report done = record { code = done.code; is_wanted = done.is_wanted; kept = done.kept }
 
--- Lemmas about a session that is allowed `n` transactions.
 module _ {n : ℕ} {old mid : BusState} (allows : Allows n old mid) where
   modelled_mid : IsModelled old → IsModelled mid
   modelled_mid = modelled_at old mid allows.nature.honest (ap (λ (chip : Chip). chip.config) allows.chip)
@@ -89,7 +85,6 @@ module _ {n : ℕ} {old mid : BusState} (allows : Allows n old mid) where
       writes = search arith;
     }
 
-    -- if the session ended, `RunsSession` holds
     pub session_ends : (report : Report) → SessionAlways request image mid new before after (Ok report)
         → (mid.honest ≡ true → SessionHonest request image mid new (Ok report))
         → (IsModelled mid → SessionModelled request image mid new before after (Ok report))
@@ -124,29 +119,22 @@ module _ {n : ℕ} {old mid : BusState} (allows : Allows n old mid) where
           };
         }
 
-    -- If the session returned an error, `RefusesSession` holds. If the error is a stop, the allowance must have been
-    -- `most_of 4096`: on a well-behaved bus no session is stopped with this allowance.
     pub session_refuses : (refusal : Refusal) → SessionAlways request image mid new before after (Err refusal)
         → (mid.honest ≡ true → SessionHonest request image mid new (Err refusal))
         → (IsModelled mid → SessionModelled request image mid new before after (Err refusal))
         → (refusal ≡ Stopped → n ≡ most_of 4096) → RefusesSession request image old new before after refusal
     session_refuses refusal always honest_promise promise all = search (arith, early, not_bus_error, returned)
 
--- Without stops the allowance of the session is `most_of 4096`. On a well-behaved bus no session sends more
--- transactions.
 pub unlimited : (stops : List ℕ) → length stops ≡ 0 → first_allowance stops ≡ most_of 4096
 unlimited [] none = refl
 unlimited (first ∷ later) none = absurd (omega arith)
 
 -- ---- the session and the restores after it
 
--- The number of stops after the first one, plus 1, is the number of stops or, without stops, 1.
 count_after_first : (stops : List ℕ) → length (drop 1 stops) + 1 ≡ max 1 (length stops)
 count_after_first [] = refl
 count_after_first (first ∷ later) = omega arith
 
--- After a session that sealed its vault, and before any restore, the modifying commands that were sent are within the
--- limits of a rehearsal.
 pub session_sends : {request : Request} {image : List ℕ} {old new : BusState} {vault : VaultState} (stops : List ℕ)
     → LeavesSession request image old new vault → vault.sealed ≡ true → (journal : IsJournal vault.bytes)
     × SendsSaved (IsRehearsedCode request.what journal.content) (1 + max 1 (length stops)) journal.content old new
@@ -158,25 +146,20 @@ session_sends {request = request} {old = old} {new = new} stops leaves sealed =
           (sends_wider (IsWrittenCode request.what c) (IsRehearsedCode request.what c) 1 c old new (λ code is. inl is) sent),
     )
 
--- After the session, and before any restore, `AllowsStops` holds for one call.
 pub session_tried : (stops : List ℕ) (old new : BusState) → new.allowances ≡ first_allowance stops ∷ old.allowances
     → AllowsStops stops 1 (1 + max 1 (length stops)) old new
 session_tried stops old new first = record { calls = 1; some = omega arith; few = omega arith; is = allowed_first stops first }
 
--- Lemmas about a session that sealed its vault, and about the restores from the vault's bytes.
 module _ {request : Request} {image text later : List ℕ} {old mid new : BusState} {vault : VaultState}
     {result : Result ℕ Refusal} (session : LeavesSession request image old mid vault) (sealed : vault.sealed ≡ true)
     (is : text ≡ vault.bytes) (undone : LeavesUndo text later mid new result) where
-  -- a modelled bus is still modelled after the session, and the vault's bytes can then restore the original chip
   pub undo_premises : IsModelled old → IsModelled mid × CanUndo (is_touched old.chip.bytes (wanted request image old.chip)) old.chip text mid
   undo_premises modelled = search (arith, modelled_at)
 
-  -- on a modelled bus, the session and the restores together erase only sectors that the session touches
   pub both_wear : IsModelled old → (s : ℕ) → is_touched old.chip.bytes (wanted request image old.chip) s ≡ false → new.worn s ≡ old.worn s
   both_wear modelled s other =
       let (then_modelled, can_undo) = undo_premises modelled in undone.wears then_modelled _ _ can_undo s other ∙ session.wears modelled s other
 
-  -- the modifying commands that the session and the restores sent fit the journal in the vault
   pub both_send : (stops : List ℕ) → later ≡ drop 1 stops → (journal : IsJournal vault.bytes)
       × SendsSaved (IsRehearsedCode request.what journal.content) (1 + max 1 (length stops)) journal.content old new
   both_send stops later_is =
@@ -194,7 +177,6 @@ module _ {request : Request} {image text later : List ℕ} {old mid new : BusSta
             (rw count at then),
       )
 
-  -- the session and the restores together send at most as many status writes as a rehearsal may send
   pub both_write : (stops : List ℕ) → later ≡ drop 1 stops
       → WritesStatusAtMost (most_status_writes request.what request.unlock + 2 * max 1 (length stops)) old new
   both_write stops later_is =
@@ -202,7 +184,6 @@ module _ {request : Request} {image text later : List ℕ} {old mid new : BusSta
       let before = session.writes in let after = undone.writes in
       omega (arith, count, one, before, after)
 
-  -- The allowances that the session and the restores set are those of a rehearsal.
   module _ (stops : List ℕ) (later_is : later ≡ drop 1 stops)
       (first : mid.allowances ≡ first_allowance stops ∷ old.allowances) where
     pub both_allowed : (n : ℕ) → new.allowances ≡ allowances_of later n ++ mid.allowances
@@ -219,8 +200,6 @@ module _ {request : Request} {image text later : List ℕ} {old mid new : BusSta
           is = both_allowed tried.calls tried.is;
         }
 
-  -- an error of these restores is one that `restore` may return; a timeout or mismatch names an address that
-  -- `NamesAddress` allows
   pub undo_refused : (had : VaultState) (refusal : Refusal) → RefusesUndo text mid new refusal
       → IsRehearsalRefusal had vault refusal × NamesAddress vault refusal
   undo_refused had refusal refuses = (

@@ -23,18 +23,13 @@ use Rattle.nor_session.specs.Restore.{Choice, IsOfOtherDevice}
 use Rattle.nor_session.specs.PrepareRestore.{RestoreJudges, IsDeviceRefusal, PrepareErrors}
 use Rattle.nor_session.specs.Restore.{IsOfTypeFound}
 
--- ---- the chip is identified
-
 named_by : (chip : Chip) (outcome : Result Part ProbeFault) → shown_as chip.config ≡ outcome → IsOk outcome
     → IsNamed None chip.config
 named_by chip (Ok part) is ok = record { part = part; shown = is; wanted = tt }
 named_by chip (Err fault) is ok = absurd cc
 
--- A known chip is identified as some chip type.
 pub named_known : (chip : Chip) → IsKnown chip.config → IsNamed None chip.config
 named_known chip known = named_by chip (shown_as chip.config) refl known.shown
-
--- ---- the device (unique ID)
 
 pub other_unit : (journal : Content) (config : Config) (unique : List ℕ) → journal.unique ≡ Some unique → unique ≢ unique_of config → IsOfOtherDevice journal config
 other_unit journal config unique is other = rw is other
@@ -45,9 +40,6 @@ no_unit journal config is other = rw is at other
 pub same_unit : (journal : Content) (config : Config) (unique : List ℕ) → journal.unique ≡ Some unique → unique ≡ unique_of config → ¬ IsOfOtherDevice journal config
 same_unit journal config unique is same other = (rw is at other) same
 
--- ---- errors
-
--- `PrepareErrors`, the clause `errors` of a restore's preparation, holds for an error of the probe.
 pub probe_prepare_errors : (choice : Choice) (journal : Content) (old new : BusState) (fault : ProbeFault) → BlamesName None fault → ProbeEndsAt new.history fault
     → (old.honest ≡ true → ProbeErrors None old new fault) → PrepareErrors choice journal most_identity old new (of_probe fault)
 probe_prepare_errors choice journal old new Probes.OtherName blames last errors = absurd blames
@@ -59,7 +51,6 @@ probe_prepare_errors choice journal old new Probes.Stopped blames last errors = 
 probe_prepare_errors choice journal old new Probes.Timeout blames last errors = (refl, last, errors)
 probe_prepare_errors choice journal old new _ blames last errors = search arith
 
--- If `PrepareErrors` holds for an error with the bound `few` on the transactions, it holds with a higher bound.
 pub errors_more : (choice : Choice) (journal : Content) (few most : ℕ) (old new : BusState) (refusal : Refusal) → few ≤ most
     → PrepareErrors choice journal few old new refusal → PrepareErrors choice journal most old new refusal
 errors_more choice journal few most old new Stopped fits errors = record {
@@ -70,16 +61,11 @@ errors_more choice journal few most old new Stopped fits errors = record {
 errors_more choice journal few most old new (Timeout address) fits errors = errors
 errors_more choice journal few most old new _ fits errors = errors
 
--- `PrepareErrors` holds for errors 20 (another device) and 17 (other status bits). The premises are that on a
--- well-behaved bus contents and non-volatile status bits are as they were, and that on a modelled bus the error is that
--- of the first failed check.
 pub device_errors : (choice : Choice) (journal : Content) (most : ℕ) (old new : BusState) (refusal : Refusal) → IsDeviceRefusal refusal → (old.honest ≡ true → IsSame old.chip new.chip)
     → (IsModelled old → RestoreJudges choice journal old.chip refusal) → PrepareErrors choice journal most old new refusal
 device_errors choice journal most old new OtherUnit is same verdict = record { judged = refl; same = same; verdict = verdict }
 device_errors choice journal most old new StatusDiffers is same verdict = record { judged = refl; same = same; verdict = verdict }
 device_errors choice journal most old new _ is same verdict = absurd is
-
--- ---- ID and size
 
 pub kind_of : {journal : Content} {found : Found} {config : Config} → IsConfigOf config found
     → IsOfTypeFound journal found → IsOfType journal config

@@ -14,9 +14,6 @@ use Rattle.nor_scan.proofs.Replied.{identified_later}
 use Rattle.nor_session.specs.Session.{IsJournalOfReplies}
 use Rattle.std.specs.Prelude.{Option}
 
--- `IsJournalOfReplies` holds from `old` to `new`, if the identification (from `old` to `opened`) and the scan (from
--- `opened` to `at_seal`) only read, and the vault's bytes are a journal of the replies. `at_seal` is the state of the
--- bus at the seal.
 pub replied_saved : {named : Option ChipName} {identity : Identity} {m n : ℕ} {old opened at_seal new : BusState}
     {sectors : ℕ → Bool} {bytes : List ℕ} → OnlyReads m old opened → ReadsIdentity named old opened identity
     → OnlyReads n opened at_seal → KeepsReplies (begins_with 0x03) opened.history at_seal.history

@@ -26,19 +26,14 @@ use Rattle.nor_session.specs.Restore.{differing, restored, IsLeft}
 use Rattle.nor_session.specs.PrepareRestore.{PlansSaved, MarksChosen}
 use Rattle.nor_session.proofs.SavedBytes.{sector_at, byte_at, is_saved-some}
 
--- true if one of the first `i` records has the sector `s`
 abbrev pub saved_before : Content → ℕ → ℕ → Bool
 saved_before journal i s = is_some (saved_in (take i journal.saved) s)
 
--- Holds if the contents `one` and `two` agree in all sectors up to and including the sector of record `i` (counted from
--- 1). If `i` is 0, nothing is required.
 abbrev pub AgreeBefore : Content → (i : ℕ) → (one two : ℕ → ℕ) → Type 0
 AgreeBefore journal i one two = (s k : ℕ) → s < least_after 0 (take i journal.saved) → k < 4096
     → one (4096 * s + k) ≡ two (4096 * s + k)
 
--- Holds after the first `i` saved sectors were read once each. The marks are right for each content that agrees with
--- what was read: among these sectors, exactly the touched ones are marked as touched, and exactly the raised ones as
--- raised. On a well-behaved bus with an idle chip of the journal's size, the marks are right for the chip's bytes.
+-- Holds after the first `i` saved sectors were read once each, and marked by what was read.
 pub record HasRescanned (journal : Content) (i : ℕ) (old new : BusState) (scanned : Scanned) : Type 0 where
   pub marks : AreMarks (least_after 0 (take i journal.saved)) scanned
   pub reads : scanned.reads ≡ i
@@ -64,15 +59,12 @@ nothing_rescanned {journal = journal} {state = state} {scanned = scanned} blank 
 pub later_marks : {m n : ℕ} {scanned : Scanned} → m ≤ n → AreMarks m scanned → AreMarks n scanned
 later_marks later are = search (are.below, arith)
 
--- The first `i + 1` records have exactly the sectors of the first `i` records and the sector of the next record.
 pub more_before : (journal : Content) (i number : ℕ) (saved : List ℕ) (s : ℕ) → IsContent journal → slice_get journal.saved i ≡ Some (record { number = number; bytes = saved })
     → saved_before journal (i + 1) s ≡ ((s == number) || saved_before journal i s)
 more_before journal i number saved s is at =
     let more = saved_in-take_more journal i (record { number = number; bytes = saved }) s is at in
     grind (arith, nat_tests)
 
--- In a saved sector a restore's target byte is the saved byte (`restored_saved`). In any other sector it is the present
--- byte (`restored_other`).
 pub restored_saved : (journal : Content) (content : ℕ → ℕ) (a : ℕ) → is_saved journal (a / 4096) ≡ true → restored journal content a ≡ saved_byte journal a
 restored_saved journal content a is = rw is refl
 
@@ -82,8 +74,6 @@ restored_other journal content a is = rw is refl
 restored_at : (journal : Content) (content : ℕ → ℕ) (s : ℕ) (saved : List ℕ) (i : ℕ) → saved_in journal.saved s ≡ Some saved → i < 4096 → slice_index saved i ≡ restored journal content (4096 * s + i)
 restored_at journal content s saved i is below = search (arith, byte_at, is_saved-some, restored_saved, sector_at)
 
--- If `content` has the bytes that were read from sector `s`, the plan says whether this sector of `content` is touched,
--- and whether it is raised.
 planned_for : (journal : Content) (s : ℕ) (saved bytes : List ℕ) (mid new : BusState) (plan : SectorPlan) → saved_in journal.saved s ≡ Some saved
     → length saved ≡ 4096 → PlansSaved s saved bytes mid new plan → (content : ℕ → ℕ)
     → ((k : ℕ) → k < 4096 → slice_index bytes k ≡ content (4096 * s + k))
@@ -96,8 +86,6 @@ planned_for journal s saved bytes mid new plan is whole plans content shown =
     (λ k below. shown k (omega arith))
     (λ k below. restored_at journal content s saved k is (omega arith)))
 
--- On a well-behaved bus with an idle chip of the journal's size, the plan of sector `s` says whether the chip's sector
--- is touched, and whether it is raised.
 planned_from : (journal : Content) (s : ℕ) (saved bytes : List ℕ) (old mid new : BusState) (plan : SectorPlan) (i : ℕ) → saved_in journal.saved s ≡ Some saved → s < journal.size / 4096
     → length saved ≡ 4096 → IsOpen journal.size old → HasOnlyRead i old mid → PlansSaved s saved bytes mid new plan
     → (plan.touched ≡ is_touched old.chip.bytes (restored journal old.chip.bytes) s) × (plan.raised ≡ is_raised old.chip.bytes (restored journal old.chip.bytes) s)
@@ -159,8 +147,6 @@ rescanned_more {journal = journal} {i = i} {s = s} {saved = saved} {bytes = byte
 
 -- ---- after the last sector
 
--- A sector `s` that the journal doesn't save is neither touched (`untouched_other`) nor raised (`unraised_other`) by a
--- restore.
 pub untouched_other : (journal : Content) (content : ℕ → ℕ) (s : ℕ) → is_saved journal s ≡ false → is_touched content (restored journal content) s ≡ false
 untouched_other journal content s none = search (arith, restored_other, sector_at, untouched)
 

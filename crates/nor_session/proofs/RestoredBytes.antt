@@ -14,23 +14,19 @@ use Rattle.nor_session.specs.PrepareRestore.{IsSoundChoice}
 use Rattle.nor_session.proofs.SavedBytes.{sector_at}
 use Rattle.nor_session.proofs.Rescanned.{restored_saved, untouched_other, unraised_other}
 
--- If no address in the sector of `a` passes a test, `a` doesn't pass it.
 none_at : (test : ℕ → Bool) (a : ℕ) → any_below 4096 (λ i. test (4096 * (a / 4096) + i)) ≡ false → test a ≡ false
 none_at test a none =
     let place : 4096 * (a / 4096) + a % 4096 ≡ a = omega arith in
     rw place at (any_below-false 4096 (λ i. test (4096 * (a / 4096) + i)) none (a % 4096) (omega arith))
 
--- If the sector of `a` isn't touched, the byte at `a` is already the target byte.
 pub untouched_byte : (content target_bytes : ℕ → ℕ) (a : ℕ) → is_touched content target_bytes (a / 4096) ≡ false → content a ≡ target_bytes a
 unfolding is_touched
 untouched_byte content target_bytes a none = eqb-true _ _ (not-false _ (none_at (λ b. is_other (content b) (target_bytes b)) a none))
 
--- If the sector of `a` isn't raised, no bit at `a` must go from 0 to 1.
 pub unraised_byte : (content target_bytes : ℕ → ℕ) (a : ℕ) → is_raised content target_bytes (a / 4096) ≡ false → bit_and (target_bytes a) (content a) ≡ target_bytes a
 unfolding is_raised
 unraised_byte content target_bytes a none = eqb-true _ _ (not-false _ (none_at (λ b. must_rise (content b) (target_bytes b)) a none))
 
--- A sector that isn't touched isn't raised.
 pub untouched_unraised : (content target_bytes : ℕ → ℕ) (s : ℕ) → is_touched content target_bytes s ≡ false → is_raised content target_bytes s ≡ false
 untouched_unraised content target_bytes s none =
     unraised content target_bytes s (λ i below. sym (untouched_byte content target_bytes (4096 * s + i) (rw (sector_at s i below) none)))
@@ -39,13 +35,9 @@ pub touched_byte : (content target_bytes : ℕ → ℕ) (s : ℕ) → is_touched
 unfolding is_touched
 touched_byte content target_bytes s some = search (arith, any_below-found, both_ways, eq-eqb, not_from_true)
 
--- A sector that a restore touches is a saved sector.
 pub touched_saved : (journal : Content) (content : ℕ → ℕ) (s : ℕ) → is_touched content (restored journal content) s ≡ true → is_saved journal s ≡ true
 touched_saved journal content s some = search (arith, both_ways, true_from_ne_false, untouched_other)
 
--- Let all touched sectors be saved, and each sector in which a byte differs from the target be touched. Suppose that a
--- restore wrote the saved byte at `a` if the sector of `a` is touched, and otherwise left the byte as it was. Then the
--- byte at `a` is the target byte.
 pub written_restored : (journal : Content) (old mid new : ℕ → ℕ) (touched : ℕ → Bool) (a : ℕ)
     → ((s : ℕ) → touched s ≡ true → is_saved journal s ≡ true)
     → ((s : ℕ) → is_touched old (restored journal old) s ≡ true → touched s ≡ true) → mid a ≡ old a
@@ -58,11 +50,8 @@ written_restored journal old mid new touched a saved differs same is = elim (cas
       rw none at is ∙ same ∙ untouched_byte old (restored journal old) a untouched
 ]
 
--- A sector that a restore raises is a saved sector.
 pub raised_saved : (journal : Content) (content : ℕ → ℕ) (s : ℕ) → is_raised content (restored journal content) s ≡ true → is_saved journal s ≡ true
 raised_saved journal content s some = search (arith, both_ways, true_from_ne_false, unraised_other)
-
--- ---- the two choices of sectors
 
 touched_if_raised : (journal : Content) (content : ℕ → ℕ) (s : ℕ) → is_raised content (restored journal content) s ≡ true
     → is_touched content (restored journal content) s ≡ true
@@ -87,12 +76,9 @@ every_saved_sound = record {
   few = λ saved. omega arith;
 }
 
--- ---- pages
-
 and_same : (b x y : Bool) → (b ≡ true → x ≡ y) → (b && x) ≡ (b && y)
 and_same b x y same = grind arith
 
--- If two targets agree in the touched sectors, the number of pages to program is the same for both.
 pub pages_same : (touched : ℕ → Bool) (old target_bytes target_bytes' : ℕ → ℕ) → ((a : ℕ) → touched (a / 4096) ≡ true → target_bytes a ≡ target_bytes' a)
     → count_below 65536 (is_programmed touched old target_bytes) ≡ count_below 65536 (is_programmed touched old target_bytes')
 unfolding is_page_other

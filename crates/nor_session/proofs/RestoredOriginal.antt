@@ -1,6 +1,5 @@
--- Let a journal be able to restore the original chip at the start of a restore on a modelled bus. At every exit, the
--- chip's bytes and non-volatile status bits differ from those of the original chip only where a restore can write them
--- (`IsWithin`). After success, they are those of the original chip.
+-- If a journal can restore the original chip at the start of a restore on a modelled bus, it still can at every exit,
+-- and after success the chip is the original one.
 use Rattle.std.proofs.Common.{◌&&◌, ◌≡◌, ◌<◌, ◌+◌, ◌-◌, ◌*◌, ◌/◌, ◌%◌, ◌∙◌, ◌⊎◌, ℕ, Bool, true, false, true≢false, List, ap, sym, refl, arith, inl, inr}
 use Rattle.std.specs.Prelude.{not, ◌≢◌, Option, Some, None, IfSome, IsSomeAnd}
 use Rattle.std.proofs.lemmas.Bool.{cases_Bool, cases_lt, false_from_ne_true, and_left, and_parts, and_from, or_left, or_cases, both_ways, eqb-true}
@@ -45,9 +44,6 @@ use Rattle.nor_session.proofs.RestoredBytes.{touched_byte, touched_saved}
 steady_or_idle_or_not : (state : BusState) → IsSteadyOrIdle state ⊎ ((state.steady ≡ false) × (state.chip.busy ≢ 0))
 steady_or_idle_or_not state = grind arith
 
--- An operation that changes only the addresses in `p` (`WorksIn`) was interrupted. If the bits that are never changed
--- had the values of the original chip `first`, they still have them. If in addition the status of `first` can't be
--- written, and all non-volatile bits had the values of `first`, all of them still have these values.
 cut_kept : (p : ℕ → Bool) (first : Chip) (old new : KeptBits) (running : Running) → KeptCut running old new
     → WorksIn p first running → fixed_of old ≡ fixed_of first.kept
     → (fixed_of new ≡ fixed_of first.kept) × (is_writable first ≡ false → old ≡ first.kept → new ≡ first.kept)
@@ -99,7 +95,6 @@ lost_within p first old new known lost within =
 
 -- ---- protected ranges are whole sectors
 
--- The size of a genuine chip with block protection is a multiple of 256 KiB (262,144 bytes).
 scheme_size_at : (config : Config) (row : Option Part) → part_with_id (id_of config) ≡ row → IsGenuine config → config.scheme ≡ true → config.size % 262144 ≡ 0
 scheme_size_at config (Some part) is genuine scheme = search (arith, eqb-true, row_has)
 scheme_size_at config None is genuine scheme = absurd (both_ways config.scheme (genuine.unlisted is) scheme)
@@ -124,8 +119,6 @@ pub touched_open : (journal : Content) (first chip : Chip) (a : ℕ) → IsKnown
 touched_open journal first chip a known saves same touched =
     search (arith, protected_same, saved_byte-is, touched_byte, touched_saved)
 
--- Let the journal be able to restore the original chip, and save all touched sectors. If the status isn't locked or no
--- touched sector is protected, each address in a touched sector is open (`open_addresses`).
 chosen_open : (journal : Content) (first : Chip) (touched : ℕ → Bool) (old : BusState) (a : ℕ) → CanRestore journal first old
     → ((s : ℕ) → touched s ≡ true → is_saved journal s ≡ true)
     → (is_locked old.chip.kept ≡ true → ¬ SomeProtected touched old.chip) → touched (a / 4096) ≡ true
@@ -143,9 +136,6 @@ chosen_open journal first touched old a can saved free hit =
     }) in
     and_from _ _ (saved (a / 4096) hit) (ap not shut)
 
--- Let the journal be able to restore the original chip `first` at the start of a restore, and let `IsWithin` hold after
--- the preparation (`mid`). If the changes (`MayChange`) touch only saved sectors and, with a locked status, no
--- protected sector, `IsWithin` holds after the changes.
 pub change_within : (journal : Content) (first : Chip) (touched raised : ℕ → Bool) (wanted : ℕ → ℕ) (old mid new : BusState) → CanRestore journal first old → IsWithin (open_addresses journal first) first mid
     → ((s : ℕ) → touched s ≡ true → is_saved journal s ≡ true) → (is_locked old.chip.kept ≡ true → ¬ SomeProtected touched old.chip)
     → MayChange touched raised wanted mid new → IsWithin (open_addresses journal first) first new
@@ -165,8 +155,6 @@ same_as_original journal first old new saves config within config_now bytes kept
 
 -- ---- a restorable chip is never refused
 
--- Let the journal have the status bits of the original chip `first`, and let the status bits of `chip` differ from them
--- at most in protection bits that can be written. Then the status of `chip` fits the journal (`FitsStatus`).
 fixed_fits : (journal : Content) (first chip : Chip) → first.kept ≡ kept_in journal.status → chip.config ≡ first.config
     → fixed_of chip.kept ≡ fixed_of first.kept → (is_writable first ≡ false → chip.kept ≡ first.kept) → FitsStatus journal chip
 fixed_fits journal first chip bits config fixed kept =
@@ -176,9 +164,6 @@ code_locked : (journal : Content) (first chip : Chip) → first.kept ≡ kept_in
     → code_of chip.kept ≡ code_of (kept_in journal.status)
 code_locked journal first chip bits stay = ap code_of (stay ∙ bits)
 
--- Let the journal save the original chip `first`, which is known and whose status is locked. If `chip` has the
--- configuration and non-volatile bits of `first`, and differs from it only at open addresses, no touched sector of
--- `chip` is protected.
 free_held : (journal : Content) (first chip : Chip) → IsKnown first.config → SavesChip journal first → chip.config ≡ first.config → chip.kept ≡ first.kept → is_locked first.kept ≡ true
     → ((b : ℕ) → open_addresses journal first b ≡ false → chip.bytes b ≡ first.bytes b) → ¬ SomeProtected (is_touched chip.bytes (restored journal chip.bytes)) chip
 free_held journal first chip known saves config stay locked same some =
@@ -198,8 +183,6 @@ unit_not : (unique : Option (List ℕ)) (of_first : List ℕ) → IfSome unique 
 unit_not (Some u) of_first same other = other same
 unit_not None of_first same other = other
 
--- Holds if the choice touches no protected sector of `chip`, provided that the original chip's status is locked and
--- `chip` has the original chip's non-volatile status bits.
 abbrev pub NeverHeld : Choice → Content → (first chip : Chip) → Type 0
 NeverHeld choice journal first chip = is_locked first.kept ≡ true → chip.kept ≡ first.kept
     → ¬ SomeProtected (choice.touched journal chip.bytes) chip
@@ -221,14 +204,11 @@ only_stopped_by choice journal first old new StatusLocked can free errors =
     ])
 only_stopped_by choice journal first old new _ can free errors = absurd errors.holds
 
--- On a modelled bus, if the journal can restore the original chip, the only possible error of `restore` is a stop.
 pub only_stopped : (journal : Content) (first : Chip) (old new : BusState) (refusal : Refusal) → CanRestore journal first old → RestoreErrors journal old new refusal → refusal ≡ Stopped
 only_stopped journal first old new refusal can errors =
     only_stopped_by differing journal first old new refusal can
     (λ locked stay. free_held journal first old.chip can.known can.saves can.within.config stay locked can.within.bytes) errors
 
--- On a modelled bus, if the journal can restore the original chip, and a locked status protects no saved sector of that
--- chip (`CanBeRewritten`), the only possible error of `rewrite` is a stop.
 pub only_stopped_rewriting : (journal : Content) (first : Chip) (old new : BusState) (refusal : Refusal)
     → CanRestore journal first old → CanBeRewritten journal first → ErrorsBy every_saved journal old new refusal
     → refusal ≡ Stopped

@@ -26,8 +26,6 @@ use Rattle.nor_session.specs.Session.{CanBeUndone}
 use Rattle.nor_session.specs.Rehearsing.{CanUndo}
 use Rattle.nor_session.proofs.JudgedAgain.{accepted_named, accepted_free}
 
--- If a journal has the header of the chip `first`, saves sectors of it (`Saves`), and the non-volatile bits of status 2
--- of `first` are in range (below 128), the journal saves `first` (`SavesChip`).
 pub saves_chip : (first : Chip) (saved : ℕ → Bool) (journal : Content) → first.kept.two < 128 → SameHeader (header_of first) journal
     → Saves first.bytes saved journal → SavesChip journal first
 saves_chip first saved journal small same saves =
@@ -36,16 +34,12 @@ saves_chip first saved journal small same saves =
     rw (← status) (kept_same first.kept (kept_in ((4 * first.kept.one) ∷ first.kept.two ∷ [])) (omega arith) (omega arith)) in
     search arith
 
--- If bytes can restore the original chip `first` (`CanUndo`), and the status of `first` is locked, no address in a
--- saved sector is protected.
 saved_free : (saved : ℕ → Bool) (first : Chip) (text : List ℕ) (state : BusState) (a : ℕ) → CanUndo saved first text state → saved (a / 4096) ≡ true → (is_locked first.kept && is_protected first a) ≡ false
 saved_free saved first text state a can_undo is = false_from_ne_true _ (λ both.
     let (locked, protected) = and_parts _ _ both in
     let inside = can_undo.inside (a / 4096) is in let blocks = (sized_bounds first.config).blocks in
     both_ways _ (is_protected-sector first a (omega arith) (rw is at (can_undo.free locked (a / 4096)))) protected)
 
--- If the bytes `text` can restore the original chip (`CanUndo`), the journal that is read from them can restore it
--- (`CanRestore`).
 pub can_restore_read : (saved : ℕ → Bool) (first : Chip) (text : List ℕ) (state : BusState) (journal : Content) → CanUndo saved first text state
     → SameHeader (header_of first) journal × Saves first.bytes saved journal → CanRestore journal first state
 can_restore_read saved first text state journal can_undo read = record {
@@ -58,8 +52,6 @@ can_restore_read saved first text state journal can_undo read = record {
       can_undo.within;
 }
 
--- If `CanBeUndone` holds after a session with a faithful vault, and the original chip is genuine with its values in
--- range (`IsChip`), the vault's bytes can restore that chip (`CanUndo`).
 pub restorable : (request : Request) (image : List ℕ) (old new : BusState) (vault : VaultState) → IsChip old.chip → IsGenuine old.chip.config → vault.telling ≡ true
     → CanBeUndone request image old new vault → CanUndo (is_touched old.chip.bytes (wanted request image old.chip)) old.chip vault.bytes new
 restorable request image old new vault is genuine telling undone = record {
@@ -75,8 +67,6 @@ restorable request image old new vault is genuine telling undone = record {
   within = undone.changes.within;
 }
 
--- `KeepsOriginal`, the main promise of a session, follows from `OnlyReads` before the seal and from `CanBeUndone` after
--- it.
 pub original_kept : (request : Request) (image : List ℕ) (most : ℕ) (old new : BusState) (vault : VaultState)
     → (old.honest ≡ true → IsChip old.chip) → (vault.sealed ≡ false → OnlyReads most old new)
     → (IsModelled old → vault.sealed ≡ true → CanBeUndone request image old new vault) → KeepsOriginal old new vault

@@ -70,7 +70,6 @@ module _ (choice : Choice) (journal : Content) (most : ℕ) (old new : BusState)
   prepare_errors (Timeout address) fits modelled errors = absurd (errors.2 modelled.honest)
   prepare_errors refusal fits modelled errors = judged_verdict choice journal old.chip refusal (errors.verdict modelled)
 
-  -- after a stop or a timeout in the preparation, the last transaction is as `EndsAtError` says
   pub prepare_last : (refusal : Refusal) → PrepareErrors choice journal most old new refusal
       → EndsAtError refusal new.history
   prepare_last Stopped errors = errors.last
@@ -82,16 +81,12 @@ module _ (choice : Choice) (journal : Content) (most : ℕ) (old new : BusState)
   leaves_after_reads honest_reads =
       let fixed = λ (steady_or_idle : IsSteadyOrIdle old). ap fixed_of (honest_reads.stays.steady_or_idle steady_or_idle).kept in search arith
 
--- On a well-behaved bus, if a journal can restore a chip before a call that only reads, it can restore that chip after
--- the call.
 pub can_restore_after_reads : (journal : Content) (first : Chip) (most : ℕ) (old new : BusState) → old.honest ≡ true → OnlyReads most old new → CanRestore journal first old → CanRestore journal first new
 can_restore_after_reads journal first most old new honest only_reads can =
     assumption (within_after_reads _ first most old new only_reads.nature.steady (only_reads.honest_reads honest) can.within)
 
 -- ---- the changes after the preparation
 
--- If the journal fits the replies to the identification after the preparation, it still fits them after the changes,
--- since the replies stay in the history.
 pub changed_fits : {journal : Content} {old mid new : BusState} → FitsReplies journal old mid → KeepsNature mid new
     → FitsReplies journal old new
 changed_fits fits later = search (continues_then fits.after later.history)
@@ -153,7 +148,6 @@ module _ (choice : Choice) (journal : Content) (prepared : PreparedRestore) (old
       absurd (errors.1 (are.only_reads.nature.honest ∙ modelled.honest) (are.is.modelled modelled).can)
   change_errors _ are modelled errors = absurd errors
 
-  -- on a modelled bus, the only possible error of the changes is a stop
   pub change_stops : (refusal : Refusal) → AreChanged choice journal prepared old mid new → IsModelled old
       → ChangeErrors prepared.changes (saved_byte journal) mid new refusal → refusal ≡ Stopped
   change_stops Stopped are modelled errors = refl
@@ -174,7 +168,6 @@ change_not_judged changes wanted old new (Timeout address) errors judged = true�
 change_not_judged changes wanted old new (Mismatch address) errors judged = true≢false (sym judged)
 change_not_judged changes wanted old new _ errors judged = errors
 
--- After an error of the changes, the last transaction is as `EndsAtError` says.
 pub change_last : (changes : Changes) (wanted : ℕ → ℕ) (old new : BusState) (refusal : Refusal)
     → ChangeErrors changes wanted old new refusal → EndsAtError refusal new.history
 change_last changes wanted old new Stopped errors = errors.last
@@ -184,7 +177,6 @@ change_last changes wanted old new _ errors = absurd errors
 
 -- ---- the changes succeeded
 
--- the report of a restore with this preparation and this work, which sent `sent` transactions
 abbrev pub report_of : PreparedRestore → Work → ℕ → Report
 report_of prepared work sent = record {
   found = prepared.found;
@@ -197,7 +189,6 @@ report_of prepared work sent = record {
 module _ (choice : Choice) (journal : Content) (prepared : PreparedRestore) (old mid new : BusState) (work : Work) where
   module _ (sent : ℕ) (are : AreChanged choice journal prepared old mid new)
       (does : DoesChange prepared.changes (saved_byte journal) true mid new work) where
-    -- the report is within the bound for `writes` status writes, if the changes need at most that number
     restored_within : (writes : ℕ) → sent ≡ prepared.transactions + work.transactions
         → status_writes prepared.changes ≤ writes
         → IsWithinCounts (choice.reads (length journal.saved)) (length journal.saved) writes true (report_of prepared work sent)
@@ -207,7 +198,6 @@ module _ (choice : Choice) (journal : Content) (prepared : PreparedRestore) (old
         → IsWithinCounts (choice.reads (length journal.saved)) (length journal.saved) 2 true (report_of prepared work sent)
     restored_bounded sum = restored_within 2 sum (two_writes prepared.changes)
 
-    -- only the transactions that `CountsChanges` allows were sent
     pub restored_changing : sent ≡ prepared.transactions + work.transactions
         → CountsChanges (choice.reads (length journal.saved)) 2 true old new (report_of prepared work sent)
     restored_changing sum = record {
@@ -229,7 +219,6 @@ module _ (choice : Choice) (journal : Content) (prepared : PreparedRestore) (old
       };
     }
 
-    -- on a modelled bus, if no status write is needed, the report is within the bound without status writes
     pub restored_sparing : sent ≡ prepared.transactions + work.transactions → IsModelled old
         → ¬ NeedsStatusBy choice journal old.chip
         → IsWithinCounts (choice.reads (length journal.saved)) (length journal.saved) 0 true (report_of prepared work sent)
@@ -301,22 +290,17 @@ module _ (choice : Choice) (journal : Content) (prepared : PreparedRestore) (old
               does.unsent (omega arith) ∙ are.only_reads.sent;
         }
 
--- If the journal can restore the original chip `first`, and a restore succeeded on a modelled bus (`IsRestoredBy`), the
--- chip is the same as `first`.
 pub restored_original : (choice : Choice) (journal : Content) (first : Chip) (old new : BusState) (report : Report) → CanRestore journal first old → IsRestoredBy choice journal old new report → IsSame first new.chip
 restored_original choice journal first old new report can done = search (arith, same_as_original)
 
 -- ---- from the preparation on, or from the start of the restore on
 
--- The sum of the transactions of the preparation and of the work is below 2^64.
 pub work_fits : (prepared : PreparedRestore) {wanted : ℕ → ℕ} {old new : BusState} (work : Work)
     → prepared.transactions ≤ most_reads 4096 → DoesChange prepared.changes wanted true old new work
     → prepared.transactions + work.transactions < 2 ^ 64
 work_fits prepared work fits does =
     let most = touched_most prepared.changes in let writes = two_writes prepared.changes in omega arith
 
--- If `Announces` holds from `mid` to `new`, and no modifying command was sent from `old` to `mid`, `Announces` holds
--- from `old` to `new`.
 pub announces_since : {Was : Announcement → Type 0} {old mid new : BusState} {result : Result Report Refusal}
     → mid.sent ≡ old.sent → Announces Was mid new result → Announces Was old new result
 announces_since unsent announces = record {
@@ -324,7 +308,6 @@ announces_since unsent announces = record {
   as_reported = announces.as_reported;
 }
 
--- A call for which `RestoresOriginal` holds also satisfies `RewritesOriginal`.
 pub rewrites : {journal : Content} {old new : BusState} {result : Result Report Refusal}
     → RestoresOriginal journal old new result → RewritesOriginal journal old new result
 rewrites restores = record {
@@ -333,8 +316,6 @@ rewrites restores = record {
   only_stops = λ first can unprotected. restores.only_stops first can;
 }
 
--- If no modifying command was sent from `old` to `mid`, the erases and programs from `mid` to `new` are those from
--- `old` to `new`. So `ErasesFirst` holds from `old`, too.
 erased_since : {raised saved : ℕ → Bool} {old mid new : BusState} → mid.sent ≡ old.sent
     → ((s : ℕ) → raised s ≡ saved s) → ErasesFirst raised mid new → ErasesFirst saved old new
 erased_since unsent every first = record {

@@ -17,32 +17,24 @@ use Rattle.nor_geometry.proofs.Verdicts.{count_below-insert}
 pub sector_at : (s i : ℕ) → i < 4096 → (4096 * s + i) / 4096 ≡ s
 sector_at s i below = omega arith
 
--- The saved byte at the address `4096 * s + i` is the byte with index `i` in the saved sector `s`.
 pub byte_at : (journal : Content) (s : ℕ) (bytes : List ℕ) (i : ℕ) → saved_in journal.saved s ≡ Some bytes → i < 4096 → slice_index bytes i ≡ saved_byte journal (4096 * s + i)
 byte_at journal s bytes i is below = search (arith, sector_at)
 
 pub is_saved-some : (journal : Content) (s : ℕ) (bytes : List ℕ) → saved_in journal.saved s ≡ Some bytes → is_saved journal s ≡ true
 is_saved-some journal s bytes is = ap is_some is
 
--- a journal with valid content saves at most 4,096 sectors, the number on the largest chip
 pub saved_room : (journal : Content) → IsContent journal → length journal.saved ≤ 4096
 saved_room journal is = search (arith, is_chip_size-in_blocks, saved_few)
 
--- ---- the number of saved sectors
-
--- true if one of the records in `saved` has the sector `s`
 abbrev has_record : List SavedSector → ℕ → Bool
 has_record saved s = is_some (saved_in saved s)
 
--- If the sector numbers of the records ascend, and the first one is at least `least`, no record has a sector `s` below
--- `least`.
 not_below : (sectors least : ℕ) (saved : List SavedSector) (s : ℕ) → AreRising sectors least saved → s < least → has_record saved s ≡ false
 unfolding saved_in
 not_below sectors least [] s rising below = refl
 not_below sectors least (first ∷ rest) s rising below =
     rw (ne_eqb first.number s (λ e. omega arith)) (not_below sectors (first.number + 1) rest s rising.2 (omega arith))
 
--- A list of records has a sector if its first record has that sector, or one of the others does.
 one_more : (first : SavedSector) (rest : List SavedSector) (s : ℕ) → has_record (first ∷ rest) s ≡ ((s == first.number) || has_record rest s)
 unfolding saved_in
 one_more first rest s = grind (arith, nat_tests)
@@ -57,7 +49,6 @@ counted n sectors least (first ∷ rest) upto rising =
     let later = counted n sectors (first.number + 1) rest upto rising.2 in
     omega arith
 
--- The number of records in a journal is the number of saved sectors, since each saved sector has one record.
 pub saved_count : (chip : ℕ → ℕ) (saved : ℕ → Bool) (journal : Content) → Saves chip saved journal → length journal.saved ≡ sector_count saved
 saved_count chip saved journal saves =
     let most = (is_chip_size-in_blocks journal.size saves.is.size).small in

@@ -40,7 +40,6 @@ use Rattle.nor_session.proofs.RestoredBytes.{unraised_byte}
 use Rattle.nor_session.proofs.Ready.{Ready, changes_of, lifts_none, ran_out_ready, scanned_few}
 use Rattle.nor_session.proofs.ReadyChip.{most_sized}
 
--- Facts about the chip of a modelled bus after a session saved its touched sectors.
 pub record ReadyChip (request : Request) (image image' : List ℕ) (identity : Identity) (code : ℕ) (kept : SavedScan) (old mid : BusState) : Type 0 where
   pub honest : old.honest ≡ true
   pub is : IsIdentityOf old.chip identity
@@ -75,7 +74,6 @@ scheme_needed _ unlock code touched chip scheme need = held_scheme touched chip 
 module _ (request : Request) (image image' : List ℕ) (identity : Identity) (status : Status) (code : ℕ)
     (kept : SavedScan) (old mid : BusState) (is : Ready request identity status code kept old mid)
     (of : ReadyChip request image image' identity code kept old mid) where
-  -- if the changes write the status, the request needs a status write
   pub needs : (kept.unlock || writes_code (changes_of identity kept status code)) ≡ true
       → NeedsStatus request.what request.unlock code (is_touched old.chip.bytes (wanted request image old.chip)) old.chip
   needs writes =
@@ -85,7 +83,6 @@ module _ (request : Request) (image image' : List ℕ) (identity : Identity) (st
       (lifts_none is) (λ about_bytes. is.same_code about_bytes ∙ chip)
       (λ off same. writes_other (changes_of identity kept status code) off writes (read ∙ chip ∙ sym same))
 
-  -- if the request needs no status write, the changes write no status
   pub never_written : ¬ NeedsStatusWrite request image old.chip
       → status_writes (changes_of identity kept status code) ≤ 0
   never_written none =

@@ -1,5 +1,4 @@
--- Proofs for a session, mostly on a modelled bus. At every exit after the seal, the journal in a faithful vault can
--- undo the session (`CanBeUndone`). After success, the chip has the target bytes and protection bits (`IsDone`).
+-- At every exit after the seal, the journal in a faithful vault can undo the session, on a modelled bus.
 use Rattle.std.proofs.Common.{subst, ◌≡◌, ◌<◌, ◌+◌, ◌/◌, ◌∙◌, ℕ, Bool, true, List, ap, sym, arith}
 use mathlib.Core.Path.{fun_ext}
 use Rattle.std.specs.Prelude.{slice_index}
@@ -63,7 +62,6 @@ module _ (request : Request) (image image' : List ℕ) (identity : Identity) (st
       record {
         accepted = of.scan.accepted;
         journal = chip.journal;
-        -- Nothing changed before the seal, so `MayChange` holds from the start of the session to its exit.
         changes = change_then is.honest_reads.nature.steady (same_change unchanged.same of.idle unchanged.worn)
             (change_as (λ s hit. sym (of.touched s) ∙ hit) (λ s hit. sym (of.raised s) ∙ hit)
             (λ a plain hit. of.merged a hit) (leaves.reached honest can));
@@ -100,7 +98,6 @@ module _ (request : Request) (image image' : List ℕ) (identity : Identity) (st
           status1 = of.is.one;
           replied = of.replied;
           sectors = is.marks.count ∙ ap sector_count touched;
-          -- Each raised sector lies on the chip, so the number of erases is the least possible.
           erases = fewest_at old.chip.config _ work.erases
               (λ s hit. raised_inside request image old.chip.config.size old.chip.bytes s (sized_bounds old.chip.config).blocks hit)
               (let erases = does.erases in let kinds = of.is.config.kinds in let size = of.is.config.size in cc);
@@ -118,8 +115,6 @@ module _ (request : Request) (image image' : List ℕ) (identity : Identity) (st
             does.unsent (omega arith) ∙ is.honest_reads.same_sent;
       }
 
-  -- After success on a well-behaved bus, the touched sectors have the target bytes, since they were read back and
-  -- compared. The premises are that the request asks for verification, and that the chip has the size that was found.
   pub session_checked : (opened new : BusState) (work : Work) → OnlyReads most_identity old opened
       → ReadsIdentity request.named old opened identity → Scans request identity.found.size image image' opened mid kept.scanned
       → Ready request identity status code kept old mid
@@ -153,8 +148,6 @@ module _ (request : Request) (image image' : List ℕ) (identity : Identity) (st
       let read = does.checked verifies (is.honest_reads.nature.honest ∙ honest) can a marked in
       read ∙ wanted_byte ∙ sym (ap (λ (n : ℕ). wanted_at request image n old.chip.bytes a) sized)
 
-  -- On a modelled bus, if the request needs no status write, the bound on the transactions in the report allows for no
-  -- status write.
   pub spared : (new : BusState) (target_bytes : ℕ → ℕ) (verify : Bool) (work : Work) (sent : ℕ) → sent ≡ kept.scanned.reads
       → Ready request identity status code kept old mid → ReadyChip request image image' identity code kept old mid
       → ¬ NeedsStatusWrite request image old.chip

@@ -43,7 +43,6 @@ sends_then IsCode m n journal old mid new before after =
     let programs = add-mul m n (16 * sector_count (is_saved journal)) in
     grind (arith, before.targeted, after.targeted, before.written, after.written, erases, programs)
 
--- If `SendsSaved` holds for `n` calls, it holds for any greater number of calls.
 pub sends_most : (IsCode : ℕ → Type 0) (n most : ℕ) (journal : Content) (old new : BusState) → n ≤ most
     → SendsSaved IsCode n journal old new → SendsSaved IsCode most journal old new
 sends_most IsCode n most journal old new few sends =
@@ -57,8 +56,6 @@ sends_most IsCode n most journal old new few sends =
         let sum : most * k ≡ n * k + (most - n) * k = ap (λ (m : ℕ). m * k) split ∙ add-mul n (most - n) k in
         omega (arith, sum)
 
--- If `SendsSaved` holds with the protection bits that `IsCode` allows, it also holds with `IsWider`, which allows all
--- of these values and possibly more.
 pub sends_wider : (IsCode IsWider : ℕ → Type 0) (calls : ℕ) (journal : Content) (old new : BusState)
     → ((code : ℕ) → IsCode code → IsWider code) → SendsSaved IsCode calls journal old new
     → SendsSaved IsWider calls journal old new
@@ -66,9 +63,6 @@ sends_wider IsCode IsWider calls journal old new wider sends = grind (arith, sen
 
 -- ---- the bytes of a status write
 
--- A status write of the status that was read, but with the protection bits `code`, is allowed (`WritesOnly`). The
--- premises are that the bits that are never changed are the journal's, that `code` is below 64, and that `IsCode` holds
--- for `code`.
 pub coded_only : (IsCode : ℕ → Type 0) (journal : Content) (status : Status) (code one two : ℕ) → code < 64
     → fixed_of (kept_in (bytes_of status)) ≡ fixed_of (kept_in journal.status) → IsCode code
     → is_status_with_code status code one two ≡ true → WritesOnly IsCode journal one two
@@ -87,9 +81,7 @@ coded_only IsCode journal status code one two small fixed is written =
 
 -- ---- the changes, after calls that only read
 
--- Holds if the changes are for a chip of the journal's size and touch only sectors that the journal saves. In the
--- status that was read, the bits that are never changed have the journal's values. The raised sectors are touched. The
--- target protection bits are below 64; `IsCode` holds for them and, if protection is lifted, for 0.
+-- Holds if the changes are for a chip of the journal's size and touch only sectors that the journal saves.
 pub record AreOfJournal (IsCode : ℕ → Type 0) (journal : Content) (changes : Changes) : Type 0 where
   pub sized : journal.size ≡ changes.size
   pub saved : (s : ℕ) → touched_in changes s ≡ true → is_saved journal s ≡ true

@@ -1,5 +1,4 @@
--- Proofs of the laws about a chip that is opened from files that were being overwritten (`IsWrittenOver`). The journal
--- can restore the original chip from such files.
+-- Proofs of the laws about a chip that is opened from files that were being overwritten (`IsWrittenOver`).
 use Rattle.std.proofs.Common.{ap, arith, ◌/◌, ◌%◌, false, ◌≡◌, ◌∙◌, ◌⊎◌, ℕ, Bool, List, [], true, refl, sym, inl, inr}
 use Rattle.std.proofs.lemmas.List.{append-nil}
 use Rattle.nor_model.specs.Bus.{BusState}
@@ -22,15 +21,10 @@ use Rattle.nor_session.specs.Session.{CanBeUndone}
 use Rattle.nor_session.specs.WrittenOver.{IsWrittenOver}
 use Rattle.nor_session.proofs.RestoresOriginal.{can_restore_read, restorable}
 
--- ---- files that are overwritten with another chip
-
--- If a property `P` holds for `x` and for `y`, and `z` is `x` or `y`, then `P` holds for `z`.
 pub either : (P : ℕ → Type 0) (x y z : ℕ) → (z ≡ x) ⊎ (z ≡ y) → P x → P y → P z
 either P x y z (inl is) one two = rw is one
 either P x y z (inr is) one two = rw is two
 
--- If the chips before and after the overwriting have the non-volatile bits `first`, so does the chip that was opened.
--- `fixed_over` says the same of the bits that are never changed.
 kept_over : {old new opened : Chip} (first : KeptBits) → IsWrittenOver old new opened → old.kept ≡ first
     → new.kept ≡ first → opened.kept ≡ first
 kept_over {old} {new} {opened} first over before after =
@@ -49,7 +43,6 @@ fixed_over {old} {new} {opened} first over before after =
     (ap (λ (f : ℕ × ℕ). f.1) before) (ap (λ (f : ℕ × ℕ). f.1) after) in
     rw (one, two) refl
 
--- If `IsWithin` holds for the chips before and after the overwriting, it holds for the chip that was opened.
 pub within_both : (addresses : ℕ → Bool) (first : Chip) (old new opened : BusState) → IsWrittenOver old.chip new.chip opened.chip
     → IsWithin addresses first old → IsWithin addresses first new → IsWithin addresses first opened
 within_both addresses first old new opened over before after =
@@ -57,19 +50,13 @@ within_both addresses first old new opened over before after =
     let kept = λ (shut : is_writable first ≡ false). kept_over first.kept over (before.kept shut) (after.kept shut) in
     search (arith, either)
 
--- the proof of the law `restore_written_over`
 pub restore_over : (journal : Content) (first : Chip) (old new opened : BusState) → CanRestore journal first old
     → CanRestore journal first new → IsWrittenOver old.chip new.chip opened.chip → CanRestore journal first opened
 restore_over journal first old new opened before after over = search (arith, within_both)
 
--- the proof of the law `same_written_over`
 pub same_over : (old new opened : Chip) → IsSame old new → IsWrittenOver old new opened → IsSame old opened
 same_over old new opened same over = let kept = kept_over old.kept over refl same.kept in search (arith, either)
 
--- ---- after a session
-
--- If the bytes `kept` are a journal with this header and these saved sectors, the journal that is read from them has
--- the same header and saved sectors.
 pub read_kept : (head : Content) (bytes : ℕ → ℕ) (saved : ℕ → Bool) (journal : Content) (kept : List ℕ) → JournalSaves head bytes saved kept
     → IsContent journal → kept ≡ text journal → SameHeader head journal × Saves bytes saved journal
 read_kept head bytes saved journal kept saves is read =
@@ -86,7 +73,6 @@ read_back request image old new vault journal modelled is telling undone sound r
     (restorable request image old new vault is modelled.genuine telling undone)
     (read_kept (header_of old.chip) old.chip.bytes _ journal vault.bytes (undone.journal telling) sound read)
 
--- the bus `state`, but with an idle chip
 abbrev idle : BusState → BusState
 idle state = record state { chip = record state.chip { busy = 0 } }
 

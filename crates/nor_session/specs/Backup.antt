@@ -1,5 +1,4 @@
--- The promises of a backup, which saves every sector of a chip in a journal, and the chips that this journal can
--- restore.
+-- The promises of a backup, which saves every sector of a chip in a journal.
 use Rattle.std.specs.Prelude.{◌≡◌, ◌≤◌, ◌<◌, ◌+◌, ◌/◌, ◌&&◌, ◌⊎◌, ℕ, Bool, true, not, nat_lt, List, [], Option, Some, Result, Err, IfOk, IfErr, OnOk, OnErr, ⊤}
 use Rattle.nor_model.specs.Chip.{Chip, IsSame, is_locked}
 use Rattle.nor_model.specs.Guard.{is_protected}
@@ -35,22 +34,19 @@ pub record SavesWholeChip (journal : Content) (first : Chip) : Type 0 where
   pub device : journal.unique ≡ Some (unique_of first.config)
   pub every : (s : ℕ) → s < first.config.size / 4096 → is_saved journal s ≡ true
 
--- Holds if these bytes are the encoding of a journal that saves this whole chip.
 pub record IsBackupOf (bytes : List ℕ) (first : Chip) : Type 0 where
   pub journal : IsJournal bytes
   pub saves : SavesWholeChip journal.content first
 
--- True at the addresses that a restore can write on this chip. These are all addresses of the chip or, if its status is
--- locked, all addresses that aren't protected.
+-- True at the addresses that a restore can write on this chip: all of them or, if its status is locked, those that
+-- aren't protected.
 abbrev pub writable_addresses : Chip → (a : ℕ) → Bool
 writable_addresses first a = nat_lt a first.config.size && not (is_locked first.kept && is_protected first a)
 
 -- ---- on every bus
 
--- Describes the report of a backup on a bus with or without further types (`further`). The chip that was found
--- satisfies `IsPart` and has the requested name, if any, and the counts of touched sectors, erases and programs are 0.
--- The number of transactions is at least four (the shortest identification) plus one for each sector, and at most
--- `most_reads`.
+-- The promises about the report of a backup. The number of transactions is at least four (the shortest identification)
+-- plus one for each sector. `further` says whether the bus has further types.
 pub record ReportsBackup (named : Option ChipName) (further : Bool) (report : Report) : Type 0 where
   pub part : IsPart further report.found
   pub has_name : IsWanted named report.found.name
@@ -60,20 +56,17 @@ pub record ReportsBackup (named : Option ChipName) (further : Bool) (report : Re
   pub least : 4 + report.found.size / 4096 ≤ report.transactions
   pub most : report.transactions ≤ most_reads (report.found.size / 4096)
 
--- Holds if the bytes are a journal that contains what the bus replied during the backup. Its header has the ID, the
--- unique ID and the non-volatile status bits that the bus replied. The size in the header is the size in the row that
--- applies to the ID on this bus or, without a row, the size in the SFDP replies. Every sector of a chip of this size is
--- saved, with the bytes of the last reply to a read of it. `further` says whether the bus has further types.
+-- Holds if the bytes are a journal that contains what the bus replied during the backup: ID, unique ID, non-volatile
+-- status bits, and the last reply to a read of each sector. The size is the one in the row that applies to the ID on
+-- this bus or, without a row, in the SFDP replies.
 pub record IsBackupOfReplies (further : Bool) (found : Found) (new : BusState) (bytes : List ℕ) : Type 0 where
   pub identity : Identity
   pub same : identity.found ≡ found
   pub replied : IsIdentifiedBy further new.history identity
   pub saves : JournalSaves (header_found identity) (bytes_read new.history) (sectors_below (found.size / 4096)) bytes
 
--- Holds if a backup may return this error and leave this vault. After errors 1 to 3 and 13, which come from the
--- identification, the vault is as it was. After error 12 the vault has refused nothing, and after error 11 it has
--- refused one call. In both cases the vault is sealed if and only if it was sealed at the start; a backup starts with
--- an unsealed vault. Error 13 (timeout) names address 0.
+-- Holds if a backup may return this error and leave this vault. After errors of the identification (1 to 3 and 13) the
+-- vault is as it was, and after error 11 it has refused one call.
 abbrev pub BackupReturns : (vault vault' : VaultState) → Refusal → Type 0
 BackupReturns vault vault' NoChip = vault' ≡ vault
 BackupReturns vault vault' (UnknownChip fault) = vault' ≡ vault
@@ -85,9 +78,8 @@ BackupReturns vault vault' _ = ⊥
 
 -- ---- on a well-behaved bus
 
--- The meaning of errors on a well-behaved bus. Error 1 means that the chip's ID reads as no chip, error 2 that the chip
--- is unknown, and error 3 that its name isn't the requested one. A stop occurs only if no transaction is left and fewer
--- than `most` were left at the start. A timeout does not occur. `BackupReturns` says when error 11 occurs.
+-- The meaning of errors on a well-behaved bus. A stop occurs only if no transaction is left and fewer than `most` were
+-- left at the start. A timeout does not occur. `BackupReturns` says when error 11 occurs.
 abbrev pub BackupErrors : (most : ℕ) → Option ChipName → (old new : BusState) → Refusal → Type 0
 BackupErrors most named old new NoChip = shown_as old.chip.config ≡ Err Probes.NoChip
 BackupErrors most named old new (UnknownChip fault) = shown_as old.chip.config ≡ Err (Probes.UnknownChip fault)
@@ -108,22 +100,15 @@ HoldsBackupBegun chip bytes = (bytes ≡ [])
 -- The promises of a backup on every bus and with every vault.
 pub record BackupAlways (named : Option ChipName) (old new : BusState) (vault vault' : VaultState)
     (result : Result Report Refusal) : Type 0 where
-  -- No modifying command is sent. On a well-behaved bus, the number of transactions is at most that of identifying and
-  -- reading the largest chip. If this bus is steady, or its chip was idle at the start, then bytes and non-volatile
-  -- status bits are as they were before.
+  -- On a well-behaved bus, the number of transactions is at most that of identifying and reading the largest chip.
   pub only_reads : OnlyReads (most_reads 4096) old new
-  -- after success the vault is sealed, and it refused nothing
   pub sealed : OnOk result (Completed vault vault')
-  -- after an error, the error and the vault are as `BackupReturns` allows; so the vault, which was unsealed at the
-  -- start, is still unsealed
+  -- the vault, which was unsealed at the start, is still unsealed
   pub answers : IfErr result (BackupReturns vault vault')
-  -- after success a faithful vault holds a journal that has every sector as the bus replied it (`IsBackupOfReplies`)
+  -- after success a faithful vault holds a journal that has every sector as the bus replied it
   pub replied : IfOk result (λ report. vault'.telling ≡ true
       → IsBackupOfReplies old.further report.found new vault'.bytes)
-  -- after success the report has a chip with the requested name and counts no change, and its number of transactions is
-  -- within the bounds of `ReportsBackup`
   pub reported : IfOk result (ReportsBackup named old.further)
-  -- a backup succeeds only if the last poll showed that the chip is ready
   pub polled_ready : OnOk result (new.polled_ready ≡ true)
   -- after error 12 the last transaction is the one at which the bus stopped; after error 13 it is a poll that showed
   -- BUSY
@@ -131,23 +116,17 @@ pub record BackupAlways (named : Option ChipName) (old new : BusState) (vault va
 
 -- The promises of a backup on a well-behaved bus.
 pub record BackupHonest (named : Option ChipName) (old new : BusState) (result : Result Report Refusal) : Type 0 where
-  -- an error means that the identification found no chip, an unknown chip or another name, that the vault failed, or
-  -- that too few transactions were left (`BackupErrors`)
   pub errors : IfErr result (BackupErrors (most_reads 4096) named old new)
-  -- after success bytes and non-volatile status bits are as they were before the backup
   pub same : OnOk result (IsSame old.chip new.chip)
   -- the report counts exactly the transactions that were sent
   pub counted : IfOk result (λ report. Spent report.transactions old new)
 
--- The promises of a backup on a modelled bus: a well-behaved one whose chip is what its ID or SFDP says.
+-- The promises of a backup on a modelled bus.
 pub record BackupModelled (named : Option ChipName) (old new : BusState) (vault' : VaultState)
     (result : Result Report Refusal) : Type 0 where
-  -- an error means what `BackupErrors` says; a stop occurs only if fewer transactions were left at the start than the
-  -- bound for a chip of this size
+  -- a stop occurs only if fewer transactions were left at the start than the bound for a chip of this size
   pub errors : IfErr result (BackupErrors (most_reads (old.chip.config.size / 4096)) named old new)
-  -- after success the chip type in the report fits the chip's configuration (`IsConfigOf`)
   pub config : IfOk result (λ report. IsConfigOf old.chip.config report.found)
-  -- after success a faithful vault holds a journal that saves the whole chip
   pub saves : OnOk result (vault'.telling ≡ true → IsBackupOf vault'.bytes old.chip)
   -- after success the journal in a faithful vault can restore the chip
   pub restorable : OnOk result (vault'.telling ≡ true → CanRestoreFrom vault'.bytes old.chip new)

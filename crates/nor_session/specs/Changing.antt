@@ -23,26 +23,21 @@ use Rattle.nor_apply.specs.Applying.{touched_in, raised_in, status_writes, most_
 use Rattle.nor_request.specs.declared.refusal.Refusal.{Refusal}
 use Rattle.nor_request.specs.declared.refusal.Refusal.TheVariants.{Stopped, Timeout, Mismatch}
 
--- the number of touched sectors
 abbrev pub touched_count : Changes → ℕ
 touched_count changes = sector_count (touched_in changes)
 
--- a bound on the transactions of the changes and of their check: the bound on those of the changes, plus one read of
--- each touched sector
+-- a bound on the transactions of the changes and of their check
 abbrev pub most_changed : Changes → ℕ
 most_changed changes = most_applied (touched_count changes) + touched_count changes
 
--- the number of sectors that the check reads back: the touched ones if `verify` is set, otherwise none
 abbrev pub read_back : Changes → Bool → ℕ
 read_back changes verify = if verify then touched_count changes else 0
 
 -- ---- the check, after all is written
 
--- Holds after the check succeeded. `written` has the counts before the check, and `work` those after it. The check
--- sends one transaction for each touched sector if `verify` is set, and otherwise none; `work` includes them. No
--- other transaction was sent. On a well-behaved bus exactly these transactions were carried out, and contents and
--- non-volatile status bits are as they were. If in addition `verify` is set and the chip was idle with the touched
--- sectors on it (`CanCheck`), each byte of a touched sector is the target byte.
+-- Holds after the check succeeded. `written` has the counts before the check, and `work` those after it. If `verify` is
+-- set, and the chip of a well-behaved bus was idle with the touched sectors on it (`CanCheck`), each byte of a touched
+-- sector is the target byte.
 pub record DoesCheck (changes : Changes) (wanted : ℕ → ℕ) (verify : Bool) (written : Work) (old new : BusState)
     (work : Work) : Type 0 where
   pub erases : work.erases ≡ written.erases
@@ -56,11 +51,8 @@ pub record DoesCheck (changes : Changes) (wanted : ℕ → ℕ) (verify : Bool) 
   pub same : verify ≡ true → old.honest ≡ true → CanCheck (touched_in changes) old.chip
       → (a : ℕ) → touched_in changes (a / 4096) ≡ true → old.chip.bytes a ≡ wanted a
 
--- The meaning of an error of the check. On every bus `Stopped` means that the bus stopped at the last transaction, and
--- `Mismatch` that the last transaction was a read of the sector that contains the address. No other error occurs. On a
--- well-behaved bus `Stopped` means that fewer transactions were left at the start than there are touched sectors, and
--- that none is left now. If the chip of such a bus can be checked (`CanCheck`), the address of `Mismatch` is that of
--- the first difference in the touched sectors.
+-- The meaning of an error of the check. If the chip of a well-behaved bus can be checked (`CanCheck`), the address of
+-- `Mismatch` is that of the first difference in the touched sectors.
 abbrev pub CheckRefuses : Changes → (ℕ → ℕ) → (old new : BusState) → Refusal → Type 0
 CheckRefuses changes wanted old new Stopped = HasStopped (touched_count changes) old new
 CheckRefuses changes wanted old new (Mismatch address) = EndsReading address new.history
@@ -70,28 +62,18 @@ CheckRefuses changes wanted old new _ = ⊥
 
 -- ---- the changes and their check
 
--- Holds if each byte of these sectors on the chip is the target byte.
 abbrev pub HasBytes : (sectors : ℕ → Bool) → (wanted : ℕ → ℕ) → Chip → Type 0
 HasBytes sectors wanted chip = (a : ℕ) → sectors (a / 4096) ≡ true → chip.bytes a ≡ wanted a
 
--- Holds at every exit of the changes and their check. On every bus the modifying commands that were sent are within the
--- limits `most_sent` (`SendsWithin`). These limit the numbers of erases, page programs and status writes. A sector
--- outside the limits was targeted only if it had been targeted before the changes, too. A pair of bytes outside the
--- limits was sent by a status write only if it had been sent before the changes, too. On a well-behaved bus at most
--- `most_changed` transactions were carried out. If `CanApply` held at the start on such a bus, the chip changed only as
--- `MayChange` allows.
+-- Holds at every exit of the changes and their check. The numbers of operations are within the limits `most_sent`.
+-- Targets and status bytes outside these limits are allowed if they had occurred before the changes.
 abbrev pub LeavesChange : Changes → (wanted : ℕ → ℕ) → (old new : BusState) → Type 0
 LeavesChange changes wanted =
     Leaves (most_changed changes) (most_sent changes) (CanApply changes wanted)
     (MayChange (touched_in changes) (raised_in changes) wanted)
 
--- Holds after the changes and their check succeeded, with the counts of `work`. If there was nothing to change, no
--- modifying command was sent. On every bus an erase was sent for each raised sector before anything was programmed.
--- Exactly `work.transactions` transactions were sent. These are one read for each sector that is read back, at most one
--- other read for each touched sector, at most three transactions for each operation, and polls that showed BUSY. On a
--- well-behaved bus, if `CanApply` held at the start, all changes were made (`HasApplied`). On such a bus, if `verify`
--- is set and the chip was idle with the touched sectors on it (`CanCheck`), each byte of a touched sector is the target
--- byte. This is true even if the chip ignored commands.
+-- Holds after the changes and their check succeeded, with the counts of `work`. If `verify` is set and the chip of a
+-- well-behaved bus can be checked, each byte of a touched sector is the target byte, even if the chip ignored commands.
 pub record DoesChange (changes : Changes) (wanted : ℕ → ℕ) (verify : Bool) (old new : BusState)
     (work : Work) : Type 0 where
   pub erases : work.erases ≡ fewest_erases changes.kinds (changes.size / 4096) (raised_in changes)
@@ -116,10 +98,7 @@ pub record DoesChange (changes : Changes) (wanted : ℕ → ℕ) (verify : Bool)
   pub checked : verify ≡ true → old.honest ≡ true → CanCheck (touched_in changes) old.chip
       → HasBytes (touched_in changes) wanted new.chip
 
--- Holds if the changes and their check may fail with this error: a stop, a timeout or a mismatch. On every bus,
--- `Stopped` means that the bus stopped at the last transaction. `Timeout` means that the last transaction was a poll
--- that showed BUSY, and `Mismatch` that it was a read of the sector that contains the address. On a well-behaved bus,
--- `Stopped` means that fewer than `most_changed` transactions were left at the start, `Timeout` does not occur, and
+-- Holds if the changes and their check may fail with this error. On a well-behaved bus `Timeout` does not occur, and
 -- `Mismatch` does not occur if `CanApply` held at the start.
 abbrev pub ChangeErrors : Changes → (ℕ → ℕ) → (old new : BusState) → Refusal → Type 0
 ChangeErrors changes wanted old new Stopped = HasStopped (most_changed changes) old new
@@ -128,9 +107,8 @@ ChangeErrors changes wanted old new (Mismatch address) =
     EndsReading address new.history × (old.honest ≡ true → CanApply changes wanted old.chip → ⊥)
 ChangeErrors changes wanted old new _ = ⊥
 
--- Holds if the result fits what was read back. The changes promise this on every bus. After success with `verify` set,
--- and after a mismatch, the last transactions were reads of sectors. After success, each byte of a touched sector was
--- read as its target byte. After a mismatch, its address is the first address in a touched sector whose byte was read
+-- Holds if the result fits what was read back, on every bus. After success with `verify` set, the last transactions
+-- read each byte of a touched sector as its target byte. A mismatch names the first address whose byte was read
 -- otherwise.
 abbrev pub FitsReadBack : Changes → (wanted : ℕ → ℕ) → (verify : Bool) → (old new : List Exchange)
     → Result Work Refusal → Type 0
@@ -140,9 +118,8 @@ FitsReadBack changes wanted verify old new (Err (Mismatch address)) =
     EndsReadOther (addresses_of (touched_in changes)) wanted address old new
 FitsReadBack changes wanted verify old new (Err _) = ⊤
 
--- Holds for a timeout that names an address in a touched sector, or 0 if a status write is needed. Holds for a mismatch
--- that names an address in a touched sector, and for every error of another kind. The changes and their check promise
--- this on every bus.
+-- Holds if a timeout names an address in a touched sector, or 0 if a status write is needed, and a mismatch an address
+-- in a touched sector.
 abbrev pub NamesTouchedSector : Changes → Refusal → Type 0
 NamesTouchedSector changes (Timeout address) =
     ((1 ≤ status_writes changes) × (address ≡ 0)) ⊎ (touched_in changes (address / 4096) ≡ true)

@@ -16,20 +16,17 @@ use Rattle.nor_session.specs.declared.checks.CheckFault.{CheckFault}
 use Rattle.nor_session.specs.declared.checks.CheckFault.TheVariants.{Stopped, Mismatch}
 use Rattle.nor_geometry.specs.Counts.{sector_count}
 
--- Holds if the chip is idle, and these sectors lie on it.
 pub record CanCheck (sectors : ℕ → Bool) (chip : Chip) : Type 0 where
   pub idle : chip.busy ≡ 0
   pub inside : (s : ℕ) → sectors s ≡ true → 4096 * s + 4096 ≤ chip.config.size
 
--- Holds if `address` is the first address in these sectors at which `content` differs from the target.
 pub record IsFirstMismatch (sectors : ℕ → Bool) (wanted content : ℕ → ℕ) (address : ℕ) : Type 0 where
   pub in_sector : sectors (address / 4096) ≡ true
   pub differs : content address ≢ wanted address
   pub before : (a : ℕ) → a < address → sectors (a / 4096) ≡ true → content a ≡ wanted a
 
--- Holds if the verification succeeded with `sent` transactions, one for each sector. On every bus nothing else was
--- sent. On a well-behaved bus bytes, non-volatile status bits and erased sectors are as they were (`Rested`). If
--- `CanCheck` held on such a bus, each byte of these sectors is the target byte.
+-- Holds if the verification succeeded with `sent` transactions, one for each sector. If `CanCheck` held on a
+-- well-behaved bus, each byte of these sectors is the target byte.
 pub record DoesChecks (sectors : ℕ → Bool) (wanted : ℕ → ℕ) (old new : BusState) (sent : ℕ) : Type 0 where
   pub reads : sent ≡ sector_count sectors
   pub added : AddsTransactions sent sent old.history new.history
@@ -37,18 +34,13 @@ pub record DoesChecks (sectors : ℕ → Bool) (wanted : ℕ → ℕ) (old new :
   pub same : old.honest ≡ true → CanCheck sectors old.chip
       → (a : ℕ) → sectors (a / 4096) ≡ true → old.chip.bytes a ≡ wanted a
 
--- The meaning of an error of the verification. On every bus `Stopped` means that the bus stopped at the last
--- transaction, and `Mismatch` that the last transaction was a read of the sector that contains the address. On a
--- well-behaved bus `Stopped` means that fewer transactions were left at the start than there are sectors in the set,
--- and that none is left now. If `CanCheck` held on such a bus, the address of `Mismatch` is the first address in these
--- sectors at which the chip differs from the target.
+-- The meaning of an error of the verification. If `CanCheck` held on a well-behaved bus, the address of `Mismatch` is
+-- the first address in these sectors at which the chip differs from the target.
 abbrev pub CheckErrors : (ℕ → Bool) → (ℕ → ℕ) → (old new : BusState) → CheckFault → Type 0
 CheckErrors sectors wanted old new Stopped = HasStopped (sector_count sectors) old new
 CheckErrors sectors wanted old new (Mismatch address) = EndsReading address new.history
     × (old.honest ≡ true → CanCheck sectors old.chip → IsFirstMismatch sectors wanted old.chip.bytes address)
 
--- Holds for a stop, and for a mismatch whose address is in one of these sectors. The verification promises this on
--- every bus.
 abbrev pub NamesDifference : (ℕ → Bool) → CheckFault → Type 0
 NamesDifference sectors Stopped = ⊤
 NamesDifference sectors (Mismatch address) = sectors (address / 4096) ≡ true
@@ -60,17 +52,14 @@ pub record ReadsWhole (sector : ℕ) (Is : List ℕ → Type 0) (old new : List 
   pub whole : length bytes ≡ 4096
   pub is : Is bytes
 
--- Holds if the result of the verification of a sector fits its reply. After success no byte of the reply differs from
--- the target. After a mismatch, its address is that of the first byte that differs. Nothing is known after a stop.
+-- Holds if the result of the verification of a sector fits its reply. A mismatch names the first byte that differs.
 abbrev pub ChecksReply : (sector : ℕ) → (target : List ℕ) → (old new : List Exchange) → Result Unit CheckFault → Type 0
 ChecksReply sector target old new (Ok done) = ReadsWhole sector (λ bytes. AllAgree bytes target) old new
 ChecksReply sector target old new (Err Stopped) = ⊤
 ChecksReply sector target old new (Err (Mismatch address)) = (first : ℕ) × (address ≡ 4096 * sector + first)
     × ReadsWhole sector (λ bytes. IsFirstDifference bytes target first) old new
 
--- Holds if the result of the verification fits the replies. The verification promises this on every bus. After success
--- each byte of these sectors was read as its target byte. After a mismatch, its address is the first address in these
--- sectors whose byte was read otherwise. Nothing is known after a stop.
+-- Holds if the result of the verification fits the replies, on every bus.
 abbrev pub ChecksReplies : (sectors : ℕ → Bool) → (wanted : ℕ → ℕ) → (old new : List Exchange) → Result ℕ CheckFault
     → Type 0
 ChecksReplies sectors wanted old new (Ok sent) = ReadsBack (addresses_of sectors) wanted old new
@@ -78,7 +67,6 @@ ChecksReplies sectors wanted old new (Err Stopped) = ⊤
 ChecksReplies sectors wanted old new (Err (Mismatch address)) =
     ReadsOther (addresses_of sectors) wanted address old new
 
--- the error of a session or restore for a failed verification
 abbrev pub of_check : CheckFault → Refusal
 of_check Stopped = Refusals.Stopped
 of_check (Mismatch address) = Refusals.Mismatch address

@@ -14,8 +14,7 @@ use Rattle.nor_session.specs.Restore.{NeedsStatusFrom}
 use Rattle.nor_session.specs.WrittenOver.{IsWrittenOver}
 
 -- Holds if a session on a modelled bus left this journal in a faithful vault. The session ended, or was stopped
--- anywhere after the seal, so what it promises after the seal holds (`CanBeUndone`). The original chip's values are in
--- range (`IsChip`), which each well-behaved bus ensures.
+-- anywhere after the seal.
 pub record LeavesJournal (request : Request) (image : List ℕ) (old new : BusState) (journal : Content) : Type 0 where
   pub modelled : IsModelled old
   pub is : IsChip old.chip
@@ -31,18 +30,15 @@ pub record LosesPower (old new : BusState) : Type 0 where
   pub known : (old.steady ≡ false) ⊎ (old.chip.busy ≡ 0)
   pub lost : PowerLost old.chip new.chip
 
--- Holds if, between two runs, the chip kept its bytes and non-volatile status bits, or lost its power.
 abbrev pub MayLosePower : (old new : BusState) → Type 0
 MayLosePower old new = IsSame old.chip new.chip ⊎ LosesPower old new
 
--- Holds if a run can start on the bus `taken` after an earlier run, which started on `old` and left `new`. Either the
--- chip is the one that the earlier run left, which may have lost its power since. Or the chip was opened from files
--- that held the chip of `old` and were being overwritten with the chip of `new`.
+-- Holds if a run can start on the bus `taken` after an earlier run, which started on `old` and left `new`. The chip may
+-- have lost its power since, or was opened from files that held the chip of `old` and were being overwritten with the
+-- chip of `new`.
 abbrev pub IsTakenUp : (old new taken : BusState) → Type 0
 IsTakenUp old new taken = MayLosePower new taken ⊎ IsWrittenOver old.chip new.chip taken.chip
 
--- Holds if a restore changed nothing: it sent no modifying command, its report counts no touched sector, erase or
--- program, and no status write was needed.
 pub record ChangesNothing (journal : Content) (old new : BusState) (report : Report) : Type 0 where
   pub unsent : new.sent ≡ old.sent
   pub touched : report.touched ≡ 0

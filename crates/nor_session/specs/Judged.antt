@@ -19,8 +19,7 @@ use Rattle.nor_scan.specs.Verdict.{IsNamed, IdentityAccepts}
 use Rattle.nor_probe.specs.Known.{IsModelled}
 use Rattle.nor_session.specs.Session.{SessionAlways, SessionHonest, SessionModelled}
 
--- Holds if the identification found a chip type whose size a chip may have, with at most 65,542 transactions, and if
--- the checks accepted the request for an image of `image` bytes, with the target protection bits `code`.
+-- Holds if the checks accepted the request for an image of `image` bytes, with the target protection bits `code`.
 pub record IsJudged (request : Request) (image : ℕ) (identity : Identity) (code : ℕ) : Type 0 where
   pub is_size : is_chip_size identity.found.size ≡ true
   pub at_most : identity.found.size ≤ 16777216
@@ -39,8 +38,7 @@ abbrev pub SinceIdentity : Option ChipName → Identity → BusState → (BusSta
 SinceIdentity named identity now promise =
     (first : BusState) → OnlyReads most_identity first now → ReadsIdentity named first now identity → promise first
 
--- The promises of a session that changed the bus from `old` to `new` and the vault from `vault` to `vault'`, except
--- `KeepsOriginal`, which follows from these.
+-- The promises of a session, except `KeepsOriginal`, which follows from these.
 pub record KeepsPromise (request : Request) (image : List ℕ) (old new : BusState) (vault vault' : VaultState)
     (result : Result Report Refusal) : Type 0 where
   pub always : SessionAlways request image old new vault vault' result

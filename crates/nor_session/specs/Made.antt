@@ -12,8 +12,8 @@ use Rattle.nor_geometry.specs.Counts.{sector_count}
 use Rattle.nor_plan.specs.Content.{is_touched, is_raised, once_erased, is_programmed}
 use Rattle.nor_request.specs.declared.report.Report.{Report}
 
--- Holds if `erases` is the least possible number of erases: some list of `erases` erase blocks covers exactly the
--- raised sectors of the chip, and no shorter list does.
+-- Holds if `erases` is the length of the shortest list of erase blocks that covers exactly the raised sectors of the
+-- chip.
 abbrev pub AreFewestErases : Config → (old wanted : ℕ → ℕ) → (erases : ℕ) → Type 0
 AreFewestErases config old wanted erases = IsLeastLength config.kinds (config.size / 4096) (is_raised old wanted) erases
 
@@ -33,12 +33,9 @@ pub record IsTargetChip (wanted : ℕ → ℕ) (old new : Chip) : Type 0 where
   pub latch : new.latch ≡ true → old.latch ≡ true
 
 -- Holds if the report is right, and exactly the raised sectors were added to the sectors that were ever erased
--- (`worn`).
---
--- The report has the chip type that the chip's replies show, and the chip's status 1. BUSY and WEL in this status are
--- known only if the chip was idle. The report counts the touched sectors, the erases and the programs. The number of
--- erases is the least that covers exactly the raised sectors. The number of programs is the number of pages of touched
--- sectors that differ from the target once the raised sectors are erased.
+-- (`worn`). BUSY and WEL in the reported status 1 are known only if the chip was idle. The erases are the least number
+-- that covers exactly the raised sectors. The programs are the pages of touched sectors that differ from the target
+-- once the raised sectors are erased.
 pub record IsReportedFor (touched raised : ℕ → Bool) (wanted : ℕ → ℕ) (old new : BusState)
     (report : Report) : Type 0 where
   pub worn : (s : ℕ) → new.worn s ≡ (old.worn s || raised s)
@@ -50,8 +47,7 @@ pub record IsReportedFor (touched raised : ℕ → Bool) (wanted : ℕ → ℕ) 
   pub programs : report.programs
       ≡ count_below 65536 (is_programmed touched (once_erased raised old.chip.bytes) wanted)
 
--- Holds if the report is right (`IsReportedFor`) with the following sectors. A sector is touched if a byte in it
--- differs from the target, and raised if a bit in it must go from 0 to 1.
+-- Holds if the report is right for the sectors that are touched and raised with this target.
 abbrev pub IsReported : (wanted : ℕ → ℕ) → (old new : BusState) → Report → Type 0
 IsReported wanted old new report =
     IsReportedFor (is_touched old.chip.bytes wanted) (is_raised old.chip.bytes wanted) wanted old new report

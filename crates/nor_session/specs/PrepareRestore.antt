@@ -37,7 +37,6 @@ use Rattle.nor_session.specs.Restore.{Choice, every_saved, IsOfOtherDevice, Fits
 
 -- ---- the checks, in the order of the code
 
--- Holds if the chip is identified as some chip type, and the journal fits its ID, size, unique ID and status bits.
 pub record FitsJournal (journal : Content) (chip : Chip) : Type 0 where
   pub named : IsNamed None chip.config
   pub kind : IsOfType journal chip.config
@@ -58,56 +57,49 @@ RestoreJudges choice journal chip StatusLocked =
     FitsJournal journal chip × (is_locked chip.kept ≡ true) × NeedsStatusBy choice journal chip
 RestoreJudges choice journal chip _ = ⊥
 
--- Holds if all checks of a restore pass.
 pub record RestoreAccepts (choice : Choice) (journal : Content) (chip : Chip) : Type 0 where
   pub fits : FitsJournal journal chip
   pub not_locked : is_locked chip.kept ≡ true → ¬ NeedsStatusBy choice journal chip
 
 -- ---- the identification
 
--- Holds for the errors of the checks of the unique ID (20) and of the status bits that a restore can't write (17).
 abbrev pub IsDeviceRefusal : Refusal → Type 0
 IsDeviceRefusal OtherUnit = ⊤
 IsDeviceRefusal StatusDiffers = ⊤
 IsDeviceRefusal _ = ⊥
 
--- Holds if the journal fits each chip that has this identification, and whose non-volatile bits of status 2 are in
--- range (below 128).
+-- Holds if the journal fits each chip that has this identification, and whose non-volatile bits of status 2 are below
+-- 128.
 abbrev pub FitsIdentity : Content → Identity → Type 0
 FitsIdentity journal identity =
     (chip : Chip) → chip.kept.two < 128 → IsIdentityOf chip identity → FitsJournal journal chip
 
--- Holds if `shown` says whether the status bits that a restore can't write are the journal's. This is required for each
--- chip that has this identification, and whose non-volatile bits of status 2 are in range (below 128).
+-- Holds if `shown` says whether the status bits that a restore can't write are the journal's, on each chip that
+-- `FitsIdentity` describes.
 abbrev pub ShowsFixed : Content → Identity → Bool → Type 0
 ShowsFixed journal identity shown = (chip : Chip) → chip.kept.two < 128 → IsIdentityOf chip identity
     → MatchBool shown (FitsStatus journal chip) (¬ FitsStatus journal chip)
 
--- Holds if the check of the unique ID and the status bits accepts only chips that the journal fits. This is required
--- for each chip that has this identification and the journal's ID and size, and whose non-volatile bits of status 2 are
--- in range (below 128).
+-- Holds if the check of the unique ID and the status bits accepts only chips that the journal fits, among those with
+-- this identification and the journal's ID and size.
 abbrev pub AcceptsDevice : Content → Identity → Result Unit Refusal → Type 0
 AcceptsDevice journal identity judged = (chip : Chip) → chip.kept.two < 128 → IsIdentityOf chip identity
     → IsOfType journal chip.config → OnOk judged (FitsJournal journal chip)
 
--- Holds if the check of the unique ID and the status bits refuses a chip only with the error of the first failed check.
--- This is required for each chip that has this identification and the journal's ID and size, and whose non-volatile
--- bits of status 2 are in range (below 128).
+-- Holds if the check of the unique ID and the status bits returns only the error of the first failed check, for each
+-- such chip.
 abbrev pub RefusesDevice : Content → Identity → Result Unit Refusal → Type 0
 RefusesDevice journal identity judged = (choice : Choice) (chip : Chip) → chip.kept.two < 128
     → IsIdentityOf chip identity → IsOfType journal chip.config → IfErr judged (RestoreJudges choice journal chip)
 
--- Holds for an error of a failed check of a restore. On a well-behaved bus contents and non-volatile status bits are as
--- they were. On a modelled bus the error is that of the first failed check.
+-- Holds for an error of a failed check. On a modelled bus it is that of the first failed check.
 pub record IsRefusedFor (choice : Choice) (journal : Content) (old new : BusState) (refusal : Refusal) : Type 0 where
   pub judged : IsCheckedFirst refusal
   pub same : old.honest ≡ true → IsSame old.chip new.chip
   pub verdict : IsModelled old → RestoreJudges choice journal old.chip refusal
 
--- The meaning of an error before the first change. A stop means that the bus stopped at the last transaction; on a
--- well-behaved bus fewer than `most` transactions were left at the start. A timeout means that the last transaction was
--- a poll that showed BUSY; it names address 0, and does not occur on a well-behaved bus. Any other error is that of a
--- failed check.
+-- The meaning of an error before the first change. A stop means that on a well-behaved bus fewer than `most`
+-- transactions were left at the start. A timeout names address 0, and does not occur on a well-behaved bus.
 abbrev pub PrepareErrors : Choice → Content → ℕ → (old new : BusState) → Refusal → Type 0
 PrepareErrors choice journal most old new Stopped = HasStopped most old new
 PrepareErrors choice journal most old new (Timeout address) =
@@ -116,8 +108,8 @@ PrepareErrors choice journal most old new refusal = IsRefusedFor choice journal 
 
 -- ---- the scan
 
--- Holds after a sector was read. `bytes` are the bytes that were read. The plan says whether a byte must change to turn
--- contents with `bytes` into contents with the bytes `saved`, and whether this needs an erase.
+-- Holds after a sector was read. The plan says what must change to turn contents with the bytes `bytes` into contents
+-- with the bytes `saved`.
 pub record PlansSaved (sector : ℕ) (saved bytes : List ℕ) (old new : BusState) (plan : SectorPlan) : Type 0 where
   pub small : (k : ℕ) → slice_index saved k < 256
   pub read : ReadsSector sector old new bytes
@@ -127,10 +119,8 @@ pub record PlansSaved (sector : ℕ) (saved bytes : List ℕ) (old new : BusStat
   pub planned : (content wanted : ℕ → ℕ) → AreBytesOf content bytes → AreBytesOf wanted saved
       → IsPlan content wanted 4096 plan
 
--- Holds after a restore chose its sectors, for which it may have read the saved sectors. Only saved sectors are marked.
--- On every bus the touched sectors are those that `choice` gives for the bytes that were read. On a well-behaved bus
--- with an idle chip of the journal's size, touched and raised sectors are those that `choice` gives for the chip's
--- bytes.
+-- Holds after a restore marked the sectors that `choice` gives for the bytes that were read and, on a well-behaved bus
+-- with an idle chip of the journal's size, for the chip's bytes.
 pub record MarksChosen (choice : Choice) (journal : Content) (old new : BusState) (scanned : Scanned) : Type 0 where
   pub marks : AreMarks (journal.size / 4096) scanned
   pub saved : (s : ℕ) → has scanned.touched s ≡ true → is_saved journal s ≡ true
@@ -145,12 +135,10 @@ pub record MarksChosen (choice : Choice) (journal : Content) (old new : BusState
   pub raised : IsOpen journal.size old → (s : ℕ)
       → has scanned.raised s ≡ choice.raised journal old.chip.bytes s
 
--- the plan of each saved sector in a rewrite: the sector is touched and raised, so it will be erased and programmed
 abbrev pub plan_of_rewritten : SectorPlan
 plan_of_rewritten = record { touched = true; raised = true }
 
--- Holds if every saved sector is marked as touched and as raised, no other sector is, and the marks and their count are
--- right for the choice of a rewrite (`MarksChosen`).
+-- Holds if exactly the saved sectors are marked, as touched and as raised.
 pub record MarksSaved (journal : Content) (scanned : Scanned) : Type 0 where
   pub touched : (s : ℕ) → has scanned.touched s ≡ is_saved journal s
   pub raised : (s : ℕ) → has scanned.raised s ≡ is_saved journal s
@@ -158,8 +146,6 @@ pub record MarksSaved (journal : Content) (scanned : Scanned) : Type 0 where
 
 -- ---- the changes
 
--- Holds if the changes have the touched and raised sectors of the scan, the erase types, size and status of the
--- identification, and the journal's protection bits as the target.
 pub record AreChanges (journal : Content) (identity : Identity) (scanned : Scanned) (changes : Changes) : Type 0 where
   pub touched : changes.touched ≡ scanned.touched
   pub raised : changes.raised ≡ scanned.raised
@@ -170,41 +156,32 @@ pub record AreChanges (journal : Content) (identity : Identity) (scanned : Scann
   pub code : changes.code ≡ code_of (kept_in journal.status)
   pub six_bits : changes.code < 64
 
--- Holds if a status write is needed, given that these sectors are touched: the protection bits differ from the
--- journal's, or a touched sector is protected.
 abbrev pub NeedsStatusWith : Content → (touched : ℕ → Bool) → Chip → Type 0
 NeedsStatusWith journal touched chip =
     (code_of chip.kept ≢ code_of (kept_in journal.status)) ⊎ SomeProtected touched chip
 
--- Holds if the changes treat the status correctly. They lift protection if and only if a touched sector is protected.
--- If the status is locked, no status write is needed.
+-- Holds if the changes lift protection if and only if a touched sector is protected, and need no status write if the
+-- status is locked.
 pub record MayChangeStatus (journal : Content) (touched : ℕ → Bool) (chip : Chip) (changes : Changes) : Type 0 where
   pub lifts : changes.unlock ≡ true → SomeProtected touched chip
   pub free : changes.unlock ≡ true ⊎ NoneProtected touched chip
   pub not_locked : is_locked chip.kept ≡ true → ¬ NeedsStatusWith journal touched chip
 
--- Holds if the status is locked, but would have to be written.
 pub record IsShut (journal : Content) (touched : ℕ → Bool) (chip : Chip) : Type 0 where
   pub locked : is_locked chip.kept ≡ true
   pub needs : NeedsStatusWith journal touched chip
 
--- Holds if an error was returned, or if the returned changes treat the status of each chip with this identification
--- correctly (`MayChangeStatus`).
 abbrev pub MakesChanges : Content → Identity → (ℕ → Bool) → Result Changes Refusal → Type 0
 MakesChanges journal identity touched judged =
     (chip : Chip) → IsIdentityOf chip identity → IfOk judged (MayChangeStatus journal touched chip)
 
--- Holds if changes were returned, or if the status of each chip with this identification is locked, but would have to
--- be written (`IsShut`).
 abbrev pub RefusesShut : Content → Identity → (ℕ → Bool) → Result Changes Refusal → Type 0
 RefusesShut journal identity touched judged =
     (chip : Chip) → IsIdentityOf chip identity → OnErr judged (IsShut journal touched chip)
 
 -- ---- the preparation as a whole
 
--- The result of a restore's preparation on a modelled bus. All checks of the restore pass, and the chip was identified
--- as what its ID or SFDP says. The changes that the journal asks for can be made to the chip (`CanApply`), and they
--- write the status only if that is needed.
+-- The result of a restore's preparation on a modelled bus: all checks pass, and the changes can be made (`CanApply`).
 pub record IsPreparedFor (choice : Choice) (journal : Content) (old new : Chip)
     (prepared : PreparedRestore) : Type 0 where
   pub accepted : RestoreAccepts choice journal old
@@ -220,11 +197,8 @@ pub record IsPreparedFor (choice : Choice) (journal : Content) (old new : Chip)
   pub needed : (prepared.changes.unlock || writes_code prepared.changes) ≡ true
       → NeedsStatusBy choice journal old
 
--- The result of a restore's preparation on every bus. The changes fit the journal, the touched sectors are those that
--- `choice` gives for the bytes that were read, and the counts are within their bounds. On a well-behaved bus the chip
--- is idle, and contents and non-volatile status bits are as before. If the chip of such a bus has the journal's size,
--- the touched sectors are those that `choice` gives for the chip's bytes. On a modelled bus all checks pass, and the
--- changes can be made (`IsPreparedFor`).
+-- The result of a restore's preparation on every bus. On a well-behaved bus the chip is idle, and contents and
+-- non-volatile status bits are as before.
 pub record IsPreparedRestore (choice : Choice) (journal : Content) (old new : BusState)
     (prepared : PreparedRestore) : Type 0 where
   pub consistent : AreConsistent prepared.changes
@@ -249,9 +223,8 @@ pub record IsPreparedRestore (choice : Choice) (journal : Content) (old new : Bu
 
 -- ---- the restore after its preparation
 
--- Holds for a choice of sectors that is sufficient for a restore. Each saved sector in which a byte differs is touched,
--- and each one in which a bit must go from 0 to 1 is raised. Only saved sectors are touched, and only touched sectors
--- are raised. Before the first change no more sectors are read than are saved.
+-- Holds for a choice of sectors that is sufficient for a restore: each saved sector in which a byte differs is touched,
+-- and each one in which a bit must go from 0 to 1 is raised.
 pub record IsSoundChoice (choice : Choice) : Type 0 where
   pub saved : (journal : Content) (content : ℕ → ℕ) (s : ℕ) → choice.touched journal content s ≡ true
       → is_saved journal s ≡ true
@@ -263,8 +236,7 @@ pub record IsSoundChoice (choice : Choice) : Type 0 where
       → choice.touched journal content s ≡ true
   pub few : (saved : ℕ) → choice.reads saved ≤ saved
 
--- Holds if a restore that began in the state `old` has prepared its changes, and left the state `new`. Its choice of
--- sectors is sufficient (`IsSoundChoice`), it only read, and the journal fits the replies to its identification.
+-- Holds if a restore that began in the state `old` has prepared its changes, and left the state `new`.
 pub record HasPrepared (choice : Choice) (journal : Content) (old new : BusState)
     (prepared : PreparedRestore) : Type 0 where
   pub sound : IsSoundChoice choice

@@ -26,8 +26,6 @@ use Rattle.nor_scan.specs.Verdict.{IsVerdict, IsAccepted}
 use Rattle.nor_session.specs.Session.{SessionReturns, NamesAddress, IsSavedCode, IsWrittenCode, most_status_writes, SendsSaved, WritesStatusAtMost}
 use Rattle.nor_session.specs.Restore.{IsRestoreRefusal}
 
--- The number of transactions that the session of a rehearsal may send. This is the first stop or, without stops, the
--- bound for a session on a chip of 16 MiB.
 abbrev pub first_allowance : List ℕ → ℕ
 first_allowance [] = most_of 4096
 first_allowance (first ∷ later) = first
@@ -38,17 +36,15 @@ abbrev pub allowances_of : (stops : List ℕ) → (n : ℕ) → List ℕ
 allowances_of stops zero = []
 allowances_of stops (suc n) = slice_index_or stops n (most_of 4096) ∷ allowances_of stops n
 
--- Holds if the allowances that were set are those of the first `calls` calls of a rehearsal (`allowances_of`), for some
--- number `calls` from `least` to `most`.
+-- Holds if the allowances of some number of calls from `least` to `most` were set.
 pub record AllowsStops (stops : List ℕ) (least most : ℕ) (old new : BusState) : Type 0 where
   pub calls : ℕ
   pub some : least ≤ calls
   pub few : calls ≤ most
   pub is : new.allowances ≡ allowances_of stops calls ++ old.allowances
 
--- Describes the result of a rehearsal with `stops` stops. A rehearsal promises this on every bus. Restores were run if
--- and only if the vault was sealed. Their number is then at least one, and at most `stops` or, without stops, one. The
--- session ended only if the vault was sealed. Without stops the session ended.
+-- Describes the result of a rehearsal with `stops` stops on every bus. If the vault was sealed, at least one restore
+-- was run, and at most `stops` or, without stops, one.
 pub record IsRehearsal (stops : ℕ) (vault : VaultState) (rehearsal : Rehearsal) : Type 0 where
   pub seal : rehearsal.sealed ≡ vault.sealed
   pub ended : rehearsal.ended ≡ true → rehearsal.sealed ≡ true
@@ -58,30 +54,25 @@ pub record IsRehearsal (stops : ℕ) (vault : VaultState) (rehearsal : Rehearsal
   pub whole : stops ≡ 0 → rehearsal.ended ≡ true
 
 -- A lower bound on the transactions of a session with this number of erases: four for the identification, one for each
--- scanned sector, and three for each erase and each page program. Status writes, and the reads after the scan, aren't
--- counted.
+-- scanned sector, and three for each erase and each page program. Status writes and later reads aren't counted.
 abbrev pub least_needed : Request → (image : List ℕ) → Chip → (erases : ℕ) → ℕ
 least_needed request image chip erases =
     4 + scanned_sectors request chip.config.size + 3 * (erases + pages_of chip.bytes (wanted request image chip))
 
--- A condition that is necessary for a session to end on this chip. The request is accepted, and the allowance is at
--- least `least_needed` for the least possible number of erases. The session may need more transactions than that.
+-- A condition that is necessary for a session to end on this chip. The session may need more transactions than that.
 pub record CanEnd (request : Request) (image : List ℕ) (allowance : ℕ) (chip : Chip) : Type 0 where
   pub accepted : IsAccepted request image chip
   pub erases : ℕ
   pub fewest : AreFewestErases chip.config chip.bytes (wanted request image chip) erases
   pub enough : least_needed request image chip erases ≤ allowance
 
--- Holds if the seal of a session's vault fits the session's allowance. If the vault was sealed, the allowance was
--- enough for the shortest identification and the scan. If the vault wasn't sealed, the allowance was below what the
--- identification of this chip and the scan need.
+-- Holds if the seal of a session's vault fits the session's allowance.
 pub record SealFits (request : Request) (allowance : ℕ) (chip : Chip) (seal : Bool) : Type 0 where
   pub enough : seal ≡ true → 4 + scanned_sectors request chip.config.size ≤ allowance
   pub below : seal ≡ false → allowance < needed_to_identify chip + scanned_sectors request chip.config.size
 
 -- Holds if `restores` restores from a journal of `sectors` sectors may have been run in turn with these stops. Each
--- restore except the last was stopped, so its stop is below the bound `most_of`. The last restore ended, so its stop,
--- if it had one, is enough for the shortest identification and the scan.
+-- restore except the last was stopped, so its stop is below the bound `most_of`.
 pub record AreRestores (sectors : ℕ) (stops : List ℕ) (restores : ℕ) : Type 0 where
   pub stopped : (i : ℕ) → i + 1 < restores → slice_index stops i < most_of sectors
   pub ended : restores ≤ length stops → 4 + sectors ≤ slice_index stops (restores - 1)
@@ -92,17 +83,13 @@ abbrev pub FitsLastStop : (sectors : ℕ) → (stops : List ℕ) → (left resto
 FitsLastStop sectors stops left restores =
     restores ≤ length stops → left + (4 + sectors) ≤ slice_index stops (restores - 1)
 
--- What a rehearsal that returned an error leaves on a modelled bus. Bytes and non-volatile status bits are as they
--- were, and the write enable latch is set only if it was set before. No modifying command was sent, and the vault isn't
--- sealed.
+-- What a rehearsal that returned an error leaves on a modelled bus.
 pub record LeavesRefused (old new : BusState) (vault : VaultState) : Type 0 where
   pub same : IsSame old.chip new.chip
   pub latch : new.chip.latch ≡ true → old.chip.latch ≡ true
   pub unsent : new.sent ≡ old.sent
   pub unsealed : vault.sealed ≡ false
 
--- Holds on every bus for an error that a rehearsal may return: an error of its session or, after the seal, an error of
--- a restore.
 abbrev pub IsRehearsalRefusal : (old new : VaultState) → Refusal → Type 0
 IsRehearsalRefusal old new refusal = SessionReturns old new refusal ⊎ ((new.sealed ≡ true) × IsRestoreRefusal refusal)
 
@@ -110,12 +97,10 @@ IsRehearsalRefusal old new refusal = SessionReturns old new refusal ⊎ ((new.se
 abbrev pub IsNoBusError : Refusal → Type 0
 IsNoBusError refusal = list_any (λ n. refusal_number refusal == n) (12 ∷ 13 ∷ []) ≡ false
 
--- Holds if the error is the verdict on the session's request, or is 11 and the vault counted a refusal.
 abbrev pub RehearsalErrors : Request → List ℕ → Chip → (old new : VaultState) → Refusal → Type 0
 RehearsalErrors request image chip old new Vault = CountsRefusal old new
 RehearsalErrors request image chip old new refusal = IsVerdict request image chip refusal
 
--- Holds if the session of a rehearsal, or one of its restores, may write these protection bits.
 abbrev pub IsRehearsedCode : What → Content → (code : ℕ) → Type 0
 IsRehearsedCode what journal code = IsWrittenCode what journal code ⊎ IsSavedCode journal code
 
@@ -124,46 +109,31 @@ IsRehearsedCode what journal code = IsWrittenCode what journal code ⊎ IsSavedC
 -- The promises of a rehearsal on every bus.
 pub record RehearsalAlways (request : Request) (stops : List ℕ) (old new : BusState) (vault vault' : VaultState)
     (result : Result Rehearsal Refusal) : Type 0 where
-  -- the rehearsal doesn't change whether the bus is well-behaved, steady, unlimited or punctual; on a well-behaved bus
-  -- it doesn't change the configuration of the chip
   pub nature : SameNature old new
-  -- After success, one allowance was set for the session, and one for each restore. Each allowance is the next stop or,
-  -- if the stops are used up, the bound for a session on a chip of 16 MiB (`allowances_of`).
+  -- After success, one allowance was set for the session, and one for each restore.
   pub allowed : IfOk result (λ r. new.allowances ≡ allowances_of stops (1 + r.restores) ++ old.allowances)
-  -- After an error, one allowance was set for the session, and one for each restore that was run (`AllowsStops`). The
-  -- number of restores is at most the number of stops or, without stops, one.
+  -- After an error, one allowance was set for the session, and one for each restore that was run.
   pub tried : OnErr result (AllowsStops stops 1 (1 + max 1 (length stops)) old new)
-  -- after success the result fits the vault and the number of stops (`IsRehearsal`)
   pub counts : IfOk result (IsRehearsal (length stops) vault')
-  -- an error is one that the session may return or, after the seal, one that a restore may return
   pub answers : IfErr result (IsRehearsalRefusal vault vault')
-  -- a timeout or mismatch names an address that `NamesAddress` allows
   pub names : IfErr result (NamesAddress vault')
   -- if the vault was sealed, the rehearsal succeeds only if the last poll showed that the chip is ready
   pub polled_ready : IfOk result (λ rehearsal. rehearsal.sealed ≡ true → new.polled_ready ≡ true)
-  -- If the rehearsal returns error 12, 13 or 14, the last transaction is as `EndsAtError` says. A call that is stopped
-  -- by its entry in `stops` is no error of the rehearsal.
+  -- A call that is stopped by its entry in `stops` is no error of the rehearsal.
   pub last_transaction : IfErr result (λ refusal. EndsAtError refusal new.history)
   -- if the vault isn't sealed, no modifying command was sent
   pub unsent : vault'.sealed ≡ false → new.sent ≡ old.sent
-  -- after the seal, the modifying commands that were sent fit the journal in the vault (`SendsSaved`)
   pub sends : vault'.sealed ≡ true → (journal : IsJournal vault'.bytes)
       × SendsSaved (IsRehearsedCode request.what journal.content) (1 + max 1 (length stops)) journal.content old new
-  -- At every exit the number of status writes is at most the number that the request may need, plus two for each
-  -- possible restore. The number of possible restores is the number of stops or, without stops, one.
+  -- The number of status writes is at most the number that the request may need, plus two for each possible restore.
   pub writes : WritesStatusAtMost (most_status_writes request.what request.unlock + 2 * max 1 (length stops)) old new
 
--- The promises of a rehearsal on a modelled bus that is punctual. A modelled bus is a well-behaved one whose chip is
--- what its ID or SFDP says.
+-- The promises of a rehearsal on a modelled bus that is punctual.
 pub record RehearsalModelled (request : Request) (image stops : List ℕ) (old new : BusState) (vault vault' : VaultState)
     (result : Result Rehearsal Refusal) : Type 0 where
-  -- only sectors that the session touches were erased
   pub wears : (s : ℕ) → is_touched old.chip.bytes (wanted request image old.chip) s ≡ false → new.worn s ≡ old.worn s
-  -- after an error bytes and non-volatile status bits are as they were before the rehearsal, and the vault isn't sealed
   pub refuses : OnErr result (LeavesRefused old new vault')
-  -- an error is the verdict on the session's request, or the vault failed
   pub errors : IfErr result (RehearsalErrors request image old.chip vault vault')
-  -- the vault is sealed only if the request is accepted
   pub accepts : vault'.sealed ≡ true → IsAccepted request image old.chip
   -- a sealed vault holds a journal of the original chip that saves exactly the sectors that the session touches
   pub saves : vault'.sealed ≡ true
@@ -173,22 +143,15 @@ pub record RehearsalModelled (request : Request) (image stops : List ℕ) (old n
   -- (`most_of`), the session ended
   pub ended : most_of (old.chip.config.size / 4096) ≤ first_allowance stops
       → IfOk result (λ rehearsal. rehearsal.ended ≡ true)
-  -- if the session ended, its request is accepted, and its allowance was at least the lower bound on what the request
-  -- needs (`CanEnd`)
   pub stopped : IfOk result (λ rehearsal. rehearsal.ended ≡ true
       → CanEnd request image (first_allowance stops) old.chip)
-  -- the allowance of the session fits whether the vault was sealed (`SealFits`)
   pub seal : IfOk result (λ rehearsal. SealFits request (first_allowance stops) old.chip rehearsal.sealed)
-  -- after success, if the vault was sealed, the stops after the first one fit the restores that were run
-  -- (`AreRestores`)
   pub restores : IfOk result (λ rehearsal. rehearsal.sealed ≡ true
       → AreRestores (sector_count (is_touched old.chip.bytes (wanted request image old.chip))) (drop 1 stops)
       rehearsal.restores)
   -- After success, the write enable latch is set only if it was set before. The premise is that no restore was run, or
   -- that the session ended and only one restore was run.
   pub latch : IfOk result (λ r. r.restores ≤ (if r.ended then 1 else 0) → new.chip.latch ≡ true → old.chip.latch ≡ true)
-  -- after success, if the vault was sealed, the stop of the last restore, if it had one, fits the transactions that are
-  -- left (`FitsLastStop`)
   pub last : IfOk result (λ rehearsal. rehearsal.sealed ≡ true
       → FitsLastStop (sector_count (is_touched old.chip.bytes (wanted request image old.chip))) (drop 1 stops)
       new.left rehearsal.restores)

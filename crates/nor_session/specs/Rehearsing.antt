@@ -1,6 +1,5 @@
--- The states that the session of a rehearsal and the restores after it leave. What the comments here say about errors
--- and allowances on a well-behaved or modelled bus is about a punctual one: on any other bus an allowance means
--- nothing.
+-- The states that the session of a rehearsal and the restores after it leave. Well-behaved and modelled buses are
+-- punctual here, because on any other bus an allowance means nothing.
 use Rattle.std.specs.Prelude.{◌≡◌, ◌≤◌, ◌<◌, ◌+◌, ◌*◌, ◌/◌, ◌++◌, ℕ, Bool, true, false, List, Result, IfOk, IfErr, OnOk, OnErr, length}
 use Rattle.nor_model.specs.Chip.{Chip, IsChip, IsSame, is_locked}
 use Rattle.nor_model.specs.History.{EndsStopped}
@@ -30,11 +29,8 @@ use Rattle.nor_session.specs.Rehearsal.{CanEnd, SealFits, AreRestores, FitsLastS
 
 -- ---- the session
 
--- Holds if these bytes can restore the original chip (`first`) on this bus. The original chip is known (`IsKnown`), and
--- its values are in range (`IsChip`). The bytes are a journal of it that saves exactly the sectors in `saved`. All
--- these sectors lie inside the chip, and if the chip's status is locked, none of them is protected. The bus's chip
--- differs from the original one only in bytes of these sectors, in protection bits that can be written, and in BUSY and
--- WEL. On a bus that isn't steady, an operation in progress is limited too (`IsWithin`).
+-- Holds if these bytes can restore the original chip (`first`) on this bus: they are a journal of it that saves exactly
+-- the sectors in `saved`, and the bus's chip differs only as `IsWithin` allows.
 pub record CanUndo (saved : ℕ → Bool) (first : Chip) (text : List ℕ) (state : BusState) : Type 0 where
   pub is : IsChip first
   pub known : IsKnown first.config
@@ -43,16 +39,9 @@ pub record CanUndo (saved : ℕ → Bool) (first : Chip) (text : List ℕ) (stat
   pub free : is_locked first.kept ≡ true → NoneProtected saved first
   pub within : IsWithin (addresses_of saved) first state
 
--- Holds at every exit of the session in a rehearsal.
---
--- On every bus, if the vault isn't sealed, no modifying command was sent. If it is sealed, the modifying commands that
--- were sent fit its journal (`SendsSaved`). The number of status writes is at most the number that the request may
--- need.
---
--- On a modelled bus, only touched sectors were erased. If the vault of such a bus is sealed, the request is accepted,
--- and the vault's bytes can restore the original chip. If the vault isn't sealed, the write enable latch is set only if
--- it was set before. If in addition the bus is steady or its chip was idle, bytes and non-volatile status bits are as
--- they were.
+-- Holds at every exit of the session in a rehearsal. On a modelled bus only touched sectors were erased. If the vault
+-- of such a bus is sealed, its bytes can restore the original chip. If it isn't sealed, and the bus is steady or its
+-- chip was idle, bytes and non-volatile status bits are as they were.
 pub record LeavesSession (request : Request) (image : List ℕ) (old new : BusState) (vault : VaultState) : Type 0 where
   pub nature : SameNature old new
   pub same : IsModelled old → IsSteadyOrIdle old → vault.sealed ≡ false → IsSame old.chip new.chip
@@ -67,20 +56,13 @@ pub record LeavesSession (request : Request) (image : List ℕ) (old new : BusSt
       × SendsSaved (IsWrittenCode request.what journal.content) 1 journal.content old new
   pub writes : WritesStatusAtMost (most_status_writes request.what request.unlock) old new
 
--- Holds if the non-volatile status bits of `new` are the target bits: the bits of `old`, but with the target protection
--- bits.
 pub record HasWantedBits (what : What) (old new : Chip) : Type 0 where
   pub code : ℕ
   pub is_wanted : IsWantedCode what old code
   pub kept : new.kept ≡ with_code code old.kept
 
 -- Holds if a session with an allowance of `allowance` transactions ended (`ended` is `true`) or was stopped (`ended` is
--- `false`).
---
--- If the session ended, the vault is sealed. If the session ended on a modelled bus, the chip has the target bytes and
--- status bits, the write enable latch is set only if it was set before, and `CanEnd` holds. If the session was stopped
--- on a well-behaved bus, no transaction is left. If it was stopped on a modelled bus, the allowance was below the bound
--- `most_of`. On a modelled bus the allowance fits whether the vault is sealed (`SealFits`).
+-- `false`). On a modelled bus a stopped session had an allowance below the bound `most_of`.
 pub record RunsSession (request : Request) (image : List ℕ) (allowance : ℕ) (old new : BusState) (vault : VaultState)
     (ended : Bool) : Type 0 where
   pub seals : ended ≡ true → vault.sealed ≡ true
@@ -94,8 +76,7 @@ pub record RunsSession (request : Request) (image : List ℕ) (allowance : ℕ) 
   pub seal : IsModelled old → old.punctual ≡ true → SealFits request allowance old.chip vault.sealed
 
 -- Holds if the session returned this error. On a modelled bus the error is the verdict on the request, or the vault
--- failed. On a well-behaved bus the error is neither a stop nor a timeout. On every bus the last transaction is as
--- `EndsAtError` says.
+-- failed. On a well-behaved bus the error is neither a stop nor a timeout.
 pub record RefusesSession (request : Request) (image : List ℕ) (old new : BusState) (before after : VaultState)
     (refusal : Refusal) : Type 0 where
   pub answers : SessionReturns before after refusal
@@ -107,9 +88,8 @@ pub record RefusesSession (request : Request) (image : List ℕ) (old new : BusS
 
 -- ---- the restores
 
--- Holds at every exit of `restores` restores. On a modelled bus, the bus stays modelled, the journal can still restore
--- each chip that it could restore before, and only saved sectors were erased. On every bus, the modifying commands that
--- were sent fit the journal (`SendsSaved`), and at most `2 * restores` of them are status writes.
+-- Holds at every exit of `restores` restores. On a modelled bus the journal can still restore each chip that it could
+-- restore before, and only saved sectors were erased.
 pub record LeavesRestores (journal : Content) (restores : ℕ) (old new : BusState) : Type 0 where
   pub nature : SameNature old new
   pub modelled : IsModelled old → IsModelled new
@@ -119,13 +99,8 @@ pub record LeavesRestores (journal : Content) (restores : ℕ) (old new : BusSta
   pub writes : WritesStatusAtMost (2 * restores) old new
 
 -- Holds if a restore with an allowance of `allowance` transactions ended (`ended` is `true`) or was stopped (`ended` is
--- `false`).
---
--- If the restore ended on a modelled bus, and the journal could restore a chip `first` at the start, the chip is now
--- the same as `first`. If the restore ended on a modelled bus, the write enable latch is set only if it was set before.
--- The allowance was then enough for the shortest identification, the scan and the transactions that are left. If the
--- restore was stopped on a well-behaved bus, the allowance was below the bound `most_of`, and no transaction is left.
--- If it was stopped on any bus, nothing was sent after the stop.
+-- `false`). If it ended on a modelled bus, a chip that the journal could restore is restored. On a well-behaved bus a
+-- stopped restore had an allowance below the bound `most_of`.
 pub record RunsRestore (journal : Content) (allowance : ℕ) (old new : BusState) (ended : Bool) : Type 0 where
   pub back : IsModelled old → ended ≡ true → (first : Chip) → CanRestore journal first old → IsSame first new.chip
   pub latch : IsModelled old → ended ≡ true → new.chip.latch ≡ true → old.chip.latch ≡ true
@@ -136,9 +111,8 @@ pub record RunsRestore (journal : Content) (allowance : ℕ) (old new : BusState
       → allowance < most_of (length journal.saved)
   pub last_transaction : ended ≡ false → EndsStopped new.history
 
--- Holds if `restores` restores were run in turn, each with its own allowance (`allowances_of`), and the last one ended.
--- On a modelled bus, if the journal could restore a chip `first` at the start, the chip is now the same as `first`. If
--- only one restore was run on such a bus, the write enable latch is set only if it was set before.
+-- Holds if `restores` restores were run in turn, each with its own allowance, and the last one ended. On a modelled
+-- bus, a chip that the journal could restore is restored.
 pub record RunsRestores (journal : Content) (stops : List ℕ) (old new : BusState) (restores : ℕ) : Type 0 where
   pub some : 1 ≤ restores
   pub most : restores ≤ length stops + 1
@@ -149,8 +123,7 @@ pub record RunsRestores (journal : Content) (stops : List ℕ) (old new : BusSta
   pub back : IsModelled old → (first : Chip) → CanRestore journal first old → IsSame first new.chip
 
 -- Holds if one of the restores returned this error. On a modelled bus no error is returned if the journal can restore
--- some chip. On a well-behaved bus, if the journal has at most 4,096 sectors, the error is neither a stop nor a
--- timeout. On every bus the last transaction is as `EndsAtError` says.
+-- some chip.
 pub record StopsRestores (journal : Content) (old new : BusState) (refusal : Refusal) : Type 0 where
   pub answers : IsRestoreRefusal refusal
   pub last_transaction : EndsAtError refusal new.history
@@ -160,9 +133,8 @@ pub record StopsRestores (journal : Content) (old new : BusState) (refusal : Ref
 
 -- ---- restores from bytes
 
--- Holds if `restores` restores from the bytes `text` were run in turn, each with its own allowance (`allowances_of`),
--- and the last one ended. On a modelled bus, if the bytes could restore the original chip, that chip is restored. If
--- only one restore was run on such a bus, the write enable latch is set only if it was set before.
+-- Holds if `restores` restores from the bytes `text` were run in turn, each with its own allowance, and the last one
+-- ended. On a modelled bus, a chip that the bytes could restore is restored.
 pub record Undoes (text : List ℕ) (stops : List ℕ) (old new : BusState) (restores : ℕ) : Type 0 where
   pub some : 1 ≤ restores
   pub most : restores ≤ length stops + 1
@@ -174,21 +146,16 @@ pub record Undoes (text : List ℕ) (stops : List ℕ) (old new : BusState) (res
   pub last : IsModelled old → old.punctual ≡ true → (saved : ℕ → Bool) (first : Chip) → CanUndo saved first text old
       → FitsLastStop (sector_count saved) stops new.left restores
 
--- Holds if only sectors that the bytes save were erased, provided that the bus is modelled and the bytes can restore
--- the original chip (`CanUndo`).
 abbrev pub WearsSaved : List ℕ → (old new : BusState) → Type 0
 WearsSaved text old new = IsModelled old → (saved : ℕ → Bool) (first : Chip) → CanUndo saved first text old
     → (s : ℕ) → saved s ≡ false → new.worn s ≡ old.worn s
 
--- Holds if the modifying commands that this number of restores sent fit the journal (`SendsSaved`), provided that the
--- bytes are a journal. The restores promise this on every bus.
 abbrev pub SendsFromJournal : List ℕ → (restores : ℕ) → (old new : BusState) → Type 0
 SendsFromJournal text restores old new =
     (journal : IsJournal text) → SendsSaved (IsSavedCode journal.content) restores journal.content old new
 
--- Holds if the restores from the bytes `text` returned this error. If the bytes are a journal, the error is one that a
--- restore may return. On a well-behaved bus the error is neither a stop nor a timeout. If the bytes can restore the
--- original chip on a modelled bus, no error is returned. On every bus the last transaction is as `EndsAtError` says.
+-- Holds if the restores from the bytes `text` returned this error. If the bytes can restore the original chip on a
+-- modelled bus, no error is returned.
 pub record RefusesUndo (text : List ℕ) (old new : BusState) (refusal : Refusal) : Type 0 where
   pub answers : IsJournal text → IsRestoreRefusal refusal
   pub last_transaction : EndsAtError refusal new.history
@@ -199,21 +166,12 @@ pub record RefusesUndo (text : List ℕ) (old new : BusState) (refusal : Refusal
 
 -- What restores from the bytes `text` with these stops leave, at every exit.
 pub record LeavesUndo (text stops : List ℕ) (old new : BusState) (result : Result ℕ Refusal) : Type 0 where
-  -- the restores don't change whether the bus is well-behaved, steady, unlimited or punctual; on a well-behaved bus
-  -- they don't change the configuration of the chip
   pub nature : SameNature old new
-  -- on a modelled bus, if the bytes can restore the original chip, only sectors that the bytes save were erased
   pub wears : WearsSaved text old new
-  -- if the bytes are a journal, the modifying commands that were sent fit it (`SendsSaved`)
   pub sends : SendsFromJournal text (length stops + 1) old new
-  -- at every exit the number of status writes is at most twice the number of stops, plus two for a restore without a
-  -- stop
+  -- at most two status writes for each stop, and two for a restore without a stop
   pub writes : WritesStatusAtMost (2 * (length stops + 1)) old new
-  -- if the restores succeed on a modelled bus, and the bytes could restore the original chip, that chip is restored
   pub undoes : IfOk result (Undoes text stops old new)
-  -- the restores succeed only if the last poll showed that the chip is ready
   pub polled_ready : OnOk result (new.polled_ready ≡ true)
-  -- an error has the meaning that `RefusesUndo` gives it
   pub refuses : IfErr result (RefusesUndo text old new)
-  -- after an error, one allowance was set for each restore that was run (`AllowsStops`)
   pub tried : OnErr result (AllowsStops stops 0 (length stops + 1) old new)

@@ -37,23 +37,20 @@ use Rattle.nor_session.specs.Session.{NamesSector, IsWithinCounts, CountsChanges
 
 -- ---- the target
 
--- The target byte of a restore at address `a`. In a saved sector this is the saved byte, elsewhere it is the chip's own
--- byte (`old`).
 abbrev pub restored : Content → (old : ℕ → ℕ) → (a : ℕ) → ℕ
 restored journal old a = if is_saved journal (a / 4096) then saved_byte journal a else old a
 
 -- ---- the sectors that are changed
 
--- A way in which a restore chooses its touched and raised sectors. The choice depends on the journal, and on the bytes
--- `content` that the chip has at the start. `reads` is the number of sectors that the restore reads before it changes
--- anything; it depends on the number of saved sectors.
+-- A way in which a restore chooses its touched and raised sectors, from the journal and the bytes `content` of the chip
+-- at the start. `reads` is the number of sectors that it reads before it changes anything, for a number of saved
+-- sectors.
 pub record Choice : Type 0 where
   pub touched : Content → (content : ℕ → ℕ) → (s : ℕ) → Bool
   pub raised : Content → (content : ℕ → ℕ) → (s : ℕ) → Bool
   pub reads : (saved : ℕ) → ℕ
 
--- The choice of `restore`. The touched sectors are the saved sectors in which a byte differs from the saved byte. The
--- raised sectors are those in which a bit must go from 0 to 1. Each saved sector is read.
+-- The choice of `restore`: the saved sectors that differ from the saved bytes.
 abbrev pub differing : Choice
 differing = record {
   touched = λ journal content. is_touched content (restored journal content);
@@ -61,7 +58,7 @@ differing = record {
   reads = λ saved. saved;
 }
 
--- The choice of `rewrite`. Every saved sector is touched and raised, and no sector is read before the changes.
+-- The choice of `rewrite`: every saved sector, and none is read before the changes.
 abbrev pub every_saved : Choice
 every_saved = record {
   touched = λ journal content. is_saved journal;
@@ -71,22 +68,20 @@ every_saved = record {
 
 -- ---- the verdict
 
--- Holds if the journal has a unique ID that isn't the chip's. A journal of format 1 has no unique ID.
+-- A journal of format 1 has no unique ID.
 abbrev pub IsOfOtherDevice : Content → Config → Type 0
 IsOfOtherDevice journal config = IsSomeAnd journal.unique (λ unique. unique ≢ unique_of config)
 
--- Holds if the status bits that a restore can't write are the same on the chip and in the journal. These are the bits
--- that flashnor never changes and, without block protection, all non-volatile bits.
+-- Holds if the status bits that a restore can't write are the journal's: the bits that flashnor never changes and,
+-- without block protection, all non-volatile bits.
 pub record FitsStatus (journal : Content) (chip : Chip) : Type 0 where
   pub fixed : fixed_of chip.kept ≡ fixed_of (kept_in journal.status)
   pub all : chip.config.scheme ≡ false → chip.kept ≡ kept_in journal.status
 
--- Holds if a status write is needed: the protection bits differ from the journal's, or a touched sector is protected.
 abbrev pub NeedsStatusBy : Choice → Content → Chip → Type 0
 NeedsStatusBy choice journal chip = (code_of chip.kept ≢ code_of (kept_in journal.status))
     ⊎ SomeProtected (choice.touched journal chip.bytes) chip
 
--- Holds if `restore` needs a status write.
 abbrev pub NeedsStatusFrom : Content → Chip → Type 0
 NeedsStatusFrom journal chip = NeedsStatusBy differing journal chip
 
@@ -105,48 +100,39 @@ RestoreHolds choice journal chip _ = ⊥
 abbrev pub checked_in_order : List ℕ
 checked_in_order = 1 ∷ 2 ∷ 16 ∷ 20 ∷ 17 ∷ 9 ∷ []
 
--- Holds for the errors in `checked_in_order`, which a restore checks before it sends a modifying command.
 abbrev pub IsCheckedFirst : Refusal → Type 0
 IsCheckedFirst refusal = list_any (λ n. refusal_number refusal == n) checked_in_order ≡ true
 
--- The number of elements of a list before the first `n`. If the list doesn't contain `n`, this is the length of the
--- list.
+-- The number of elements of a list before the first `n`, or the length of the list if it doesn't contain `n`.
 abbrev pub index_in : List ℕ → ℕ → ℕ
 index_in [] n = 0
 index_in (first ∷ later) n = if first == n then 0 else 1 + index_in later n
 
--- Holds if the error is the verdict of a restore with this choice: the error applies, and no error that is checked
--- before it applies.
+-- Holds if the error applies, and no error that is checked before it applies.
 pub record IsRestoreVerdict (choice : Choice) (journal : Content) (chip : Chip) (refusal : Refusal) : Type 0 where
   pub holds : RestoreHolds choice journal chip refusal
   pub first : (other : Refusal)
       → index_in checked_in_order (refusal_number other) < index_in checked_in_order (refusal_number refusal)
       → ¬ RestoreHolds choice journal chip other
 
--- Holds if the chip is accepted for a restore: none of the errors in `checked_in_order` applies.
 abbrev pub IsRestorable : Choice → Content → Chip → Type 0
 IsRestorable choice journal chip = (refusal : Refusal) → ¬ RestoreHolds choice journal chip refusal
 
 -- ---- on every bus
 
--- Holds if the chip that was found has the journal's ID and size.
 pub record IsOfTypeFound (journal : Content) (found : Found) : Type 0 where
   pub id : journal.id ≡ found.id
   pub size : journal.size ≡ found.size
 
--- Holds if the status bits that flashnor never changes have the same values in the status that was read and in the
--- journal.
 abbrev pub HasFixedRead : Content → Identity → Type 0
 HasFixedRead journal identity = fixed_of (kept_in (status_read identity)) ≡ fixed_of (kept_in journal.status)
 
--- Holds if the journal has no unique ID, or has the unique ID that was read.
 abbrev pub HasUniqueRead : Content → Identity → Type 0
 HasUniqueRead journal identity = (journal.unique ≡ None) ⊎ (journal.unique ≡ Some identity.unique)
 
--- Holds if the journal fits what the bus replied to a restore's identification: the ID, the size, the unique ID (a
--- journal of format 1 has none), and the status bits that flashnor never changes. The size is the size in the row that
--- applies to the ID on this bus or, without a row, the size in the SFDP replies. `read` is the history of the bus at
--- some point of the restore; the proof gives the history after the identification.
+-- Holds if the journal fits what the bus replied to a restore's identification. The size is the one in the row that
+-- applies to the ID on this bus or, without a row, in the SFDP replies. `read` is the history of the bus at some point
+-- of the restore; the proof gives the history after the identification.
 pub record FitsReplies (journal : Content) (old new : BusState) : Type 0 where
   pub read : List Exchange
   pub before : Continues old.history read
@@ -158,17 +144,14 @@ pub record FitsReplies (journal : Content) (old new : BusState) : Type 0 where
   pub device : HasUniqueRead journal identity
   pub fixed : HasFixedRead journal identity
 
--- Holds if the address `a` is in a saved sector that isn't touched. `read` has the bytes that were read from the chip.
 abbrev pub IsLeft : Choice → Content → (read : ℕ → ℕ) → (a : ℕ) → Type 0
 IsLeft choice journal read a =
     (is_saved journal (a / 4096) ≡ true) × (choice.touched journal read (a / 4096) ≡ false)
 
--- Holds if the result fits what was read back. A restore promises this on every bus. `scanned` is the history at the
--- point at which the touched sectors were chosen.
---
--- After success, each saved sector that isn't touched had been read by that point. The last transactions were reads of
--- sectors, in which each byte of a touched sector was read as the saved byte. After a mismatch, its address is the
--- first address in a touched sector whose byte was read otherwise.
+-- Holds if the result fits what was read back, on every bus. `scanned` is the history at the point at which the touched
+-- sectors were chosen. After success, each saved sector that isn't touched had been read by then, and the last
+-- transactions read each byte of a touched sector as the saved byte. A mismatch names the first address in a touched
+-- sector whose byte was read otherwise.
 abbrev pub RestoreReadsBack : Choice → Content → (old new : List Exchange) → Result Report Refusal → Type 0
 RestoreReadsBack choice journal old new (Ok report) = (scanned : List Exchange)
     × HaveBeenRead (IsLeft choice journal (bytes_read scanned)) old scanned
@@ -178,30 +161,26 @@ RestoreReadsBack choice journal old new (Err (Mismatch address)) = (scanned : Li
     scanned new
 RestoreReadsBack choice journal old new (Err _) = ⊤
 
--- Holds for the errors that a restore may return: those in `checked_in_order`, 12 (stop), 13 (timeout) and 14
--- (mismatch).
 abbrev pub IsRestoreRefusal : Refusal → Type 0
 IsRestoreRefusal refusal = list_any (λ n. refusal_number refusal == n) (12 ∷ 13 ∷ 14 ∷ checked_in_order) ≡ true
 
 -- ---- on a modelled bus
 
--- Holds if a restore may return this error on a modelled bus. The error is the verdict, or it is 12 and the bus ran
--- out: no transaction is left, and fewer were left at the start than the bound `most_of`.
+-- Holds if a restore may return this error on a modelled bus: the verdict, or 12 because too few transactions were
+-- left.
 abbrev pub ErrorsBy : Choice → Content → (old new : BusState) → Refusal → Type 0
 ErrorsBy choice journal old new Stopped = RanOut (most_of (length journal.saved)) old new
 ErrorsBy choice journal old new refusal = IsRestoreVerdict choice journal old.chip refusal
 
--- Holds at every exit of a restore on a modelled bus, with any journal. Only raised sectors were erased. If the bus is
--- steady or the chip was idle at the start, the bytes outside the saved sectors, and the status bits that flashnor
--- never changes, are as they were.
+-- Holds at every exit of a restore on a modelled bus, with any journal. If the bus is steady or the chip was idle at
+-- the start, the bytes outside the saved sectors, and the status bits that flashnor never changes, are as they were.
 pub record LeavesBy (choice : Choice) (journal : Content) (old new : BusState) : Type 0 where
   pub config : new.chip.config ≡ old.chip.config
   pub bytes : IsSteadyOrIdle old → (a : ℕ) → is_saved journal (a / 4096) ≡ false → new.chip.bytes a ≡ old.chip.bytes a
   pub fixed : IsSteadyOrIdle old → fixed_of new.chip.kept ≡ fixed_of old.chip.kept
   pub worn : (s : ℕ) → choice.raised journal old.chip.bytes s ≡ false → new.worn s ≡ old.worn s
 
--- Holds after a restore succeeded on a modelled bus. The chip has the saved bytes and the journal's non-volatile status
--- bits, and the report counts the work that was done. If nothing had to be changed, no modifying command was sent.
+-- Holds after a restore succeeded on a modelled bus. If nothing had to be changed, no modifying command was sent.
 pub record IsRestoredBy (choice : Choice) (journal : Content) (old new : BusState) (report : Report) : Type 0 where
   pub accepted : IsRestorable choice journal old.chip
   pub made : IsTargetChip (restored journal old.chip.bytes) old.chip new.chip
@@ -215,32 +194,25 @@ pub record IsRestoredBy (choice : Choice) (journal : Content) (old new : BusStat
 -- The promises of a restore on every bus.
 pub record AlwaysBy (choice : Choice) (journal : Content) (old new : BusState)
     (result : Result Report Refusal) : Type 0 where
-  -- at every exit on a well-behaved bus, the number of transactions that were sent is at most the bound `most_of` for
-  -- the number of saved sectors
   pub spends : Spends (most_of (length journal.saved)) old new
-  -- at every exit the modifying commands that were sent fit the journal (`SendsSaved`)
   pub sends : SendsSaved (IsSavedCode journal) 1 journal old new
   -- at every exit, no modifying command was sent, or the journal fits what the bus replied to the identification
   pub fits : (new.sent ≡ old.sent) ⊎ FitsReplies journal old new
-  -- at every exit at most two status writes were sent
   pub writes : WritesStatusAtMost 2 old new
-  -- an error is one that `IsRestoreRefusal` allows
   pub answers : IfErr result IsRestoreRefusal
   -- a timeout names address 0 or an address in a saved sector, and a mismatch names an address in a saved sector
   pub names : IfErr result (NamesSector (λ sector. is_saved journal sector ≡ true))
-  -- After an error of the checks before the first change (`IsCheckedFirst`), no modifying command was sent. On a
-  -- well-behaved bus, the number of transactions is then at most that of identifying and scanning the largest chip.
+  -- On a well-behaved bus, the number of transactions is then at most that of identifying and scanning the largest
+  -- chip.
   pub only_reads : IfErr result (λ refusal. IsCheckedFirst refusal → OnlyReads (most_reads 4096) old new)
-  -- after success the counts of the report are within their bounds (`IsWithinCounts`), and its erases and page programs
-  -- are those that were sent (`SendsCounted`)
+  -- after success the counts of the report are within their bounds, and its erases and page programs are those that
+  -- were sent
   pub bounded : IfOk result (IsWithinCounts (choice.reads (length journal.saved)) (length journal.saved) 2 true)
   pub reported : IfOk result (λ report. SendsCounted report.erases report.programs old new)
-  -- after success only the transactions that `CountsChanges` allows were sent
   pub changing : IfOk result (CountsChanges (choice.reads (length journal.saved)) 2 true old new)
   -- After success, each saved sector was read with its saved bytes. For a touched sector, that read followed all
-  -- writes. Error 14 names the first address in a touched sector whose byte was read otherwise.
+  -- writes.
   pub read_back : RestoreReadsBack choice journal old.history new.history result
-  -- a restore succeeds only if the last poll showed that the chip is ready
   pub polled_ready : OnOk result (new.polled_ready ≡ true)
   -- After error 12 the last transaction is the one at which the bus stopped. After error 13 it is a poll that showed
   -- BUSY, and after error 14 a read of the sector that contains the address (`EndsAtError`).
@@ -249,64 +221,47 @@ pub record AlwaysBy (choice : Choice) (journal : Content) (old new : BusState)
 -- The promises of a restore on a well-behaved bus.
 pub record HonestBy (choice : Choice) (journal : Content) (old new : BusState)
     (result : Result Report Refusal) : Type 0 where
-  -- A timeout does not occur, and a stop occurs only if no transaction is left. After an error of the checks before the
-  -- first change (`IsCheckedFirst`), bytes and non-volatile status bits are as they were before the restore.
+  -- A timeout does not occur, and a stop occurs only if no transaction is left.
   pub honest_errors : IfErr result (HonestErrors (most_of (length journal.saved)) IsCheckedFirst old new)
-  -- the report counts exactly the transactions that were sent
   pub counted : IfOk result (λ report. Spent report.transactions old new)
-  -- After success, if the chip has the journal's size, each touched sector has the saved bytes. The restore read the
-  -- touched sectors back and compared them, so this holds even for a chip that isn't genuine.
+  -- The restore read the touched sectors back and compared them, so this holds even for a chip that isn't genuine.
   pub checked : IfOk result (λ report. old.chip.config.size ≡ journal.size
       → HasBytes (choice.touched journal old.chip.bytes) (restored journal old.chip.bytes) new.chip)
 
--- The promises of a restore on a modelled bus: a well-behaved one whose chip is what its ID or SFDP says.
+-- The promises of a restore on a modelled bus.
 pub record ModelledBy (choice : Choice) (journal : Content) (old new : BusState)
     (result : Result Report Refusal) : Type 0 where
-  -- an error is the verdict, or a stop because too few transactions were left
   pub errors : IfErr result (ErrorsBy choice journal old new)
-  -- At every exit, only raised sectors were erased. If the bus is steady or the chip was idle, the bytes outside the
-  -- saved sectors and the status bits that flashnor never changes are as they were.
   pub leaves : LeavesBy choice journal old new
-  -- after success the chip has the saved bytes and the journal's non-volatile status bits (`IsRestoredBy`)
   pub done : IfOk result (IsRestoredBy choice journal old new)
-  -- if no status write is needed, none was sent
   pub unwritten : (¬ NeedsStatusBy choice journal old.chip) → WritesStatusAtMost 0 old new
-  -- if no status write is needed, the bound on the transactions in the report allows for no status write
   pub spares : (¬ NeedsStatusBy choice journal old.chip)
       → IfOk result (IsWithinCounts (choice.reads (length journal.saved)) (length journal.saved) 0 true)
 
 -- ---- `restore`, which changes the sectors that differ
 
--- Holds if `restore` may return this error on a modelled bus.
 abbrev pub RestoreErrors : Content → (old new : BusState) → Refusal → Type 0
 RestoreErrors journal old new refusal = ErrorsBy differing journal old new refusal
 
--- Holds if `restore` succeeded on a modelled bus with this report.
 abbrev pub IsRestored : Content → (old new : BusState) → Report → Type 0
 IsRestored journal old new report = IsRestoredBy differing journal old new report
 
--- the promises of `restore` on every bus
 abbrev pub RestoreAlways : Content → (old new : BusState) → Result Report Refusal → Type 0
 RestoreAlways journal old new result = AlwaysBy differing journal old new result
 
--- the promises of `restore` on a well-behaved bus
 abbrev pub RestoreHonest : Content → (old new : BusState) → Result Report Refusal → Type 0
 RestoreHonest journal old new result = HonestBy differing journal old new result
 
--- the promises of `restore` on a modelled bus
 abbrev pub RestoreModelled : Content → (old new : BusState) → Result Report Refusal → Type 0
 RestoreModelled journal old new result = ModelledBy differing journal old new result
 
 -- ---- `rewrite`, which changes every saved sector
 
--- the promises of `rewrite` on every bus
 abbrev pub RewriteAlways : Content → (old new : BusState) → Result Report Refusal → Type 0
 RewriteAlways journal old new result = AlwaysBy every_saved journal old new result
 
--- the promises of `rewrite` on a well-behaved bus
 abbrev pub RewriteHonest : Content → (old new : BusState) → Result Report Refusal → Type 0
 RewriteHonest journal old new result = HonestBy every_saved journal old new result
 
--- the promises of `rewrite` on a modelled bus
 abbrev pub RewriteModelled : Content → (old new : BusState) → Result Report Refusal → Type 0
 RewriteModelled journal old new result = ModelledBy every_saved journal old new result

@@ -44,35 +44,31 @@ use Rattle.nor_scan.specs.Verdict.{IsNamed, NeedsStatusWrite, IsVerdict, IsAccep
 
 -- ---- on every bus
 
--- Holds if a session may return this error and leave the vault in the state `new`. Error numbers are at most 14. Error
--- 11 occurs only if the vault counted a refusal. After errors 1 to 11 the vault isn't sealed. After errors 1 to 8,
--- which are returned before the vault is used, the vault is as it was.
+-- Holds if a session may return this error and leave the vault in the state `new`. After errors 1 to 11 the vault isn't
+-- sealed. Errors 1 to 8 are returned before the vault is used, so it is then as it was.
 pub record SessionReturns (old new : VaultState) (refusal : Refusal) : Type 0 where
   pub own : refusal_number refusal ≤ 14
   pub vault : refusal ≡ Vault → CountsRefusal old new
   pub unsealed : refusal_number refusal ≤ 11 → new.sealed ≡ false
   pub unused : refusal_number refusal ≤ 8 → new ≡ old
 
--- Holds if the bytes are a journal that saves this sector.
 abbrev pub SavesSector : (sector : ℕ) → (bytes : List ℕ) → Type 0
 SavesSector sector bytes = (journal : IsJournal bytes) × (is_saved journal.content sector ≡ true)
 
--- Holds for a timeout that names address 0 or an address in a sector for which `IsSuch` holds. Holds also for a
--- mismatch that names an address in such a sector, and for every error of another kind.
+-- Holds if a timeout names 0 or an address in a sector for which `IsSuch` holds, and a mismatch such an address.
 abbrev pub NamesSector : (IsSuch : (sector : ℕ) → Type 0) → Refusal → Type 0
 NamesSector IsSuch (Timeout address) = (address ≡ 0) ⊎ IsSuch (address / 4096)
 NamesSector IsSuch (Mismatch address) = IsSuch (address / 4096)
 NamesSector IsSuch _ = ⊤
 
--- Holds if the address that the error names is right. Before the seal a timeout names address 0, and no mismatch
--- occurs. After the seal of a faithful vault, a timeout names address 0 or an address in a sector that the vault's
--- journal saves, and a mismatch names an address in such a sector.
+-- Holds if the address that the error names is right: in a sector that the journal of a sealed faithful vault saves, or
+-- 0 for a timeout.
 pub record NamesAddress (vault : VaultState) (refusal : Refusal) : Type 0 where
   pub early : vault.sealed ≡ false → NamesSector (λ s. ⊥) refusal
   pub late : vault.sealed ≡ true → vault.telling ≡ true → NamesSector (λ s. SavesSector s vault.bytes) refusal
 
--- The greatest number of status writes of a session. For a protection range it is one. For a write or an erase it is
--- two if protection may be lifted (one to lift it, one to restore it), and otherwise none.
+-- The greatest number of status writes of a session: one for a protection range, and two for a write or an erase if
+-- protection may be lifted (one to lift it, one to restore it).
 abbrev pub most_status_writes : What → (unlock : Bool) → ℕ
 most_status_writes (WpRange start len) unlock = 1
 most_status_writes _ unlock = if unlock then 2 else 0
@@ -83,32 +79,24 @@ pub record IsPastChipEnd (journal : Content) (sector : ℕ) : Type 0 where
   pub whole : (s : ℕ) → s < journal.size / 4096 → is_saved journal s ≡ true
   pub past_end : journal.size / 4096 ≤ sector
 
--- Holds for the protection bits that the journal saves, and for 0 (all clear).
 abbrev pub IsSavedCode : Content → (code : ℕ) → Type 0
 IsSavedCode journal code = (code ≡ 0) ⊎ (code ≡ code_of (kept_in journal.status))
 
--- Holds for the protection bits that a session may write. For a protection range it is the least defined value that
--- protects exactly this range on a chip of the journal's size. For a write or an erase it is 0 (to lift protection), or
--- the value that the journal saves.
+-- Holds for the protection bits that a session may write: for a protection range the least defined value that protects
+-- exactly this range, otherwise 0 (to lift protection) or the saved value.
 abbrev pub IsWrittenCode : What → Content → (code : ℕ) → Type 0
 IsWrittenCode (WpRange start len) journal code = IsLeastCode journal.size start len code
 IsWrittenCode _ journal code = IsSavedCode journal code
 
--- Holds if a status write of the bytes `one` and `two` is allowed. The status bits that flashnor never changes must
--- have the values that the journal saves, the protection bits must satisfy `IsCode`, and BUSY, WEL and SUS must be
--- clear.
+-- Holds if a status write of the bytes `one` and `two` is allowed. BUSY, WEL and SUS must be clear.
 pub record WritesOnly (IsCode : (code : ℕ) → Type 0) (journal : Content) (one two : ℕ) : Type 0 where
   pub fixed : fixed_of (kept_in (one ∷ two ∷ [])) ≡ fixed_of (kept_in journal.status)
   pub code : IsCode (code_of (kept_in (one ∷ two ∷ [])))
   pub clear1 : one % 4 ≡ 0
   pub clear2 : two < 128
 
--- Holds if the modifying commands that `calls` calls with the same journal sent fit this journal. A sector was targeted
--- only if the journal saves it, if it had been targeted before, or if it lies past the end of a chip that the journal
--- saves whole. A status write had two bytes that `WritesOnly` allows, or that a status write had before the calls. The
--- number of erases is at most `calls` times the number of saved sectors, and the number of page programs is at most
--- sixteen times that. A transaction that the model doesn't know was sent only if such a transaction had been sent
--- before the calls.
+-- Holds if the modifying commands that `calls` calls with the same journal sent fit this journal. Targets, status bytes
+-- and unknown transactions that don't fit the journal are allowed if they had occurred before the calls.
 pub record SendsSaved (IsCode : ℕ → Type 0) (calls : ℕ) (journal : Content) (old new : BusState) : Type 0 where
   pub targeted : (s : ℕ) → (is_targeted new.sent s ≡ is_targeted old.sent s)
       ⊎ ((is_saved journal s ≡ true) ⊎ IsPastChipEnd journal s)
@@ -118,26 +106,22 @@ pub record SendsSaved (IsCode : ℕ → Type 0) (calls : ℕ) (journal : Content
   pub programs : programs_of new.sent ≤ programs_of old.sent + calls * (16 * sector_count (is_saved journal))
   pub unknown : has_unknown new.sent ≡ has_unknown old.sent
 
--- Holds if at most 4,096 erases and 65,536 page programs were sent, which are the numbers of sectors and of pages of
--- the largest chip. A transaction that the model doesn't know was sent only if such a transaction had been sent before.
+-- Holds if at most as many erases and page programs were sent as the largest chip has sectors and pages.
 pub record SendsFew (old new : BusState) : Type 0 where
   pub erases : erases_of new.sent ≤ erases_of old.sent + 4096
   pub programs : programs_of new.sent ≤ programs_of old.sent + 65536
   pub unknown : has_unknown new.sent ≡ has_unknown old.sent
 
--- Holds if exactly these numbers of erases and page programs were sent.
 pub record SendsCounted (erases programs : ℕ) (old new : BusState) : Type 0 where
   pub erased : erases_of new.sent ≡ erases_of old.sent + erases
   pub programmed : programs_of new.sent ≡ programs_of old.sent + programs
 
--- Holds if at most this number of status writes was sent.
 abbrev pub WritesStatusAtMost : ℕ → (old new : BusState) → Type 0
 WritesStatusAtMost most old new = status_writes_of new.sent ≤ status_writes_of old.sent + most
 
 -- Bounds on the counts of a report. `reads` is the number of sectors that are read before the first change, `sectors` a
 -- bound on the touched sectors, and `writes` a bound on the status writes. The identification takes at least four
--- transactions, and an operation at least three (write enable, the command, a poll). A touched sector may be read once
--- more before its programs. If `verify` is set, each touched sector is read back.
+-- transactions, and an operation at least three (write enable, the command, a poll).
 pub record IsWithinCounts (reads sectors writes : ℕ) (verify : Bool) (report : Report) : Type 0 where
   pub touched : report.touched ≤ sectors
   pub erases : report.erases ≤ sectors
@@ -148,15 +132,12 @@ pub record IsWithinCounts (reads sectors writes : ℕ) (verify : Bool) (report :
   pub least : 4 + reads + (if verify then report.touched else 0) + 3 * (report.erases + report.programs)
       ≤ report.transactions
 
--- The bounds of `IsWithinCounts` for a session that reads `scanned` sectors before the first change, and may touch only
--- these sectors.
 abbrev pub IsWithinBound : (scanned writes : ℕ) → (verify : Bool) → Report → Type 0
 IsWithinBound scanned writes verify report = IsWithinCounts scanned scanned writes verify report
 
--- Limits the transactions of a call with this report, on every bus. Until the state `before`, the call only read, with
--- at most `most_reads reads` transactions. From then on exactly `changing` transactions were sent. These are at most
--- one read for each touched sector, another one if `verify` is set, three transactions for each operation, and polls
--- that showed BUSY (`AddsTransactions`). The report counts all transactions of the call.
+-- Limits the transactions of a call with this report, on every bus. Until the state `before`, the call only read. Then
+-- it sent at most one read for each touched sector, another one if `verify` is set, three transactions for each
+-- operation, and polls that showed BUSY.
 pub record CountsChanges (reads writes : ℕ) (verify : Bool) (old new : BusState) (report : Report) : Type 0 where
   pub before : BusState
   pub first : ℕ
@@ -168,8 +149,7 @@ pub record CountsChanges (reads writes : ℕ) (verify : Bool) (old new : BusStat
       (report.touched + (if verify then report.touched else 0) + 3 * (report.erases + report.programs + writes))
       before.history new.history
 
--- Holds if a session ended with this report. The vault is sealed and did not fail. The report is within its bounds, and
--- counts the erases and page programs that were sent. Only the transactions that `CountsChanges` allows were sent.
+-- Holds if a session ended with this report.
 pub record EndsSealed (request : Request) (old new : BusState) (vault vault' : VaultState)
     (report : Report) : Type 0 where
   pub sealed : vault'.sealed ≡ true
@@ -183,8 +163,8 @@ pub record EndsSealed (request : Request) (old new : BusState) (vault vault' : V
 -- ---- on a well-behaved bus
 
 -- The meaning of errors on a well-behaved bus. A stop occurs only if no transaction is left and fewer than `most` were
--- left at the start. A timeout does not occur. `IsEarly` holds for the errors from before the first modifying command.
--- After such an error, other than a stop, bytes and non-volatile status bits are as they were.
+-- left at the start. `IsEarly` holds for the errors from before the first modifying command. After such an error, other
+-- than a stop, bytes and non-volatile status bits are as they were.
 abbrev pub HonestErrors : (most : ℕ) → (IsEarly : Refusal → Type 0) → (old new : BusState) → Refusal → Type 0
 HonestErrors most IsEarly old new Stopped = RanOut most old new
 HonestErrors most IsEarly old new (Timeout address) = ⊥
@@ -192,9 +172,8 @@ HonestErrors most IsEarly old new refusal = IsEarly refusal → IsSame old.chip 
 
 -- ---- on a modelled bus
 
--- Holds if a session may return this error on a modelled bus. The error is the verdict on the request, or it is 11 and
--- the vault failed. Or the error is 12, no transaction is left, and fewer were left at the start than the bound
--- `most_of`.
+-- Holds if a session may return this error on a modelled bus: the verdict on the request, 11 because the vault failed,
+-- or 12 because too few transactions were left.
 abbrev pub SessionErrors : Request → List ℕ → (old new : BusState) → (vault vault' : VaultState) → Refusal → Type 0
 SessionErrors request image old new vault vault' Vault = CountsRefusal vault vault'
 SessionErrors request image old new vault vault' Stopped = RanOut (most_of (old.chip.config.size / 4096)) old new
@@ -210,13 +189,9 @@ pub record IsDone (request : Request) (image : List ℕ) (old new : BusState) (r
   pub reported : IsReported (wanted request image old.chip) old new report
   pub unsent : report.touched ≡ 0 → ¬ NeedsStatusWrite request image old.chip → new.sent ≡ old.sent
 
--- Holds at every exit after the seal, on a modelled bus.
---
--- The request is accepted. A faithful vault holds a journal of the original chip that saves exactly the touched
--- sectors. The chip changed only as `MayChange` allows: in bytes of touched sectors, in protection bits that can be
--- written, in BUSY and in WEL. Only raised sectors were erased. On a steady bus each byte outside the raised sectors is
--- the old or the target byte. The number of transactions is at least four (the shortest identification) plus one for
--- each scanned sector.
+-- Holds at every exit after the seal, on a modelled bus: a faithful vault holds a journal of the original chip that
+-- saves exactly the touched sectors, and the chip changed only as `MayChange` allows. The number of transactions is at
+-- least four (the shortest identification) plus one for each scanned sector.
 pub record CanBeUndone (request : Request) (image : List ℕ) (old new : BusState) (vault : VaultState) : Type 0 where
   pub accepted : IsAccepted request image old.chip
   pub journal : vault.telling ≡ true
@@ -227,18 +202,15 @@ pub record CanBeUndone (request : Request) (image : List ℕ) (old new : BusStat
       (wanted request image old.chip) old new
   pub spent : old.punctual ≡ true → new.left + (4 + scanned_sectors request old.chip.config.size) ≤ old.left
 
--- Holds if there are no bytes. Holds also if the chip is identified and has the requested name, if any, and the bytes
--- are a prefix of the only journal that the session can write.
+-- Holds if there are no bytes, or if the bytes are a prefix of the only journal that the session can write.
 abbrev pub HoldsBegun : Request → (image : List ℕ) → Chip → (bytes : List ℕ) → Type 0
 HoldsBegun request image chip bytes = (bytes ≡ [])
     ⊎ (IsNamed request.named chip.config
     × IsJournalPrefix (header_of chip) chip.bytes (is_touched chip.bytes (wanted request image chip)) bytes)
 
--- Holds if the bytes are a journal that contains what the bus last replied before the seal. Its header has the ID, the
--- unique ID and the non-volatile status bits that the bus replied. The size in the header is the size in the row that
--- applies to the ID on this bus or, without a row, the size in the SFDP replies. Each record has the bytes of the last
--- reply to a read of its sector. `at_seal` is the history of the bus at some point of the session; the proof gives the
--- history at the seal.
+-- Holds if the bytes are a journal that contains what the bus last replied before the seal. The size is the one in the
+-- row that applies to the ID on this bus or, without a row, in the SFDP replies. `at_seal` is the history of the bus at
+-- some point of the session; the proof gives the history at the seal.
 pub record IsJournalOfReplies (old new : BusState) (bytes : List ℕ) : Type 0 where
   pub at_seal : List Exchange
   pub before : Continues old.history at_seal
@@ -249,19 +221,14 @@ pub record IsJournalOfReplies (old new : BusState) (bytes : List ℕ) : Type 0 w
   pub sectors : ℕ → Bool
   pub saves : JournalSaves (header_found identity) (bytes_read at_seal) sectors bytes
 
--- True if sector `s` lies on a chip of this size and is touched: some byte of it that was read (`read`) isn't the
--- target byte.
 abbrev pub touched_for : Request → (image : List ℕ) → (size : ℕ) → (read : ℕ → ℕ) → (s : ℕ) → Bool
 touched_for request image size read s =
     sectors_below (size / 4096) s && is_touched read (wanted_at request image size read) s
 
--- Holds if the result fits what was read back. A session promises this on every bus. `scanned` is the history at the
--- end of the scan. The target byte of an address is the requested byte if the request may change that address, and
--- otherwise the byte that the scan read.
---
--- After success with `verify` set, each sector with an included address had been read by the end of the scan. The last
--- transactions were reads of sectors, in which each byte of a touched sector was read as its target byte. After a
--- mismatch, its address is the first address in a touched sector whose byte was read otherwise.
+-- Holds if the result fits what was read back, on every bus. `scanned` is the history at the end of the scan. After
+-- success with `verify` set, each sector with an included address had been read by then, and the last transactions read
+-- each byte of a touched sector as its target byte. A mismatch names the first address in a touched sector whose byte
+-- was read otherwise.
 abbrev pub SessionReadsBack : Request → (image : List ℕ) → (old new : List Exchange) → Result Report Refusal → Type 0
 SessionReadsBack request image old new (Ok report) = request.verify ≡ true
     → (scanned : List Exchange) × HaveBeenRead (IsScanned request report.found.size) old scanned
@@ -278,38 +245,24 @@ SessionReadsBack request image old new (Err _) = ⊤
 -- The promises of a session on every bus and with every vault.
 pub record SessionAlways (request : Request) (image : List ℕ) (old new : BusState) (vault vault' : VaultState)
     (result : Result Report Refusal) : Type 0 where
-  -- If the vault isn't sealed, the session sent no modifying command. On a well-behaved bus, the number of transactions
-  -- is then at most that of identifying and scanning the largest chip.
+  -- On a well-behaved bus, the number of transactions is then at most that of identifying and scanning the largest
+  -- chip.
   pub only_reads : vault'.sealed ≡ false → OnlyReads (most_reads 4096) old new
-  -- at every exit on a well-behaved bus, the number of transactions that were sent is at most the bound `most_of` for
-  -- the largest chip
   pub spends : Spends (most_of 4096) old new
-  -- At every exit on every bus, the numbers of erases and page programs that were sent are at most the numbers of
-  -- sectors and pages of the largest chip. `SendsFew` also limits unknown transactions.
   pub few : SendsFew old new
-  -- at every exit the number of status writes is at most the number that the request may need
   pub writes : WritesStatusAtMost (most_status_writes request.what request.unlock) old new
-  -- the vault is faithful at every exit if and only if it was faithful at the start
   pub telling : vault'.telling ≡ vault.telling
-  -- if a faithful vault is sealed, the modifying commands that were sent fit its journal (`SendsSaved`)
   pub sends : vault'.sealed ≡ true → vault'.telling ≡ true → (journal : IsJournal vault'.bytes)
       × SendsSaved (IsWrittenCode request.what journal.content) 1 journal.content old new
-  -- if a faithful vault is sealed, it holds a journal
   pub holds : HoldsJournal vault'
   -- if a faithful vault is sealed, its journal contains what the bus replied, even if the bus isn't well-behaved
   pub replied : vault'.sealed ≡ true → vault'.telling ≡ true → IsJournalOfReplies old new vault'.bytes
-  -- an error is one that `SessionReturns` allows
   pub answers : IfErr result (SessionReturns vault vault')
-  -- a timeout or mismatch names an address that `NamesAddress` allows
   pub names : IfErr result (NamesAddress vault')
-  -- After success the vault is sealed and did not fail. The report is within its bounds, and counts the erases and page
-  -- programs that were sent.
   pub ends : IfOk result (EndsSealed request old new vault vault')
   -- After success with `verify` set, each sector that the request may change was read with its target bytes. For a
-  -- touched sector, that read followed all writes. Error 14 names the first address in a touched sector whose byte was
-  -- read otherwise.
+  -- touched sector, that read followed all writes.
   pub read_back : SessionReadsBack request image old.history new.history result
-  -- a session succeeds only if the last poll showed that the chip is ready
   pub polled_ready : OnOk result (new.polled_ready ≡ true)
   -- After error 12 the last transaction is the one at which the bus stopped. After error 13 it is a poll that showed
   -- BUSY, and after error 14 a read of the sector that contains the address (`EndsAtError`).
@@ -318,29 +271,20 @@ pub record SessionAlways (request : Request) (image : List ℕ) (old new : BusSt
 -- The promises of a session on a well-behaved bus.
 pub record SessionHonest (request : Request) (image : List ℕ) (old new : BusState)
     (result : Result Report Refusal) : Type 0 where
-  -- A timeout does not occur, and a stop occurs only if no transaction is left. After errors 1 to 11 bytes and
-  -- non-volatile status bits are as they were before the session.
+  -- After errors 1 to 11 bytes and non-volatile status bits are as they were before the session.
   pub honest_errors : IfErr result (HonestErrors (most_of 4096) (λ refusal. refusal_number refusal ≤ 11) old new)
-  -- the report counts exactly the transactions that were sent
   pub counted : IfOk result (λ report. Spent report.transactions old new)
-  -- After success, if the request asks for verification and the chip has the size that was found, each touched sector
-  -- has the target bytes. The session read the touched sectors back and compared them, so this holds even for a chip
-  -- that isn't genuine.
+  -- The session read the touched sectors back and compared them, so this holds even for a chip that isn't genuine.
   pub checked : IfOk result (λ report. request.verify ≡ true → old.chip.config.size ≡ report.found.size
       → HasBytes (is_touched old.chip.bytes (wanted request image old.chip)) (wanted request image old.chip) new.chip)
 
--- The promises of a session on a modelled bus: a well-behaved one whose chip is what its ID or SFDP says.
+-- The promises of a session on a modelled bus.
 pub record SessionModelled (request : Request) (image : List ℕ) (old new : BusState) (vault vault' : VaultState)
     (result : Result Report Refusal) : Type 0 where
-  -- at every exit the number of transactions that were sent is at most the bound `most_of` for a chip of this size
   pub falls : Falls (most_of (old.chip.config.size / 4096)) old new
-  -- an error is the verdict on the request, a failure of the vault, or a stop because too few transactions were left
   pub errors : IfErr result (SessionErrors request image old new vault vault')
-  -- after success the chip has the bytes and the protection bits that the request asked for (`IsDone`)
   pub done : IfOk result (IsDone request image old new)
-  -- if the request needs no status write, no status write was sent
   pub unwritten : ¬ NeedsStatusWrite request image old.chip → WritesStatusAtMost 0 old new
-  -- if the request needs no status write, the bound on the transactions in the report allows for no status write
   pub spares : ¬ NeedsStatusWrite request image old.chip
       → IfOk result (IsWithinBound (scanned_sectors request old.chip.config.size) 0 request.verify)
   -- a stop before the seal occurs only if fewer transactions were left at the start than the identification of this
@@ -357,6 +301,4 @@ pub record SessionModelled (request : Request) (image : List ℕ) (old new : Bus
   -- session can write
   pub cut : vault'.sealed ≡ false → vault'.telling ≡ true
       → OnErr result (HoldsBegun request image old.chip vault'.bytes)
-  -- At every exit after the seal, the request is accepted, the chip changed only as `MayChange` allows, and a faithful
-  -- vault holds the journal that can undo the session (`CanBeUndone`).
   pub undo : vault'.sealed ≡ true → CanBeUndone request image old new vault'

@@ -15,8 +15,7 @@ pub struct Announcement {
 }
 
 /// Calls `announce` with `touched`, the number of touched sectors, and with the least number of erases that cover
-/// exactly the raised sectors of `changes`. `changes` must be consistent (`AreConsistent`), and `announce` must accept
-/// every announcement.
+/// exactly the raised sectors of `changes`, which must be consistent (`AreConsistent`).
 pub(crate) fn announce_changes<F: FnOnce(Announcement)>(
     announce: F,
     changes: &Changes,

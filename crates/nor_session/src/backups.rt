@@ -14,20 +14,17 @@ use nor_scan::{identify, save_whole};
 /// Saves every sector of the chip, its protection bits and its unique ID to `vault`, and changes nothing. If `named` is
 /// given, the chip must have that name. `vault` must be empty and unsealed.
 ///
-/// The journal of a session saves only the sectors that the session will change, and can undo only that session. If a
-/// faulty wire or chip changes another sector, the session's journal doesn't contain the bytes of that sector, but a
-/// backup does. After success on a modelled bus, a `telling` vault holds a journal from which `restore` can restore the
-/// chip. This is possible at once, and after any changes of bytes and protection bits that a restore can write
-/// (`backup_restores_any`). If no sector of the chip is protected, or the chip's status isn't locked, `rewrite` can
-/// restore the chip from this journal too; otherwise `rewrite` refuses the chip (error 9).
+/// The journal of a session saves only the sectors that the session will change. If a faulty wire or chip changes
+/// another sector, only a backup has its bytes. After success on a modelled bus, a `telling` vault holds a journal from
+/// which `restore` can restore the chip, even after any changes that a restore can write (`backup_restores_any`).
+/// `rewrite` can do so too, unless a locked status protects a sector (error 9).
 ///
-/// On any bus no modifying command is sent, and the vault is sealed if and only if the call succeeds. After success on
-/// any bus, the journal of a `telling` vault contains what the bus replied. The report counts 0 touched sectors, erases
-/// and programs, and counts all transactions.
+/// On any bus the vault is sealed if and only if the call succeeds, and the journal of a sealed `telling` vault
+/// contains what the bus replied. The report counts 0 touched sectors, erases and programs, and counts all
+/// transactions.
 ///
 /// Returns error 1 (no chip), 2 (unknown chip), 3 (other name), 11 (the vault failed), 12 (the bus stopped) or 13 (the
-/// chip stayed busy during the identification; not on a well-behaved bus). On any bus nothing is sent after the
-/// transaction that error 12 or 13 reports.
+/// chip stayed busy during the identification; not on a well-behaved bus). Nothing is sent after error 12 or 13 occurs.
 pub fn backup<B: Bus, V: Vault>(
     bus: &mut B,
     vault: &mut V,

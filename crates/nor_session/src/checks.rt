@@ -1,5 +1,4 @@
-//! The verification at the end of a session or restore: reads the touched sectors back, and compares them with the
-//! target bytes.
+//! The verification at the end of a session or restore.
 ghost use Rattle.std.specs.Prelude.{◌≡◌, ◌<◌, ℕ, true, IfOk, IfErr, OnOk};
 ghost use Rattle.nor_driver.specs.OnlyReads.{OnlyReads};
 ghost use Rattle.nor_plan.specs.SectorSet.{has, LiesBelow};
@@ -18,9 +17,8 @@ use nor_request::Refusal;
 /// The reason why a verification failed.
 #[derive(Clone, Copy, Debug, PartialEq, Eq)]
 pub(crate) enum CheckFault {
-    /// The bus stopped.
     Stopped,
-    /// A byte that was read back isn't the target byte. `address` is the first address at which this is so.
+    /// A byte that was read back isn't the target byte. `address` is the first such address.
     Mismatch { address: u32 },
 }
 
@@ -46,9 +44,8 @@ impl From<CheckFault> for Refusal {
 /// Reads the touched sectors, in ascending order, and compares them with the bytes of `source`, which must have every
 /// touched sector. Returns the number of transactions.
 ///
-/// Returns `Stopped` if the bus stopped, and `Mismatch` if a byte differs. On any bus the address of a mismatch is in a
-/// touched sector. On a well-behaved bus, if the chip is idle and the touched sectors lie on it, that address is the
-/// first address in the touched sectors at which the chip differs from `source`.
+/// Returns `Stopped` if the bus stopped, and `Mismatch` with an address in a touched sector if a byte differs. On a
+/// well-behaved bus, if the chip is idle and the touched sectors lie on it, that is the first address that differs.
 pub(crate) fn check_all<B: Bus, S: Source>(
     bus: &mut B,
     source: &S,
@@ -75,7 +72,6 @@ pub(crate) fn check_all<B: Bus, S: Source>(
     Ok(sent)
 }
 
-// Reads the sector `sector` into `bytes`, and compares it with its target bytes `wanted`.
 fn check_sector<B: Bus>(
     bus: &mut B,
     sector: u32,

@@ -1,6 +1,4 @@
-//! The state of a session after its request was checked against the identification. The type `Restorer` is evidence
-//! that a journal exists, and can be constructed only in the module `kept`. So a `Judged` obtains this evidence only
-//! from a sealed vault or from a journal that was read.
+//! The state of a session after its request was checked against the identification.
 ghost use Rattle.std.specs.Prelude.{length};
 ghost use Rattle.nor_journal.specs.Vault.{IsFresh};
 ghost use Rattle.nor_session.specs.Judged.{IsJudged, SinceIdentity, KeepsPromise};
@@ -15,8 +13,8 @@ use nor_model::Bus;
 use nor_request::{Refusal, Report, Request};
 use nor_scan::{Identity, save};
 
-/// The state of a session whose request was checked against the identification, and in which nothing is saved yet. A
-/// `Judged` holds all that the rest of the session uses, except the closure for the announcement.
+/// The state of a session whose request was checked against the identification, and in which nothing is saved yet. It
+/// obtains a `Restorer`, without which nothing can be changed, only from a sealed vault or a journal that was read.
 pub(crate) struct Judged<'a, B: Bus, V: Vault> {
     pub(crate) bus: &'a mut B,
     pub(crate) vault: &'a mut V,
@@ -28,8 +26,8 @@ pub(crate) struct Judged<'a, B: Bus, V: Vault> {
 
 impl<'a, B: Bus, V: Vault> Judged<'a, B, V> {
     /// Saves the touched sectors, announces and makes the changes, and returns the session's report. The clause `keeps`
-    /// states the promises of the whole session (`KeepsPromise`). It states them for each state of the bus from which
-    /// an identification with this result can have led to the present state (`SinceIdentity`).
+    /// states the promises of the whole session for each state of the bus from which an identification with this result
+    /// can have led to the present state.
     pub(crate) fn answer<F: FnOnce(Announcement) + Drop>(
         self,
         announce: F,

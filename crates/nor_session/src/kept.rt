@@ -1,8 +1,4 @@
-//! The two states of a session or restore after its journal is complete: a `Kept` is ready to change the chip, and a
-//! `Done` is ready for the check of the result.
-//!
-//! Only `Kept` changes a chip, and it is constructed only with evidence of a sealed vault or of a journal that was
-//! read.
+//! The two states of a session or restore after its journal is complete: `Kept` and `Done`.
 ghost use Rattle.std.specs.Prelude.{◌≡◌, ◌≤◌, ℕ, Bool, true, IfOk, IfErr};
 ghost use Rattle.nor_driver.specs.OnlyReads.{OnlyReads};
 ghost use Rattle.nor_plan.specs.SectorSet.{has, LiesBelow};
@@ -15,19 +11,19 @@ use nor_journal::{Journal, Vault};
 use nor_model::Bus;
 use nor_request::Refusal;
 
-/// Evidence that the vault that received the journal is sealed, or that the journal was read.
+/// Evidence that the vault that received the journal is sealed, or that the journal was read. Only this module
+/// constructs it.
 pub(crate) struct Restorer(());
 
 impl Restorer {
-    /// Returns the evidence for a vault that received the journal. The vault must be sealed. The premise doesn't say
-    /// that the vault received the journal: the caller must have written it.
+    /// Returns the evidence for a sealed vault. The premise doesn't say that the vault received the journal: the caller
+    /// must have written it.
     pub(crate) fn in_vault<V: Vault>(_vault: &V) -> Restorer
         requires { (V.state _vault.now).sealed ≡ true }
     {
         Restorer(())
     }
 
-    /// Returns the evidence for a journal that was read.
     pub(crate) fn in_journal(_journal: &Journal<'_>) -> Restorer {
         Restorer(())
     }
@@ -43,9 +39,9 @@ pub(crate) struct Kept<'a, B: Bus, S: Source> {
 }
 
 impl<'a, B: Bus, S: Source> Kept<'a, B, S> {
-    /// Makes the changes. If `verify` is set, reads the touched sectors back and compares them with their target bytes.
-    /// `changes` must be consistent (`AreConsistent`), and `source` must have every touched sector. Returns the counts
-    /// of the work, or error 12 (the bus stopped), 13 (the chip stayed busy) or 14 (a byte differs).
+    /// Makes the changes, which must be consistent (`AreConsistent`), and checks the touched sectors if `verify` is
+    /// set. `source` must have every touched sector. Returns error 12 (the bus stopped), 13 (the chip stayed busy) or
+    /// 14 (a byte differs).
     pub(crate) fn finish(self, verify: bool) -> Result<Work, Refusal>
         requires consistent { AreConsistent self.changes.now }
         requires sourced { (s : ℕ) → has self.changes.now.touched s ≡ true → S.has self.source.now s ≡ true }
@@ -76,8 +72,7 @@ impl<'a, B: Bus, S: Source> Kept<'a, B, S> {
     }
 }
 
-/// The state after everything was written, in which only the check is left. Only `Kept` constructs a `Done`, which
-/// can't be dropped.
+/// The state after everything was written. Only `Kept` constructs a `Done`, which can't be dropped.
 pub(crate) struct Done<'a, B: Bus, S: Source> {
     bus: &'a mut B,
     source: &'a S,
@@ -86,8 +81,7 @@ pub(crate) struct Done<'a, B: Bus, S: Source> {
 }
 
 impl<'a, B: Bus, S: Source> Done<'a, B, S> {
-    // If `verify` is set, reads the touched sectors back and compares them with their target bytes. Returns the counts
-    // of the work, including these reads.
+    // Checks the touched sectors if `verify` is set. The returned counts include these reads.
     fn check(self, verify: bool) -> Result<Work, Refusal>
         requires fits { self.work.transactions ≤ most_applied 4096 }
         requires sourced { (s : ℕ) → has self.changes.now.touched s ≡ true → S.has self.source.now s ≡ true }

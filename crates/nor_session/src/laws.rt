@@ -1,6 +1,4 @@
-//! Laws (theorems) on sessions and restores that follow one another, on chips in files, and on backups. They say which
-//! chips a journal can restore after a session or backup, after a loss of power, and while files are being overwritten,
-//! and which chips restores leave.
+//! Laws (theorems) on sessions and restores that follow one another, on chips in files, and on backups.
 ghost use Rattle.std.specs.Prelude.{◌≡◌, ◌⊎◌, true, ℕ, List};
 ghost use Rattle.nor_model.specs.Bus.{BusState};
 ghost use Rattle.nor_model.specs.Chip.{Chip, IsChip, IsSame};
@@ -17,25 +15,23 @@ ghost use Rattle.nor_session.specs.Restore.{IsRestored};
 ghost use Rattle.nor_session.specs.Session.{CanBeUndone, HoldsBegun};
 ghost use Rattle.nor_session.specs.WrittenOver.{IsWrittenOver};
 
-/// If a journal saves the chip in its present state (`SavesChip`), a restore from this journal that succeeds on a
-/// modelled bus changes nothing. That is so, for example, after another restore from the same journal succeeded.
+/// If a journal saves the chip in its present state (`SavesChip`), for example after another restore, a restore from
+/// this journal that succeeds on a modelled bus changes nothing.
 pub fn restored_stays()
     ensures { (journal : Content) (first : Chip) (old new : BusState) (report : Report)
         → SavesChip journal first → IsSame first old.chip → IsRestored journal old new report
         → ChangesNothing journal old new report }
 {}
 
-/// A journal that can restore the original chip can still do so after the chip has lost its power. The premise is that
-/// the bus wasn't steady, or that the chip was idle. Under this premise the power may fail between a session that was
-/// stopped and its restore, and between two restores.
+/// A journal that can restore the original chip can still do so after the chip has lost its power, provided that the
+/// bus wasn't steady, or that the chip was idle. So the power may fail between two runs.
 pub fn power_lost_restores_original()
     ensures { (journal : Content) (first : Chip) (old new : BusState)
         → CanRestore journal first old → LosesPower old new → CanRestore journal first new }
 {}
 
 /// If a session on a modelled bus sealed a `telling` vault, the journal in this vault saves no sector that a locked
-/// status protects (`CanBeRewritten`). So if that journal can restore the chip on a modelled bus, the only possible
-/// error of `rewrite` is 12, a stop (`RewritesOriginal`).
+/// status protects. So the only possible error of a `rewrite` from it is a stop, if it can restore the chip.
 pub fn session_can_be_rewritten()
     ensures { (request : Request) (image : List ℕ) (old new : BusState) (journal : Content)
         → LeavesJournal request image old new journal → CanBeRewritten journal old.chip }
@@ -44,11 +40,10 @@ pub fn session_can_be_rewritten()
 /// Suppose that two sessions ran one after the other, and that a restore from the later journal then succeeded. Then
 /// the earlier journal can restore the chip from before the first session.
 ///
-/// Both sessions left their journals in sealed `telling` vaults (`LeavesJournal`). All buses are modelled, and each run
-/// may use a different one. Before the restore that succeeded, other restores from the later journal may have been
-/// stopped. In this case the premise is that the later journal can still restore the chip from before the second
-/// session. Between two runs the chip may lose its power, if it was idle or its bus isn't steady. The chip may also be
-/// opened from files that were not completely overwritten (`IsTakenUp`).
+/// Both journals are in sealed `telling` vaults, and all buses are modelled, but may differ. Before the restore that
+/// succeeded, others from the later journal may have been stopped, if that journal can still restore the chip from
+/// before the second session. Between two runs the chip may lose its power, if it was idle or its bus isn't steady, or
+/// be opened from files that were not completely overwritten (`IsTakenUp`).
 pub fn undone_is_restorable()
     ensures { (request later : Request) (image later_image : List ℕ) (old mid mid' new new' back : BusState)
         (journal other : Content) (report : Report)
@@ -59,13 +54,8 @@ pub fn undone_is_restorable()
 {}
 
 /// Suppose that two sessions ran one after the other, and that restores from their journals then succeeded in the
-/// reverse order. Then the chip is the one from before the first session.
-///
-/// Both sessions left their journals in sealed `telling` vaults (`LeavesJournal`). All buses are modelled, and each run
-/// may use a different one. Before each restore that succeeded, other restores from its journal may have been stopped.
-/// In this case the premise is that this journal can still restore the chip from before its session. Between two runs
-/// the chip may lose its power, if it was idle or its bus isn't steady (`MayLosePower`). After a session the chip may
-/// also be opened from files that were not completely overwritten (`IsTakenUp`).
+/// reverse order. Then the chip is the one from before the first session. The premises are those of
+/// `undone_is_restorable`, for both journals.
 pub fn undone_in_turn()
     ensures { (request later : Request) (image later_image : List ℕ) (old mid mid' new new' back back' end : BusState)
         (journal other : Content) (report last : Report)
@@ -85,9 +75,9 @@ pub fn read_restores_original()
         → IsContent journal → vault.bytes ≡ text journal → CanRestore journal old.chip new }
 {}
 
-/// A `telling` vault that was never sealed may hold the whole journal, for example if only the seal failed. If the
-/// bytes of such a vault are a journal after a session on a modelled bus, that journal can restore the original chip.
-/// The premise is that the chip to be restored is idle, and has the original bytes and non-volatile status bits.
+/// If the bytes of an unsealed `telling` vault are a journal after a session on a modelled bus, for example because
+/// only the seal failed, that journal can restore the original chip. The premise is that the chip to be restored is
+/// idle, and has the original bytes and non-volatile status bits.
 pub fn begun_restores_original()
     ensures { (request : Request) (image : List ℕ) (old new : BusState) (bytes : List ℕ) (journal : Content)
         → IsModelled old → IsChip old.chip → HoldsBegun request image old.chip bytes
@@ -96,8 +86,8 @@ pub fn begun_restores_original()
 {}
 
 /// Suppose that the chip's files held the chip from before a session on a modelled bus, and were being overwritten with
-/// the chip after the session. Then the journal that is read from the session's sealed `telling` vault can restore the
-/// original chip from these files, wherever the overwriting was interrupted.
+/// the chip after the session. Wherever the overwriting was interrupted, the journal from the session's sealed
+/// `telling` vault can restore the original chip from these files.
 pub fn session_written_over()
     ensures { (request : Request) (image : List ℕ) (old new opened : BusState) (vault : VaultState) (journal : Content)
         → IsModelled old → IsChip old.chip → vault.telling ≡ true → CanBeUndone request image old new vault
@@ -105,9 +95,8 @@ pub fn session_written_over()
         → CanRestore journal old.chip opened }
 {}
 
-/// Suppose that the chip's files held the chip from before a restore, and were being overwritten with the chip after
-/// the restore. If a journal can restore the original chip from each of these two chips, it can restore the original
-/// chip from the files, wherever the overwriting was interrupted.
+/// If a journal can restore the original chip from the chips before and after a restore, it can restore the original
+/// chip from files that held the first one and were being overwritten with the second one.
 pub fn restore_written_over()
     ensures { (journal : Content) (first : Chip) (old new opened : BusState)
         → CanRestore journal first old → CanRestore journal first new → IsWrittenOver old.chip new.chip opened.chip
@@ -119,18 +108,16 @@ pub fn same_written_over()
     ensures { (old new opened : Chip) → IsSame old new → IsWrittenOver old new opened → IsSame old opened }
 {}
 
-/// If any journal can restore a chip, for example the journal of a session, then a backup of that chip can restore it
-/// too.
+/// If any journal can restore a chip, a backup of that chip can restore it too.
 pub fn backup_restores_original()
     ensures { (journal backup : Content) (first : Chip) (state : BusState)
         → SavesWholeChip backup first → CanRestore journal first state → CanRestore backup first state }
 {}
 
-/// A backup can restore the chip that it saves, even if bytes changed in sectors that no session touched, for example
-/// because an erase went to a wrong address. The saved chip must be known (`IsKnown`). The chip on the bus may differ
-/// from the saved chip in bytes at any addresses that a restore can write, and in protection bits that can be written.
-/// The other non-volatile status bits must be the saved ones. If the bus isn't steady, an operation in progress must
-/// change only what a restore can write (`IsWithin`).
+/// A backup can restore the known chip that it saves, even if bytes changed in sectors that no session touched, for
+/// example because an erase went to a wrong address. The chip on the bus may differ from the saved chip in bytes at any
+/// addresses and in protection bits that a restore can write. If the bus isn't steady, an operation in progress must
+/// change only these (`IsWithin`).
 pub fn backup_restores_any()
     ensures { (backup : Content) (first : Chip) (state : BusState) → IsKnown first.config
         → SavesWholeChip backup first → IsWithin (writable_addresses first) first state

@@ -1,6 +1,4 @@
-//! The steps of a restore or rewrite before it changes anything. Both identify the chip, and check that the journal
-//! fits it. A restore then reads the saved sectors; a rewrite doesn't, because it changes all of them. Both then
-//! determine which changes are needed.
+//! The steps of a restore or rewrite before it changes anything.
 ghost use Rattle.std.specs.Prelude.{◌≡◌, ◌<◌, ◌≤◌, ℕ, true, None, length, IfOk, IfErr, OnOk, OnErr, MatchBool};
 ghost use Rattle.nor_driver.specs.OnlyReads.{OnlyReads, HasStopped};
 ghost use Rattle.nor_plan.specs.SectorSet.{has};
@@ -24,8 +22,7 @@ use nor_probe::{Found, probe_counted};
 use nor_request::Refusal;
 use nor_scan::{Identity, Scanned, first_protected, read_on};
 
-/// The result of a restore's preparation: the chip that was found, what must be changed, how many sectors are touched,
-/// and how many transactions were sent.
+/// The result of the preparation of a restore or rewrite.
 #[derive(Clone, Copy)]
 pub(crate) struct PreparedRestore {
     pub found: Found,
@@ -60,7 +57,7 @@ pub(crate) fn prepare_restore<B: Bus>(
 }
 
 /// Prepares `rewrite`: identifies the chip, checks that the journal fits it, and marks every saved sector for an erase,
-/// without reading it. Returns error 1, 2, 16, 20, 17 or 9 (checked in this order), 12 or 13.
+/// without reading it. Returns the same errors as `prepare_restore`.
 pub(crate) fn prepare_rewrite<B: Bus>(
     bus: &mut B,
     journal: &Journal<'_>,
@@ -82,7 +79,6 @@ pub(crate) fn prepare_rewrite<B: Bus>(
     })
 }
 
-// Identifies the chip, and checks that the journal fits its ID, size, unique ID and status bits.
 fn identify_saved<B: Bus>(bus: &mut B, journal: &Journal<'_>) -> Result<Identity, Refusal>
     ensures leaves { OnlyReads most_identity (B.state bus.old) (B.state bus.new) }
     ensures identifies { IfOk result (ReadsIdentity None (B.state bus.old) (B.state bus.new)) }
@@ -98,8 +94,7 @@ fn identify_saved<B: Bus>(bus: &mut B, journal: &Journal<'_>) -> Result<Identity
     Ok(identity)
 }
 
-// Identifies the chip, and returns error 16 if it doesn't have the journal's ID and size. The check precedes the reads
-// of status 2 and the unique ID.
+// Identifies the chip. Returns error 16 if the ID or size differs, before status 2 and the unique ID are read.
 fn identify_type<B: Bus>(bus: &mut B, journal: &Journal<'_>) -> Result<Identity, Refusal>
     ensures leaves { OnlyReads most_identity (B.state bus.old) (B.state bus.new) }
     ensures identifies { IfOk result (ReadsIdentity None (B.state bus.old) (B.state bus.new)) }
@@ -115,15 +110,13 @@ fn identify_type<B: Bus>(bus: &mut B, journal: &Journal<'_>) -> Result<Identity,
     Ok(identity)
 }
 
-// Returns whether the chip that was found has the journal's ID and size.
 fn is_of_type(journal: &Journal<'_>, found: &Found) -> bool
     ensures { MatchBool result (IsOfTypeFound journal.now found.now) (¬ IsOfTypeFound journal.now found.now) }
 {
     journal.id() == found.id && journal.size() == found.size
 }
 
-// Returns error 20 if the journal has a unique ID that isn't the chip's, and otherwise error 17 if the status bits that
-// a restore can't write differ from the journal's.
+// Returns error 20 if the journal has another unique ID, and otherwise 17 if status bits that can't be written differ.
 fn judge_device(journal: &Journal<'_>, identity: &Identity) -> Result<(), Refusal>
     ensures faults { IfErr result IsDeviceRefusal }
     ensures fits { AcceptsDevice journal.now identity.now result }
@@ -154,8 +147,6 @@ fn has_fixed(journal: &Journal<'_>, identity: &Identity) -> bool
     saved.kept() == read.kept() || identity.found.scheme && saved.fixed() == read.fixed()
 }
 
-// Reads each saved sector, in ascending order, and compares it with the journal's bytes. Marks the sectors that differ
-// as touched, and those that need an erase as raised.
 fn scan_saved<B: Bus>(bus: &mut B, journal: &Journal<'_>) -> Result<Scanned, Stopped>
     ensures leaves { OnlyReads (length journal.now.saved) (B.state bus.old) (B.state bus.new) }
     ensures scans { IfOk result (MarksChosen differing journal.now (B.state bus.old) (B.state bus.new)) }
@@ -171,7 +162,6 @@ fn scan_saved<B: Bus>(bus: &mut B, journal: &Journal<'_>) -> Result<Scanned, Sto
     Ok(scanned)
 }
 
-// Marks every saved sector as touched and raised, so that it will be erased and programmed.
 fn mark_saved(journal: &Journal<'_>) -> Scanned
     ensures { MarksSaved journal.now result }
 {
@@ -184,8 +174,7 @@ fn mark_saved(journal: &Journal<'_>) -> Scanned
     scanned
 }
 
-// Returns the plan of a rewrite for a saved sector with these bytes. The sector is touched and raised, so it will be
-// erased and programmed, even if the chip has these bytes already.
+// Returns the plan of a rewrite for a saved sector, even if the chip has these bytes already.
 fn plan_rewritten(_saved: &[u8; SECTOR_LEN as usize]) -> SectorPlan
     ensures { result ≡ plan_of_rewritten }
 {
@@ -195,8 +184,6 @@ fn plan_rewritten(_saved: &[u8; SECTOR_LEN as usize]) -> SectorPlan
     }
 }
 
-// Reads the sector `sector` into `bytes`. Returns whether a byte must change to turn it into `saved`, and whether this
-// needs an erase.
 fn plan_saved<B: Bus>(
     bus: &mut B,
     sector: u32,
@@ -212,8 +199,7 @@ fn plan_saved<B: Bus>(
     Ok(Plan::of(&*bytes, saved))
 }
 
-// Returns the changes that turn the chip into what the journal saved, or error 9 if the status is locked and would have
-// to be written.
+// Returns the changes, or error 9 if the status is locked and would have to be written.
 fn judge_changes(
     journal: &Journal<'_>,
     identity: &Identity,

@@ -1,5 +1,4 @@
-//! The call `rehearse`, which runs a session that may be stopped on purpose, and then undoes it with restores from its
-//! journal.
+//! The call `rehearse`, which runs a session that may be stopped on purpose, and then undoes it from its journal.
 ghost use Rattle.std.specs.Prelude.{◌≡◌, ◌≤◌, ◌+◌, ◌∷◌, true, length, drop, IfOk, IfErr, OnOk, OnErr};
 ghost use Rattle.nor_model.specs.Chip.{IsSame};
 ghost use Rattle.nor_driver.specs.OnlyReads.{IsSteadyOrIdle};
@@ -19,7 +18,7 @@ use nor_journal::{Journal, MemVault, Vault};
 use nor_model::{Bus, Meter};
 
 /// The result of a rehearsal: whether the session ended, whether its vault was sealed, and how many restores were run
-/// until one ended. This number includes the restores that were stopped, and is 0 if the vault wasn't sealed.
+/// until one ended, including the ones that were stopped (0 if the vault wasn't sealed).
 #[derive(Clone, Copy, Debug, PartialEq, Eq)]
 pub struct Rehearsal {
     pub ended: bool,
@@ -27,13 +26,10 @@ pub struct Rehearsal {
     pub restores: u32,
 }
 
-/// Runs a session and, if its vault is sealed, runs restores from its journal until one ends. Each call may send at
-/// most the number of transactions given by its entry in `stops`: the first entry is for the session, the second for
-/// the first restore, and so on. A call without an entry may send a number of transactions that is enough for every
-/// session and restore on a well-behaved bus. Exactly one allowance is set for each call: its entry or, without one,
-/// this number.
-///
-/// The rehearsal ends at the first error. If a call that has an entry in `stops` is stopped, that is not an error.
+/// Runs a session and, if its vault is sealed, restores from its journal until one ends. `stops` has the allowances of
+/// the session, the first restore, and so on. A call without an entry may send as many transactions as any session or
+/// restore on a well-behaved bus needs. The rehearsal ends at the first error; a stop of a call that has an entry isn't
+/// an error.
 ///
 /// `stops` must have at most 64 entries, and `vault` must be empty and unsealed. `image` and `request` are as for
 /// `session`.
@@ -43,7 +39,7 @@ pub struct Rehearsal {
 /// contents and non-volatile status bits are at every exit as they were before the call.
 ///
 /// Returns an error of the session or, if the vault was sealed, of a restore. On a well-behaved, punctual bus errors 12
-/// and 13 do not occur: a stop from `stops` that interrupts the session or a restore is part of the result.
+/// and 13 do not occur.
 pub fn rehearse<B: Meter>(
     bus: &mut B,
     vault: &mut MemVault,
@@ -79,16 +75,13 @@ pub fn rehearse<B: Meter>(
     })
 }
 
-// A bound on the transactions of an identification: at most 65,540 for the probe, one to read status 2, and one to read
-// the unique ID.
+// A bound on the transactions of an identification: a probe, and one read each of status 2 and of the unique ID.
 const IDENTIFICATION: u64 = 65_542;
 
-// A bound on the transactions of an erase, a page program or a status write: write enable, the command, and at most
-// 65,536 polls.
+// A bound on the transactions of an operation: write enable, the command, and at most 65,536 polls.
 const OPERATION: u64 = 65_538;
 
-// Returns a bound on the transactions of a session on a chip of 16 MiB. On a well-behaved bus no session or restore
-// sends more.
+// Returns a bound on the transactions of a session or restore on a chip of 16 MiB.
 fn most_needed() -> u64
     ensures { result ≡ most_of 4096 }
 {
@@ -96,22 +89,20 @@ fn most_needed() -> u64
     IDENTIFICATION + 3 * sectors + OPERATION * (17 * sectors + 2)
 }
 
-// Returns the number of transactions that the session may send: the first stop or, without stops, `most_needed`.
 fn first_allowed(stops: &[u64]) -> u64
     ensures { result ≡ first_allowance stops.now }
 {
     stops.first().copied().unwrap_or_else(most_needed)
 }
 
-// Returns `stops` without its first entry.
 fn later(stops: &[u64]) -> &[u64]
     ensures { result.now ≡ drop 1 stops.now }
 {
     stops.get(1..).unwrap_or(&[])
 }
 
-// Runs the session with the first stop as its allowance or, without stops, with `most_needed`. Returns whether the
-// session ended. If the bus stopped, returns `false` if there is a first stop, and otherwise error 12.
+// Runs the session with the first stop as its allowance or, without stops, with `most_needed`. Returns whether it
+// ended; without stops, a bus that stopped is error 12.
 fn stopped_session<B: Meter>(
     bus: &mut B,
     vault: &mut MemVault,
@@ -138,8 +129,8 @@ fn stopped_session<B: Meter>(
     }
 }
 
-// Reads `text` as a journal, and runs restores from it with `stops` in turn (`restore_in_turn`). Returns how many
-// restores were run, error 15 if `text` isn't a journal, or an error of `restore_in_turn`.
+// Reads `text` as a journal, and runs restores from it. Returns their number, error 15 if `text` isn't a journal, or an
+// error of `restore_in_turn`.
 fn undo<B: Meter>(bus: &mut B, text: &[u8], stops: &[u64]) -> Result<u32, Refusal>
     requires few { length stops.now ≤ 64 }
     ensures { LeavesUndo text.now stops.now (B.state bus.old) (B.state bus.new) result }
@@ -150,9 +141,8 @@ fn undo<B: Meter>(bus: &mut B, text: &[u8], stops: &[u64]) -> Result<u32, Refusa
     }
 }
 
-// Runs restores until one of them ends: one restore with each of the stops in turn, then one with `most_needed`
-// transactions. Returns how many restores were run. Returns error 12 if the restore with `most_needed` transactions was
-// stopped too, and any other error of a restore at once.
+// Runs restores until one of them ends: one with each of the stops in turn, then one with `most_needed` transactions.
+// Returns error 12 if the last one was stopped too, and any other error of a restore at once.
 fn restore_in_turn<B: Meter>(
     bus: &mut B,
     journal: &Journal<'_>,
@@ -178,8 +168,7 @@ fn restore_in_turn<B: Meter>(
     Err(Refusal::Stopped)
 }
 
-// Allows the given number of transactions, and runs a restore. Returns `true` if the restore ended, `false` if the bus
-// stopped, and any error of the restore other than 12.
+// Runs a restore with this allowance. Returns `false` if the bus stopped, and any error other than 12.
 fn ends_under<B: Meter>(bus: &mut B, journal: &Journal<'_>, allowance: u64) -> Result<bool, Refusal>
     ensures leaves { LeavesRestores journal.now 1 (B.state bus.old) (B.state bus.new) }
     ensures allowed { (B.state bus.new).allowances ≡ allowance ∷ (B.state bus.old).allowances }

@@ -1,4 +1,4 @@
-//! The sources of the target bytes: the image of a session, and the records of a journal.
+//! The sources of the target bytes.
 ghost use Rattle.std.specs.Prelude.{◌≡◌, ℕ, ◌<◌, ◌+◌, ◌*◌, nat_lt, length, slice_index};
 ghost use Rattle.std.proofs.lemmas.Bool.Decides.{nat_tests};
 ghost use Rattle.nor_journal.specs.Saved.{is_saved, saved_byte};
@@ -7,8 +7,7 @@ use nor_apply::Source;
 use nor_geometry::SECTOR_LEN;
 use nor_journal::Journal;
 
-/// The image of a session. After the scan of a write or an erase, the image has the target byte of each address in a
-/// touched sector.
+/// The image of a session, which after the scan has the target byte of each address in a touched sector.
 #[derive(Drop)]
 pub struct Image<'a> {
     pub bytes: &'a [u8],
@@ -25,7 +24,7 @@ impl Source for Image<'_> {
     }
 }
 
-/// The sectors that a journal saved. The target byte of an address in a saved sector is the saved byte.
+/// The sectors that a journal saved, whose target bytes are the saved bytes.
 #[derive(Drop)]
 pub struct Saved<'a> {
     pub journal: &'a Journal<'a>,

@@ -1,5 +1,4 @@
--- Lemmas: what nor_session promises for the chip of a bus over a port holds for the chip of the programmer at this
--- port.
+-- What nor_session promises for the chip of a bus over a port holds for the chip of the programmer at this port.
 use Rattle.std.proofs.Common.{◌≡◌, ◌∙◌, ◌/◌, ℕ, false, List, [], length, refl, sym, ap, subst, arith, inl, inr}
 use Rattle.std.specs.Prelude.{Option, Result, Ok, Err}
 use Rattle.std.proofs.lemmas.List.{append-nil}
@@ -32,12 +31,9 @@ use Rattle.nor_serprog.specs.Device.{PortState}
 use Rattle.nor_serprog.specs.Bus.{over_port}
 use Rattle.serprog_session.specs.Headline.{ReachesGenuine, CanRestoreChip, CanRestoreChipFrom, HadFewCalls, SessionFails, KeepsOriginalChip, SessionResults, FailsBy, RefusesUnsent, RestoresOriginalChip, RewritesOriginalChip, BackupFails, SavesChipOver}
 
--- A bus over a well-behaved port to a genuine chip is modelled.
 pub modelled : (port : PortState) (history : List Exchange) → ReachesGenuine port → IsModelled (over_port port history)
 modelled port history reaches = record { honest = reaches.honest; genuine = reaches.genuine }
 
--- If a journal can restore the original chip `first` on a bus that isn't steady, it can restore it on every bus to the
--- same chip.
 pub on_every_bus : (journal : Content) (first : Chip) (state : BusState) → state.steady ≡ false
     → CanRestore journal first state → CanRestoreChip journal first state.chip
 on_every_bus journal first state unsteady can = λ other same. record {
@@ -55,8 +51,7 @@ on_every_bus journal first state unsteady can = λ other same. record {
   };
 }
 
--- The proof of the law `read_restores_chip`. Each content has its own encoding, so the journal that is read is the one
--- that the bytes encode.
+-- Each content has its own encoding, so the journal that is read is the one that the bytes encode.
 pub read_from : (bytes : List ℕ) (first chip : Chip) (journal : Content) → CanRestoreChipFrom bytes first chip
     → IsContent journal → bytes ≡ text journal → CanRestoreChip journal first chip
 read_from bytes first chip journal from is read =
@@ -66,8 +61,8 @@ read_from bytes first chip journal from is read =
     let P : Content → Type 0 = λ j. CanRestoreChip j first chip in
     subst P same from.back
 
--- The proof of the law `disconnected_restores_chip`. `CanRestoreChip` holds for every bus to the chip, and so for one
--- that isn't steady. For such a bus `lost_can_restore` also covers a busy chip.
+-- `CanRestoreChip` holds for every bus to the chip, and so for one that isn't steady. For such a bus `lost_can_restore`
+-- also covers a busy chip.
 pub lost_from_chip : (journal : Content) (first old new : Chip) → CanRestoreChip journal first old
     → PowerLost old new → CanRestoreChip journal first new
 lost_from_chip journal first old new can lost = λ state same.
@@ -76,7 +71,6 @@ lost_from_chip journal first old new can lost = λ state same.
     lost_can_restore journal first before state (can before refl)
     (record { known = inl refl; lost = subst P (sym same) lost })
 
--- If a bus over a port ran out of transactions (`RanOut`), the port had few calls left (`HadFewCalls`).
 few_calls : (transactions : ℕ) (old new : PortState) (history history' : List Exchange)
     → RanOut transactions (over_port old history) (over_port new history') → HadFewCalls transactions old
 few_calls transactions old new history history' ran = let below = (ran refl).below in omega arith
@@ -133,8 +127,6 @@ results request image old new history history' vault vault' (Err refusal) always
 
 -- ---- a restore
 
--- If a restore on any bus returns an error other than 12, 13 and 14, it checked that error first, so it sent no
--- modifying command.
 pub refuses : (choice : Choice) (journal : Content) (old new : BusState) (result : Result Report Refusal)
     → AlwaysBy choice journal old new result → IfErr result (RefusesUnsent old.sent new.sent)
 refuses choice journal old new (Ok report) always = tt

@@ -1,4 +1,4 @@
--- Lemmas: the simulated programmer replies to frames one after another, as its firmware says.
+-- The simulated programmer replies to frames one after another, as its firmware says.
 use Rattle.std.proofs.Common.{◌≡◌, ◌∙◌, ◌+◌, ◌<◌, ◌≤◌, true, ◌++◌, ℕ, Bool, true, false, List, [], ◌∷◌, length, take, drop, refl, sym, ap, arith, append_assoc, length-append}
 use Rattle.std.specs.Prelude.{◌==◌, ◌||◌, if◌then◌else◌, slice_index, Option, Some, unwrap_or, Result, Ok, Err, OnOk, IsOk}
 use Rattle.std.specs.Result.{is_err}
@@ -16,14 +16,12 @@ use Rattle.serprog_session.specs.SimPort.{simulated_firmware, simulated_reply, s
 -- from O_SPIOP.
 record IsAnswerable (command : Command) : Type 0 where
   reply : simulated_reply (slice_index (frame_of command) 0) ≡ reply_of simulated_firmware command
-  -- the type of bus after the frame is the one in the settings after the command
   selects : (bus_type : Option ℕ) → simulated_settings (bus_type_after (frame_of command) bus_type)
       ≡ settings_after simulated_firmware command (simulated_settings bus_type)
   len : (more : List ℕ) → frame_len (frame_of command ++ more) ≡ Some (length (frame_of command))
   some : 0 < length (frame_of command)
   first : (more : List ℕ) → slice_index (frame_of command ++ more) 0 ≡ 0x13 → ⊥
 
--- If the firmware specifies the reply to a command, the simulated programmer gives this reply.
 answerable : (command : Command) → HasReply simulated_firmware command → IsAnswerable command
 answerable (Operate out replies) has = absurd has
 answerable (SetFrequency hertz) has = absurd (false≢true has)
@@ -44,7 +42,6 @@ answerable _ has = record {
   first = λ more first. omega (arith, first);
 }
 
--- If the firmware specifies the replies to some commands, their frames do not begin with the opcode of O_SPIOP.
 pub no_operation : (commands : List Command) (frames : List ℕ) → frames ≡ frames_of commands
     → HaveReplies simulated_firmware commands → slice_index frames 0 ≡ 0x13 → ⊥
 no_operation [] frames same have first =
@@ -52,8 +49,7 @@ no_operation [] frames same have first =
 no_operation (command ∷ rest) frames same have first =
     (answerable command have.0).first (frames_of rest) (sym (ap (λ (f : List ℕ). slice_index f 0) same) ∙ first)
 
--- A frame has at least one byte, even if its length isn't known yet and counts as 2^64 - 1. `long_some` proves this for
--- O_SPIOP and "write n", and `len_some` for all commands.
+-- A frame has at least one byte, even if its length isn't known yet and counts as 2^64 - 1.
 long_some : (rest : List ℕ) → 0 < unwrap_or (long_len rest) 18446744073709551615
 long_some (a ∷ b ∷ c ∷ rest) = omega arith
 long_some _ = omega arith
@@ -71,9 +67,7 @@ len_some (opcode ∷ rest) =
     (omega arith)
 
 -- Holds while the programmer replies to the frames of `commands` one after another. `rest` has the frames of the
--- commands `later`, which have no reply yet. `now` is `before`, followed by the replies to the other commands. The type
--- of bus was `bus` at first, and `bus'` is selected now: `later` changes `bus'` to the same type as all `commands`
--- change `bus` to.
+-- commands `later`, which have no reply yet.
 pub record Remains (rest before now : List ℕ) (bus bus' : Option ℕ) (commands : List Command) : Type 0 where
   pub later : List Command
   pub frames : rest ≡ frames_of later
@@ -93,7 +87,6 @@ answers_none frames before bus = record {
   remains = λ commands same have. record { later = commands; frames = same; have = have; replies = refl; settings = refl };
 }
 
--- Holds if `frame` is the frame of `command`, and the bytes `rest'` after it are the frames of the commands `later`.
 pub record IsNext (rest frame rest' : List ℕ) (command : Command) (later : List Command) : Type 0 where
   pub frame_is : frame ≡ frame_of command
   pub rest_is : rest' ≡ frames_of later
@@ -120,7 +113,6 @@ nothing_left rest frame rest' len same is split =
     is ∙ ap (λ (r : List ℕ). unwrap_or (frame_len r) 18446744073709551615) same in
     omega (arith, huge, split.0, ap length same)
 
--- If `Remains` holds and the programmer answers one more frame, `Remains` holds again.
 pub remains_then : (rest frame rest' before now now' : List ℕ) (bus mid bus' : Option ℕ) (len : ℕ) (commands later : List Command)
     → len ≡ unwrap_or (frame_len rest) 18446744073709551615 → IsSplitAt rest len frame rest'
     → now' ≡ now ++ simulated_reply (slice_index frame 0) → bus' ≡ bus_type_after frame mid → rest ≡ frames_of later
@@ -159,7 +151,6 @@ answers_then frames rest frame rest' before now now' bus mid bus' len done is sp
       r.replies r.settings;
 }
 
--- If the frames of the commands `later` (`rest`) have no bytes, `later` is empty.
 ended : (rest : List ℕ) (later : List Command) → length rest ≤ 0 → rest ≡ frames_of later
     → HaveReplies simulated_firmware later → later ≡ []
 ended rest [] none frames have = refl
@@ -172,7 +163,6 @@ ended rest (command ∷ later) none frames have =
       (answerable command have.0).some,
     ))
 
--- If the frames of the commands `later` (`rest`) are shorter than their first frame, `later` is empty.
 no_frame : (rest : List ℕ) (len : ℕ) (later : List Command)
     → len ≡ unwrap_or (frame_len rest) 18446744073709551615 → length rest < len → rest ≡ frames_of later
     → HaveReplies simulated_firmware later → later ≡ []
@@ -184,7 +174,6 @@ no_frame rest len (command ∷ later) is short frames have =
     is ∙ ap (λ (o : Option ℕ). unwrap_or o 18446744073709551615) known in
     absurd (omega (arith, short, len_of, ap length frames, length-append (frame_of command) (frames_of later)))
 
--- Holds if `now` is `before` followed by the replies to `commands`, which change the type of bus from `bus` to `bus'`.
 pub record AreAnswered (before now : List ℕ) (bus bus' : Option ℕ) (commands : List Command) : Type 0 where
   pub replies : now ≡ before ++ replies_of simulated_firmware commands
   pub settings : simulated_settings bus' ≡ settings_after_all simulated_firmware commands (simulated_settings bus)
@@ -213,7 +202,6 @@ none_whole frames rest before now bus bus' len done commands is short a same hav
     let r = a.remains commands same have in
     are_answered rest before now bus bus' commands r (no_frame rest len r.later is short r.frames r.have)
 
--- If the replies to all commands fit into 4,097 bytes, the replies so far and the reply to the next frame fit, too.
 next_fits : (rest frame rest' before now : List ℕ) (len : ℕ) (commands later : List Command)
     → len ≡ unwrap_or (frame_len rest) 18446744073709551615 → IsSplitAt rest len frame rest'
     → length before + length (replies_of simulated_firmware commands) ≤ 4097 → rest ≡ frames_of later
@@ -242,7 +230,6 @@ reply_fits frames rest frame rest' before now bus bus' len done commands is spli
     let r = a.remains commands same have in
     next_fits rest frame rest' before now len commands r.later is split fits r.frames r.have r.replies
 
--- If a result is `Ok`, `is_err` is false for it.
 pub err_not_ok : {T E : Type 0} (result : Result T E) → IsOk result → true ≡ is_err result → ⊥
 err_not_ok (Ok value) ok is = false≢true (sym is)
 err_not_ok (Err error) ok is = false≢true ok

@@ -1,4 +1,4 @@
--- Lemmas: a transaction of the simulated chip is a transaction of the programmer with this chip.
+-- A transaction of the simulated chip is a transaction of the programmer with this chip.
 use Rattle.std.proofs.Common.{◌≡◌, ◌∙◌, ℕ, Bool, true, List, [], ◌∷◌, length, refl, ap, subst, arith}
 use Rattle.std.specs.Prelude.{◌||◌, ◌==◌, take, Option, Result, Ok, Err, OnOk, OnErr}
 use Rattle.std.proofs.lemmas.Bool.{eqb-true}
@@ -13,13 +13,10 @@ empty [] none = refl
 empty (first ∷ rest) none =
     let len = eqb-true (length (first ∷ rest)) 0 none in absurd (omega (arith, len))
 
--- If success is impossible, because its clause `P` can't hold, the call failed, so its clause `Q` for an error holds.
 pub failed : {T E : Type 0} (result : Result T E) (P Q : Type 0) → OnOk result P → OnErr result Q → (P → ⊥) → Q
 failed (Ok value) P Q ok err never = absurd (never ok)
 failed (Err error) P Q ok err never = err
 
--- An allowance does not change the chip and erases no sector. Therefore a transaction after an allowance adds the same
--- erased sectors to those before the allowance.
 worn_then : (n : ℕ) (out : List ℕ) (replies : ℕ) (old mid : BusState) (worn : ℕ → Bool) → Allows n old mid
     → ((s : ℕ) → worn s ≡ (mid.worn s || wears (done_of mid.chip out replies) s))
     → (s : ℕ) → worn s ≡ (old.worn s || wears (done_of old.chip out replies) s)
@@ -28,7 +25,6 @@ worn_then n out replies old mid worn allows after s =
     subst P allows.chip
     (after s ∙ ap (λ (w : Bool). w || wears (done_of mid.chip out replies) s) (allows.worn s))
 
--- If the simulated bus stopped at a transaction after an allowance of 0, the transaction was cut as `IsCut` describes.
 pub cut : (out : List ℕ) (old mid new : BusState) (bus_type : Option ℕ) (pending : List ℕ) → Allows 0 old mid
     → AtStop out mid new → IsCut out (device_over old bus_type pending) (device_over new bus_type pending)
 cut out old mid new bus_type pending allows stop =

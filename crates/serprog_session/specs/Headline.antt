@@ -1,5 +1,4 @@
--- The main promises over serprog: on a well-behaved port to a genuine chip, the original chip can be restored from the
--- journal in a sealed faithful vault, wherever the port fails.
+-- The main promises of the calls over serprog.
 use Rattle.std.specs.Prelude.{◌≡◌, ◌≤◌, ◌<◌, ◌*◌, ◌/◌, ℕ, true, false, List, length, Option, Result, Err, IfErr, OnOk, ⊤}
 use Rattle.nor_model.specs.Chip.{Chip, IsSame, kept_in}
 use Rattle.nor_model.specs.Sent.{Sent}
@@ -26,9 +25,7 @@ use Rattle.nor_session.specs.Headline.{CanBeRewritten, CanRestore}
 use Rattle.nor_session.specs.Restore.{IsCheckedFirst, IsRestoreVerdict, Choice, differing, every_saved, restored}
 use Rattle.nor_serprog.specs.Device.{PortState}
 
--- Holds for a well-behaved port to a programmer whose chip is genuine (`IsGenuine`). If the ID of the chip is in the
--- table of chips, its size, erase types and block protection are those of its row. Otherwise the chip has no block
--- protection, and if its SFDP is accepted, its size and erase types are those of its SFDP.
+-- Holds for a well-behaved port to a programmer whose chip is genuine.
 pub record ReachesGenuine (port : PortState) : Type 0 where
   pub honest : port.honest ≡ true
   pub genuine : IsGenuine port.device.chip.config
@@ -37,37 +34,32 @@ pub record ReachesGenuine (port : PortState) : Type 0 where
 abbrev pub CanRestoreChip : Content → (first chip : Chip) → Type 0
 CanRestoreChip journal first chip = (state : BusState) → state.chip ≡ chip → CanRestore journal first state
 
--- Holds if `bytes` are the encoding of a journal that can restore the original chip `first` from `chip`.
 pub record CanRestoreChipFrom (bytes : List ℕ) (first chip : Chip) : Type 0 where
   pub journal : IsJournal bytes
   pub back : CanRestoreChip journal.content first chip
 
--- Holds if fewer calls of the port were left than the given number of transactions takes. One transaction takes three
--- calls.
+-- Holds if fewer calls of the port were left than this number of transactions takes: three for each.
 abbrev pub HadFewCalls : (transactions : ℕ) → PortState → Type 0
 HadFewCalls transactions port = port.left < 3 * transactions
 
 -- ---- a session
 
--- Holds if a session that succeeded made the chip what `request` asks for. The chip is idle, and has the target bytes
--- and the target protection bits. Its other non-volatile status bits are as they were.
+-- Holds if a session that succeeded made the chip what `request` asks for.
 pub record IsTargetOf (request : Request) (image : List ℕ) (old new : Chip) : Type 0 where
   pub made : IsTargetChip (wanted request image old) old new
   pub code : ℕ
   pub is_wanted : IsWantedCode request.what old code
   pub kept : new.kept ≡ with_code code old.kept
 
--- Holds if an error of a session is one of three: the verdict on the request; 11, and the vault failed; or 12, and the
--- port had too few calls left for the session's bound (`HadFewCalls`). A session promises this on a well-behaved port
--- to a genuine chip.
+-- Holds if an error of a session on a well-behaved port to a genuine chip is the verdict on the request; 11, and the
+-- vault failed; or 12, and the port had too few calls left.
 abbrev pub SessionFails : Request → (image : List ℕ) → PortState → (vault vault' : VaultState) → Refusal → Type 0
 SessionFails request image port vault vault' Vault = CountsRefusal vault vault'
 SessionFails request image port vault vault' Stopped = HadFewCalls (most_of (port.device.chip.config.size / 4096)) port
 SessionFails request image port vault vault' refusal = IsVerdict request image port.device.chip refusal
 
--- The promise of a session at every exit, wherever the port failed. `sent` lists the transactions that may modify the
--- chip and that the bus was asked to send before the session. `sent'` also lists those that it was asked to send until
--- the exit of the session.
+-- The promise of a session at every exit, wherever the port failed. `sent` and `sent'` list the modifying commands that
+-- the bus was asked to send before the session and until its exit.
 pub record KeepsOriginalChip (old new : PortState) (sent sent' : Sent) (vault : VaultState) : Type 0 where
   -- on every port: if the vault isn't sealed, no modifying command was sent
   pub unsent : vault.sealed ≡ false → sent' ≡ sent
@@ -84,35 +76,27 @@ pub record KeepsOriginalChip (old new : PortState) (sent sent' : Sent) (vault : 
 -- The result of a session on a well-behaved port to a genuine chip.
 pub record SessionResults (request : Request) (image : List ℕ) (old new : PortState) (vault vault' : VaultState)
     (result : Result Report Refusal) : Type 0 where
-  -- after success the programmer's chip is the target
   pub done : OnOk result (IsTargetOf request image old.device.chip new.device.chip)
-  -- after success the vault is sealed
   pub sealed : OnOk result (vault'.sealed ≡ true)
-  -- an error is the verdict on the request, a failure of the vault, or a failure of the port (`SessionFails`)
   pub errors : IfErr result (SessionFails request image old vault vault')
-  -- after errors 1 to 11 the vault isn't sealed
   pub unsealed : IfErr result (λ refusal. refusal_number refusal ≤ 11 → vault'.sealed ≡ false)
-  -- the vault is sealed only if the request is accepted
   pub accepted : vault'.sealed ≡ true → IsAccepted request image old.device.chip
 
 -- ---- a restore
 
--- Holds for the errors 12 (stop), 13 (timeout) and 14 (mismatch). Holds for every other error if no modifying command
--- was sent. A restore promises this on every port and for every journal.
+-- Holds if the error is 12, 13 or 14, or no modifying command was sent.
 abbrev pub RefusesUnsent : (sent sent' : Sent) → Refusal → Type 0
 RefusesUnsent sent sent' Stopped = ⊤
 RefusesUnsent sent sent' (Timeout address) = ⊤
 RefusesUnsent sent sent' (Mismatch address) = ⊤
 RefusesUnsent sent sent' refusal = sent' ≡ sent
 
--- Holds if an error of a restore with this choice of sectors is the verdict on the journal and the chip; or 12, and the
--- port had too few calls left for the restore's bound (`HadFewCalls`). A restore promises this on a well-behaved port
--- to a genuine chip, for every journal.
+-- Holds if an error of a restore with this choice of sectors, on a well-behaved port to a genuine chip, is the verdict,
+-- or 12 and the port had too few calls left.
 abbrev pub FailsBy : Choice → Content → PortState → Refusal → Type 0
 FailsBy choice journal port Stopped = HadFewCalls (most_of (length journal.saved)) port
 FailsBy choice journal port refusal = IsRestoreVerdict choice journal port.device.chip refusal
 
--- Holds if `restore_over` may return this error.
 abbrev pub RestoreFails : Content → PortState → Refusal → Type 0
 RestoreFails journal port refusal = FailsBy differing journal port refusal
 
@@ -126,52 +110,38 @@ pub record RestoresOriginalChip (journal : Content) (old new : PortState)
   -- a restore that succeeds has restored the contents and the non-volatile status bits of `first`
   pub back : (first : Chip) → CanRestoreChip journal first old.device.chip
       → OnOk result (IsSame first new.device.chip)
-  -- after success the programmer's chip is idle
   pub idle : OnOk result (new.device.chip.busy ≡ 0)
-  -- the only possible error is a stop: the port failed because it had too few calls left for the bound (`HadFewCalls`)
+  -- the only possible error is a stop, because the port had too few calls left
   pub only_stops : (first : Chip) → CanRestoreChip journal first old.device.chip
       → IfErr result (λ refusal. (refusal ≡ Stopped) × HadFewCalls (most_of (length journal.saved)) old)
-  -- after success the programmer's chip has the saved bytes, and the non-volatile status bits that the journal saved
+  -- after success the chip has the saved bytes and non-volatile status bits
   pub made : OnOk result (IsTargetChip (restored journal old.device.chip.bytes) old.device.chip new.device.chip)
   pub kept : OnOk result (new.device.chip.kept ≡ kept_in journal.status)
-  -- an error is the verdict on the journal and the chip, or a failure of the port (`RestoreFails`)
   pub errors : IfErr result (RestoreFails journal old)
-  -- after an error that a restore checks first (`IsCheckedFirst`), the contents and the non-volatile status bits of the
-  -- programmer's chip are as they were
+  -- an error that is checked before the first change leaves the chip as it was
   pub same : IfErr result (λ refusal. IsCheckedFirst refusal → IsSame old.device.chip new.device.chip)
 
 -- ---- a restore that rewrites every saved sector
 
--- The promise of a restore that rewrites every saved sector, on a well-behaved port to a genuine chip. The fields
--- `within`, `back` and `only_stops` are about each chip `first` that the journal can restore at the start. The other
--- fields hold for every journal.
+-- The promise of a rewrite on a well-behaved port to a genuine chip, like that of a restore.
 pub record RewritesOriginalChip (journal : Content) (old new : PortState)
     (result : Result Report Refusal) : Type 0 where
-  -- at every exit, wherever the port failed, the journal can still restore `first`
   pub within : (first : Chip) → CanRestoreChip journal first old.device.chip
       → CanRestoreChip journal first new.device.chip
-  -- a rewrite that succeeds has restored the contents and the non-volatile status bits of `first`
   pub back : (first : Chip) → CanRestoreChip journal first old.device.chip
       → OnOk result (IsSame first new.device.chip)
-  -- after success the programmer's chip is idle
   pub idle : OnOk result (new.device.chip.busy ≡ 0)
-  -- if no saved sector of `first` is protected by a locked status, the only possible error is a stop: the port failed
-  -- because it had too few calls left for the bound (`HadFewCalls`)
+  -- if no saved sector of `first` is protected by a locked status, the only possible error is a stop
   pub only_stops : (first : Chip) → CanRestoreChip journal first old.device.chip → CanBeRewritten journal first
       → IfErr result (λ refusal. (refusal ≡ Stopped) × HadFewCalls (most_of (length journal.saved)) old)
-  -- after success the programmer's chip has the saved bytes, and the non-volatile status bits that the journal saved
   pub made : OnOk result (IsTargetChip (restored journal old.device.chip.bytes) old.device.chip new.device.chip)
   pub kept : OnOk result (new.device.chip.kept ≡ kept_in journal.status)
-  -- an error is the verdict on the journal and the chip, or a failure of the port (`FailsBy`)
   pub errors : IfErr result (FailsBy every_saved journal old)
-  -- after an error that a rewrite checks first (`IsCheckedFirst`), the contents and the non-volatile status bits of the
-  -- programmer's chip are as they were
   pub same : IfErr result (λ refusal. IsCheckedFirst refusal → IsSame old.device.chip new.device.chip)
 
 -- ---- a backup
 
--- Holds if an error of a backup says what the chip is, that the vault failed, or that the port had too few calls left
--- for the backup's bound (`HadFewCalls`).
+-- Holds if an error of a backup says what the chip is, that the vault failed, or that the port had too few calls left.
 abbrev pub BackupFails : Option ChipName → PortState → Refusal → Type 0
 BackupFails named port NoChip = shown_as port.device.chip.config ≡ Err Probes.NoChip
 BackupFails named port (UnknownChip fault) = shown_as port.device.chip.config ≡ Err (Probes.UnknownChip fault)
@@ -183,11 +153,9 @@ BackupFails named port _ = ⊥
 -- The result of a backup on a well-behaved port to a genuine chip.
 pub record SavesChipOver (named : Option ChipName) (old new : PortState) (vault : VaultState)
     (result : Result Report Refusal) : Type 0 where
-  -- an error says what the chip is, or that the vault or the port failed (`BackupFails`)
   pub errors : IfErr result (BackupFails named old)
   -- after success the chip's contents and non-volatile status bits are as they were
   pub same : OnOk result (IsSame old.device.chip new.device.chip)
-  -- after success a faithful vault holds a journal that saves the whole chip
   pub saves : OnOk result (vault.telling ≡ true → IsBackupOf vault.bytes old.device.chip)
   -- after success the journal in a faithful vault can restore the chip
   pub restorable : OnOk result (vault.telling ≡ true

@@ -7,16 +7,13 @@ use Rattle.nor_serprog.specs.Device.{Device, PortState}
 use Rattle.nor_serprog.specs.Firmware.{Firmware, ProgrammerSettings, nak}
 use Rattle.serprog_session.specs.declared.sim_port.SimPort.{SimPort}
 
--- The chip of a simulated port, as a simulated bus.
 abbrev pub simulated_chip : SimPort → SimBus
 simulated_chip port = port.chip
 
--- The greatest number of further calls of the port that can succeed.
 abbrev pub left_of : SimPort → ℕ
 left_of port = port.left
 
--- The firmware of the simulated programmer: version 1 of the protocol and SPI, without a name or limits. It has the
--- commands 00h, 01h, 02h, 10h, 12h and 13h, and accepts each type of bus.
+-- The firmware of the simulated programmer: version 1 of the protocol and SPI, without a name or limits.
 abbrev pub simulated_firmware : Firmware
 simulated_firmware = record {
   version = 1;
@@ -50,18 +47,17 @@ simulated_reply opcode =
     else if opcode == 0x10 then 0x15 ∷ 0x06 ∷ []
     else nak
 
--- The type of bus that is selected after `frame`, if the type `before` was selected before it. Only S_BUSTYPE (12h)
--- selects one.
+-- The type of bus that is selected after `frame`. Only S_BUSTYPE (12h) selects one.
 abbrev pub bus_type_after : (frame : List ℕ) → (before : Option ℕ) → Option ℕ
 bus_type_after frame before = if slice_index frame 0 == 0x12 then Some (slice_index frame 1) else before
 
--- The settings of the simulated programmer with this type of bus selected. Its pin drivers are never switched on,
--- because it has no S_PIN_STATE.
+-- The settings of the simulated programmer with this type of bus selected. It has no S_PIN_STATE, so its pin drivers
+-- are never switched on.
 abbrev pub simulated_settings : (bus_type : Option ℕ) → ProgrammerSettings
 simulated_settings bus_type = record { bus_type = bus_type; pins_on = false }
 
--- A simulated programmer with the chip of this bus, where `bus_type` is selected and the bytes `pending` are not yet
--- received. The programmer keeps no part of a frame from one call of the port to the next, so `begun` is empty.
+-- A simulated programmer with the chip of this bus and the bytes `pending` not yet received. It keeps no part of a
+-- frame from one call of the port to the next, so `begun` is empty.
 abbrev pub device_over : BusState → (bus_type : Option ℕ) → (pending : List ℕ) → Device
 device_over bus bus_type pending = record {
   chip = bus.chip;
@@ -72,8 +68,8 @@ device_over bus bus_type pending = record {
   pending = pending;
 }
 
--- A well-behaved port to the simulated programmer with the chip of this bus (`device_over`), with `left` calls left.
--- `asked` is what the port was asked to send, and `received` what it returned.
+-- A well-behaved port to such a programmer, with `left` calls left. `asked` is what the port was asked to send, and
+-- `received` what it returned.
 abbrev pub port_over : BusState → (bus_type : Option ℕ) → (pending : List ℕ) → (left : ℕ) → (asked : List (List ℕ))
     → (received : List ℕ) → PortState
 port_over bus bus_type pending left asked received = record {

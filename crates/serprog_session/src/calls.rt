@@ -18,18 +18,15 @@ use nor_session::{Refusal, Report, Request, backup, restore, rewrite, session};
 /// Runs `session` of nor_session on the chip at a programmer: saves each sector that it will touch to `vault`, and then
 /// makes the chip what `request` asks for. `vault` must be empty and unsealed; `image` is as for `session`.
 ///
-/// The port may fail at any call, and inside any exchange. The promises depend on the port and its chip. (A *genuine*
-/// chip has the size, erase types and block protection of its row in the table of chips. Without a row it has no block
-/// protection and, if its SFDP is accepted, the size and erase types that the SFDP describes: `ReachesGenuine`.)
+/// The port may fail at any call, and inside any exchange. The promises depend on the port and its chip:
 ///
 /// - On every port, no modifying command is sent before the vault is sealed. An error is one that `session` returns (1
 ///   to 14). After an error from 1 to 11 the vault isn't sealed.
 /// - On a well-behaved port whose chip was idle at the start, an exit before the seal leaves the chip's contents and
 ///   non-volatile status bits as they were.
 /// - On a well-behaved port to a genuine chip, the journal in a sealed `telling` vault can restore the original chip at
-///   every exit. Success leaves the target bytes and protection bits, with the chip idle and the vault sealed. An error
-///   is the verdict on the request, 11 (the vault failed), or 12 (the port failed). The vault is sealed only if the
-///   request is accepted.
+///   every exit. Success leaves the target bytes and protection bits. An error is the verdict on the request, 11 (the
+///   vault failed), or 12 (the port failed).
 pub fn session_over<P: Port + Drop, V: Vault>(
     bus: &mut SerprogBus<P>,
     vault: &mut V,
@@ -52,14 +49,12 @@ pub fn session_over<P: Port + Drop, V: Vault>(
 /// The port may fail at any call, and inside any exchange. If it fails, connect again, and run the restore again. The
 /// promises depend on the port and the journal:
 ///
-/// - On every port, the modifying commands that are sent fit the journal (`SendsSaved`): they target only sectors that
-///   it saves, or the whole chip if it saves each sector, and they write only status bits that it allows. None is sent
-///   before an error other than 12, 13 and 14.
+/// - On every port, the modifying commands that are sent fit the journal (`SendsSaved`). None is sent before an error
+///   other than 12, 13 and 14.
 /// - On a well-behaved port to a genuine chip, success leaves the saved bytes and non-volatile status bits. An error is
-///   12 (the port failed), or the verdict of `restore`. The verdict leaves the chip's contents and non-volatile status
-///   bits as they were.
+///   12 (the port failed), or the verdict of `restore`, which leaves the chip as it was.
 /// - If in addition the journal can restore an original chip at the start, it can restore that chip at every exit. Then
-///   success restores that chip and leaves it idle, and the only possible error is 12.
+///   success restores that chip, and the only possible error is 12.
 pub fn restore_over<P: Port + Drop>(
     bus: &mut SerprogBus<P>,
     journal: &Journal<'_>,
@@ -76,12 +71,9 @@ pub fn restore_over<P: Port + Drop>(
 /// Runs `rewrite` of nor_session on the chip at a programmer: restores as `restore_over` does, but erases and programs
 /// every saved sector, even if the sector has its saved bytes already, and then verifies all of them.
 ///
-/// The promises are those of `restore_over`, with two differences:
-///
-/// - On every port, after success each saved sector was the target of an erase, and no erase was sent after the first
-///   page program (`thorough`).
-/// - If the journal can restore an original chip at the start, 12 is the only possible error unless a saved sector of
-///   that chip is protected by a locked status.
+/// The promises are those of `restore_over`, except that on every port, after success each saved sector was the target
+/// of an erase, and no erase was sent after the first page program (`thorough`), and that error 9 is possible if a
+/// locked status protects a saved sector of the original chip.
 pub fn rewrite_over<P: Port + Drop>(
     bus: &mut SerprogBus<P>,
     journal: &Journal<'_>,
@@ -103,9 +95,9 @@ pub fn rewrite_over<P: Port + Drop>(
 ///
 /// - On every port, no modifying command is sent, and the vault is sealed if and only if the call succeeds. An error is
 ///   1 (no chip), 2 (unknown chip), 3 (other name), 11 (the vault failed), 12 (the port failed) or 13 (the chip stayed
-///   busy).
-/// - On a well-behaved port to a genuine chip, success leaves the chip's contents and non-volatile status bits as they
-///   were, and a `telling` vault holds a journal that saves the whole chip and can restore it. Error 13 does not occur.
+///   busy; not on a well-behaved port to a genuine chip).
+/// - On a well-behaved port to a genuine chip, success leaves the chip as it was, and a `telling` vault holds a journal
+///   that saves the whole chip and can restore it.
 pub fn backup_over<P: Port + Drop, V: Vault>(
     bus: &mut SerprogBus<P>,
     vault: &mut V,

@@ -1,5 +1,4 @@
-//! Laws (theorems) about what happens between a session and its restores: the journal is read, and the chip may lose
-//! its power.
+//! Laws (theorems) about what happens between a session and its restores.
 ghost use Rattle.std.specs.Prelude.{◌≡◌, ℕ, List};
 ghost use Rattle.nor_model.specs.Chip.{Chip};
 ghost use Rattle.nor_model.specs.Power.{PowerLost};
@@ -15,8 +14,7 @@ pub fn read_restores_chip()
 {}
 
 /// If a journal can restore the original chip `first` from a chip, it can still do so after this chip lost its power.
-/// Therefore the programmer may be disconnected from power after a session that was stopped and before its restore, and
-/// between restores.
+/// Therefore the programmer may be disconnected from power between a session and its restores.
 pub fn disconnected_restores_chip()
     ensures { (journal : Content) (first old new : Chip)
         → CanRestoreChip journal first old → PowerLost old new → CanRestoreChip journal first new }

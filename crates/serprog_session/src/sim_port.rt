@@ -20,8 +20,7 @@ const NAK: u8 = 0x15;
 
 const O_SPIOP: u8 = 0x13;
 
-// The greatest number of bytes that a transaction may read: the length of a sector. The reply of the programmer has one
-// more byte, ACK, so it has at most `MOST_PENDING` bytes.
+// The greatest number of bytes that a transaction may read: the length of a sector.
 const MOST_READ: usize = 4096;
 
 const MOST_PENDING: usize = 1 + MOST_READ;
@@ -41,19 +40,16 @@ pub enum SimFailure {
     Silent,
 }
 
-/// A port to a serprog programmer that is simulated in memory, with a simulated chip. The port is well-behaved: it
-/// carries out at most the given number of calls, and then fails.
+/// A well-behaved port to a simulated serprog programmer with a simulated chip. It carries out at most the given number
+/// of calls, and then fails; after any failure no call succeeds.
 ///
-/// The programmer carries out an O_SPIOP frame only if one call of `send` sends that frame and nothing else. It replies
-/// to the queries of a handshake (`Programmer::identify`), and accepts any type of bus (S_BUSTYPE). If the port fails
-/// while it sends an O_SPIOP, the chip stops as `SimBus::tear` and `SimBus::lose` specify: the programmer sends as many
-/// bytes of the transaction as `tear` set (none by default, at most all), and the chip loses its power only if `lose`
-/// set that. If the port fails later in an exchange, the chip has carried out the transaction, and the reply is lost.
+/// The programmer replies to the queries of a handshake (`Programmer::identify`), accepts any type of bus (S_BUSTYPE),
+/// and carries out an O_SPIOP frame only if one call of `send` sends that frame and nothing else. If the port fails
+/// while it sends an O_SPIOP, the chip stops as `SimBus::tear` and `SimBus::lose` specify. If it fails later, the chip
+/// has carried out the transaction.
 ///
-/// A call that sends one O_SPIOP frame also fails if a reply is pending, or if the frame requests more than 4,096
-/// bytes. A call that sends other frames also fails if their replies and those that are pending have more than 4,097
-/// bytes in total. A call that receives also fails if it requests more bytes than are pending. After any failure no
-/// call succeeds.
+/// A call also fails if an O_SPIOP frame is sent while a reply is pending or requests more than 4,096 bytes, if other
+/// frames would make more than 4,097 reply bytes pending, or if more bytes are received than are pending.
 #[derive(Drop)]
 pub struct SimPort {
     chip: SimBus,
@@ -94,16 +90,15 @@ impl SimPort {
         self.left
     }
 
-    /// Returns whether the programmer has no reply bytes that the host hasn't received.
+    /// Returns whether no reply byte is pending.
     pub fn is_idle(&self) -> bool
         ensures { result ≡ true → IsIdle (⟦<SimPort as Port>⟧.state self.now).device }
     {
         self.pending.is_empty()
     }
 
-    // Carries out a frame of O_SPIOP with one transaction of the chip. The reply is ACK and the bytes that the chip
-    // returned. If no call is left, a reply is pending, or the frame requests more than 4,096 bytes, stops the chip at
-    // the transaction (`cut`) and returns `Cut`.
+    // Carries out a frame of O_SPIOP with one transaction of the chip. If no call is left, a reply is pending, or the
+    // frame requests more than 4,096 bytes, stops the chip at the transaction (`cut`) and returns `Cut`.
     fn operate(&mut self, frame: &[u8]) -> Result<(), SimFailure>
         requires { slice_index frame.now 0 ≡ 0x13 }
         ensures asked { (⟦<SimPort as Port>⟧.state self.new).asked
@@ -186,14 +181,12 @@ fn is_operation(bytes: &[u8]) -> bool
     bytes.first() == Some(&O_SPIOP) && frame_len(bytes) == Some(bytes.len())
 }
 
-// Returns the bytes that a frame of O_SPIOP sends to the chip.
 fn sent_by(frame: &[u8]) -> &[u8]
     ensures { result.now ≡ out_in frame.now }
 {
     frame.get(7..).unwrap_or(&[])
 }
 
-// Returns the number of reply bytes that a frame of O_SPIOP requests.
 fn reply_len(frame: &[u8]) -> usize
     ensures { result ≡ replies_in frame.now }
 {
@@ -201,14 +194,12 @@ fn reply_len(frame: &[u8]) -> usize
     u32::from_le_bytes(header) as usize
 }
 
-// Returns the byte with the index `index`, or 0 if `bytes` has no such byte.
 fn byte_at(bytes: &[u8], index: usize) -> u8
     ensures { result ≡ slice_index bytes.now index }
 {
     bytes.get(index).copied().unwrap_or(0)
 }
 
-// Returns ACK followed by `bytes`.
 fn acknowledged(bytes: &[u8]) -> ArrayVec<u8, MOST_PENDING>
     requires { length bytes.now ≤ 4096 }
     ensures { result.items ≡ 0x06 ∷ bytes.now }
@@ -219,7 +210,6 @@ fn acknowledged(bytes: &[u8]) -> ArrayVec<u8, MOST_PENDING>
     reply
 }
 
-// Lets the chip carry out one transaction that sends `out`, and fills `reply`.
 fn transact(chip: &mut SimBus, out: &[u8], reply: &mut [u8])
     ensures { (bus_type : Option ℕ) (pending pending' : List ℕ) → StepsOnce out.now reply.new
         (device_over (⟦<SimBus as Bus>⟧.state chip.old) bus_type pending)
@@ -240,9 +230,8 @@ fn cut(chip: &mut SimBus, out: &[u8])
     let _ = chip.transfer(out, &mut []);
 }
 
-// Appends the reply to each of these frames (`reply_to`) to `pending`, and stores the type of bus that they select in
-// `bus_type` (`selected_by`). Ignores bytes after the last whole frame. Returns false if the replies do not fit in
-// `pending`.
+// Appends the reply to each of these frames to `pending`, and stores the type of bus that they select in `bus_type`.
+// Ignores bytes after the last whole frame. Returns false if the replies do not fit.
 fn reply_to_each(
     pending: &mut ArrayVec<u8, MOST_PENDING>,
     bus_type: &mut Option<u8>,
@@ -273,7 +262,6 @@ fn reply_to_each(
     true
 }
 
-// Returns the type of bus that is selected after `frame`, if the type `before` was selected before it.
 fn selected_by(frame: &[u8], before: Option<u8>) -> Option<u8>
     ensures { result ≡ bus_type_after frame.now before }
 {
@@ -284,8 +272,8 @@ fn selected_by(frame: &[u8], before: Option<u8>) -> Option<u8>
     }
 }
 
-// Returns the reply to one frame (serprog protocol, flashrom's Documentation/serprog-protocol.txt). The programmer
-// refuses an O_SPIOP that is sent together with other frames.
+// Returns the reply to one frame (flashrom's Documentation/serprog-protocol.txt). An O_SPIOP that is sent together with
+// other frames is refused.
 fn reply_to(frame: &[u8]) -> &'static [u8]
     ensures { result.now ≡ simulated_reply (slice_index frame.now 0) }
 {

@@ -9,8 +9,6 @@ use Rattle.nor_plan.specs.Planned.{planned}
 use Rattle.nor_plan.specs.SectorSet.{has}
 use Rattle.nor_session.proofs.announcement.announce_changes.Goals as goal
 
--- Let the sectors of `set` lie on a chip of at most 16 MiB. If a list of erases has at most one erase for each sector
--- of `set`, it has at most 4,096 erases.
 few_listed : (set : ℕ → Bool) (size listed : ℕ) → size ≤ 16777216 → ((s : ℕ) → set s ≡ true → s < size / 4096)
     → ((end : ℕ) → ((s : ℕ) → set s ≡ true → s < end) → listed ≤ count_below end set) → listed ≤ 4096
 few_listed set size listed small below counted =

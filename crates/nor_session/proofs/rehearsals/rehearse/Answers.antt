@@ -7,7 +7,6 @@ use Rattle.nor_session.proofs.RehearsedRestores.{same_nature_then, latch_alone}
 use Rattle.nor_session.proofs.RehearsedSessions.{session_sends, session_tried, undo_premises, both_wear, both_send, both_write, both_allowed, both_tried, undo_refused}
 use Rattle.nor_session.proofs.rehearsals.rehearse.Goals as goal
 
--- Proves the clause `always` of `rehearse` for the case in which the session returned an error.
 pub returns-in_err-ended-clause-always : goal.returns-in_err-ended-clause-always
 returns-in_err-ended-clause-always g c =
     let sends = session_sends c.args.stops.now c.stopped_session.ensures.leaves in
@@ -17,7 +16,6 @@ returns-in_err-ended-clause-always g c =
     let p = err_from_is_err_and c.from_residual.result c.from_residual.ensures.1 in
     rw (p.1, p.2) (search (rules, arith))
 
--- Proves all clauses of `rehearse` for the case in which a restore returned an error.
 pub returns-in_err-restores : goal.returns-in_err-restores
 returns-in_err-restores g c =
     let session = c.stopped_session.ensures.leaves in let undone = c.undo.ensures in let is = c.bytes.ensures in
@@ -42,7 +40,6 @@ returns-in_err-restores g c =
       modelled = λ modelled punctual. absurd (never modelled punctual);
     })
 
--- Proves all clauses of `rehearse` for the case in which the last restore ended.
 pub returns : goal.returns
 returns g c =
     let session = c.stopped_session.ensures.leaves in let undone = c.undo.ensures in let is = c.bytes.ensures in

@@ -11,7 +11,6 @@ use Rattle.nor_session.proofs.Targeting.{change_sends, change_writes}
 use Rattle.nor_session.proofs.OfJournal.{restore_of_journal, counted}
 use Rattle.nor_session.proofs.restores.change_chip.Goals as goal
 
--- Proves all clauses of `change_chip` for the case in which the changes or their check failed.
 pub returns-in_err-work : goal.returns-in_err-work
 returns-in_err-work g c =
     let journal = c.args.journal.now in let prepared = c.args.prepared.now in
@@ -58,7 +57,6 @@ returns-in_err-work g c =
       announces = record { announced_or_unsent = inl (_, c.announce_changes.ensures); as_reported = tt };
     })
 
--- Proves that the sum of the transactions in the report doesn't overflow.
 pub overflow_add-result : goal.overflow_add-result
 overflow_add-result g c =
     let fits = work_fits c.args.prepared.now _ c.requires.fits c.in_ok-work.ensures.does in omega (arith, fits)

@@ -10,7 +10,6 @@ use Rattle.nor_session.proofs.ReadBack.{prepare_read_back}
 use Rattle.nor_session.proofs.Targeting.{none_written, none_sent}
 use Rattle.nor_session.proofs.restores.rewrite_announced.Goals as goal
 
--- Proves all clauses of `rewrite_announced` for the case in which the preparation returned an error.
 pub returns-in_err-prepared : goal.returns-in_err-prepared
 returns-in_err-prepared g c =
     let journal = c.args.journal.now in let most = most_identity in
