@@ -1,5 +1,4 @@
--- Lemmas about the time after the call to the engine: the result still holds after the chip's files were written, and
--- the layout and the image that were read had the same contents before the trace was created.
+-- The result of a call holds after the chip's files were written, and its sources are as before the trace was created.
 use Rattle.std.proofs.Common.{◌≡◌, ℕ, List, Option, None, Some, arith, Result, true}
 use Rattle.std.specs.Borrow.{Bor}
 use Rattle.nor_model.specs.Bus.{BusState}

@@ -16,8 +16,6 @@ use Rattle.flashnor.proofs.Stays.{known_at_rest}
 
 -- ---- a run reads contents that a host crash may leave
 
--- If `found` is what a read of at most `len` + 1 bytes returns of a file with the contents `seen`, and `found` has
--- exactly `len` bytes, then `found` is the whole file.
 whole_seen : (len : ℕ) (seen found : Found) → found ≡ option_map (take (len + 1)) seen
     → IfSome found (λ all. length all ≡ len) → found ≡ seen
 whole_seen len seen found is whole = grind (arith, take_all, length-take)
@@ -31,7 +29,6 @@ left_seen files rest may_stay (Some name) len found is whole was =
 
 -- ---- a file that is moved aside
 
--- The lemma `pick` for a file that was missing at first and is missing again, for example because you moved it aside.
 aside_of : (other : Bor Text) (was found left : Found) (len : ℕ) (mid new : FilesState) → AreAtRest mid
     → ((name : Name) → new.may_leave name (new.view.seen name)) → IsFileFound mid.view (Some other) len found
     → IfSome found (λ all. length all ≡ len) → LeavesAsLong (Some other) mid new → (was ≡ None) × (left ≡ None)
@@ -43,10 +40,7 @@ aside_of other was (Some all) left len mid new rest may_stay is whole long aside
     let has = new.view.seen other.now in
     (has, inl (may_stay other.now), grind (arith, long all (sym seen) has (may_stay other.now)), inr aside)
 
--- Suppose that a later run may find the contents `left` of a file that was as `was` at first, and as `found` before a
--- restore. Then there is a `kept` (contents of `len` bytes, or no file) that a later run may find if the file was as
--- `found` at first. Either `left` is `kept`, or the file was missing at first and is missing again (`was` and `left`
--- are `None`).
+-- If a later run may find `left`, then `left` is what it may find after the restore alone, or you moved the file aside.
 pub pick : (one other : Option (Bor Text)) (was found left : Found) (len : ℕ) (mid new : FilesState) → NameOne one other
     → AreAtRest mid → ((name : Name) → new.may_leave name (new.view.seen name)) → IsFileFound mid.view other len found
     → IfSome found (λ all. length all ≡ len) → LeavesAsLong other mid new → MayFind one was left new
@@ -60,8 +54,6 @@ pick (Some one) (Some other) was found left len mid new same rest may_stay is wh
 ]
 pick _ _ was found left len mid new same rest may_stay is whole long can fits = absurd same
 
--- An idle chip `later` with the original chip's configuration is restorable if its non-volatile status bits, and each
--- of its bytes, are those of the restorable chip `state` or of the original chip `first`.
 pub mixed_can_restore : (journal : Journal) (first : Chip) (state later : BusState) → CanRestore journal first state
     → later.chip.config ≡ first.config
     → ((a : ℕ) → (later.chip.bytes a ≡ state.chip.bytes a) ⊎ (later.chip.bytes a ≡ first.bytes a))

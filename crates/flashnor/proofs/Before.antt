@@ -17,14 +17,10 @@ use Rattle.flashnor.proofs.Stays.{StayApart}
 
 -- ---- the file that a task creates is no file of the chip
 
--- If the name `one` is apart from the journal that a task names, it is also apart from the journal that the task
--- creates.
 pub two_kept : (nature : Nature) (done : Task) (one : Option (Bor Text)) → AreTwo nature one (named_by done).journal
     → AreTwo nature one (journal_by done)
 two_kept nature done one two = grind arith
 
--- If each file has one role under the nature `old` (the properties of the files that no call changes), the same holds
--- under an equal nature `new`.
 pub roles_after : {old new : Nature} (job : ChipJob) → new ≡ old → FilesHaveOneRole old job → FilesHaveOneRole new job
 roles_after job same roles = grind arith
 
@@ -35,8 +31,6 @@ module _ (nature : Nature) (job : ChipJob) (roles : FilesHaveOneRole nature job)
   pub status_made : AreTwo nature job.programmer.status (made_by job.task)
   status_made = grind arith
 
--- Suppose that each file has one role, and that all files stay as they were, except the trace and the file that the
--- task creates. Then the chip's files stay as they were, too (`StayBut`).
 pub stays_but : (job : ChipJob) (old new : FilesState) → FilesHaveOneRole old.view.nature job
     → StayApart job.programmer.trace (made_by job.task) old new → StayBut job.programmer (made_by job.task) old new
 stays_but job old new roles stay = grind arith
@@ -53,7 +47,6 @@ module _ (programmer : Programmer) (old new : FilesState) (image : LeavesNoMoreO
       → KeepsFiles programmer done old new
   keeps_unmade done stay_but leave source empty = grind arith
 
--- A run that changed no file keeps the promise of its task about the files (`KeepsFiles`).
 pub keeps_still : (files : FilesState) (programmer : Programmer) (done : Task) → KeepsFiles programmer done files files
 keeps_still files programmer done = grind arith
 
@@ -72,8 +65,6 @@ module _ (old mid new : FilesState) (rest : AreAtRest old) (nature : mid.view.na
       → LeavesOrEmpty file.now old new
   or_empty named file is makes left can = grind arith
 
-  -- Suppose that a task writes the chip back, but that its call was not made because of a fault of the trace or of the
-  -- task's files. Then its promise about the files (`KeepsFiles`) holds.
   pub keeps_before : (job : ChipJob) → FilesHaveOneRole old.view.nature job → writes_back job.task ≡ true
       → StayApart job.programmer.trace (made_by job.task) mid new → MakesNothing (journal_by job.task) mid new
       → KeepsFiles job.programmer job.task old new

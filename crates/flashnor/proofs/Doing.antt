@@ -1,5 +1,4 @@
--- Lemmas about the results of sessions and of reading a chip out. The request of a session is the one that the job's
--- change makes, and the included addresses are those of the job's regions.
+-- The results of sessions and of reading a chip out, for the request and the addresses of the job's change.
 use Rattle.std.proofs.Common.{◌≡◌, ◌≤◌, ℕ, List, Option, None, Result, Ok, Err, IfOk, IsOk, MatchResult, OnErr, arith}
 use Rattle.std.proofs.Common.{false, true}
 use Rattle.std.specs.Borrow.{Bor}
@@ -59,14 +58,11 @@ stays : (old new : BusState) (refusal : Refusal)
     → IsSame old.chip new.chip
 stays old new refusal errors early = grind arith
 
--- After a session on a modelled bus that is steady or whose chip is idle, `HasKeptChange` holds: the chip is as before,
--- or the vault is sealed and a faithful vault holds a journal that can undo the session.
 module _ (request : Request) (image : List ℕ) (old new : BusState) (vault vault' : VaultState)
     (modelled : IsModelled old) (is : IsChip old.chip) (steady_or_idle : IsSteadyOrIdle old) where
   same : (vault'.sealed ≡ false → OnlyReads 69638 old new) → vault'.sealed ≡ false → IsSame old.chip new.chip
   same only_reads unsealed = (((only_reads unsealed).honest_reads modelled.honest).stays.steady_or_idle steady_or_idle)
 
-  -- `HasKeptChange` holds whether the session returned an answer or an error.
   kept : (vault'.sealed ≡ false → OnlyReads 69638 old new)
       → (vault'.sealed ≡ true → CanBeUndone request image old new vault') → (outcome : Result Answer Refusal)
       → MatchResult outcome (ReportsChange request image old new) (FailsSession request image old new vault vault')
@@ -96,8 +92,6 @@ module _ (request : Request) (image : List ℕ) (old new : BusState) (vault vaul
   })) (λ ok. cc)
   kept_by _ _ always honest model passed = absurd passed
 
--- If `session_in_file` ran a session on a modelled bus that is steady or whose chip is idle, the result is that of a
--- change with its journal in a file (`HasMadeChange`).
 pub made_in_file : (request : Request) (image : List ℕ) (file : Bor Text) (before : View) (after : FilesState)
     (old new : BusState) (result : Result (Result Answer Refusal) Fault) → IsModelled old → IsChip old.chip
     → IsSteadyOrIdle old → IfOk result (HasRunInFile request image file.now before after old new)

@@ -38,7 +38,6 @@ starts_memory : (puts : Bool) (view : View) (programmer : Programmer) (fault : F
 starts_memory true view programmer fault is = inl is
 starts_memory false view programmer fault is = inl is
 
--- A fault of reading a file of the chip is also a fault of locking and reading this file.
 opening_locks : (view : View) (name : Text) (len : ℕ) (fault : Fault) → IsOpeningFault view name len fault
     → IsLockingFault view name len fault
 opening_locks view name len fault is = grind arith
@@ -56,7 +55,6 @@ pub opens_starts : (view : View) (on_chip : ChipJob) (fault : Fault) → FailsTo
     → FailsToStart (writes_back on_chip.task) view on_chip.programmer fault
 opens_starts view on_chip fault fails = starts_open (writes_back on_chip.task) view on_chip.programmer fault fails
 
--- Error 18 (out of memory) is one of the faults that a job may return before its call to the engine.
 pub fails_memory : (view : View) (on_chip : ChipJob) (fault : Fault) → fault ≡ end.Refused Memory
     → FailsJob view on_chip fault
 fails_memory view on_chip fault is =
@@ -68,7 +66,6 @@ module _ (files after : FilesState) (on_chip : ChipJob) (unwritten : Unwritten) 
       → EndsChipJob files after on_chip unwritten returned
   ends_called outcome returned called reported = grind arith
 
-  -- If a job returns a fault that occurred before its call to the engine, `EndsChipJob` holds.
   fails_ends : (fault : Fault) → FailsJob files.view on_chip fault → EndsChipJob files after on_chip unwritten (Err fault)
   fails_ends (end.Refused refusal) fails = inr fails
   fails_ends (end.Usage fault reason) fails = fails
@@ -103,7 +100,6 @@ module _ (files after : FilesState) (on_chip : ChipJob) (unwritten : Unwritten) 
 
 -- ---- where a fault is printed
 
--- For each result, a fault may be printed to standard error (`IsPrintedAt`).
 pub printed_at : (nature : Nature) (returned : Result Answer Fault) → IsPrintedAt nature returned at.Errors
 printed_at nature (Ok found) = refl
 printed_at nature (Err fault) = tt
@@ -114,8 +110,6 @@ printed_there nature fault to returned is reported = rw is reported
 
 -- ---- what the files hold
 
--- Suppose that `HoldsTask` holds if the call returned an answer and all files were written. Then `HoldsResult` holds,
--- since it claims nothing in the other cases.
 pub holds_reported : (on_chip : ChipJob) (unwritten : Unwritten) (outcome : Result Answer Refusal)
     (returned : Result Answer Fault) (old new : FilesState) → IsReportedAs outcome returned
     → ((found : Answer) → outcome ≡ Ok found → unwritten ≡ all_written
@@ -138,7 +132,6 @@ module _ (files after : FilesState) (words : List Text) (wording : Wording) (det
     pub is_status : IsStatus files after words wording out out' err err' ending
     is_status = grind arith
 
--- If memory ran out for a run's arguments, and the run changed no file and printed this fault, `IsStatus` holds.
 pub is_without_memory : (files : FilesState) (words : List Text) (wording : Wording)
     (out out' err err' : Option (List ℕ)) (ending : Ending)
     → HasPrinted wording Unsaid (Err (end.Usage usage.Memory because.Unsaid)) all_written at.Errors

@@ -1,6 +1,4 @@
--- Lemmas about locking and reading the chip's files. If a file is missing and its directory was synced, its absence is
--- durable. The image is locked first. What is then read of the status file, and each fault of locking and reading it,
--- is also allowed for the files as they were before.
+-- Lemmas about locking and reading the chip's files: first the image, then the status file.
 use Rattle.std.proofs.Common.{◌≡◌, ℕ, Bool, Option, None, Ok, IsSomeAnd, arith, false}
 use Rattle.std.specs.Borrow.{Bor}
 use Rattle.nor_files.specs.Calls.{Holds, IsPlaced}

@@ -62,16 +62,12 @@ module _ (job : ChipJob) (held : Held) (s0 s1 s2 : FilesState) (bus bus' : BusSt
   status_many : length held.content.status ≡ 2
   status_many = grind arith
 
-  -- If the contents that were read of a file of the chip, or its absence, are durable (`MakesDurable`), the file is
-  -- ready to be written with the same number of bytes (`IsReadyIfNamed`). The file's name must be apart from the names
-  -- of the trace and of the file that the task creates.
   ready : (name : Option (Bor Text)) (there : Bool) (had put : List ℕ)
       → AreTwo s0.view.nature name job.programmer.trace → AreTwo s0.view.nature name (made_by job.task)
       → MakesDurable name (was there had) s1 → length had ≡ length put
       → IsReadyIfNamed name there had put s2
   ready name there had put traced other durable many = grind arith
 
-  -- both files of the chip are ready to be written with the chip after the call
   pub ready_both : AreReady job.programmer held.image_there held.status_there held.content.bytes.items
       held.content.status bus'.chip s2
   ready_both = record {
@@ -81,8 +77,6 @@ module _ (job : ChipJob) (held : Held) (s0 s1 s2 : FilesState) (bus bus' : BusSt
     status = ready job.programmer.status held.status_there _ (status_of bus'.chip) roles.status_trace
         (status_made s0.view.nature job roles) are_held.status status_many;
   }
-
-  -- ---- what a host crash may leave of both files
 
   module _ (s3 : FilesState) (amid : View) (fills_missing : FillsMissing job.programmer held) (small : bus'.chip.kept.two < 128)
       (but : IsViewBut job.programmer.trace s0.view amid)
@@ -102,9 +96,8 @@ module _ (job : ChipJob) (held : Held) (s0 s1 s2 : FilesState) (bus bus' : BusSt
         as_long job.programmer.status held.status_there _ _ s0 s1 s3 are_held.stay are_held.status status_many
         is_amid.status
 
-    -- In a chip that a later run may open, each byte is that of the chip before or after the call, and so are the
-    -- non-volatile bits of each status byte (`IsWrittenOver`). This is so even if a file that was missing at first was
-    -- moved aside.
+    -- Each byte, and each non-volatile status bit, is that of the chip before or after the call. This is so even if a
+    -- file that was missing at first was moved aside.
     over : (image status : Found) (later : BusState) → MayFind job.programmer.image read.bytes.found image s3
         → MayFind job.programmer.status read.status.found status s3 → IsOpenedFrom image status bus.chip.config later.chip
         → IsWrittenOver bus.chip bus'.chip later.chip
@@ -148,13 +141,10 @@ module _ (job : ChipJob) (held : Held) (s0 s1 s2 : FilesState) (bus bus' : BusSt
         last_stays file.now (not_that s0.view.nature job.programmer.image file one)
         (not_that s0.view.nature job.programmer.status file other)
 
-    -- A file is as it was if its name is apart from those of the programmer's files and of the file that the task
-    -- creates.
     others_stay : (made : Option (Bor Text)) → StayApart job.programmer.trace made s1 s2 → (name : Text)
         → IsNoFileOf s0.view.nature job.programmer name → IsNot s0.view.nature made name → KeepsFile name s0 s3
     others_stay made stay' name none other = grind arith
 
-    -- After a change that sealed its vault, the journal in its file can restore the original chip, and is durable.
     restorable_kept : {request : Request} {image : List ℕ} {outcome : Result Answer Refusal} (file : Bor Text)
         → (made : HasMadeChange request image (uses.Journal file) bus bus' amid s2 outcome)
         → IsKeptFile file.now made.vault' s3 → made.vault'.sealed ≡ true
@@ -172,7 +162,6 @@ module _ (job : ChipJob) (held : Held) (s0 s1 s2 : FilesState) (bus bus' : BusSt
           rw saves.is at (in_file.durable is),
         )
 
-    -- A session with its journal in a file keeps the promise that a change makes about the files (`KeepsChange`).
     keeps_change : {request : Request} {image : List ℕ} {outcome : Result Answer Refusal} (kept : JournalUse)
         → keeps_journal kept ≡ true → StayApart job.programmer.trace (journal_of kept) s1 s2
         → AreTwo s0.view.nature job.programmer.image (journal_of kept)
@@ -219,8 +208,6 @@ module _ (job : ChipJob) (held : Held) (s0 s1 s2 : FilesState) (bus bus' : BusSt
               does.restored.over chip later can (over i s later left left_status from);
         })
     keeps_files _ named outcome puts stay' one other traced does = absurd cc
-
-    -- ---- what the files hold after success
 
     module _ (unwritten : Unwritten) (all : unwritten ≡ all_written)
         (put : AreWrittenBack job.programmer bus'.chip unwritten.image unwritten.status s3) where

@@ -1,5 +1,4 @@
--- The results of the jobs that only identify the chip, on a ready bus (`IsReady`). They are derived from the promises
--- of these jobs (`HasLookedUp`).
+-- The results of the jobs that only identify the chip, on a ready bus (`IsReady`).
 use Rattle.std.proofs.Common.{◌∙◌, Option, Result, Ok, Err, MatchResult, ap}
 use Rattle.nor_model.specs.Bus.{BusState}
 use Rattle.nor_probe.specs.declared.probes.Found.{Found}

@@ -4,19 +4,15 @@ use Rattle.std.proofs.lemmas.List.{append-nil, length-append, length-drop, lengt
 use Rattle.std.proofs.Math.Seq.{take-append_seam}
 use Rattle.nor_files.specs.Calls.{with_length, written_over}
 
--- If the length of a file is set to the length that it has, its bytes stay the same.
 pub with_its_length : (len : ℕ) (has : List ℕ) → length has ≡ len → with_length len has ≡ has
 with_its_length len has is = grind (arith, take_all, append-nil)
 
--- If a file starts with `bytes`, and its length is set to that of `bytes`, it has exactly `bytes`.
 pub cut_to : (bytes rest : List ℕ) → with_length (length bytes) (bytes ++ rest) ≡ bytes
 cut_to bytes rest = grind (arith, length-append, take-append_seam, append-nil)
 
--- After its length is set to `len`, a file has the length `len`.
 pub length-sized : (len : ℕ) (has : List ℕ) → length (with_length len has) ≡ len
 length-sized len has = grind (arith, length-append, length-take, length-replicate)
 
--- A new file is first extended to one byte more than `bytes`, and then overwritten with `bytes`. The second step keeps
--- the length.
+-- A new file is extended to one byte more than `bytes`, and then overwritten, which keeps its length.
 pub length-filled : (bytes : List ℕ) → length (written_over bytes (with_length (length bytes + 1) [])) ≡ length bytes + 1
 length-filled bytes = grind (arith, length-append, length-drop, length-sized)

@@ -1,5 +1,4 @@
--- A job of flashnor never ends with a usage fault. Reading a layout ends with one only if the layout has no file. Each
--- layout of flashnor has a file, because flashnor has neither `--fmap` nor `--ifd`.
+-- A job of flashnor has no usage fault. Only a layout without a file would cause one, and flashnor has no such layout.
 use Rattle.std.proofs.Common.{◌≡◌, Bool, List, Option, None, Some, arith, false, inl, inr, refl, true}
 use Rattle.std.specs.Prelude.{IsSomeAnd, option_map}
 use Rattle.std.specs.Borrow.{Bor}
@@ -40,7 +39,6 @@ module _ (view : View) (usage : UsageFault) (reason : Reason) where
   journal-made (uses.Journal file) fails = fails
   journal-made (uses.Rehearse stops) fails = fails
 
-  -- Suppose that the options `given` include neither `--fmap` nor `--ifd`.
   module _ (given : Texts) (no_fmap : given.fmap ≡ false) (no_ifd : given.ifd ≡ false) where
     layout-named : (file : Option (Bor Text)) → gives_layout given ≡ true
         → option_map (λ (name : Bor Text). name.now) file ≡ layout_file given → file ≡ None → ⊥
@@ -77,7 +75,6 @@ module _ (usage : UsageFault) (reason : Reason) (on_chip : ChipJob) where
   chip-started : (puts : Bool) (view : View) → FailsToStart puts view on_chip.programmer (end.Usage usage reason) → ⊥
   chip-started puts view fails = grind arith
 
-  -- The job of flashnor's arguments never ends with a usage fault.
   pub no_usage : (view : View) (words : List Text) → IsJob words (job.Chip on_chip)
       → FailsJob view on_chip (end.Usage usage reason) → ⊥
   no_usage view words asks (inl roles) = roles-checked view.nature roles

@@ -1,5 +1,4 @@
--- The faults of comparing two files of a job, or a file with a standard stream, are faults that `FailsFileRoles`
--- allows.
+-- The faults of comparing files and streams are faults that `FailsFileRoles` allows.
 use Rattle.std.proofs.Common.{◌≡◌, IfErr, IfSome, Option, None, Some, Result, true, arith, inl, inr, refl}
 use Rattle.std.specs.Prelude.{IsSomeAnd}
 use Rattle.std.specs.Borrow.{Bor}
@@ -26,8 +25,6 @@ module _ (nature : Nature) (job : ChipJob) (fault : Fault) where
   pub stream_fails : changes_files job ≡ true → IsUnseenStream nature fault → FailsFileRoles nature job fault
   stream_fails changes unseen = inr (inr (inr (changes, unseen)))
 
--- If `found` is the name of the job's file in `role`, and the program may print to this file, `IsPrintedName` holds for
--- the name.
 pub printed_name : (nature : Nature) (job : ChipJob) (role : Role) (found : Option (Bor Text))
     → found ≡ file_with_role job role → IsSomeAnd found (λ given. nature.fails (Printed given.now) ≡ true)
     → IfSome found (λ name. IsPrintedName nature job name.now)

@@ -21,19 +21,14 @@ use Rattle.flashnor.specs.declared.printing.Ending.{Ending}
 use Rattle.flashnor.specs.declared.streams.Reports.{Reports}
 use Rattle.flashnor.specs.declared.streams.Reports.TheVariants as at
 
--- If a print appends `line`, and the next one appends `others`, then together they append `line` and `others`. If
--- `line` is not known, nothing is claimed.
 pub appends_both : (line : Option (List ℕ)) (a b c : Option (List ℕ)) (others : List ℕ) → IfSome line (Appends a b) → Appends b c others
     → IfSome (option_append line (Some others)) (Appends a c)
 appends_both line a b c others one two = grind (arith, appends_then)
 
--- If a print appends `first`, and the later ones append `rest`, then together they append `first` and `rest`. If `rest`
--- is not known, nothing is claimed.
 pub appends_detail : (first : List ℕ) (rest : Option (List ℕ)) (a b c : Option (List ℕ)) → Appends a b first
     → IfSome rest (Appends b c) → IfSome (option_append (Some first) rest) (Appends a c)
 appends_detail first rest a b c one two = grind (arith, appends_then)
 
--- `HasPrinted` holds after a run with an answer or the help.
 pub printed_well : (wording : Wording) (detail : Detail) (outcome : Result Answer Fault) (unwritten : Unwritten)
     (to : Reports)
     (out out' err err' : Option (List ℕ)) (ending : Ending) (is_printed : Bool)
@@ -42,21 +37,18 @@ pub printed_well : (wording : Wording) (detail : Detail) (outcome : Result Answe
     → HasPrinted wording detail outcome unwritten to out out' err err' ending
 printed_well wording detail outcome unwritten to out out' err err' ending is_printed answered prints ends = grind arith
 
--- `HasPrinted` holds after a run with a fault that is not the help, if the fault was printed to standard error.
 pub printed_badly : (wording : Wording) (detail : Detail) (fault : Fault) (unwritten : Unwritten)
     (out err err' : Option (List ℕ)) (ending : Ending)
     → (IsAnswered (Err fault) → ⊥) → EndsBadly wording detail fault unwritten err err' ending
     → HasPrinted wording detail (Err fault) unwritten at.Errors out out err err' ending
 printed_badly wording detail fault unwritten out err err' ending never ends = grind arith
 
--- `HasPrinted` holds after a run with a fault that is not the help, if the fault was printed to standard output.
 pub printed_aside : (wording : Wording) (detail : Detail) (fault : Fault) (unwritten : Unwritten)
     (out out' err : Option (List ℕ)) (ending : Ending)
     → (IsAnswered (Err fault) → ⊥) → EndsBadly wording detail fault unwritten out out' ending
     → HasPrinted wording detail (Err fault) unwritten at.Output out out' err err ending
 printed_aside wording detail fault unwritten out out' err ending never ends = grind arith
 
--- `HasPrinted` holds after a run with a fault that is not the help, if nothing was printed.
 pub printed_nowhere : (wording : Wording) (detail : Detail) (fault : Fault) (unwritten : Unwritten)
     (out err : Option (List ℕ)) (ending : Ending)
     → (IsAnswered (Err fault) → ⊥) → ending ≡ record { status = 1; printed = false; reported = false }

@@ -26,14 +26,11 @@ modelled_ready programmer bus ready = grind (arith, known_with)
 pub steady_or_idle-ready : (programmer : Programmer) (bus : BusState) → IsReady programmer bus → IsSteadyOrIdle bus
 steady_or_idle-ready programmer bus ready = inr ready.idle
 
--- If the configuration of the chip on a ready bus is identified as the chip type `part`, then `part` is the type of the
--- emulated chip.
 shows : (programmer : Programmer) (bus : BusState) (part : Part) → IsReady programmer bus
     → shown_as bus.chip.config ≡ Ok part → emulated_part programmer.chip ≡ part
 shows programmer bus part ready shown =
     cc (shown_with programmer.chip programmer.unique bus.chip.config ready.config)
 
--- On a ready bus, a probe that succeeds finds the emulated chip. If a name is requested, the chip has this name.
 pub finds_ready : (programmer : Programmer) (named : Option ChipName) (old new : BusState) (found : Found)
     → IsReady programmer old → IsWanted named found.name → Finds old new found
     → IsEmulatedFound named programmer.chip found
@@ -41,14 +38,12 @@ finds_ready programmer named old new found ready name finds =
     let part : emulated_part programmer.chip ≡ part_in found = shows programmer old _ ready finds.part in
     record { part = sym part; name = rw part name }
 
--- On a ready bus, each error of the identification is one that `FindRefuses` allows.
 pub refuses_ready : (programmer : Programmer) (named : Option ChipName) (old new : BusState) (fault : ProbeFault)
     → IsReady programmer old → ProbeErrors named old new fault → FindRefuses programmer named (of_probe fault)
 refuses_ready programmer named old new fault ready errors =
     grind (arith, shows, shown_with programmer.chip programmer.unique old.chip.config ready.config)
 
--- The bus that `start` returns is ready. `start` first gives the bus its contents, then the setting for power cuts, and
--- then its number of transactions.
+-- `start` gives the bus its contents, then the setting for power cuts, and then its number of transactions.
 pub opens_held : (programmer : Programmer) (content : Content) (allowed : ℕ) (first last : BusState)
     → HoldsFiles programmer content first → allowed ≡ allowance_of programmer
     → Allows allowed (record first { steady = is_none programmer.power }) last → OpensChip programmer content last
@@ -68,6 +63,5 @@ passes_probe named old new found modelled honest name finds = grind arith
 pub passes_none : (bus : BusState) → IsModelled bus → IsSteadyOrIdle bus → Passes None bus bus
 passes_none bus modelled steady_or_idle = grind arith
 
--- `OnlyReads` holds for a call that sent nothing.
 pub only_reads_none : (most : ℕ) (bus : BusState) → OnlyReads most bus bus
 only_reads_none most bus = grind arith

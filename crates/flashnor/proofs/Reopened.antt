@@ -13,7 +13,6 @@ use Rattle.nor_console.specs.Stored.{AreOfFile}
 
 -- ---- files of the right length
 
--- A chip that was opened from its files has the size of the emulated chip, and its contents have as many bytes.
 module _ {programmer : Programmer} {files : FilesState} (first : Opened programmer files) where
   pub opened_size : first.bus.chip.config.size ≡ (emulated_part programmer.chip).size
   opened_size = grind arith
@@ -23,22 +22,17 @@ module _ {programmer : Programmer} {files : FilesState} (first : Opened programm
 
 -- ---- what a later run opens
 
--- Holds if each byte of `has` is the byte of `had` or of `bytes` at the same position.
 abbrev pub IsEither : (had bytes has : List ℕ) → Type 0
 IsEither had bytes has = (i : ℕ) → (slice_index has i ≡ slice_index had i) ⊎ (slice_index has i ≡ slice_index bytes i)
 
--- Suppose that a later run finds the contents `left` of a file of the chip, with as many bytes as `bytes`. Then each
--- byte is the old or the new byte at its position (`IsEither`). If the file was moved aside, each byte is the old one,
--- since the file was missing at first and a missing file is opened as `missing`. `over` in Kept.antt needs this for the
--- image and for the status file.
+-- Each byte that a later run finds is the old or the new one. A file that was moved aside was missing at first, and is
+-- opened as `missing`.
 pub found_either : (view : View) (named : Option (Bor Text)) (len : ℕ) (missing had bytes : List ℕ)
     (are : AreOfFile view named len missing had) (there : Bool) (files : FilesState) (left : Found)
     → (there ≡ false → had ≡ missing) → LeavesAmid named there had bytes files → MayFind named are.found left files
     → IfSome left (λ has. length has ≡ length bytes) → IsEither had bytes (unwrap_or left missing)
 found_either view named len missing had bytes are there files left gone amid can whole i = grind arith
 
--- A file of the chip that existed keeps its length. It is overwritten in place with as many bytes as it had, and each
--- mix of the old and the new bytes has that length.
 pub as_long : (name : Option (Bor Text)) (there : Bool) (had put : List ℕ) (s0 s1 s3 : FilesState) → AllStay s0 s1
     → MakesDurable name (was there had) s1 → length had ≡ length put → LeavesAmid name there had put s3
     → LeavesAsLong name s0 s3

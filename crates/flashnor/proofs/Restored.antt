@@ -1,5 +1,4 @@
--- The result of a restore on a modelled bus that is steady or whose chip is idle. It is derived from the promises of
--- the restore on every bus (`HasRestoredNamed`).
+-- The result of a restore on a modelled bus that is steady or idle, from its promises on every bus.
 use Rattle.std.proofs.Common.{◌∙◌, Option, None, Some, Result, Ok, Err, inl, inr, true}
 use Rattle.nor_model.specs.Bus.{BusState}
 use Rattle.nor_driver.specs.OnlyReads.{IsSteadyOrIdle, OnlyReads}
@@ -38,7 +37,6 @@ passes_named (Some name) old found modelled steady_or_idle is =
 
 module _ (journal : Journal) (named : Option ChipName) (old new : BusState) (modelled : IsModelled old)
     (steady_or_idle : IsSteadyOrIdle old) where
-  -- If the check of the name returned an error, `HasRestoredEmulated` holds with this error.
   unnamed : (refusal : Refusal) → HasIdentified named old new (Err refusal)
       → HasRestoredEmulated journal named old new (Err refusal)
   unnamed refusal failed =

@@ -8,8 +8,6 @@ use Rattle.flashnor.specs.Found.{emulated_part}
 use Rattle.nor_args.specs.Programmer.{IsConfigOfEmulated}
 use Rattle.nor_args.specs.declared.programmer.Emulated.{Emulated}
 
--- If `config` is the configuration of `chip` with the unique ID `number`, it is that of the emulated chip after its
--- unique ID is replaced by some `unique`.
 made_with : (chip : Emulated) (number : Option (List ℕ)) (config : Config) → IsConfigWith chip number config
     → (unique : List ℕ) × IsConfigOfEmulated chip (record config { unique = unique })
 made_with chip number config is = grind arith

@@ -15,7 +15,6 @@ image_fails view (wanted.Write image) fault fails = fails
 image_fails view wanted.Erase fault fails = absurd fails
 image_fails view (wanted.Range start len) fault fails = absurd fails
 
--- A fault of reading the files of a task is a fault that the task may have before its call (`FailsTask`).
 pub task_fails : (view : View) (done : Task) (fault : Fault) → FailsSources view done fault → FailsTask view done fault
 task_fails view (task.Read file regions) fault fails = inl fails
 task_fails view (task.Verify file regions) fault fails = fails

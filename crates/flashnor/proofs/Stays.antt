@@ -12,8 +12,7 @@ pub not_that : (nature : Nature) (one : Option (Bor Text)) (file : Bor Text) →
     → IsNot nature one file.now
 not_that nature one file two = grind arith
 
--- Holds if each file whose name is apart from `one` and `other`, as far as these are given, is as it was. Names that
--- are apart refer to different files, if the files obey their contract.
+-- Holds if each file whose name is apart from `one` and `other` is as it was.
 abbrev pub StayApart : (one other : Option (Bor Text)) → (old new : FilesState) → Type 0
 StayApart one other old new = (any : Name) → IsNot old.view.nature one any → IsNot old.view.nature other any
     → KeepsFile any old new

@@ -1,5 +1,4 @@
--- What a job reads, creates and returns as a fault after its trace was created, in terms of the files before the trace
--- was created.
+-- What a job reads, creates and returns after its trace was created, in terms of the files before that.
 use Rattle.std.proofs.Common.{◌≡◌, ◌∙◌, ℕ, Option, None, Some, IsSomeAnd, ap, arith, inl, inr, subst, sym, true}
 use Rattle.std.specs.Borrow.{Bor}
 use Rattle.nor_files.specs.Calls.{LeavesOrEmpty, ReadsFile}
@@ -20,34 +19,24 @@ pub view_apart : (trace : Option (Bor Text)) (old mid : FilesState) → mid.view
     → IsViewBut trace old.view mid.view
 view_apart trace old mid nature others = grind arith
 
--- If a first step keeps all known files, and a second one each known file whose name is apart from the trace's, both
--- together keep each known file whose name is apart from the trace's.
 pub view_before : (trace : Option (Bor Text)) (old mid : FilesState) (amid : View) → mid.view.nature ≡ old.view.nature
     → KnownStay old mid → IsViewBut trace mid.view amid → IsViewBut trace old.view amid
 view_before trace old mid amid nature stay but = grind arith
 
--- A read after the trace was created returns what a read before would have returned, if the file's name is apart from
--- the trace's.
 pub reads_before : (trace : Option (Bor Text)) (file : Text) (most : ℕ) (found : Found) (old amid : View)
     → IsNot old.nature trace file
     → IsViewBut trace old amid → ReadsFile file most found amid → ReadsFile file most found old
 reads_before trace file most found old amid not but reads = grind arith
 
--- A file that is missing after the trace was created was missing before, if its name is apart from the trace's.
 pub missing_before : (trace : Option (Bor Text)) (file : Bor Text) (old amid : View) → IsNot old.nature trace file.now
     → IsViewBut trace old amid → IsMissing (Some file) amid → IsMissing (Some file) old
 missing_before trace file old amid not but gone = grind arith
 
--- Suppose that a file is as it was from `old` to `mid`, and that a host crash in `new` can leave of it only what it
--- could leave in `mid`, or an empty file if it was missing (`LeavesOrEmpty`). Then the same holds with `old` in place
--- of `mid`.
 makes_nothing_later : (file : Text) (old mid new : FilesState) → mid.view.nature ≡ old.view.nature
     → KeepsFile file old mid → (IsKnownFile file mid.view → LeavesOrEmpty file mid new) → IsKnownFile file old.view
     → LeavesOrEmpty file old new
 makes_nothing_later file old mid new nature keeps made known = grind arith
 
--- Suppose that each file whose name is apart from the trace's is as it was. Then a host crash leaves nothing new of a
--- journal whose name is apart from the trace's (`MakesNothing`).
 pub unmade_traced : (trace journal : Option (Bor Text)) (old new : FilesState)
     → (is_lawful old.view ≡ true → (name : Name) → IsNot old.view.nature trace name → KeepsFile name old new)
     → AreTwo old.view.nature trace journal → MakesNothing journal old new
@@ -55,7 +44,6 @@ unmade_traced trace None old new others two = tt
 unmade_traced trace (Some file) old new others two = λ known left can.
     inl ((others known.lawful file.now (not_that old.view.nature trace file two)).leaves left can)
 
--- The trace was created between `old` and `traced`, and the files of the task were read between `traced` and `read`.
 module _ (trace : Option (Bor Text)) (old traced read : FilesState) (nature : traced.view.nature ≡ old.view.nature)
     (others : is_lawful old.view ≡ true → (name : Name) → IsNot old.view.nature trace name → KeepsFile name old traced)
     (same : AreUntouched traced read) where

@@ -1,5 +1,4 @@
--- Runs that follow one another: the journal can restore the original chip after each run that restores from it, and
--- such a run that succeeds leaves the original chip.
+-- Runs that follow one another: the journal stays able to restore the original chip, and a success leaves this chip.
 use mathlib.Core.HLevel.{is_prop→PathP}
 use Rattle.std.proofs.Common.{◌≡◌, ◌<◌, ◌∙◌, ◌∷◌, [], ℕ, Bool, List, Option, None, Some, Result}
 use Rattle.std.proofs.Common.{Ok, ◌⊎◌, IfSome, IsTrue, ap, arith, drop, inl, inr, length, option_map, refl, replicate}
@@ -68,14 +67,10 @@ same_with chip (Some number) one other a b =
 
 -- ---- programmers that name the same files
 
--- Suppose that two programmers name the same file, or that neither names one. If a later run may find the contents
--- `left` under the name `other`, it may also find them under the name `one` (`MayFind`).
 found_one : (one other : Option (Bor Text)) (was left : Found) (files : FilesState) → NameOne one other
     → MayFind other was left files → MayFind one was left files
 found_one one other was left files same can = grind arith
 
--- If a host crash can leave of a file only what it could leave before, then a run may find of that file only what it
--- could find before.
 less_of : (one other : Option (Bor Text)) (was left : Found) (old new : FilesState) → NameOne one other
     → LeavesNoMoreOf other old new → MayFind one was left new → MayFind one was left old
 less_of one other was left old new same less can = grind arith
@@ -98,8 +93,6 @@ same_journal journal other n sound is reads =
 
 module _ (programmer : Programmer) (file : Text) (start : FilesState) (first : Opened programmer start)
     (other : Programmer) (same : HaveOneChip programmer other) where
-  -- Suppose that a host crash can leave of the journal's file only what it could leave before, and that a run may find
-  -- of the chip's files only what it could find before. Then the journal can still restore the original chip.
   restorable_less : (old new : FilesState) → LeavesNoMore file old new
       → ((found : Found) → MayFind programmer.image first.read.bytes.found found new
       → MayFind programmer.image first.read.bytes.found found old)
@@ -113,7 +106,6 @@ module _ (programmer : Programmer) (file : Text) (start : FilesState) (first : O
     back = λ i s opened can_i can_s from. restorable.back i s opened (image i can_i) (status s can_s) from;
   }
 
-  -- If no image was found at first, each byte of the original chip is FFh.
   first_byte : first.read.bytes.found ≡ None → (a : ℕ)
       → slice_index (replicate first.bus.chip.config.size 255) a ≡ first.bus.chip.bytes a
   first_byte none a = grind arith
@@ -123,7 +115,6 @@ module _ (programmer : Programmer) (file : Text) (start : FilesState) (first : O
 
   module _ (mid : FilesState) (rest : AreAtRest mid) (may_stay : (name : Name) → mid.may_leave name (mid.view.seen name))
       (restorable : IsRestorableFrom file first mid) where
-    -- The journal that the run reads is the one that an earlier run left in the file.
     one_journal : (journal : Journal) → IsContent journal → IsRead mid.view file 16793662 (text journal)
         → journal ≡ restorable.journal
     one_journal journal is reads =
@@ -140,7 +131,6 @@ module _ (programmer : Programmer) (file : Text) (start : FilesState) (first : O
       from : IsOpenedFrom found.read.bytes.found found.read.status.found first.bus.chip.config found.bus.chip
       from = grind (arith, one_setup, opened_size found)
 
-      -- The journal can restore the original chip from the chip `found` that the run opened.
       can_restore_then : (journal : Journal) → IsContent journal → IsRead mid.view file 16793662 (text journal)
           → CanRestore journal first.bus.chip found.bus
       can_restore_then journal is reads =
@@ -150,8 +140,6 @@ module _ (programmer : Programmer) (file : Text) (start : FilesState) (first : O
           (found_one programmer.status other.status _ _ mid same.status
           (left_seen mid rest may_stay other.status _ _ found.read.status.is_found found.read.status.whole _)) from)
 
-    -- After a restore, a later run may find the contents `image` and `status` of the chip's files, and opens the chip
-    -- of `later` from them.
     module _ (new : FilesState) (may_stay' : (name : Name) → new.may_leave name (new.view.seen name))
         (kept : LeavesRestorable other file mid new) (image status : Found) (later : BusState)
         (can_image : MayFind programmer.image first.read.bytes.found image new)
@@ -208,8 +196,6 @@ module _ (programmer : Programmer) (file : Text) (start : FilesState) (first : O
           (λ a. grind (arith, kept_image.3, setup, is.bytes a, first_byte)) (grind (arith, kept_status.3, is.kept, first_kept))
           is.idle
 
-    -- At every exit of a restore, the journal can still restore the original chip from the files that the restore
-    -- leaves (`IsRestorableFrom`).
     restorable_at_exit : (new : FilesState) → ((name : Name) → new.may_leave name (new.view.seen name))
         → KeepsRestorable other file mid new → IsRestorableFrom file first new
     restorable_at_exit new may_stay' (inl none) =
@@ -221,13 +207,8 @@ module _ (programmer : Programmer) (file : Text) (start : FilesState) (first : O
       back = can_later new may_stay' kept;
     }
 
-  -- ---- after a restore that succeeded
-
-  -- If the chip's files durably hold the original chip, each later run opens that chip.
   module _ (chip : Chip) (new : FilesState) (lawful : is_lawful new.view ≡ true) (is : IsSame first.bus.chip chip)
       (put : AreWrittenBack other chip None None new) where
-    -- Under the name of a file of the chip, a later run can find only what was written to the file. As an exception, it
-    -- may find nothing if no file is named, or if the file was missing at first.
     durable : (name given : Option (Bor Text)) (was : Found) (bytes : List ℕ) (left : Found) → (given ≡ None → was ≡ None)
         → NameOne given name → ArePut name bytes None new → MayFind given was left new
         → ((was ≡ None) × (left ≡ None)) ⊎ (left ≡ Some bytes)

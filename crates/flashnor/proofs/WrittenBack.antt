@@ -1,5 +1,4 @@
--- The contents of the chip's two files after they were written one after the other, and the names of those that could
--- not be written.
+-- The chip's two files after they were written, and the names of those that could not be written.
 use Rattle.std.proofs.Common.{◌≡◌, ℕ, Bool, List, Option, None, Some, IfSome, arith, true}
 use Rattle.std.specs.Borrow.{Bor}
 use Rattle.nor_model.specs.Chip.{Chip, status_of}
@@ -12,13 +11,10 @@ use Rattle.flashnor.specs.Chips.{AreWrittenBack}
 use Rattle.flashnor.specs.Holding.{AreAmid, AreReady, IsReadyIfNamed, LeavesAmid, MakesDurable}
 use Rattle.nor_console.specs.Stored.{AreTwo, Happens, IsNot, IsReportedOf}
 
--- Holds if each file whose name is apart from `name` is as it was. If no name is given, all files must be as they were.
--- Both are required only of files that obey their contract.
 abbrev OthersOf : Option (Bor Text) → (old new : FilesState) → Type 0
 OthersOf name old new = is_lawful old.view ≡ true → (any : Name) → IsNot old.view.nature name any → KeepsFile any old new
 
--- The clauses that `write_if_named` ensures for a file, if one is named. `failed` is the name that it returns if the
--- file could not be written.
+-- The clauses that `write_if_named` ensures for a file, if one is named.
 abbrev PutsBack : Option (Bor Text) → (there : Bool) → (bytes : List ℕ) → (failed : Option (Bor Text))
     → (old new : FilesState) → Type 0
 PutsBack name there bytes failed old new = record {
@@ -31,7 +27,6 @@ PutsBack name there bytes failed old new = record {
 
 -- ---- a write to one file of the chip leaves the other
 
--- A write to the file `other` keeps two promises about the file `one`: `MakesDurable` and `LeavesAmid`.
 other_write_keeps : (there : Bool) (had bytes : List ℕ) (a b c : FilesState) (one other : Option (Bor Text))
     → AreTwo a.view.nature one other → b.view.nature ≡ a.view.nature → OthersOf other b c
     → IsReadyIfNamed one there had bytes a

@@ -22,19 +22,18 @@ use Rattle.flashnor.specs.declared.chips.Content.{Content}
 use Rattle.nor_console.specs.declared.messages.Fault.{Fault}
 use Rattle.nor_console.specs.declared.messages.Fault.TheVariants as end
 
--- Holds for the configuration of an emulated chip with the given unique ID, or with eight zero bytes if none is given.
+-- Holds for an emulated chip with the given unique ID, or with eight zero bytes.
 abbrev pub IsConfigWith : Emulated → Option (List ℕ) → Config → Type 0
 IsConfigWith chip None config = IsConfigOfEmulated chip config
 IsConfigWith chip (Some unique) config =
     IsConfigOfEmulated chip (record config { unique = replicate 8 0 }) × (config.unique ≡ unique)
 
--- Returns the number of transactions that the bus carries out: the number that `stop=` gives, or 2^64 - 1 without it.
+-- the number of transactions that the bus carries out
 abbrev pub allowance_of : Programmer → ℕ
 allowance_of programmer = unwrap_or programmer.stop 18446744073709551615
 
--- Holds for a well-behaved (`honest`), punctual bus to the emulated chip, which is idle. No modifying command was sent
--- yet. The bus carries out the number of transactions that `stop=` gives (`allowance_of`). It is steady (a stop doesn't
--- cut the chip's power) if and only if `power=` is not given.
+-- Holds for a well-behaved, punctual bus to the idle emulated chip, over which no modifying command was sent. It is
+-- steady (a stop doesn't cut the chip's power) if and only if `power=` is missing.
 pub record IsReady (programmer : Programmer) (bus : BusState) : Type 0 where
   pub config : IsConfigWith programmer.chip programmer.unique bus.chip.config
   pub idle : bus.chip.busy ≡ 0
@@ -44,28 +43,23 @@ pub record IsReady (programmer : Programmer) (bus : BusState) : Type 0 where
   pub steady : bus.steady ≡ is_none programmer.power
   pub unsent : bus.sent ≡ []
 
--- Holds if `content` is what is read from the chip's files (`AreOfFile`): an image with as many bytes as the chip, and
--- a status file of two bytes. If the image is missing or not named, all bytes are FFh. If the status file is missing or
--- not named, both status bytes are 0.
+-- Holds if `content` is read from the chip's files. A missing image has bytes FFh, and a missing status file zeros.
 pub record IsContentOf (view : View) (programmer : Programmer) (content : Content) : Type 0 where
   pub bytes : AreOfFile view programmer.image (emulated_part programmer.chip).size
       (replicate (emulated_part programmer.chip).size 255) content.bytes.items
   pub status : AreOfFile view programmer.status 2 (0 ∷ 0 ∷ []) content.status
 
--- Holds if the chip has the bytes of `content`, and the non-volatile status bits and the write enable latch of its
--- status bytes.
+-- Holds if the chip has the bytes of `content`, and its non-volatile status bits and write enable latch.
 pub record HasContent (content : Content) (chip : Chip) : Type 0 where
   pub bytes : (a : ℕ) → chip.bytes a ≡ slice_index content.bytes.items a
   pub kept : chip.kept ≡ kept_in content.status
   pub latch : chip.latch ≡ (slice_index content.status 0 / 2 % 2 == 1)
 
--- Holds if the bus is ready (`IsReady`), and its chip has the contents `content`.
 pub record OpensChip (programmer : Programmer) (content : Content) (bus : BusState) : Type 0 where
   pub ready : IsReady programmer bus
   pub holds : HasContent content bus.chip
 
--- Holds for a well-behaved, punctual bus to the emulated chip, which is idle and has these contents. No modifying
--- command was sent yet. The number of transactions that are allowed, and the effect of a stop, are left open.
+-- Holds for a bus as in `IsReady` to a chip with these contents; its allowance and the effect of a stop are left open.
 pub record HoldsFiles (programmer : Programmer) (content : Content) (bus : BusState) : Type 0 where
   pub config : IsConfigWith programmer.chip programmer.unique bus.chip.config
   pub idle : bus.chip.busy ≡ 0
@@ -76,30 +70,24 @@ pub record HoldsFiles (programmer : Programmer) (content : Content) (bus : BusSt
   pub kept : bus.chip.kept ≡ kept_in content.status
   pub latch : bus.chip.latch ≡ (slice_index content.status 0 / 2 % 2 == 1)
 
--- Holds for a simulated bus that is ready and whose chip has these contents (`OpensChip`). After each operation the
--- chip is busy for the number of polls that `busy=` gives, or none without it. If `power=` is given, a stop cuts the
--- chip's power, and an erase or program that this interrupts leaves bytes with the value of `power=`.
+-- Holds for a simulated bus to a chip with these contents, with the polls of `busy=` and the bytes of `power=`.
 pub record StartsBus (programmer : Programmer) (content : Content) (bus : SimBus) : Type 0 where
   pub opens : OpensChip programmer content (sim_state bus)
   pub pace : pace_of bus ≡ unwrap_or programmer.busy 0
   pub fill : fill_of bus ≡ programmer.power
 
--- Holds for each fault of reading the chip's files (`IsOpeningFault`), and for error 18 (out of memory).
 abbrev pub FailsToOpen : View → Programmer → Fault → Type 0
 FailsToOpen view programmer fault = (fault ≡ end.Refused Memory)
     ⊎ (IsSomeAnd programmer.image (λ name. IsOpeningFault view name.now (emulated_part programmer.chip).size fault)
     ⊎ IsSomeAnd programmer.status (λ name. IsOpeningFault view name.now 2 fault))
 
--- Holds for each fault of locking, reading and syncing the chip's files (`IsLockingFault`), and for error 18 (out of
--- memory).
 abbrev pub FailsToHold : View → Programmer → Fault → Type 0
 FailsToHold view programmer fault = (fault ≡ end.Refused Memory)
     ⊎ (IsSomeAnd programmer.image (λ name. IsLockingFault view name.now (emulated_part programmer.chip).size fault)
     ⊎ IsSomeAnd programmer.status (λ name. IsLockingFault view name.now 2 fault))
 
--- Holds for the chip's files after the chip was written back. `image` and `status` name the files that could not be
--- written. If the files obey their contract, each other named file of the chip durably has the chip's bytes or status
--- bytes.
+-- Holds after the chip was written back. `image` and `status` name the files that could not be written. If the files
+-- obey their contract, the others durably have the chip's bytes and status bytes.
 pub record AreWrittenBack (programmer : Programmer) (chip : Chip) (image status : Option (Bor Text))
     (files : FilesState) : Type 0 where
   pub bytes : List ℕ

@@ -10,27 +10,22 @@ use Rattle.nor_console.specs.declared.messages.Wording.TheVariants as worded
 use Rattle.flashnor.specs.declared.details.Detail.{Detail}
 use Rattle.flashnor.specs.declared.details.Detail.TheVariants as detail
 
--- the two status bytes, each as two hexadecimal digits
 unfoldable pub status_text : List ℕ → List ℕ
 status_text status =
     hex_digits 2 (slice_index status 0) ++ (codes " " ++ hex_digits 2 (slice_index status 1))
 
--- the unique ID as sixteen hexadecimal digits
 unfoldable pub unique_text : ℕ → List ℕ
 unique_text id = hex_digits 16 id
 
--- the line with the status bytes in a journal, and with those of the chip
 abbrev pub status_line : (journal chip : List ℕ) → List ℕ
 status_line journal chip = concat (codes "error: the journal's status is " ∷ status_text journal
     ∷ codes ", and the chip's " ∷ status_text chip ∷ codes "\n" ∷ [])
 
--- the line with the unique ID in a journal, and with that of the chip
 abbrev pub unit_line : (journal chip : ℕ) → List ℕ
 unit_line journal chip = concat (codes "error: the journal's unique ID is " ∷ unique_text journal
     ∷ codes ", and the chip's " ∷ unique_text chip ∷ codes "\n" ∷ [])
 
--- the line with what an error compared or the system's reason for it, with its line feed, or no bytes if nothing is
--- known
+-- the line with what an error compared or the system's reason for it, or no bytes if nothing is known
 abbrev pub detail_line : Detail → List ℕ
 detail_line detail.Unsaid = []
 detail_line detail.NoName = codes "error: no known chip has the name of -c (see -L)\n"
@@ -46,7 +41,6 @@ detail_line (detail.Journal reason) =
 detail_line (detail.Output reason) =
     concat (codes "error: the output can't be written: " ∷ system_text reason ∷ codes "\n" ∷ [])
 
--- the line that is printed of what an error compared, in this wording
 abbrev pub detail_in : Wording → Detail → List ℕ
 detail_in worded.Numbered compared = []
 detail_in worded.Explained compared = detail_line compared

@@ -25,33 +25,26 @@ use Rattle.flashnor.specs.declared.printing.Ending.{Ending}
 use Rattle.flashnor.specs.declared.streams.Reports.{Reports}
 use Rattle.flashnor.specs.declared.streams.Reports.TheVariants as at
 
--- the value of `Unwritten` that names no file: every file was written, and neither trace nor journal was lost
+-- every file was written, and neither trace nor journal was lost
 abbrev pub all_written : Unwritten
 all_written = record { image = None; status = None; trace = None; journal = None }
 
--- The lines that report what could not be written: the line of standard output, if the answer or the help could not be
--- printed, followed by the lines of the files.
 abbrev pub lines_after : (is_printed : Bool) → Unwritten → List ℕ
 lines_after is_printed unwritten = line_if_lost is_printed ++ lines_of_unwritten unwritten
 
--- The lines that report the faults of a run. For a run with a fault these are the line with what an error compared
--- (`detail_in`), the fault's lines in this wording and the lines of files that could not be written, or `None` if the
--- fault's lines aren't known. For any other run see `lines_after`.
+-- The lines that report the faults of a run, or `None` if the fault's lines aren't known.
 abbrev pub lines_printed : Wording → Detail → Result Answer Fault → (is_printed : Bool) → Unwritten → Option (List ℕ)
 lines_printed wording detail (Ok found) is_printed unwritten = Some (lines_after is_printed unwritten)
 lines_printed wording detail (Err fault) is_printed unwritten =
     option_append (Some (detail_in wording detail))
     (option_append (line_of wording fault) (Some (lines_of_unwritten unwritten)))
 
--- Where the lines of a run's faults are printed: if the run has a fault, where `to` says, and otherwise to standard
--- error.
 abbrev pub stream_for : Result Answer Fault → (to : Reports) → Reports
 stream_for (Ok found) to = at.Errors
 stream_for (Err fault) to = to
 
--- Holds for the end of a run that has an answer or help; `is_printed` says whether that was printed. The status is 0 if
--- it was printed and every file was written, and otherwise 1. If the lines of `lines_after` were printed (`reported`),
--- they were appended to standard error. If all was printed and every file was written, standard error is as it was.
+-- Holds for the end of a run with an answer or help. If it was printed and every file was written, the status is 0, and
+-- standard error is as it was.
 pub record EndsWell (is_printed : Bool) (unwritten : Unwritten) (err err' : Option (List ℕ))
     (ending : Ending) : Type 0 where
   pub few : ending.status ≤ 1
@@ -60,10 +53,8 @@ pub record EndsWell (is_printed : Bool) (unwritten : Unwritten) (err err' : Opti
   pub reported : ending.reported ≡ true → Appends err err' (lines_after is_printed unwritten)
   pub silent : is_printed ≡ true → unwritten ≡ all_written → err' ≡ err
 
--- Holds for the end of a run with a fault. The status is 1, and no answer or help was printed. If the lines of the fault
--- and those of files that could not be written were printed (`reported`), they were appended to the stream whose
--- contents are `err` before and `err'` after. Nothing is claimed about these lines if the fault's lines aren't known
--- (`line_of`).
+-- Holds for the end of a run with a fault: the status is 1. `err` and `err'` are the contents of the fault's stream
+-- before and after. Nothing is claimed if the fault's lines aren't known.
 pub record EndsBadly (wording : Wording) (detail : Detail) (fault : Fault) (unwritten : Unwritten)
     (err err' : Option (List ℕ)) (ending : Ending) : Type 0 where
   pub status : ending.status ≡ 1
@@ -71,26 +62,23 @@ pub record EndsBadly (wording : Wording) (detail : Detail) (fault : Fault) (unwr
   pub reported : ending.reported ≡ true → IfSome (lines_printed wording detail (Err fault) false unwritten)
       (Appends err err')
 
--- Holds for what a run with this result prints to standard output and standard error, and for its exit status. A fault
--- is printed in this wording, where `to` says. `detail` is what an error compared.
+-- Holds for what a run prints, and for its exit status. A fault is printed in this wording, where `to` says.
 pub record HasPrinted (wording : Wording) (detail : Detail) (outcome : Result Answer Fault) (unwritten : Unwritten)
     (to : Reports) (out out' err err' : Option (List ℕ)) (ending : Ending) : Type 0 where
-  -- the status is 0 or 1, and 0 if and only if the answer or the help was printed and every file was written
+  -- the status is 0 if and only if the answer or the help was printed and every file was written
   pub few : ending.status ≤ 1
   pub exact : (ending.status ≡ 0) ↔ ((ending.printed ≡ true) × (unwritten ≡ all_written))
-  -- If an answer was printed, its lines were appended to standard output; the text of help isn't known. If the lines of
-  -- faults (`lines_printed`) were printed, they were appended to their stream (`stream_for`). Nothing is claimed about
-  -- these lines if the fault's lines aren't known (`line_of`).
+  -- What was printed was appended to its stream. The text of help, and some faults' lines (`line_of`), aren't known.
   pub printed : ending.printed ≡ true → PrintsAnswer outcome out out'
   pub reported : ending.reported ≡ true → IfSome (lines_printed wording detail outcome ending.printed unwritten)
       (AppendsTo (stream_for outcome to) out out' err err')
-  -- A run without an answer or help prints only to the stream that `to` selects, or nothing if `to` is `Nowhere`. A run
-  -- that printed an answer or help and wrote every file prints nothing to standard error.
+  -- A run with a fault prints only to the stream of `to`. If all was printed and written, standard error stays as it
+  -- was.
   pub no_output : (IsAnswered outcome → ⊥) → (to ≡ at.Output → ⊥) → out' ≡ out
   pub no_errors : (IsAnswered outcome → ⊥) → (to ≡ at.Errors → ⊥) → err' ≡ err
   pub silent : IsAnswered outcome → ending.printed ≡ true → unwritten ≡ all_written → err' ≡ err
 
--- Holds if the run ended with this exit status, and with an `Ending` for which `IsEnding` holds.
+-- Holds if the run ended with this exit status and such an `Ending`.
 abbrev pub EndsWith : (Ending → Type 0) → ℕ → Type 0
 EndsWith IsEnding status = (ending : Ending) × IsEnding ending × (status ≡ ending.status)
 
@@ -101,8 +89,7 @@ pub record IsUnread (error : Error) (wording : Wording) (out out' err err' : Opt
   pub of_words : IsOfArguments error fault
   pub prints : HasPrinted wording Unsaid (Err fault) all_written at.Errors out out' err err' ending
 
--- Holds for the end of a run that could not open a directory to occupy the descriptors of closed standard streams. The
--- run has file fault 1 (a file can't be read), and its status is 1.
+-- Holds for the end of a run that could not open a directory in place of closed standard streams: file fault 1.
 pub record IsWithoutStreams (wording : Wording) (out out' err err' : Option (List ℕ)) (ending : Ending) : Type 0 where
   pub name : Bor Text
   pub prints : HasPrinted wording Unsaid (Err (end.File file.Read name because.Unknown)) all_written at.Errors

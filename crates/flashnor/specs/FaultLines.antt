@@ -7,24 +7,18 @@ use Rattle.nor_console.specs.Messages.{output_name}
 use Rattle.nor_console.specs.declared.messages.FileFault.TheVariants as file
 use Rattle.flashnor.specs.declared.holding.Unwritten.{Unwritten}
 
--- Returns the message line which reports that the named file could not be written, or no bytes if no file is named.
 abbrev pub line_of_unwritten : Option (Bor Text) → List ℕ
 line_of_unwritten (Some name) = file_text file.Write name.now ++ codes "\n"
 line_of_unwritten None = []
 
--- Returns the message lines which report the files that could not be written, in this order: image, status file, trace,
--- journal.
 abbrev pub lines_of_unwritten : Unwritten → List ℕ
 lines_of_unwritten unwritten = line_of_unwritten unwritten.image
     ++ (line_of_unwritten unwritten.status
     ++ (line_of_unwritten unwritten.trace ++ line_of_unwritten unwritten.journal))
 
--- Returns the message line which reports that standard output could not be written.
 abbrev pub line_of_output : List ℕ
 line_of_output = file_text file.Write output_name ++ codes "\n"
 
--- Returns no bytes if the answer or the help was printed. Otherwise returns the message line which reports that
--- standard output could not be written.
 abbrev pub line_if_lost : (is_printed : Bool) → List ℕ
 line_if_lost true = []
 line_if_lost false = line_of_output

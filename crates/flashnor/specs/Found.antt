@@ -6,16 +6,12 @@ use Rattle.nor_probe.specs.declared.table.ChipName.{ChipName}
 use Rattle.nor_probe.specs.declared.table.Part.{Part}
 use Rattle.nor_args.specs.declared.programmer.Emulated.{Emulated}
 
--- Returns the chip type as which an emulated chip is identified.
 abbrev pub emulated_part : Emulated → Part
 emulated_part chip = chip.part
 
--- Holds if no name is given, or if the given name is that of the emulated chip.
 abbrev pub HasName : Option ChipName → Emulated → Type 0
 HasName named chip = IsWanted named (emulated_part chip).name
 
--- Holds if the chip that was found has the type of the emulated chip. If a name is given, it must be that of the
--- emulated chip.
 pub record IsEmulatedFound (named : Option ChipName) (chip : Emulated) (found : Found) : Type 0 where
   pub part : part_in found ≡ emulated_part chip
   pub name : HasName named chip

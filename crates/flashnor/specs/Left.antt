@@ -1,5 +1,4 @@
--- The contents that a host crash may leave of a chip's files and of its journal, and the chip that a later run opens
--- from the chip's files.
+-- What a host crash may leave of a chip's files and journal, and the chip that a later run opens from them.
 use Rattle.std.specs.Prelude.{◌≡◌, ◌⊎◌, ◌∷◌, [], ℕ, Bool, true, false, List, Option, None, Some}
 use Rattle.std.specs.Prelude.{IfSome, IsSomeAnd, length, replicate, slice_index, unwrap_or, ⊤}
 use Rattle.std.specs.Borrow.{Bor}
@@ -16,16 +15,14 @@ use Rattle.flashnor.specs.Chips.{IsContentOf, OpensChip}
 use Rattle.nor_console.specs.Stored.{IsNot, IsRead, LeavesNoMoreOf}
 use Rattle.flashnor.specs.declared.chips.Content.{Content}
 
--- Holds if a later run may find the contents `found` under the given name. Either a host crash may leave `found`; or
--- the file was missing at first (`was` is `None`), and it is missing again (`found` is `None`), for example because you
--- moved it aside. If no name is given, `found` must be `None`.
+-- Holds if a later run may find the contents `found` under this name: a host crash may leave them, or the file was
+-- missing at first and is missing again, for example because you moved it aside.
 abbrev pub MayFind : Option (Bor Text) → (was found : Found) → FilesState → Type 0
 MayFind None was found files = found ≡ None
 MayFind (Some name) was found files = files.may_leave name.now found ⊎ ((was ≡ None) × (found ≡ None))
 
--- Holds if `chip` is an idle chip with the configuration `setup`, whose bytes and non-volatile status bits are those of
--- its files `image` and `status`. An image must have as many bytes as the chip, and a status file two bytes. If the
--- image is missing, all bytes are FFh. If the status file is missing, both status bytes are 0.
+-- Holds if `chip` is the idle chip that is opened from its files `image` and `status`. A missing image has bytes FFh,
+-- and a missing status file zeros.
 pub record IsOpenedFrom (image status : Found) (setup : Config) (chip : Chip) : Type 0 where
   pub config : chip.config ≡ setup
   pub whole : IfSome image (λ bytes. length bytes ≡ setup.size)
@@ -38,17 +35,14 @@ pub record IsOpenedFrom (image status : Found) (setup : Config) (chip : Chip) : 
 abbrev pub LeavesOneJournal : (file : Text) → Journal → FilesState → Type 0
 LeavesOneJournal file journal files = (left : Found) → files.may_leave file left → left ≡ Some (text journal)
 
--- The chip that a run opens from its files: `content` is what it reads from these files (`IsContentOf`), and `bus` is a
--- bus to a chip with these contents (`OpensChip`).
+-- The chip that a run opens from its files: `content` is what it reads from them, and `bus` is a bus to the chip.
 pub record Opened (programmer : Programmer) (files : FilesState) : Type 0 where
   pub content : Content
   pub read : IsContentOf files.view programmer content
   pub bus : BusState
   pub opens : OpensChip programmer content bus
 
--- Holds if `Is` holds for every bus whose chip a later run may open. Such a chip has the configuration of the chip of
--- `first`. Its bytes and status bits come from an image and a status file that the later run may find (`MayFind`,
--- `IsOpenedFrom`).
+-- Holds if `Is` holds for every bus whose chip a later run may open, from the files that it may find (`MayFind`).
 abbrev pub LeavesOnly : {programmer : Programmer} {old : FilesState} → Opened programmer old → (BusState → Type 0)
     → FilesState → Type 0
 LeavesOnly {programmer} first Is files = (image status : Found) (opened : BusState)
@@ -56,8 +50,8 @@ LeavesOnly {programmer} first Is files = (image status : Found) (opened : BusSta
     → MayFind programmer.status first.read.status.found status files
     → IsOpenedFrom image status first.bus.chip.config opened.chip → Is opened
 
--- Holds if a host crash can leave only one valid journal under the name `file`. This journal can restore the original
--- chip (the chip of `first`) from every chip that a later run may open (`LeavesOnly`).
+-- Holds if a host crash can leave only one valid journal under the name `file`, and this journal can restore the
+-- original chip (the chip of `first`) from every chip that a later run may open (`LeavesOnly`).
 pub record IsRestorableFrom {programmer : Programmer} {old : FilesState} (file : Text) (first : Opened programmer old)
     (files : FilesState) : Type 0 where
   pub journal : Journal
@@ -65,25 +59,22 @@ pub record IsRestorableFrom {programmer : Programmer} {old : FilesState} (file :
   pub left : LeavesOneJournal file journal files
   pub back : LeavesOnly first (CanRestore journal first.bus.chip) files
 
--- Holds if `name` is apart from the names of the programmer's image, status file and trace, as far as these are given
--- (`IsNot`). If the files obey their contract, `name` then refers to none of these files.
+-- Holds if `name` is apart from the names of the programmer's image, status file and trace.
 pub record IsNoFileOf (nature : Nature) (programmer : Programmer) (name : Text) : Type 0 where
   pub image : IsNot nature programmer.image name
   pub status : IsNot nature programmer.status name
   pub trace : IsNot nature programmer.trace name
 
--- Holds if no file is named, if the named file was missing, or if a host crash can leave it only with as many bytes as
--- it had.
+-- Holds if no file is named, or if a host crash can leave the named file only with as many bytes as it had, if it
+-- existed.
 abbrev pub LeavesAsLong : Option (Bor Text) → (old new : FilesState) → Type 0
 LeavesAsLong None old new = ⊤
 LeavesAsLong (Some name) old new = (had : List ℕ) → old.view.seen name.now ≡ Some had → (left : Found)
     → new.may_leave name.now left → IsSomeAnd left (λ has. length has ≡ length had)
 
--- Holds if the original chip is not lost in a change with its journal in the file of this name, which was missing
--- before. One of two cases holds, and `sealed` says which. `same`: each chip that a later run may open (`LeavesOnly`)
--- is the original chip. `back`: a host crash can leave only one journal, and this journal can restore the original chip
--- (`IsRestorableFrom`). A file of the chip that existed keeps its length. Every other file is as it was, if its name is
--- apart from those of the trace, the chip's files and the journal.
+-- Holds if a change with its journal in this file, which was missing, does not lose the original chip. Either each chip
+-- that a later run may open is the original chip (`same`), or the one journal that a host crash can leave restores it
+-- (`back`).
 pub record LeavesOriginalRestorable (programmer : Programmer) (file : Text) (old new : FilesState) : Type 0 where
   pub missing : old.view.seen file ≡ None
   pub others : (name : Text) → IsNoFileOf old.view.nature programmer name → AreApart old.view.nature file name
@@ -95,9 +86,8 @@ pub record LeavesOriginalRestorable (programmer : Programmer) (file : Text) (old
   pub same : sealed ≡ false → LeavesOnly first (λ opened. IsSame first.bus.chip opened.chip) new
   pub back : sealed ≡ true → IsRestorableFrom file first new
 
--- Holds if a host crash can leave only contents that it could leave before, in each of these files: the chip's files
--- (even if the trace has the name of one of them), and each file whose name is apart from those of the trace and the
--- journal. A journal's file that was missing may also be left empty.
+-- Holds if a host crash can leave only what it could leave before, except for the trace, and for a missing journal's
+-- file, which may be left empty. This holds for the chip's files even if the trace has the name of one.
 pub record LeavesAll (programmer : Programmer) (file : Text) (old new : FilesState) : Type 0 where
   pub image : LeavesNoMoreOf programmer.image old new
   pub status : LeavesNoMoreOf programmer.status old new
@@ -105,25 +95,22 @@ pub record LeavesAll (programmer : Programmer) (file : Text) (old new : FilesSta
       → LeavesNoMore name old new
   pub empty : LeavesOrEmpty file old new
 
--- Holds after a change with its journal in the file of this name, in one of two cases. First case (`LeavesAll`): a host
--- crash can leave only what it could leave before, except for the trace and an empty file for the journal. Second case
--- (`LeavesOriginalRestorable`): the original chip is not lost.
+-- Holds after a change with its journal in this file: a host crash can leave nothing new, or the original chip isn't
+-- lost.
 abbrev pub KeepsOriginalFiles : Programmer → (file : Text) → (old new : FilesState) → Type 0
 KeepsOriginalFiles programmer file old new =
     LeavesAll programmer file old new ⊎ LeavesOriginalRestorable programmer file old new
 
--- Holds if a host crash can leave only contents that it could leave before, in each of these files: the chip's files
--- and the journal (even if the trace has the name of one of them), and each file whose name is apart from the trace's.
+-- Holds if a host crash can leave only what it could leave before, except for the trace. This holds for the chip's
+-- files and the journal even if the trace has the name of one.
 pub record LeavesSources (programmer : Programmer) (file : Text) (old new : FilesState) : Type 0 where
   pub image : LeavesNoMoreOf programmer.image old new
   pub status : LeavesNoMoreOf programmer.status old new
   pub journal : LeavesNoMore file old new
   pub others : (name : Text) → IsNot old.view.nature programmer.trace name → LeavesNoMore name old new
 
--- Holds if a restore from the journal in the file of this name keeps every original chip restorable. If the journal can
--- restore an original chip from the chip that the restore opened (`found`), it can also restore that original chip from
--- every chip that a later run may open (`LeavesOnly`). A file of the chip that existed keeps its length. The journal's
--- file is as it was, and so is each file whose name is apart from those of the trace and the chip's files.
+-- Holds if a restore from the journal in this file keeps every original chip restorable: the journal can still restore
+-- it from every chip that a later run may open.
 pub record LeavesRestorable (programmer : Programmer) (file : Text) (old new : FilesState) : Type 0 where
   pub others : (name : Text) → IsNoFileOf old.view.nature programmer name → KeepsFile name old new
   pub image : LeavesAsLong programmer.image old new
@@ -135,9 +122,8 @@ pub record LeavesRestorable (programmer : Programmer) (file : Text) (old new : F
   pub stays : KeepsFile file old new
   pub back : (first : Chip) → CanRestore journal first found.bus → LeavesOnly found (CanRestore journal first) new
 
--- Holds after a restore from the journal in the file of this name, in one of two cases. First case (`LeavesSources`): a
--- host crash can leave only what it could leave before, except for the trace. Second case (`LeavesRestorable`): the
--- journal can still restore every original chip that it could restore from the chip that the run opened.
+-- Holds after a restore from the journal in this file: a host crash can leave nothing new, or the journal can still
+-- restore every original chip that it could restore before.
 abbrev pub KeepsRestorable : Programmer → (file : Text) → (old new : FilesState) → Type 0
 KeepsRestorable programmer file old new =
     LeavesSources programmer file old new ⊎ LeavesRestorable programmer file old new

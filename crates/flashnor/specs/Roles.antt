@@ -15,10 +15,8 @@ use Rattle.nor_console.specs.declared.messages.FileFault.TheVariants as file
 use Rattle.nor_console.specs.declared.roles.Role.{Role}
 use Rattle.nor_console.specs.declared.roles.Role.TheVariants as role
 
--- Holds if roles that need different files have names that are apart (`AreTwo`). If the task writes the chip back
--- (`writes_back`), the chip's image is apart from its status file and the layout, and the status file is apart from the
--- layout and the image to write. The trace, the output and the journal are each apart from every other file of the job.
--- Some pairs are left out, since no task names an output together with a journal or an image to write or compare.
+-- Holds if roles that need different files have names that are apart. Some pairs are left out, since no task names an
+-- output together with a journal or an image.
 pub record FilesHaveOneRole (nature : Nature) (job : ChipJob) : Type 0 where
   pub status : writes_back job.task ≡ true → AreTwo nature job.programmer.image job.programmer.status
   pub image_layout : writes_back job.task ≡ true → AreTwo nature job.programmer.image (named_by job.task).layout
@@ -38,8 +36,7 @@ pub record FilesHaveOneRole (nature : Nature) (job : ChipJob) : Type 0 where
   pub layout_journal : AreTwo nature (named_by job.task).layout (named_by job.task).journal
   pub wanted_journal : AreTwo nature (named_by job.task).wanted (named_by job.task).journal
 
--- Holds if the trace's name is apart from each name that the job gives to the chip's files, the layout, the image to
--- write or compare, and the journal.
+-- Holds if the trace's name is apart from each other name of a session.
 pub record HasOwnTrace (nature : Nature) (job : ChipJob) : Type 0 where
   pub image : AreTwo nature job.programmer.image job.programmer.trace
   pub status : AreTwo nature job.programmer.status job.programmer.trace
@@ -49,7 +46,6 @@ pub record HasOwnTrace (nature : Nature) (job : ChipJob) : Type 0 where
 
 -- ---- the fault of a file with two roles
 
--- Returns the name of the file that a job has in a role, or `None` if it names none.
 abbrev pub file_with_role : ChipJob → Role → Option (Bor Text)
 file_with_role job role.Image = job.programmer.image
 file_with_role job role.Status = job.programmer.status
@@ -59,8 +55,7 @@ file_with_role job role.Wanted = (named_by job.task).wanted
 file_with_role job role.Output = (named_by job.task).output
 file_with_role job role.Journal = (named_by job.task).journal
 
--- Returns the position of a role in the order of roles. If two roles have one file, the fault names the file of the
--- later role.
+-- the position of a role; if two roles have one file, the fault names the file of the later role
 abbrev pub order_of : Role → ℕ
 order_of role.Image = 0
 order_of role.Status = 1
@@ -70,8 +65,7 @@ order_of role.Wanted = 4
 order_of role.Output = 5
 order_of role.Journal = 6
 
--- True if the job may write the file in that role. A journal counts as written even in a restore, so that its file
--- can't have a second role.
+-- True if the job may write the file in that role. Even a restore's journal counts as written.
 abbrev pub is_written : ChipJob → Role → Bool
 is_written job role.Image = writes_back job.task
 is_written job role.Status = writes_back job.task
@@ -79,45 +73,38 @@ is_written job role.Layout = false
 is_written job role.Wanted = false
 is_written job _ = true
 
--- True if the two roles need different files. `earlier` must come before `later` (`order_of`), and the file must be
--- written in at least one of the two roles. The chip's image and the image to write or compare never need different
--- files.
+-- True if the two roles need different files: one of them is written, except that a chip's image may be the image to
+-- write.
 abbrev pub must_differ : ChipJob → (earlier later : Role) → Bool
 must_differ job role.Image role.Wanted = false
 must_differ job earlier later =
     nat_lt (order_of earlier) (order_of later) && (is_written job earlier || is_written job later)
 
--- Holds for file fault 5 with the name of the later of two roles that need different files. `nature` must allow that
--- the names of both roles refer to one file.
+-- Holds for file fault 5 with the name of the later of two roles whose names may refer to one file.
 abbrev pub IsTwice : Nature → ChipJob → Fault → Type 0
 IsTwice nature job fault = (earlier later : Role) × (must_differ job earlier later ≡ true)
     × IsShared nature (file_with_role job earlier) (file_with_role job later) fault
 
--- Holds if a file of the job has this name, and `nature` allows that the program prints to that file.
+-- Holds if a file of the job has this name, and the program may print to it.
 abbrev pub IsPrintedName : Nature → ChipJob → Text → Type 0
 IsPrintedName nature job name = (role : Role) × IsSomeAnd (file_with_role job role) (λ of.
     (name ≡ of.now) × (nature.fails (Printed of.now) ≡ true))
 
--- Holds for file fault 5 with the name of a file of the job, if `nature` allows that the program prints to that file.
 abbrev pub IsStream : Nature → ChipJob → Fault → Type 0
 IsStream nature job (end.File file.Taken of cause) = IsPrintedName nature job of.now
 IsStream nature job _ = ⊥
 
--- True if the job may change or create a file: a file of the chip, a change's journal, the trace, or the output of a
--- readout.
 abbrev pub changes_files : ChipJob → Bool
 changes_files job = writes_back job.task || (is_some job.programmer.trace || is_some (named_by job.task).output)
 
--- Holds for file fault 1 with the name of a standard stream, if the job may change or create a file, and `nature`
--- allows that this stream can't be looked up.
+-- Holds for file fault 1 with the name of a standard stream, if the job may change or create a file.
 abbrev pub IsWithoutStream : Nature → ChipJob → Fault → Type 0
 IsWithoutStream nature job fault = (changes_files job ≡ true) × IsUnseenStream nature fault
 
--- Holds for file fault 1 with the name of a file of the job, if `nature` allows that this name can't be looked up.
 abbrev pub IsUnseen : Nature → ChipJob → Fault → Type 0
 IsUnseen nature job fault = (role : Role) × IsUnseenFile nature (file_with_role job role) fault
 
--- Holds for each fault that can occur when a job's files are compared with one another and with the standard streams.
+-- Holds for each fault of comparing a job's files with one another and with the standard streams.
 abbrev pub FailsFileRoles : Nature → ChipJob → Fault → Type 0
 FailsFileRoles nature job fault = IsTwice nature job fault
     ⊎ (IsStream nature job fault ⊎ (IsUnseen nature job fault ⊎ IsWithoutStream nature job fault))

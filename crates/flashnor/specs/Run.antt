@@ -1,5 +1,4 @@
--- The results of a run: its call to the engine (the crates that read or change a chip), its faults, the files that it
--- leaves, and its exit status.
+-- The results of a run: its call to the engine, its faults, the files that it leaves, and its exit status.
 use Rattle.std.specs.Prelude.{◌≡◌, ◌≤◌, ◌⊎◌, ℕ, Bool, true, false, List, Option, None, Some, Result, Ok, Err, ⊤}
 use Rattle.std.specs.Prelude.{IsSomeAnd, OnSome}
 use Rattle.std.specs.Borrow.{Bor}
@@ -62,8 +61,7 @@ use Rattle.flashnor.specs.declared.streams.Reports.TheVariants as at
 
 -- ---- calls to the engine
 
--- Holds for the result of a change or rehearsal. `ranges` has the addresses of the change's regions, or is `None` for
--- the whole chip. `image` is the session's buffer: the bytes that the change asks for (`IsAskedOf`).
+-- Holds for the result of a change or rehearsal of these addresses, with the bytes that it asks for.
 pub record ChangesChip (view : View) (after : FilesState) (chip : Emulated) (named : Option ChipName)
     (change : Change) (old new : BusState) (outcome : Result Answer Refusal) : Type 0 where
   pub ranges : Option (List Span)
@@ -72,15 +70,13 @@ pub record ChangesChip (view : View) (after : FilesState) (chip : Emulated) (nam
   pub buffer : IsAskedOf view change.wanted (emulated_part chip).size image
   pub changed : HasMadeChange (request_for change named ranges) image change.journal_use old new view after outcome
 
--- Holds for the result of reading the chip out into the file. If regions are given, only their addresses are read out.
 pub record DoesRead (view after : View) (named : Option ChipName) (file : Text) (regions : Option Regions)
     (old new : BusState) (outcome : Result Answer Refusal) : Type 0 where
   pub ranges : Option (List Span)
   pub included : AreRangesOf view None regions ranges
   pub read : HasReadOut named file ranges old new after outcome
 
--- Holds for the result of comparing the chip with the image in the file. If regions are given, only their addresses are
--- compared. At most one byte more of the image is read than the largest chip has.
+-- Holds for the result of comparing the chip with the image. One byte more is read than the largest chip has.
 pub record DoesVerify (view : View) (named : Option ChipName) (file : Text) (regions : Option Regions)
     (old new : BusState) (outcome : Result Answer Refusal) : Type 0 where
   pub ranges : Option (List Span)
@@ -89,8 +85,7 @@ pub record DoesVerify (view : View) (named : Option ChipName) (file : Text) (reg
   pub read : IsRead view file 16777217 image
   pub verified : HasVerified named ranges image old new outcome
 
--- Holds for the result of a restore from the valid journal in the file. At most one byte more of the file is read than
--- the longest journal has.
+-- Holds for the result of a restore from the valid journal in the file. One byte more is read than the longest one has.
 pub record DoesRestore (view : View) (named : Option ChipName) (file : Text) (old new : BusState)
     (outcome : Result Answer Refusal) : Type 0 where
   pub journal : Journal
@@ -98,8 +93,7 @@ pub record DoesRestore (view : View) (named : Option ChipName) (file : Text) (ol
   pub read : IsRead view file 16793662 (text journal)
   pub restored : HasRestoredEmulated journal named old new outcome
 
--- Holds for the result of the call that a task makes to the engine, on a bus to the emulated chip. `old` and `new` are
--- the bus before and after the call.
+-- Holds for the result of a task's call to the engine, on a bus to the emulated chip.
 abbrev pub DoesJob : View → FilesState → Programmer → Option ChipName → Task → (old new : BusState)
     → Result Answer Refusal → Type 0
 DoesJob view after programmer named task.Probe old new outcome =
@@ -118,36 +112,30 @@ DoesJob view after programmer named (task.Change change) old new outcome =
 DoesJob view after programmer named (task.Restore journal) old new outcome =
     DoesRestore view named journal.now old new outcome
 
--- Holds if each image or status file that `unwritten` names is the programmer's own, and writing it may fail
--- (`Happens`). If the task does not write the chip back (`false`), `unwritten` must name neither.
+-- Holds if `unwritten` names only files of the chip that may fail to be written, and none without a write back.
 abbrev pub AreReported : Bool → Programmer → Unwritten → View → Type 0
 AreReported true programmer unwritten view =
     IsReportedOf programmer.image unwritten.image view × IsReportedOf programmer.status unwritten.status view
 AreReported false programmer unwritten view = (unwritten.image ≡ None) × (unwritten.status ≡ None)
 
--- Holds if `amid` differs from `old` at most in the trace, if one is named: each known file (`IsKnownFile`) whose name
--- is apart from the trace's is the same in both views. `amid` is used for the files after the trace was created.
+-- Holds if `amid`, the files after the trace was created, differs from `old` only in the trace.
 pub record IsViewBut (trace : Option (Bor Text)) (old amid : View) : Type 0 where
   pub nature : amid.nature ≡ old.nature
   pub stays : (name : Name) → IsNot old.nature trace name → IsKnownFile name old
       → (amid.out name ≡ old.out name) × (amid.seen name ≡ old.seen name)
 
--- Holds if the call had this outcome. The layout, the image and the journal of the task are those that a read shows
--- after the trace was created (`amid`).
+-- Holds if the call had this outcome, with the sources that are read after the trace was created (`amid`).
 abbrev pub DoesTraced : (files after : FilesState) → ChipJob → (old new : BusState) → Result Answer Refusal → Type 0
 DoesTraced files after job old new outcome = (amid : View) × IsViewBut job.programmer.trace files.view amid
     × DoesJob amid after job.programmer job.named job.task old new outcome
 
--- Holds if a simulated chip with these contents was made, and the call on its bus had this outcome.
 abbrev pub DoesStarted : (files after : FilesState) → ChipJob → Content → (new : BusState) → Result Answer Refusal
     → Type 0
 DoesStarted files after job content new outcome = (bus : SimBus) × StartsBus job.programmer content bus
     × DoesTraced files after job (sim_state bus) new outcome
 
--- Holds if the call was made, and the roles that need different files have them. The bus was started as `programmer`
--- says, to the chip that the programmer's files hold. `left`: if the files were at rest and the task writes the chip
--- back, each named file of the chip was written or is named in `unwritten`. `traced`: the only trace that may have lost
--- a line is the programmer's. `kept`: the only journal that may have been lost is the one that the task created.
+-- Holds if the call was made on the chip that the programmer's files hold. `left`: if the chip is written back, each of
+-- its files was written or is named in `unwritten`. `traced`, `kept`: only the run's own trace and journal may be lost.
 pub record IsCalled (files after : FilesState) (job : ChipJob) (unwritten : Unwritten)
     (outcome : Result Answer Refusal) : Type 0 where
   pub roles : FilesHaveOneRole files.view.nature job
@@ -166,19 +154,15 @@ pub record IsCalled (files after : FilesState) (job : ChipJob) (unwritten : Unwr
 
 -- ---- faults that occur before the call
 
--- Holds for the faults of making the buffer of a session. For a write these are the faults of reading the image, and
--- for an erase error 18 (out of memory). For a protection range there are none.
 abbrev pub FailsToReadImage : View → Wanted → Fault → Type 0
 FailsToReadImage view (wanted.Write image) fault = IsReadingFault view image.now 16777217 fault
 FailsToReadImage view wanted.Erase fault = fault ≡ end.Refused Memory
 FailsToReadImage view (wanted.Range start len) fault = ⊥
 
--- Holds for the faults of creating the file of a change's journal. A rehearsal creates no file, and has no such fault.
 abbrev pub FailsToKeep : View → JournalUse → Fault → Type 0
 FailsToKeep view (uses.Journal file) fault = IsMaking view file.now fault
 FailsToKeep view (uses.Rehearse stops) fault = ⊥
 
--- Holds for the faults of locking and reading a journal, and for error 15 if it is invalid.
 abbrev pub FailsToRestore : View → Text → Fault → Type 0
 FailsToRestore view name fault = IsSharingFault view name 16793662 fault ⊎ IsInvalid view name fault
 
@@ -194,21 +178,16 @@ FailsTask view (task.Change change) fault =
 FailsTask view (task.Restore journal) fault = FailsToRestore view journal.now fault
 FailsTask view _ fault = ⊥
 
--- Holds for the faults of reading the chip's files and, if the task writes the chip back (`true`), of locking and
--- syncing them.
 abbrev pub FailsToStart : Bool → View → Programmer → Fault → Type 0
 FailsToStart true view programmer fault = FailsToHold view programmer fault
 FailsToStart false view programmer fault = FailsToOpen view programmer fault
 
--- Holds for the faults of creating the trace, if one is named, of comparing the job's files after that, and of the task
--- before its call to the engine.
 abbrev pub FailsTraced : View → ChipJob → Fault → Type 0
 FailsTraced view on_chip fault = IsSomeAnd on_chip.programmer.trace (λ name. IsMaking view name.now fault)
     ⊎ (FailsFileRoles view.nature on_chip fault
     ⊎ ((amid : View) × IsViewBut on_chip.programmer.trace view amid × FailsTask amid on_chip.task fault))
 
--- Holds for the faults of a job that occur before its call to the engine: those of comparing its files, of reading,
--- locking and syncing the chip's files, of the trace, and of its task.
+-- Holds for the faults of a job that occur before its call to the engine.
 abbrev pub FailsJob : View → ChipJob → Fault → Type 0
 FailsJob view on_chip fault = FailsFileRoles view.nature on_chip fault
     ⊎ (FailsToStart (writes_back on_chip.task) view on_chip.programmer fault
@@ -216,22 +195,19 @@ FailsJob view on_chip fault = FailsFileRoles view.nature on_chip fault
 
 -- ---- the files at every exit of a run
 
--- Holds if the chip's files are as they were, and so is each file whose name is apart from those of the trace and of
--- the file that the task creates or truncates (`made`).
+-- Holds if all files are as they were, except the trace and the file that the task creates or truncates (`made`).
 pub record StayBut (programmer : Programmer) (made : Option (Bor Text)) (old new : FilesState) : Type 0 where
   pub image : StaysOf programmer.image old new
   pub status : StaysOf programmer.status old new
   pub others : (name : Name) → IsNot old.view.nature programmer.trace name → IsNot old.view.nature made name
       → KeepsFile name old new
 
--- The promise of a change about the files. If its journal is in a file, the original chip is not lost
--- (`KeepsOriginalFiles`). A rehearsal leaves the files as they were, except the trace (`StayBut`).
+-- The promise of a change: the original chip isn't lost. A rehearsal changes no file except the trace.
 abbrev pub KeepsChange : Programmer → JournalUse → (old new : FilesState) → Type 0
 KeepsChange programmer (uses.Journal file) old new = KeepsOriginalFiles programmer file.now old new
 KeepsChange programmer (uses.Rehearse stops) old new = StayBut programmer None old new
 
--- The promise of each task about the files, at every exit. A contract that states this promise has the premise that the
--- files were at rest at the start.
+-- The promise of each task about the files, at every exit, if the files were at rest at the start.
 abbrev pub KeepsFiles : Programmer → Task → (old new : FilesState) → Type 0
 KeepsFiles programmer (task.Change change) old new = KeepsChange programmer change.journal_use old new
 KeepsFiles programmer (task.Restore journal) old new = KeepsRestorable programmer journal.now old new
@@ -239,15 +215,13 @@ KeepsFiles programmer done old new = StayBut programmer (made_by done) old new
 
 -- ---- the files after a run that ends with an answer
 
--- Holds after a change ended with this answer, and all files were written. If the files obey their contract, the chip's
--- files durably hold the target chip (`held`). The journal's file durably holds one journal, which can restore the
--- original chip from each chip that a later run may open (`restorable`).
+-- Holds after a change ended with this answer, and all files were written: the chip's files durably hold the target
+-- chip, and the journal's file one journal, which can restore the original chip.
 pub record HoldsTarget (programmer : Programmer) (named : Option ChipName) (change : Change) (file : Text)
     (found : Answer) (old new : FilesState) : Type 0 where
   pub first : Opened programmer old
   pub last : BusState
-  -- `last.chip` is the target chip. `ranges` has the addresses of the change's regions, and `image` is the session's
-  -- buffer.
+  -- `last.chip` is the target chip, `ranges` its included addresses, and `image` the session's buffer
   pub ranges : Option (List Span)
   pub included : AreRangesOf old.view None change.regions ranges
   pub image : List ℕ
@@ -258,34 +232,29 @@ pub record HoldsTarget (programmer : Programmer) (named : Option ChipName) (chan
   pub restorable : IsRestorableFrom file first new
   pub durable : IsDurable file (Some (text restorable.journal)) new
 
--- Holds after a restore ended with this answer, and all files were written. If the files obey their contract, the
--- chip's files durably hold the chip that the journal restores (`held`). The journal's file is as it was.
+-- Holds after a restore ended with this answer, and all files were written: the chip's files durably hold the restored
+-- chip.
 pub record HoldsRestored (programmer : Programmer) (file : Text) (found : Answer) (old new : FilesState) : Type 0 where
   pub opened : Opened programmer old
   pub last : BusState
   pub journal : Journal
   pub sound : IsContent journal
   pub read : IsRead old.view file 16793662 (text journal)
-  -- If a name is given, the chip is identified first. `probed` is the bus after that, or the opened bus if no name is
-  -- given; its chip is the same as the opened one. The restore then made the saved sectors and the non-volatile status
-  -- bits those of the journal. If the journal could restore an original chip from the opened chip, `last.chip` is that
-  -- original chip.
+  -- `probed` is the bus after the identification, if a name is given, and its chip is the opened one. If the journal
+  -- could restore an original chip from the opened chip, `last.chip` is this original chip.
   pub probed : BusState
   pub same : IsSame opened.bus.chip probed.chip
   pub target : ReportsRestore journal probed last found
   pub back : (first : Chip) → CanRestore journal first opened.bus → IsSame first last.chip
-  -- the chip's files hold the restored chip, and the journal's file is as it was
   pub held : AreWrittenBack programmer last.chip None None new
   pub stays : KeepsFile file old new
 
--- Holds if the files hold the result of a change whose journal is in a file. Nothing is claimed for a rehearsal.
 abbrev pub HoldsChange : Programmer → Option ChipName → Change → JournalUse → Answer → (old new : FilesState) → Type 0
 HoldsChange programmer named change (uses.Journal file) found old new =
     HoldsTarget programmer named change file.now found old new
 HoldsChange programmer named change (uses.Rehearse stops) found old new = ⊤
 
--- Holds if the files hold the result of the task. Nothing is claimed for a task that changes no chip, or for a
--- rehearsal.
+-- Holds if the files hold the result of the task. Nothing is claimed for a rehearsal, or if no chip changes.
 abbrev pub HoldsTask : Programmer → Option ChipName → Task → Answer → (old new : FilesState) → Type 0
 HoldsTask programmer named (task.Change change) found old new =
     HoldsChange programmer named change change.journal_use found old new
@@ -293,8 +262,7 @@ HoldsTask programmer named (task.Restore journal) found old new =
     HoldsRestored programmer journal.now found old new
 HoldsTask programmer named done found old new = ⊤
 
--- Holds if the files hold the result of the task (`HoldsTask`). Nothing is claimed after a fault, or if a file could
--- not be written.
+-- Holds if the files hold the result of the task, unless there was a fault or a file could not be written.
 abbrev pub HoldsResult : ChipJob → Unwritten → Result Answer Fault → (old new : FilesState) → Type 0
 HoldsResult job unwritten (Ok found) old new = unwritten ≡ all_written
     → HoldsTask job.programmer job.named job.task found old new
@@ -302,16 +270,14 @@ HoldsResult job unwritten (Err fault) old new = ⊤
 
 -- ---- how jobs and runs end
 
--- Holds if a job on a chip ends with the result of its call to the engine, or with a fault that occurred before the
--- call.
+-- Holds if a job ends with the result of its call to the engine, or with a fault before the call.
 abbrev pub EndsChipJob : (files after : FilesState) → ChipJob → Unwritten → Result Answer Fault → Type 0
 EndsChipJob files after on_chip unwritten (Ok found) = IsCalled files after on_chip unwritten (Ok found)
 EndsChipJob files after on_chip unwritten (Err (end.Refused refusal)) =
     IsCalled files after on_chip unwritten (Err refusal) ⊎ FailsJob files.view on_chip (end.Refused refusal)
 EndsChipJob files after on_chip unwritten (Err fault) = FailsJob files.view on_chip fault
 
--- Holds if this job may have this result. The only result of listing the chips is their list, and no file is changed.
--- For a job on a chip, what is promised about the files requires that they were at rest at the start.
+-- Holds if this job may have this result. What is promised about files requires that they were at rest at the start.
 abbrev pub AnswersJob : (files after : FilesState) → Job → Unwritten → Result Answer Fault → Type 0
 AnswersJob files after job.List unwritten (Ok answer.Chips) = (unwritten ≡ all_written) × AllStay files after
 AnswersJob files after job.List unwritten _ = ⊥
@@ -319,39 +285,32 @@ AnswersJob files after (job.Chip on_chip) unwritten outcome = EndsChipJob files 
     × (AreAtRest files → KeepsFiles on_chip.programmer on_chip.task files after)
     × (AreAtRest files → HoldsResult on_chip unwritten outcome files after)
 
--- Holds if the arguments lead to this result. If it is a usage fault or the request for help, a run with these
--- arguments may report it with its reason (`AreWrong`), and no file is changed. Every other result is that of the job
--- given by the arguments, with the names of the files that could not be written.
+-- Holds if the arguments lead to this result: a usage fault or help, after which no file is changed, or the result of
+-- their job.
 abbrev pub AnswersArguments : (files after : FilesState) → List Text → Result Answer Fault → Unwritten → Type 0
 AnswersArguments files after words (Err (end.Usage fault reason)) unwritten =
     AreWrong words (record { fault = fault; reason = reason }) × (unwritten ≡ all_written) × AllStay files after
 AnswersArguments files after words outcome unwritten =
     (asked : Job) × IsJob words asked × AnswersJob files after asked unwritten outcome
 
--- Holds for a run without a fault, in one of two cases: the arguments ask for help, or their job was done. If the job
--- was done, each file was written, and exactly the lines of the answer were appended to standard output, as far as its
--- contents are known.
+-- Holds for a run without a fault: the arguments ask for help, or each file was written and exactly the answer's lines
+-- were appended to standard output.
 abbrev pub RunSucceeds : (files after : FilesState) → List Text → (out out' : Option (List ℕ)) → Type 0
 RunSucceeds files after words out out' = IsAmong kind.DisplayHelp (refusals_of words)
     ⊎ ((found : Answer) × AnswersArguments files after words (Ok found) all_written × Prints (AreLines found) out out')
 
--- Holds if the last argument says where the fault of a run with this result may be printed (`IsReportedTo`). Without a
--- fault, it must be standard error.
 abbrev pub IsPrintedAt : Nature → Result Answer Fault → Reports → Type 0
 IsPrintedAt nature (Ok found) to = to ≡ at.Errors
 IsPrintedAt nature (Err fault) to = IsReportedTo nature fault to
 
--- Holds for the end of a run that prints its faults in this wording, with the contents of standard output and standard
--- error before and after it, as far as they are known. The status is 0 or 1. It is 1 if the arguments ask neither for a
--- job nor for help, and 0 only if the run succeeds (`RunSucceeds`).
+-- Holds for the end of a run, with the contents of standard output and standard error before and after it. The status
+-- is 1 if the arguments ask neither for a job nor for help, and 0 only if the run succeeds.
 pub record IsStatus (files after : FilesState) (words : List Text) (wording : Wording)
     (out out' err err' : Option (List ℕ)) (ending : Ending) : Type 0 where
   pub few : ending.status ≤ 1
   pub refused : IsRefusedArguments words → ending.status ≡ 1
   pub succeeds : ending.status ≡ 0 → RunSucceeds files after words out out'
-  -- `outcome` is the result of the run, and `unwritten` names the files that could not be written. A fault is printed
-  -- where `to` says. `detail` is what an error compared. `prints` states what was printed, and how the status depends
-  -- on it.
+  -- `prints` states what was printed, and how the status depends on it.
   pub outcome : Result Answer Fault
   pub unwritten : Unwritten
   pub answers : AnswersArguments files after words outcome unwritten

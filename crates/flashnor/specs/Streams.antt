@@ -9,16 +9,14 @@ use Rattle.nor_console.specs.declared.messages.FileFault.TheVariants as file
 use Rattle.flashnor.specs.declared.streams.Reports.{Reports}
 use Rattle.flashnor.specs.declared.streams.Reports.TheVariants as to
 
--- Holds if the fault may be printed where the last argument says. Every fault may be printed to standard error. Only
--- file fault 5 may be printed to standard output or nowhere, and only if `nature` allows that the program prints to the
--- file that the fault names.
+-- Holds if the fault may be printed there: to standard error, or elsewhere if the program may print to the file that
+-- file fault 5 names.
 abbrev pub IsReportedTo : Nature → Fault → Reports → Type 0
 IsReportedTo nature fault to.Errors = ⊤
 IsReportedTo nature (end.File file.Taken of cause) where_to = nature.fails (Printed of.now) ≡ true
 IsReportedTo nature fault where_to = ⊥
 
--- Holds if `text` was appended to the stream that the first argument selects. Standard output changed from `out` to
--- `out'`, and standard error from `err` to `err'`. Never holds for `Nowhere`.
+-- Holds if `text` was appended to the selected stream.
 abbrev pub AppendsTo : Reports → (out out' err err' : Option (List ℕ)) → List ℕ → Type 0
 AppendsTo to.Errors out out' err err' text = Appends err err' text
 AppendsTo to.Output out out' err err' text = Appends out out' text

@@ -8,20 +8,17 @@ use Rattle.nor_args.specs.declared.job.JournalUse.TheVariants as uses
 use Rattle.nor_args.specs.declared.job.Task.{Task}
 use Rattle.nor_args.specs.declared.job.Task.TheVariants as task
 
--- True for a change that keeps its journal in a file, and false for a rehearsal.
 abbrev pub keeps_journal : JournalUse → Bool
 keeps_journal (uses.Journal file) = true
 keeps_journal (uses.Rehearse stops) = false
 
--- True if the chip is written back to its files after the call: the task is a restore, or a change that is not a
--- rehearsal.
+-- True if the chip is written back to its files after the call.
 abbrev pub writes_back : Task → Bool
 writes_back (task.Change change) = keeps_journal change.journal_use
 writes_back (task.Restore journal) = true
 writes_back _ = false
 
--- Returns the name of the file in which the task creates its journal, or `None` if it creates none. A rehearsal creates
--- none, since its journal is in memory.
+-- the file in which the task creates its journal; a rehearsal has its journal in memory
 abbrev pub journal_by : Task → Option (Bor Text)
 journal_by (task.Change change) = journal_of change.journal_use
 journal_by _ = None

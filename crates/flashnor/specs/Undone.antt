@@ -16,10 +16,8 @@ use Rattle.nor_console.specs.declared.answers.Answer.{Answer}
 use Rattle.flashnor.specs.declared.holding.Unwritten.{Unwritten}
 use Rattle.nor_console.specs.declared.messages.Fault.{Fault}
 
--- Holds for files `new` that a run may find after an earlier run left the files `old`, even if that run was killed or
--- the host crashed. The files `new` are at rest. A host crash can leave of the journal's file only what it could leave
--- before. What may be found of the chip's files (`MayFind`) could be found before. You may have moved aside a file that
--- was missing at first.
+-- Holds for files `new` at rest that a run may find after an earlier run left the files `old`, even if that run was
+-- killed or the host crashed. You may have moved aside a file of the chip that was missing at first.
 pub record Follows {programmer : Programmer} {start : FilesState} (file : Text) (first : Opened programmer start)
     (old new : FilesState) : Type 0 where
   pub rest : AreAtRest new
@@ -29,28 +27,24 @@ pub record Follows {programmer : Programmer} {start : FilesState} (file : Text) 
   pub status : (found : Found) → MayFind programmer.status first.read.status.found found new
       → MayFind programmer.status first.read.status.found found old
 
--- Holds if neither name is given, or if both are given and equal.
 abbrev pub NameOne : (one other : Option (Bor Text)) → Type 0
 NameOne None None = ⊤
 NameOne (Some one) (Some other) = other.now ≡ one.now
 NameOne _ _ = ⊥
 
--- Holds if the two programmers have the same chip, unique ID, image and status file. Their trace, `stop=`, `busy=` and
--- `power=` may differ.
+-- Holds if the two programmers have the same chip, unique ID, image and status file.
 pub record HaveOneChip (one other : Programmer) : Type 0 where
   pub chip : other.chip ≡ one.chip
   pub unique : other.unique ≡ one.unique
   pub image : NameOne one.image other.image
   pub status : NameOne one.status other.status
 
--- Holds if the task restores from the journal in the file of this name.
 abbrev pub Restores : Text → Task → Type 0
 Restores file (task.Restore journal) = journal.now ≡ file
 Restores file _ = ⊥
 
--- Holds for a run `on_chip` that restores from a journal which can restore the original chip. An earlier run left this
--- journal in the files `old`. The restoring run has the same chip and the same files of the chip as `programmer`
--- (`HaveOneChip`). It finds the files `mid`, has the result `returned`, and leaves the files `new`.
+-- Holds for a run that restores from a journal that can restore the original chip, which an earlier run left in the
+-- files `old`. It has the same chip as `programmer`, finds the files `mid`, and leaves the files `new`.
 pub record RestoresFrom {programmer : Programmer} {start : FilesState} (file : Text)
     (first : Opened programmer start) (on_chip : ChipJob) (unwritten : Unwritten) (returned : Result Answer Fault)
     (old mid new : FilesState) : Type 0 where
@@ -60,8 +54,7 @@ pub record RestoresFrom {programmer : Programmer} {start : FilesState} (file : T
   pub restores : Restores file on_chip.task
   pub answers : AnswersJob mid new (job.Chip on_chip) unwritten returned
 
--- Holds if each later run that opens the chip's files opens the original chip, even if the host crashes before that
--- run.
+-- Holds if each later run opens the original chip, even if the host crashes before that run.
 abbrev pub LeavesOriginal : {programmer : Programmer} {start : FilesState} → Opened programmer start → FilesState
     → Type 0
 LeavesOriginal first files = LeavesOnly first (λ opened. IsSame first.bus.chip opened.chip) files

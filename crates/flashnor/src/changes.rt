@@ -1,5 +1,4 @@
-//! The changes of a chip (a write, an erase or a protection range), which run as sessions with a journal, and their
-//! rehearsals.
+//! The changes of a chip, as sessions with a journal, and their rehearsals.
 ghost use Rattle.std.specs.Prelude.{◌≡◌, ◌≤◌, ◌⊎◌, true, IfOk, IfErr, None, OnErr, length};
 ghost use Rattle.nor_files.specs.Files.{Name, KeepsFile, is_lawful};
 ghost use Rattle.nor_driver.specs.OnlyReads.{IsSteadyOrIdle};
@@ -21,11 +20,9 @@ use nor_journal::{MemVault, Vault};
 use nor_probe::ChipName;
 use nor_session::{Request, rehearse};
 
-/// Changes the chip, with the journal in a new file, or rehearses the change on `bus`, with the journal in memory.
-/// `sources` has what the change reads from its files.
-///
-/// Returns the result of the session or rehearsal, or the fault that occurred before it: a fault of creating the
-/// journal's file, or error 18 if memory runs out.
+/// Changes the chip, with the journal in a new file, or rehearses the change with the journal in memory. `sources` has
+/// what was read from the change's files. The outer error is a fault of creating the journal's file, or error 18 if
+/// memory runs out.
 #[tactic(auto, using(crate::proofs::Doing::does_change))]
 pub fn change_or_rehearse<'a, R: Store, B: Meter>(
     rt: &mut R,
@@ -55,7 +52,6 @@ pub fn change_or_rehearse<'a, R: Store, B: Meter>(
     change_with(rt, bus, &mut image, &request, &change.journal_use)
 }
 
-// Runs a session with its journal in a file, or rehearses it with its journal in memory.
 fn change_with<'a, R: Store, B: Meter>(
     rt: &mut R,
     bus: &mut B,
@@ -83,8 +79,7 @@ fn change_with<'a, R: Store, B: Meter>(
     }
 }
 
-// Rehearses the session of a request with its journal in `vault`. The first of `stops` is the number of transactions
-// that the session may send, and each further stop is that of one restore.
+// The first of `stops` is the number of transactions for the session, and each further one that of a restore.
 fn rehearse_change<B: Meter>(
     bus: &mut B,
     vault: &mut MemVault,

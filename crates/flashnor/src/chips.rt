@@ -20,8 +20,8 @@ pub struct Content {
     pub status: [u8; 2],
 }
 
-/// Reads the chip's files. If an image is missing or not named, all bytes are FFh. If a status file is missing or not
-/// named, both status bytes are 0. Returns the faults of `read_chip_file`, or error 18 if memory runs out.
+/// Reads the chip's files, with the faults of `read_chip_file`. A missing image is all FFh, and a missing status file
+/// zeros.
 pub fn read_content<'a, R: Store>(rt: &R, programmer: &Programmer<'a>) -> Result<Content, Fault<'a>>
     ensures len { IfOk result (λ content. vec_len content.bytes ≡ (emulated_part programmer.now.chip).size) }
     ensures ok { IfOk result (IsContentOf (R.state rt.now).view programmer.now) }
@@ -33,9 +33,8 @@ pub fn read_content<'a, R: Store>(rt: &R, programmer: &Programmer<'a>) -> Result
     Ok(content_of(rt.alloc(), size, image, status)?)
 }
 
-/// Returns the contents of a chip of `size` bytes. Without an image all bytes are FFh, and without status bytes both
-/// are 0. A given image must have `size` bytes, and given status bytes must be two. Returns an error if memory runs
-/// out.
+/// Returns the contents of a chip of `size` bytes, with FFh or zeros for what is missing. A given image must have
+/// `size` bytes, and given status bytes must be two. Fails if memory runs out.
 pub fn content_of(
     alloc: Global,
     size: u32,
@@ -61,14 +60,9 @@ pub fn content_of(
     Ok(Content { bytes, status })
 }
 
-/// Reads a file of the chip, which must have `len` bytes. Returns `None` if no file is named or the named file is
-/// missing.
-///
-/// Returns one of these faults:
-///
-/// - file fault 1 if the file can't be read, or if reading may block without end, as for a FIFO or a terminal
-/// - file fault 3 if the file has another length
-/// - error 18 if memory runs out
+/// Reads a file of the chip, which must have `len` bytes, or returns `None` if it isn't named or is missing. Returns
+/// file fault 1 if the file can't be read or may block (a FIFO or terminal), file fault 3 if it has another length, and
+/// error 18 if memory runs out.
 #[tactic(auto, using(nor_console::proofs::FileFaults::unread_opening))]
 pub fn read_chip_file<'a, R: Store>(
     rt: &R,
@@ -99,7 +93,6 @@ pub fn read_chip_file<'a, R: Store>(
     Ok(Some(bytes))
 }
 
-// Returns the cause of file fault 3 if a file must have `wanted` bytes, and at most one byte more was read (`found`).
 fn cause_of_length(wanted: u32, found: usize) -> Cause {
     if found > wanted as usize {
         Cause::TooLong(wanted)
@@ -108,12 +101,9 @@ fn cause_of_length(wanted: u32, found: usize) -> Cause {
     }
 }
 
-/// Returns a bus to the emulated chip, which is idle and has the given contents. `content` must have as many bytes as
-/// the chip.
-///
-/// The bus carries out the number of transactions that `stop=` gives, or `u64::MAX` without it. After each operation
-/// the chip is busy for the number of polls that `busy=` gives, or for none without it. If `power=` is given, a stop
-/// also cuts the chip's power.
+/// Returns a bus to the idle emulated chip with these contents, as many bytes as the chip has. `stop=` is its number of
+/// transactions (or `u64::MAX`), `busy=` the polls that show BUSY (or none), and with `power=` a stop cuts the chip's
+/// power.
 pub fn start(programmer: &Programmer<'_>, content: Content) -> SimBus
     requires { vec_len content.bytes ≡ (emulated_part programmer.now.chip).size }
     ensures { StartsBus programmer.now content result }
@@ -124,8 +114,7 @@ pub fn start(programmer: &Programmer<'_>, content: Content) -> SimBus
     bus
 }
 
-// Returns a bus to the emulated chip, which is idle and has the given contents. The bus carries out no transaction yet,
-// and a stop does not cut the chip's power.
+// The bus carries out no transaction yet, and a stop doesn't cut the chip's power.
 fn hold(programmer: &Programmer<'_>, content: Content) -> SimBus
     requires { vec_len content.bytes ≡ (emulated_part programmer.now.chip).size }
     ensures held { HoldsFiles programmer.now content (⟦<SimBus as Bus>⟧.state result) }
@@ -141,7 +130,6 @@ fn hold(programmer: &Programmer<'_>, content: Content) -> SimBus
     SimBus::new(config, bytes, status, delays).unwrap()
 }
 
-// Returns the chip's configuration, with the unique ID of `unique=` if one is given.
 fn config_of(programmer: &Programmer<'_>) -> Config
     ensures { IsConfigWith programmer.now.chip programmer.now.unique result }
 {

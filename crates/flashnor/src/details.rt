@@ -1,5 +1,4 @@
-//! What was expected and what was found, for the errors that compare the chip with a name or with a journal. Also the
-//! system's reason, for the errors of a journal or an output that can't be written.
+//! What an error compared (the chip with a name or a journal), or the system's reason why a file can't be written.
 ghost use Rattle.std.specs.Prelude.{Some};
 
 use nor_args::{ChipJob, Emulated, Task};
@@ -47,8 +46,7 @@ pub enum Detail {
     Output(SystemReason),
 }
 
-/// Returns what the error of a call compared or the system's reason for it, if it is one of these errors. `bus` is the
-/// bus after the call. A journal is read again, since the call has used up its bytes.
+/// Returns what the error of a call compared, or the system's reason for it. `bus` is the bus after the call.
 pub fn detail_of<R: Store>(rt: &R, job: &ChipJob<'_>, outcome: &Outcome, bus: &SimBus) -> Detail {
     let Err(refusal) = outcome else {
         return Detail::Unsaid;
@@ -68,8 +66,7 @@ pub fn detail_of<R: Store>(rt: &R, job: &ChipJob<'_>, outcome: &Outcome, bus: &S
     }
 }
 
-// Returns the system's reason why the last journal or output of the run can't be written. Returns `None` if all writes
-// and syncs succeeded, or if the file was removed or replaced meanwhile.
+// Returns why the last journal or output can't be written, if it wasn't removed or replaced.
 fn unwritten_by<R: Store>(rt: &R) -> Option<SystemReason> {
     let error = rt.vault_error()?;
     match error.kind() {
@@ -89,7 +86,7 @@ fn name_detail(job: &ChipJob<'_>) -> Detail {
     }
 }
 
-// Returns what an error of a restore compared. If the journal can't be read again, there is nothing to say.
+// The journal is read again, since the call has used up its bytes. If that fails, there is nothing to say.
 fn journal_detail<R: Store>(
     rt: &R,
     name: &str,
@@ -174,7 +171,6 @@ impl fmt::Display for DetailLine {
     }
 }
 
-// The line with the status bytes in a journal, and with those of the chip.
 #[derive(Drop)]
 struct StatusLine {
     journal: [u8; 2],
@@ -195,7 +191,6 @@ impl fmt::Display for StatusLine {
     }
 }
 
-// The line with the unique ID in a journal, and with that of the chip.
 #[derive(Drop)]
 struct UnitLine {
     journal: u64,
@@ -216,7 +211,6 @@ impl fmt::Display for UnitLine {
     }
 }
 
-// A unique ID, as sixteen hexadecimal digits.
 #[derive(Drop)]
 struct UniqueId(u64);
 
@@ -232,7 +226,6 @@ impl fmt::Display for UniqueId {
     }
 }
 
-// Two status bytes, as two hexadecimal digits each.
 #[derive(Drop)]
 struct StatusBytes([u8; 2]);
 

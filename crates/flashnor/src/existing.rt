@@ -1,5 +1,4 @@
-//! Handles a session whose journal already exists: the run ends with a fault before any call to the engine, and the
-//! journal stays as it is.
+//! Ends a session whose journal already exists with a fault, before any call to the engine.
 ghost use Rattle.std.specs.Prelude.{◌≡◌, IfErr, IfSome, IsSome, IsSomeAnd, Some, true};
 ghost use Rattle.nor_files.specs.Files.{AreAtRest, Name, KeepsFile, is_lawful};
 ghost use Rattle.nor_files.specs.Files.Failure.{There};
@@ -29,14 +28,11 @@ pub fn existing_journal<'a, R: Store>(rt: &R, task: &Task<'a>) -> Option<&'a str
     }
 }
 
-/// Returns the first fault of a session whose journal exists.
+/// Returns the first fault of a session whose journal exists: a fault of the steps that come before the journal is
+/// created, or file fault 4 with the journal's name.
 ///
-/// Checks first that the trace's file is none of the other files of the job. Then reads everything that a session reads
-/// before it creates its journal, and creates or opens the trace. Returns the first fault of these steps, or file fault
-/// 4 with the journal's name if there is none.
-///
-/// The trace is the only file that is created, and only if the store reports that its name and the name of each other
-/// file of the job refer to different files. `Disk` does not truncate the trace, since nothing is written to it.
+/// The trace is the only file that is created, and only if its name is apart from the job's other files. `Disk` does
+/// not truncate it, since nothing is written to it.
 pub fn fault_before<'a, R: Store>(rt: &mut R, job: &ChipJob<'a>, journal: &'a str) -> Fault<'a>
     requires makes { journal_by job.now.task ≡ Some journal }
     requires there { Happens (R.state rt.old).view (There journal.now) }
@@ -54,8 +50,6 @@ pub fn fault_before<'a, R: Store>(rt: &mut R, job: &ChipJob<'a>, journal: &'a st
     }
 }
 
-// Reads, in the order of a session, what a session reads before it creates its journal. Also creates or opens the
-// trace.
 fn read_all<'a, R: Store>(rt: &mut R, job: &ChipJob<'a>) -> Result<(), Fault<'a>>
     requires { IsSome (journal_by job.now.task) }
     ensures fails { IfErr result (FailsJob (R.state rt.old).view job.now) }

@@ -23,8 +23,7 @@ use nor_files::Store;
 use nor_jobs::{Sources, find_chip, journal_in, read_sources, report_size, restore_named};
 use std::io::{BufWriter, Write};
 
-/// A call to the engine that was made: the bus after the call, the result, and the trace's name if the trace lost a
-/// line.
+/// A call to the engine that was made: the bus after it, its result, and the trace's name if the trace lost a line.
 #[derive(Drop)]
 pub struct Called<'a> {
     pub bus: SimBus,
@@ -33,8 +32,7 @@ pub struct Called<'a> {
 }
 
 impl<'a> Called<'a> {
-    // Ends the trace of a call: writes the rest of the trace's buffer, and returns the call with the bus. If a line
-    // could not be written to the trace, during the call or now, `lost` is the trace's name (`name`).
+    // Writes the rest of the trace's buffer. `lost` is the trace's name if a line could not be written, now or before.
     fn of_traced<L: Write + Drop>(
         mut traced: TraceBus<SimBus, L>,
         name: Option<&'a str>,
@@ -52,9 +50,8 @@ impl<'a> Called<'a> {
     }
 }
 
-/// Performs the job's task on a simulated chip with these contents, with a trace if one is requested. Before it makes
-/// the chip, it creates or opens the trace, and then reads the files that the task needs. Returns a fault if one
-/// occurred before the call to the engine.
+/// Creates or opens the trace, if requested, reads the files of the task, and performs the task on a simulated chip
+/// with these contents. Returns a fault if one occurred before the call to the engine.
 pub fn call_on<'a, R: Store>(
     rt: &mut R,
     content: Content,
@@ -80,8 +77,7 @@ pub fn call_on<'a, R: Store>(
     call(rt, bus, log, job, sources)
 }
 
-// Creates or opens the trace's file, if a trace is requested. Then checks again that no file has two roles: another
-// name of the job may be a link to the trace, which had no target until the trace was created.
+// The roles are checked again, because another name may be a link to the trace, which had no target before.
 fn open_trace<'a, R: Store>(
     rt: &mut R,
     job: &ChipJob<'a>,
@@ -101,7 +97,6 @@ fn open_trace<'a, R: Store>(
     Ok(log)
 }
 
-// Performs the job's task on its chip, with a trace if `log` is given.
 fn call<'a, R: Store, L: Write + Drop>(
     rt: &mut R,
     mut bus: SimBus,
@@ -135,8 +130,6 @@ fn call<'a, R: Store, L: Write + Drop>(
     Ok(Called::of_traced(traced, job.programmer.trace, outcome))
 }
 
-// Performs the job's task on its chip. `sources` has what was read from the task's files. Returns a fault if one
-// occurred before the call to the engine.
 fn do_task<'a, R: Store, B: Meter>(
     rt: &mut R,
     bus: &mut B,

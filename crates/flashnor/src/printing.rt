@@ -27,17 +27,15 @@ pub struct Ending {
     pub status: u8,
     /// True if the answer or the help was printed.
     pub printed: bool,
-    /// True if each of these messages was printed: the message of the fault, if there is one; the message that standard
-    /// output could not be written, if this is so; and the message of each file that could not be written.
+    /// True if each message was printed: those of a fault, of standard output, and of each file that could not be
+    /// written.
     pub reported: bool,
 }
 
-/// Prints the result of a run. An answer or the help is printed to `output`, and a message for each file that could not
-/// be written to `errors`. A fault, with the messages of such files, is printed where `to` says, in the wording of
-/// `errors`. `detail` is what an error compared.
+/// Prints an answer or the help to `output`, and a message for each file that could not be written to `errors`. A
+/// fault, and then such messages, are printed where `to` says. `detail` is what an error compared.
 ///
-/// If the answer or the help can't be printed, prints file fault 2 with the name of standard output to `errors`, and
-/// the status is 1. Any other message that can't be printed is lost.
+/// If the answer or the help can't be printed, file fault 2 is printed to `errors`, and the status is 1.
 #[tactic(auto, using(crate::proofs::Printed::printed_well, crate::proofs::Printed::printed_badly))]
 pub fn print_end<O: Write, E: Write>(
     output: &mut O,
@@ -75,8 +73,6 @@ pub fn print_end<O: Write, E: Write>(
     }
 }
 
-// Prints the message of the run's fault in this wording, and a message for each file that could not be written. The
-// status is 1.
 #[tactic(auto, using(crate::proofs::Printed::appends_both, crate::proofs::Printed::appends_detail))]
 fn end_after_fault<W: Write>(
     errors: &mut W,
@@ -98,7 +94,6 @@ fn end_after_fault<W: Write>(
     }
 }
 
-// Prints what an error compared, in this wording. Returns false if this could not be printed.
 fn print_detail<W: Write>(errors: &mut W, wording: Wording, detail: Detail) -> bool
     ensures { IsTrue result → Appends (W.contents errors.old) (W.contents errors.new) (detail_in wording detail) }
 {
@@ -108,9 +103,6 @@ fn print_detail<W: Write>(errors: &mut W, wording: Wording, detail: Detail) -> b
     }
 }
 
-// Prints that standard output could not be written, if the answer or the help could not be printed. Prints a message
-// for each file that could not be written. The status is 0 if the answer or the help was printed and all files were
-// written, and otherwise 1.
 #[tactic(auto, using(nor_console::proofs::Printed::appends_then))]
 fn end_after_answer<W: Write>(errors: &mut W, printed: bool, unwritten: Unwritten<'_>) -> Ending
     ensures { EndsWell printed unwritten.entry (W.contents errors.old) (W.contents errors.new) result }
@@ -129,8 +121,6 @@ fn end_after_answer<W: Write>(errors: &mut W, printed: bool, unwritten: Unwritte
     }
 }
 
-// Prints that standard output could not be written, if the answer or the help could not be printed. Returns false if
-// this message could not be printed.
 #[tactic(auto, using(crate::proofs::Printed::output_line))]
 fn print_lost<W: Write>(errors: &mut W, printed: bool) -> bool
     ensures reported { IsTrue result
@@ -143,7 +133,6 @@ fn print_lost<W: Write>(errors: &mut W, printed: bool) -> bool
     print_worded(errors, &lost_output(), Wording::Numbered)
 }
 
-// Prints a message for each file that could not be written. Returns true if all these messages were printed.
 fn print_unwritten<W: Write>(errors: &mut W, unwritten: Unwritten<'_>) -> bool
     ensures reported { IsTrue result
         → Appends (W.contents errors.old) (W.contents errors.new) (lines_of_unwritten unwritten.entry) }
@@ -156,8 +145,6 @@ fn print_unwritten<W: Write>(errors: &mut W, unwritten: Unwritten<'_>) -> bool
     image && status && trace && journal
 }
 
-// Prints that the file `name` could not be written, if a name is given. Returns false if this message could not be
-// printed.
 fn print_unwritten_file<W: Write>(errors: &mut W, name: Option<&str>) -> bool
     ensures reported { IsTrue result
         → Appends (W.contents errors.old) (W.contents errors.new) (line_of_unwritten name.entry) }
@@ -169,7 +156,6 @@ fn print_unwritten_file<W: Write>(errors: &mut W, name: Option<&str>) -> bool
     print_worded(errors, &unmade(name), Wording::Numbered)
 }
 
-// True if every file was written.
 fn is_all_written(unwritten: Unwritten<'_>) -> bool
     ensures { IsTrue result ↔ (unwritten.entry ≡ all_written) }
 {

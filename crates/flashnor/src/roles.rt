@@ -10,8 +10,7 @@ use nor_args::ChipJob;
 use nor_console::{Cause, Fault, Named, Role, apart_as, look_ahead, named_by};
 use nor_files::Store;
 
-/// Checks that the trace's file is none of the other files of a session: image, status file, layout, image to write and
-/// journal. Returns the faults of `files_have_one_role`.
+/// Checks that the trace's file is none of the other files of a session. Returns the faults of `files_have_one_role`.
 pub fn has_own_trace<'a, R: Store>(rt: &R, job: &ChipJob<'a>) -> Result<(), Fault<'a>>
     ensures ok { OnOk result (HasOwnTrace (R.state rt.now).view.nature job.now) }
     ensures err { IfErr result (FailsFileRoles (R.state rt.now).view.nature job.now) }
@@ -23,15 +22,11 @@ pub fn has_own_trace<'a, R: Store>(rt: &R, job: &ChipJob<'a>) -> Result<(), Faul
     check_pair(rt, job, Role::Trace, Role::Journal)
 }
 
-/// Checks that no file has two roles in a job, except roles that may share a file. For any other two roles, if the job
-/// names a file for both, the store must report that the two names refer to different files.
+/// Checks that two names of a job refer to different files, if the job writes one of the two. The chip's image may be
+/// the image to write, and a restore's journal counts as written.
 ///
-/// Two roles may share a file only if the job writes the file in neither role, or if the roles are the chip's image and
-/// the image to write. The journal of a restore counts as written.
-///
-/// Returns file fault 5 if two roles share a file that they may not share. The fault names the file of the later role,
-/// in this order: image, status, trace, layout, image to write or compare, output, journal. Returns file fault 1 if a
-/// name can't be looked up.
+/// Returns file fault 5 with the later of the two roles (image, status, trace, layout, image to write or compare,
+/// output, journal), or file fault 1 if a name can't be looked up.
 pub fn files_have_one_role<'a, R: Store>(rt: &R, job: &ChipJob<'a>) -> Result<(), Fault<'a>>
     ensures ok { OnOk result (FilesHaveOneRole (R.state rt.now).view.nature job.now) }
     ensures err { IfErr result (FailsFileRoles (R.state rt.now).view.nature job.now) }
@@ -57,11 +52,8 @@ pub fn files_have_one_role<'a, R: Store>(rt: &R, job: &ChipJob<'a>) -> Result<()
     check_pair(rt, job, Role::Wanted, Role::Journal)
 }
 
-/// Looks up the files that the task only reads (the layout, and the image to write or compare), before the run opens
-/// any file. On a `Disk`, if such a name can't be looked up now, reading the file later returns file fault 1, unless
-/// the name is also that of a chip's file that the run has locked.
-///
-/// Returns error 18 if memory runs out.
+/// Looks up the files that the task only reads, before the run opens any file. On a `Disk`, reading a file that can't
+/// be looked up returns file fault 1 later, unless the file is one of the chip's. Returns error 18 if memory runs out.
 pub fn look_at_sources<'a, R: Store>(rt: &R, job: &ChipJob<'a>) -> Result<(), Fault<'a>>
     ensures { IfErr result (λ fault. fault ≡ Faults.Refused Refusals.Memory) }
 {
@@ -90,8 +82,6 @@ pub fn file_with_role<'a>(job: &ChipJob<'a>, role: Role) -> Option<&'a str>
     }
 }
 
-// Checks that the two roles, which need different files, have different files, if the job names a file for both. If
-// they share one file, the fault names the file of the later role.
 #[tactic(auto, using(crate::proofs::OneRole::pair_fails))]
 fn check_pair<'a, R: Store>(
     rt: &R,

@@ -31,15 +31,12 @@ use std::io;
 use std::io::Write;
 use std::rt::Files;
 
-/// Performs the job given by the program's arguments, or prints the help. Prints results and the help to `output`, and
-/// faults to `errors` in the wording that it has. Returns the exit status: 0, or 1 after any fault or if not all
-/// results could be printed.
+/// Performs the job given by the arguments (the first is the program's name), or prints the help. Returns the exit
+/// status: 0, or 1 after a fault or if not all results could be printed.
 ///
-/// If standard error prints to a file of the job, the fault that reports this is printed to `output`. If standard
-/// output prints to a file of the job too, that fault isn't printed.
-///
-/// The first of the arguments is the program's name, which is skipped. If the system could not provide the arguments,
-/// `given` is an error, which is printed as a fault too.
+/// Results are printed to `output`, and faults to `errors`. If standard error prints to a file of the job, this fault
+/// is printed to `output`, unless standard output does, too. If `given` is an error of the system, it is printed as a
+/// fault.
 pub fn run_words<R: Files + AllocGlobal, O: Write, E: Write>(
     rt: &R,
     given: io::Result<Args>,
@@ -62,9 +59,8 @@ where
     ending.status
 }
 
-/// Ends a run that could not open a directory to occupy the descriptors of closed standard streams (`keep_streams`). If
-/// the run continued, a file that it opens could get such a descriptor. Opens no file, prints file fault 1 with the
-/// name of the directory, and returns the exit status, which is 1.
+/// Ends a run that could not open a directory in place of closed standard streams (`keep_streams`), because the next
+/// opened file could get such a descriptor. Prints file fault 1, and returns the exit status 1.
 pub fn end_without_streams<O: Write, E: Write>(output: &mut O, errors: &mut ErrorStream<E>) -> u8
     ensures { EndsWith (IsWithoutStreams errors.old.wording (O.contents output.old) (O.contents output.new)
         (E.contents errors.old.writer) (E.contents errors.new.writer)) result }
@@ -73,7 +69,6 @@ pub fn end_without_streams<O: Write, E: Write>(output: &mut O, errors: &mut Erro
     ending.status
 }
 
-// Performs the job of the program's arguments over any store of files, and prints its result.
 #[tactic(auto, using(crate::proofs::Ended::is_without_memory))]
 fn run_given<R: Store, O: Write, E: Write>(
     rt: &mut R,
@@ -91,7 +86,6 @@ fn run_given<R: Store, O: Write, E: Write>(
     }
 }
 
-// Ends a run that made no call to the engine, the crates that read or change a chip: prints `fault`.
 fn end_before<O: Write, E: Write>(
     fault: Fault<'_>,
     output: &mut O,
@@ -109,8 +103,8 @@ fn end_before<O: Write, E: Write>(
     print_end(output, errors, answer, unwritten, Reports::Errors, detail)
 }
 
-/// Performs the job given by `words`, the arguments without the program's name, over any store of files. Prints the
-/// result and the faults. Returns the exit status, and whether the result and the faults could be printed.
+/// Performs the job given by `words`, the arguments without the program's name, over any store of files. Returns the
+/// exit status, and whether the result and the faults could be printed.
 #[tactic(auto, using(crate::proofs::Ended::is_status))]
 pub fn run_over<R: Store, O: Write, E: Write>(
     rt: &mut R,
@@ -122,8 +116,7 @@ pub fn run_over<R: Store, O: Write, E: Write>(
         (O.contents output.old) (O.contents output.new)
         (E.contents errors.old.writer) (E.contents errors.new.writer) result }
 {
-    // `runs_restore_original` is a theorem: a function with only a contract, which does nothing at run time. The prover
-    // checks its contract only in a program that calls it.
+    // The prover checks the contract of this theorem only in a program that calls it.
     runs_restore_original::<R>();
     let (work, to) = run(rt, words);
     let Work {
@@ -143,7 +136,6 @@ struct Work<'a> {
 }
 
 impl<'a> Work<'a> {
-    // Returns the work of a run that made no call to the engine.
     fn before(answer: Result<Answer, Fault<'a>>) -> Work<'a>
         ensures answer { result.answer ≡ answer.entry }
         ensures none { result.unwritten ≡ all_written }
@@ -163,7 +155,6 @@ impl<'a> Work<'a> {
     }
 }
 
-// Performs the job given by the arguments. Returns its result, which isn't printed yet, and where a fault is printed.
 #[tactic(auto, using(crate::proofs::Ended::answer_ended, nor_console::proofs::Lent::stays_same))]
 fn run<'a, R: Store>(rt: &mut R, words: &'a [String]) -> (Work<'a>, Reports)
     ensures answers { AnswersArguments (R.state rt.old) (R.state rt.new) (map string_bytes words.now) result.0.answer
@@ -180,8 +171,6 @@ fn run<'a, R: Store>(rt: &mut R, words: &'a [String]) -> (Work<'a>, Reports)
     }
 }
 
-// Performs a job on a chip, unless standard output or standard error prints to one of the job's files. Returns the
-// job's result, and where a fault is printed.
 #[tactic(auto, using(crate::proofs::Ended::failed_ends, crate::proofs::Ended::failed_holds, crate::proofs::Ended::printed_at, crate::proofs::Ended::printed_there, crate::proofs::Before::keeps_still))]
 fn run_chip_job<'a, R: Store>(rt: &mut R, job: &ChipJob<'a>) -> (Work<'a>, Reports)
     ensures ends { EndsChipJob (R.state rt.old) (R.state rt.new) job.now result.0.unwritten result.0.answer }
@@ -200,8 +189,6 @@ fn run_chip_job<'a, R: Store>(rt: &mut R, job: &ChipJob<'a>) -> (Work<'a>, Repor
     }
 }
 
-// Performs the job's task on its chip. If the task is a restore, or a change that isn't a rehearsal, writes the chip
-// back to its files. Returns a fault if one occurred before the call to the engine.
 #[tactic(auto, using(crate::proofs::Ended::holds_readonly))]
 fn work_on_chip<'a, R: Store>(rt: &mut R, job: &ChipJob<'a>) -> Result<Work<'a>, Fault<'a>>
     ensures ok { IfOk result (λ work.
@@ -224,7 +211,6 @@ fn work_on_chip<'a, R: Store>(rt: &mut R, job: &ChipJob<'a>) -> Result<Work<'a>,
     }
 }
 
-// Reads the chip's files, and performs a task after which the chip is not written back to these files.
 fn look_at_files<'a, R: Store>(rt: &mut R, job: &ChipJob<'a>) -> Result<Work<'a>, Fault<'a>>
     requires only_reads { writes_back job.now.task ≡ false }
     requires roles { FilesHaveOneRole (R.state rt.old).view.nature job.now }
@@ -252,7 +238,6 @@ fn look_at_files<'a, R: Store>(rt: &mut R, job: &ChipJob<'a>) -> Result<Work<'a>
     })
 }
 
-// Locks and reads the chip's files, performs a task that changes the chip, and writes the chip back to its files.
 fn change_files<'a, R: Store>(rt: &mut R, job: &ChipJob<'a>) -> Result<Work<'a>, Fault<'a>>
     requires changes { writes_back job.now.task ≡ true }
     requires roles { FilesHaveOneRole (R.state rt.old).view.nature job.now }

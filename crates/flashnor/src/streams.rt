@@ -1,5 +1,4 @@
-//! Checks that neither standard output nor standard error prints to a file of a job. If one does, chooses where the
-//! fault is printed.
+//! Checks that the program prints to no file of a job, and otherwise chooses where the fault is printed.
 ghost use Rattle.std.specs.Prelude.{◌≡◌, IfErr, IfOk, IfSome};
 ghost use Rattle.flashnor.specs.Roles.{FailsFileRoles, IsPrintedName, changes_files};
 ghost use Rattle.flashnor.specs.Streams.{IsReportedTo};
@@ -28,7 +27,6 @@ pub struct StreamFault<'a> {
     pub to: Reports,
 }
 
-// All roles, in the order of `Role`.
 const ROLES: [Role; 7] = [
     Role::Image,
     Role::Status,
@@ -41,11 +39,8 @@ const ROLES: [Role; 7] = [
 
 /// Checks that the program prints to no regular file that the job names, even if the job only reads that file.
 ///
-/// Returns file fault 5 with the name of such a file: the first in the order of `Role` that standard output prints to
-/// or, if there is none, the first that standard error prints to.
-///
-/// Returns file fault 1 with a name that can't be looked up. If the job may change or create a file, also returns file
-/// fault 1 with the name of a standard stream that can't be looked up.
+/// Returns file fault 5 with the first such file (by `Role`) of standard output, or else of standard error. Returns
+/// file fault 1 with a name that can't be looked up; if the job may change files, a standard stream's name counts, too.
 pub fn are_unprinted<'a, R: Store>(rt: &R, job: &ChipJob<'a>) -> Result<(), StreamFault<'a>>
     ensures fails { IfErr result (λ refused. FailsFileRoles (R.state rt.now).view.nature job.now refused.fault) }
     ensures to { IfErr result (λ refused. IsReportedTo (R.state rt.now).view.nature refused.fault refused.to) }
@@ -69,9 +64,6 @@ pub fn are_unprinted<'a, R: Store>(rt: &R, job: &ChipJob<'a>) -> Result<(), Stre
     })
 }
 
-// Returns the name of the job's file that standard output prints to, and the name of the one that standard error prints
-// to. If there are several such files for a stream, the one with the first role is returned; if there is none, `None`.
-// Returns file fault 1 if a name can't be looked up or, for a job that may change or create a file, if a stream can't.
 #[tactic(auto, using(crate::proofs::OneRole::stream_fails))]
 fn files_printed<'a, R: Store>(
     rt: &R,
@@ -91,8 +83,6 @@ fn files_printed<'a, R: Store>(
     Ok((output, errors))
 }
 
-// Returns the name of the job's file that this stream prints to, or `None` if there is none. If there are several,
-// returns the one with the first role. Returns file fault 1 if a name can't be looked up.
 fn file_printed<'a, R: Store>(
     rt: &R,
     job: &ChipJob<'a>,
@@ -110,7 +100,6 @@ fn file_printed<'a, R: Store>(
     Ok(None)
 }
 
-// Returns the name of the job's file in this role if the stream prints to it, and otherwise `None`.
 #[tactic(auto, using(crate::proofs::OneRole::printed_name, crate::proofs::OneRole::unseen_fails))]
 fn printed_in_role<'a, R: Store>(
     rt: &R,
@@ -130,8 +119,6 @@ fn printed_in_role<'a, R: Store>(
     }
 }
 
-// True if the job may change or create a file: a file of the chip, a change's journal, the trace, or the output of a
-// readout.
 fn changes_files(job: &ChipJob<'_>) -> bool
     ensures { result ≡ changes_files job.now }
 {

@@ -14,7 +14,6 @@ module _ (view : View) (name : Text) (size : ℕ) (unread : Happens view (Unread
   pub unread_opening : (fault : Fault) → IsUnreadFault name fault → IsOpeningFault view name size fault
   unread_opening fault is = grind arith
 
--- Each fault of reading a journal is also one of the faults of locking and reading it.
 pub reading_shares : (view : View) (name : Text) (most : ℕ) (fault : Fault) → IsReadingFault view name most fault
     → IsSharingFault view name most fault
 reading_shares view name most fault is = grind arith

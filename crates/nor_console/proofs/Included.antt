@@ -59,19 +59,16 @@ all_pass : (test : List ℕ → Bool) (xs : List (List ℕ)) → find (λ x. not
 all_pass test [] none = refl
 all_pass test (x ∷ xs) none = grind (arith, all_pass test xs)
 
--- If `first_unknown` finds no unknown name among `names`, each name belongs to a region.
 pub all_known : (regions : List Region) (names : List ℕ) → first_unknown regions names ≡ None
     → are_known regions names ≡ true
 all_known regions names none = all_pass (is_region_named regions) (names_of names) none
 
--- If one of the names belongs to no region, `first_unknown` finds such a name.
 pub named_unknown : (regions : List Region) (names : List ℕ) (found : Option (Bor Text)) (or : Bor Text)
     → option_map (λ name. name.now) found ≡ first_unknown regions names → are_known regions names ≡ false
     → first_unknown regions names ≡ Some (unwrap_or found or).now
 named_unknown regions names None or is unknown = absurd (false≢true (sym unknown ∙ all_known regions names (sym is)))
 named_unknown regions names (Some name) or is unknown = sym is
 
--- Holds if the fault is `Layout` or `Map`.
 abbrev IsOfLayout : Fault → Type 0
 IsOfLayout (end.Layout fault) = ⊤
 IsOfLayout (end.Map fault) = ⊤
@@ -84,17 +81,14 @@ lacks-only form.Fmap text (end.Map fault) is = tt
 lacks-only form.Descriptor text (end.Map fault) is = tt
 lacks-only _ text _ is = absurd is
 
--- Let `text` be what was read of the layout in the file `name`.
 module _ (view : View) (shown : Option (List ℕ)) (regions : Regions) (name : Bor Text) (text : List ℕ)
     (named : regions.layout ≡ Some name) (read : IsLayoutText view None (Some name) text) where
   is-text : IsLayoutText view shown regions.layout text
   is-text = subst (λ (file : Option (Bor Text)). IsLayoutText view shown file text) (sym named) read
 
-  -- If the text has these regions, the layout was read.
   pub layout_read : (layout : List Region) → HasLayout regions.form text layout → IsLayoutOf view shown regions layout
   layout_read layout has = record { text = text; read = is-text; has = has }
 
-  -- If parsing the text failed, reading the layout fails.
   pub layout_fails : (fault : Fault) → LacksLayout regions.form text fault → FailsToReadLayout view shown regions fault
   layout_fails (end.Layout fault) why = record { text = text; read = is-text; why = why }
   layout_fails (end.Map fault) why = record { text = text; read = is-text; why = why }

@@ -1,5 +1,4 @@
--- The effect of borrowing a vault in a file and taking it back: on that file, and on the other files, which stay as
--- they were.
+-- The effect of borrowing a vault in a file and taking it back, on this file and on all others.
 use Rattle.std.proofs.Common.{◌≡◌, ◌∙◌, Some, ap, refl, subst, sym, true}
 use Rattle.nor_files.specs.Calls.{Borrows, TakesBack}
 use Rattle.nor_files.specs.Files.{AreApart, FilesState, Name, Nature, KeepsFile, is_lawful}
@@ -16,14 +15,12 @@ stays_on one other = record {
   leaves = λ left can. one.leaves left (other.leaves left can);
 }
 
--- No call changes the nature of the files, so names that are apart before a call are apart after it.
 pub apart_after : {old new : Nature} {one other : Name} → new ≡ old → AreApart old one other → AreApart new one other
 apart_after {one = one} {other = other} same apart = subst (λ (n : Nature). AreApart n one other) (sym same) apart
 
 pub lawful_after : {old new : Nature} → new ≡ old → old.lawful ≡ true → new.lawful ≡ true
 lawful_after same is = ap (λ (n : Nature). n.lawful) same ∙ is
 
--- A vault in the file `name` is borrowed between the states `old` and `mid`, and taken back between `mid` and `new`.
 module _ (name : Name) (old mid new : FilesState) (vault : VaultState)
     (made : mid.view.nature ≡ old.view.nature) (borrows : is_lawful old.view ≡ true → Borrows name old mid)
     (back : new.view.nature ≡ mid.view.nature)

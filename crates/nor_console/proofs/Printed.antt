@@ -14,8 +14,6 @@ appends_then = Appends-trans
 
 -- ---- the table of chips
 
--- Let the lines of the first `i` items of the table be printed, and then the line of the item at index `i`. The lines
--- of the first `i + 1` items are then printed.
 pub chips_then : (a b c : Option (List ℕ)) (items : List Part) (i : ℕ) (none : Part) → i < length items
     → Appends a b (flat_map chip_line (take i items)) → Appends b c (chip_line (get_or items i none))
     → Appends a c (flat_map chip_line (take (i + 1) items))

@@ -4,14 +4,12 @@ use Rattle.std.proofs.lemmas.List.{append_assoc, append-nil, drop_all, drop_more
 use Rattle.nor_console.specs.LayoutWords.{in_words, kept_in_words, place_after}
 use Rattle.nor_console.specs.declared.layout_words.Place.{Place}
 
--- The words so far, with what becomes of the next byte, are followed by those of the bytes after it.
 pub words_more : (text words : List ℕ) (i : ℕ) (before : Place) → i < length text
     → (words ++ kept_in_words before (get_or text i 0)) ++ in_words (place_after before (get_or text i 0)) (drop (i + 1) text) ≡ words ++ in_words before (drop i text)
 unfolding in_words
 words_more text words i before lt = rw (drop_more text i 0 lt)
     (append_assoc words (kept_in_words before (get_or text i 0)) _)
 
--- After the last byte no words follow.
 pub words_end : (text words : List ℕ) (i : ℕ) (before : Place) → length text ≤ i
     → words ++ in_words before (drop i text) ≡ words
 unfolding in_words

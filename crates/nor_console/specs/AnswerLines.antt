@@ -16,87 +16,70 @@ use Rattle.nor_console.specs.Lines.{id_digits, line}
 use Rattle.nor_console.specs.declared.answers.Answer.{Answer}
 use Rattle.nor_console.specs.declared.answers.Answer.TheVariants as answer
 
--- the line that `-L` prints for a chip of the table: its name, its ID and its size in bytes
+-- the line that `-L` prints for a chip of the table
 abbrev pub chip_line : Part → List ℕ
 chip_line part = line (name_text part.name ∷ codes " " ∷ id_digits part.id ∷ codes " " ∷ decimal part.size ∷ [])
 
--- the line that consists of a chip's name
 abbrev pub name_line : ChipName → List ℕ
 name_line name = line (name_text name ∷ [])
 
--- the lines that `-L` prints: those of the chips in the table, and `SFDP`, the name of all chips that are known only by
--- their SFDP
+-- the lines that `-L` prints; `SFDP` is the name of all chips that are known only by their SFDP
 abbrev pub chip_lines : List ℕ
 chip_lines = flat_map chip_line chips ++ name_line Sfdp
 
--- the line that names the identified chip
 abbrev pub found_line : Found → List ℕ
 found_line found = line (codes "Found " ∷ name_text found.name ∷ codes " (" ∷ id_digits found.id ∷ codes "), "
     ∷ decimal found.size ∷ codes " bytes." ∷ [])
 
--- the line that consists of a chip's size in bytes
 abbrev pub size_line : ℕ → List ℕ
 size_line size = line (decimal size ∷ [])
 
--- the lines for a chip that was read out or saved in a backup
 abbrev pub read_lines : Report → List ℕ
 read_lines report = found_line report.found ++ line (codes "Read " ∷ decimal report.found.size ∷ codes " bytes." ∷ [])
 
--- the lines for a chip whose included bytes equal those of the image
 abbrev pub verified_lines : Report → List ℕ
 verified_lines report = found_line report.found ++ line (codes "Verified." ∷ [])
 
--- the line with the counts of a change or restore
 abbrev pub counts_line : Report → List ℕ
 counts_line report = line (codes "Done: touched " ∷ decimal report.touched ∷ codes ", erases " ∷ decimal report.erases
     ∷ codes ", programs " ∷ decimal report.programs
     ∷ codes ", transactions " ∷ decimal report.transactions ∷ codes "." ∷ [])
 
--- the lines for a change or restore that succeeded
 abbrev pub done_lines : Report → List ℕ
 done_lines report = found_line report.found ++ counts_line report
 
--- the word `ended` or `stopped` for the session of a rehearsal
 abbrev pub how_it_went : Bool → List ℕ
 how_it_went ended = if ended then codes "ended" else codes "stopped"
 
--- the first line for the result of a rehearsal: whether the session ended or was stopped
 abbrev pub stop_line : Bool → List ℕ
 stop_line ended = line (codes "Rehearsal: session " ∷ how_it_went ended ∷ codes "." ∷ [])
 
--- the line with the number of restores in a rehearsal
 abbrev pub restores_line : ℕ → List ℕ
 restores_line restores = line (codes "Restores: " ∷ decimal restores ∷ codes "." ∷ [])
 
--- the last line for the result of a rehearsal: the chip has its original contents and non-volatile status bits
 abbrev pub restored_line : List ℕ
 restored_line = line (codes "Chip as before." ∷ [])
 
--- the lines for the result of a rehearsal
 abbrev pub rehearsal_lines : Rehearsal → List ℕ
 rehearsal_lines rehearsal = stop_line rehearsal.ended ++ (restores_line rehearsal.restores ++ restored_line)
 
--- the line with the protected range: its first address and its length in bytes, or `undefined` if the range isn't
--- defined
 abbrev pub protected_line : Option (ℕ × ℕ) → List ℕ
 protected_line (Some (start, len)) = line (codes "Range: 0x" ∷ hex_digits 6 start ∷ codes ",0x" ∷ hex_digits 6 len ∷ [])
 protected_line None = line (codes "Range: undefined" ∷ [])
 
--- the line with the protected range, and the line that says whether the status is locked
 abbrev pub protection_lines : Protection → List ℕ
 protection_lines protection = protected_line protection.range
     ++ line (codes "Mode: " ∷ (if protection.locked then codes "locked" else codes "open") ∷ [])
 
--- the line with a range that can be protected: its first address and its length in bytes
+-- the line of a range, by its first address and its length in bytes
 abbrev pub range_line : ℕ × ℕ → List ℕ
 range_line range = line (codes "0x" ∷ hex_digits 6 range.0 ∷ codes ",0x" ∷ hex_digits 6 range.1 ∷ [])
 
--- Holds if `text` consists of the lines of all ranges that the iterator `walk` yields, in order, one line per range.
+-- Holds if `text` consists of the lines of all ranges that the iterator `walk` yields, in order.
 abbrev pub AreRangeLines : Offered → List ℕ → Type 0
 AreRangeLines walk text =
     (ranges : List (ℕ × ℕ)) × Drains ReturnsNextRange walk ranges × (text ≡ flat_map range_line ranges)
 
--- Holds if `text` consists of the lines that are printed for this answer.
 abbrev pub AreLines : Answer → List ℕ → Type 0
 AreLines answer.Chips text = text ≡ chip_lines
 AreLines (answer.Found found) text = text ≡ found_line found

@@ -1,9 +1,8 @@
--- Names in messages, with the characters escaped that a terminal doesn't show as themselves.
+-- Names in messages, with hidden characters escaped.
 use Rattle.std.specs.Prelude.{ℕ, List, ◌++◌, chars, codes, encode_utf8, flat_map, if◌then◌else◌}
 use Rattle.nor_request.specs.Texts.{hex_digits}
 use Rattle.nor_args.specs.Text.{Text, is_hidden}
 
--- a byte written as `\xNN`, with two lower-case hexadecimal digits
 abbrev pub escaped_byte : ℕ → List ℕ
 escaped_byte byte = codes "\\x" ++ hex_digits 2 byte
 
@@ -12,6 +11,5 @@ abbrev pub escaped_character : ℕ → List ℕ
 escaped_character character =
     if is_hidden character then flat_map escaped_byte (encode_utf8 character) else encode_utf8 character
 
--- a name with the characters escaped that a terminal doesn't show as themselves, and all other characters unchanged
 abbrev pub escaped : Text → List ℕ
 escaped name = flat_map escaped_character (chars name)

@@ -18,12 +18,10 @@ use Rattle.nor_console.specs.declared.messages.FileFault.{FileFault}
 use Rattle.nor_console.specs.declared.messages.Wording.{Wording}
 use Rattle.nor_console.specs.declared.messages.Wording.TheVariants as wording
 
--- the part of a message that names the line of a layout, or no bytes if the fault isn't in a single line
 abbrev pub place : Option ℕ → List ℕ
 place (Some number) = codes " at line " ++ decimal number
 place None = []
 
--- the text of a file fault of the file `name`, with the name's control characters escaped
 abbrev pub file_text : FileFault → Text → List ℕ
 file_text fault name =
     concat (codes "File fault " ∷ decimal (file_number fault) ∷ codes ": " ∷ escaped name ∷ codes "." ∷ [])
@@ -38,8 +36,7 @@ explanation_of end.NoJournal = codes "error: the file is no journal, or is damag
 explanation_of (end.Refused refusal) = journal_line refusal
 explanation_of _ = []
 
--- The line with the number of a fault, without its line feed. The result is `None` for an error, a help or a version of
--- the argument parser, because nothing is stated about the parser's texts.
+-- The line with the number of a fault, without its line feed. `None` stands for a text of the argument parser.
 abbrev pub numbered_line : Fault → Option (List ℕ)
 numbered_line (end.Usage fault reason) = usage_text fault
 numbered_line end.NoText = Some (codes "error: invalid UTF-8 was detected in one or more arguments\n\nUsage fault 1.")
@@ -52,22 +49,18 @@ numbered_line end.NoJournal = Some (codes "Error 15: journal fault 1.")
 numbered_line (end.Refused refusal) = Some (concat (codes "Error " ∷ decimal (refusal_number refusal) ∷ codes ": "
     ∷ refusal_text refusal ∷ codes "." ∷ []))
 
--- The text of a fault: the line that says what is wrong, if there is such a line, and then the numbered line. The
--- result is `None` if `numbered_line` is `None`.
+-- The line that says what is wrong, if there is one, and then the numbered line.
 abbrev pub text_of : Fault → Option (List ℕ)
 text_of fault = option_append (Some (explanation_of fault)) (numbered_line fault)
 
--- the line with the cause of a file fault, with its line feed, or no bytes for any other fault
 abbrev pub cause_of : Fault → List ℕ
 cause_of (end.File fault name cause) = cause_line fault name.now cause
 cause_of _ = []
 
--- The text of a fault in this wording: its numbered line alone, or all lines that say what is wrong and then the
--- numbered line. The result is `None` if `numbered_line` is `None`.
+-- The text of a fault in this wording: its numbered line, or all its lines.
 abbrev pub worded : Wording → Fault → Option (List ℕ)
 worded wording.Numbered fault = numbered_line fault
 worded wording.Explained fault = option_append (Some (cause_of fault)) (text_of fault)
 
--- the lines that are printed for a fault in this wording: its text and a line feed, or `None` if `worded` is `None`
 abbrev pub line_of : Wording → Fault → Option (List ℕ)
 line_of wording fault = with_newline (worded wording fault)

@@ -1,6 +1,5 @@
--- The faults of files. A definition with a `View`, which describes the files, also states that these files may have the
--- failure that causes the fault. A file is known (`IsKnownFile`) if the files obey their contract and no vault or log
--- in the file is borrowed.
+-- The faults of files. If `Happens view` is part of a definition, these files may have the failure that causes the
+-- fault. A file is known (`IsKnownFile`) if the files obey their contract and no vault or log in it is borrowed.
 use Rattle.std.specs.Prelude.{◌≡◌, ◌≢◌, ◌<◌, ◌+◌, ◌⊎◌, ℕ, List, None, length}
 use Rattle.nor_request.specs.declared.refusal.Refusal.TheVariants.{Memory}
 use Rattle.nor_args.specs.Text.{Text}
@@ -14,46 +13,38 @@ use Rattle.nor_console.specs.declared.messages.Fault.{Fault}
 use Rattle.nor_console.specs.declared.messages.Fault.TheVariants as end
 use Rattle.nor_console.specs.declared.messages.FileFault.TheVariants as file
 
--- Holds if the fault is error 18 (out of memory), or file fault 1 with this name.
 abbrev pub IsUnreadFault : Text → Fault → Type 0
 IsUnreadFault name (end.Refused refusal) = refusal ≡ Memory
 IsUnreadFault name (end.File file.Read of cause) = of.now ≡ name
 IsUnreadFault name _ = ⊥
 
--- Holds for file fault 2 with this name.
 abbrev pub IsUnmadeFault : Text → Fault → Type 0
 IsUnmadeFault name (end.File file.Write of cause) = of.now ≡ name
 IsUnmadeFault name _ = ⊥
 
--- Holds if the program reports this `LockFault` of a file of this name as `fault`: `Unread` (the file can't be opened
--- or read) as error 18 or file fault 1, `Unheld` (it can't be overwritten or locked) as file fault 2, and `Busy`
--- (another process has locked it) as file fault 5.
+-- Holds if the program reports this `LockFault` of a file of this name as `fault`.
 abbrev pub IsNotLocked : LockFault → Text → Fault → Type 0
 IsNotLocked (why.Unread error) name fault = IsUnreadFault name fault
 IsNotLocked why.Unheld name (end.File file.Write of cause) = of.now ≡ name
 IsNotLocked why.Busy name (end.File file.Taken of cause) = of.now ≡ name
 IsNotLocked _ name _ = ⊥
 
--- Holds if reading at most `most` bytes of the named file may fail with this fault: error 18 (out of memory), or file
--- fault 1 with this name. File fault 1 is possible only if the file is missing, if reading it may fail, or if the file
--- isn't known (`IsKnownFile`).
+-- Holds if reading at most `most` bytes of the named file may fail with this fault. File fault 1 needs a missing file,
+-- a failure, or a file that isn't known (`IsKnownFile`).
 abbrev pub IsReadingFault : View → Text → ℕ → Fault → Type 0
 IsReadingFault view name most (end.Refused refusal) = refusal ≡ Memory
 IsReadingFault view name most (end.File file.Read of cause) =
     (of.now ≡ name) × (ReadsFile name most None view ⊎ Happens view (Unread name))
 IsReadingFault view name most _ = ⊥
 
--- Holds for file fault 1 with this name, if the file has more than `most` bytes or isn't known (`IsKnownFile`).
+-- Holds for file fault 1 if the file has more than `most` bytes, or isn't known (`IsKnownFile`).
 abbrev pub IsTooLong : View → Text → ℕ → Fault → Type 0
 IsTooLong view name most (end.File file.Read of cause) =
     (of.now ≡ name) × ((bytes : List ℕ) × IsRead view name (most + 1) bytes × (most < length bytes))
 IsTooLong view name most _ = ⊥
 
--- Holds if reading a chip's file, which must have `len` bytes, may fail with this fault:
---
--- - error 18 (out of memory)
--- - file fault 1 with this name, if the file may fail to be read; a missing file is no fault
--- - file fault 3 with this name, if the file has another length or isn't known (`IsKnownFile`)
+-- Holds if reading a chip's file, which must have `len` bytes, may fail with this fault. A missing file is no fault; a
+-- file that isn't known (`IsKnownFile`) may have any length.
 abbrev pub IsOpeningFault : View → Text → ℕ → Fault → Type 0
 IsOpeningFault view name len (end.Refused refusal) = refusal ≡ Memory
 IsOpeningFault view name len (end.File file.Read of cause) = (of.now ≡ name) × Happens view (Unread name)
@@ -61,13 +52,8 @@ IsOpeningFault view name len (end.File file.Length of cause) =
     (of.now ≡ name) × ((bytes : List ℕ) × IsRead view name (len + 1) bytes × (length bytes ≢ len))
 IsOpeningFault view name len _ = ⊥
 
--- Holds if locking and reading a chip's file, which must have `len` bytes, may fail with this fault. It is a fault of
--- `IsOpeningFault`, or one of these file faults with this name:
---
--- - file fault 1 if the file is missing (although it existed when it was locked) or isn't known (`IsKnownFile`)
--- - file fault 2 if the file may fail to be opened for overwriting, to be locked or to be synced, or its directory may
---   fail to be synced
--- - file fault 5 if another process may have locked the file
+-- Holds if locking and reading a chip's file, which must have `len` bytes, may fail with this fault. File fault 1 needs
+-- a file that is missing, although it existed when it was locked, or that isn't known (`IsKnownFile`).
 abbrev pub IsLockingFault : View → Text → ℕ → Fault → Type 0
 IsLockingFault view name len (end.File file.Read of cause) =
     (of.now ≡ name) × (ReadsFile name (len + 1) None view ⊎ Happens view (Unread name))
@@ -76,22 +62,14 @@ IsLockingFault view name len (end.File file.Write of cause) =
 IsLockingFault view name len (end.File file.Taken of cause) = (of.now ≡ name) × Happens view (Busy name)
 IsLockingFault view name len fault = IsOpeningFault view name len fault
 
--- Holds if locking a journal and reading at most `most` bytes of it may fail with this fault. It is a fault of
--- `IsReadingFault`, or one of these file faults with this name:
---
--- - file fault 2 if the file may fail to be opened for overwriting or to be locked
--- - file fault 5 if another process may have locked the file
+-- Holds if locking a journal and reading at most `most` bytes of it may fail with this fault.
 abbrev pub IsSharingFault : View → Text → ℕ → Fault → Type 0
 IsSharingFault view name most (end.File file.Write of cause) = (of.now ≡ name) × Happens view (Unheld name)
 IsSharingFault view name most (end.File file.Taken of cause) = (of.now ≡ name) × Happens view (Busy name)
 IsSharingFault view name most fault = IsReadingFault view name most fault
 
--- Holds if creating or truncating the file of this name may fail with this fault:
---
--- - error 18 (out of memory)
--- - file fault 2 if the file may fail to be created, read, truncated or locked, or its directory may fail to be synced
--- - file fault 4 if the file may exist although it must be new, or may be a journal, which `Disk` never truncates
--- - file fault 5 if another process may have locked the file
+-- Holds if creating or truncating the file of this name may fail with this fault. File fault 4: the file exists but
+-- must be new, or may be a journal, which `Disk` never truncates.
 abbrev pub IsMaking : View → Text → Fault → Type 0
 IsMaking view name (end.Refused refusal) = refusal ≡ Memory
 IsMaking view name (end.File file.Write of cause) = (of.now ≡ name) × Happens view (Unmade name)

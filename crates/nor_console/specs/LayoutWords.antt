@@ -8,19 +8,19 @@ abbrev pub is_separator : ℕ → Bool
 is_separator byte =
     nat_eq byte 9 || (nat_eq byte 11 || (nat_eq byte 12 || (nat_eq byte 13 || nat_eq byte 32)))
 
--- what precedes the byte after this one, if `before` precedes this one
+-- what precedes the next byte, if `before` precedes this one
 abbrev pub place_after : (before : Place) → (byte : ℕ) → Place
 place_after place.Start byte =
     if nat_eq byte 10 then place.Start else if is_separator byte then place.Start else place.Word
 place_after _ byte = if nat_eq byte 10 then place.Start else if is_separator byte then place.Blank else place.Word
 
--- what becomes of a byte: a blank is dropped, and a word that follows another one in its line begins with a space
+-- A blank is dropped, and a word that follows another one in its line begins with a space.
 abbrev pub kept_in_words : (before : Place) → (byte : ℕ) → List ℕ
 kept_in_words place.Blank byte =
     if nat_eq byte 10 then byte ∷ [] else if is_separator byte then [] else 32 ∷ byte ∷ []
 kept_in_words _ byte = if nat_eq byte 10 then byte ∷ [] else if is_separator byte then [] else byte ∷ []
 
--- the text with one space between the words of each line, and no other blanks; `before` is what precedes its first byte
+-- the text with one space between the words of each line; `before` is what precedes its first byte
 unfoldable pub in_words : (before : Place) → (text : List ℕ) → List ℕ
 in_words before [] = []
 in_words before (byte ∷ text) = kept_in_words before byte ++ in_words (place_after before byte) text

@@ -7,6 +7,5 @@ unfoldable pub line : List (List ℕ) → List ℕ
 line [] = codes "\n"
 line (piece ∷ pieces) = piece ++ line pieces
 
--- the three bytes of an ID, each as two lower-case hexadecimal digits
 abbrev pub id_digits : List ℕ → List ℕ
 id_digits id = hex_digits 2 (slice_index id 0) ++ (hex_digits 2 (slice_index id 1) ++ hex_digits 2 (slice_index id 2))

@@ -12,7 +12,6 @@ use Rattle.nor_console.specs.declared.messages.FileFault.{FileFault}
 use Rattle.nor_console.specs.declared.messages.FileFault.TheVariants as file
 use Rattle.nor_console.specs.declared.causes.Cause.TheVariants as causes
 
--- the number of each file fault
 abbrev pub file_number : FileFault → ℕ
 file_number file.Read = 1
 file_number file.Write = 2
@@ -20,22 +19,18 @@ file_number file.Length = 3
 file_number file.Exists = 4
 file_number file.Taken = 5
 
--- Holds if `fault` is that of arguments that could not be collected: usage fault 10 if memory ran out, or `NoText` for
--- any other error.
+-- Holds if `fault` is that of arguments that could not be collected.
 abbrev pub IsOfArguments : Error → Fault → Type 0
 IsOfArguments error fault = ((error_kind error ≡ Kinds.OutOfMemory) × (fault ≡ end.Usage usage.Memory because.Unsaid))
     ⊎ ((error_kind error ≢ Kinds.OutOfMemory) × (fault ≡ end.NoText))
 
--- Holds if `outcome` is the value that the call returned, or the call's error as the fault `Refused`.
 abbrev pub IsReportedAs : {T : Type 0} → Result T Refusal → Result T Fault → Type 0
 IsReportedAs (Ok found) outcome = outcome ≡ Ok found
 IsReportedAs (Err refusal) outcome = outcome ≡ Err (end.Refused refusal)
 
--- the name that file fault 2 has if standard output could not be written
 abbrev pub output_name : List ℕ
 output_name = codes "standard output"
 
--- Holds if the fault is file fault 2 with the name of standard output.
 abbrev pub IsLostOutput : Fault → Type 0
 IsLostOutput (end.File file.Write of cause) = (of.now ≡ output_name) × (cause ≡ causes.Unknown)
 IsLostOutput fault = ⊥

@@ -9,24 +9,22 @@ use Rattle.nor_console.specs.declared.answers.Answer.{Answer}
 use Rattle.nor_console.specs.declared.messages.Fault.{Fault}
 use Rattle.nor_console.specs.declared.messages.Fault.TheVariants as end
 
--- Holds if a text for which `IsText` holds was appended to the contents of a writer, as far as the contents are known.
+-- Holds if a text with `IsText` was appended to the contents of a writer, as far as the contents are known.
 abbrev pub Prints : (List ℕ → Type 0) → (old new : Option (List ℕ)) → Type 0
 Prints IsText old new = (text : List ℕ) × IsText text × Appends old new text
 
--- Holds if this result of a run is an answer, or if the arguments asked for help. The result doesn't include faults
--- that occur when the chip's files are written back.
+-- Holds for an answer, and if the arguments asked for help. A fault of writing back the chip's files isn't part of it.
 abbrev pub IsAnswered : Result Answer Fault → Type 0
 IsAnswered (Ok found) = ⊤
 IsAnswered (Err (end.Usage (usage.Words error) reason)) = kind_of error ≡ kind.DisplayHelp
 IsAnswered (Err fault) = ⊥
 
--- Holds if the fault is a request for the version, which only programs for hardware print.
+-- Holds for a request for the version, which only programs for hardware print.
 abbrev pub AsksForVersion : Fault → Type 0
 AsksForVersion (end.Usage (usage.Words error) reason) = kind_of error ≡ kind.DisplayVersion
 AsksForVersion fault = ⊥
 
--- Holds if the result is an answer whose lines were printed, or if the arguments asked for help. Nothing is stated
--- about the printed help.
+-- Holds if the lines of the answer were printed, or if the arguments asked for help, whose text isn't specified.
 abbrev pub PrintsAnswer : Result Answer Fault → (old new : Option (List ℕ)) → Type 0
 PrintsAnswer (Ok found) old new = Prints (AreLines found) old new
 PrintsAnswer outcome old new = IsAnswered outcome

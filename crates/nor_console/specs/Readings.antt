@@ -17,36 +17,29 @@ use Rattle.nor_files.specs.Files.{View, is_lawful}
 use Rattle.nor_console.specs.declared.answers.Answer.{Answer}
 use Rattle.nor_console.specs.declared.answers.Answer.TheVariants as answer
 
--- Holds if the call returned a value and the job returned an answer that `reports` accepts for this value, or if both
--- returned the same error.
+-- Holds if the call and the job both succeeded, with an answer that `reports` accepts, or returned the same error.
 abbrev pub AnswersCall : {T : Type 0} → (T → Answer → Type 0) → Result T Refusal → Result Answer Refusal → Type 0
 AnswersCall reports (Ok returned) (Ok answer) = reports returned answer
 AnswersCall reports (Err refusal) (Err passed) = passed ≡ refusal
 AnswersCall reports _ _ = ⊥
 
--- Holds if the answer is `Protection` with this protection.
 abbrev pub ReportsProtection : Protection → Answer → Type 0
 ReportsProtection protection (answer.Protection returned) = returned ≡ protection
 ReportsProtection protection _ = ⊥
 
--- Holds if the answer is `Ranges` with an iterator over all ranges that can be protected on a chip of the size in
--- `protection`.
 abbrev pub ListsRanges : Protection → Answer → Type 0
 ListsRanges protection (answer.Ranges ranges) = IsStart protection.size ranges
 ListsRanges protection _ = ⊥
 
--- Holds if the answer is `Read` with this report: the chip was read out.
 abbrev pub ReportsReadOut : Report → Answer → Type 0
 ReportsReadOut report (answer.Read returned) = returned ≡ report
 ReportsReadOut report _ = ⊥
 
--- Holds if the answer is `Verified` with this report.
 abbrev pub ReportsVerified : Report → Answer → Type 0
 ReportsVerified report (answer.Verified returned) = returned ≡ report
 ReportsVerified report _ = ⊥
 
--- Holds if the job called `wp_status`, the call kept its promises, and the job returned the call's error or an answer
--- that `reports` accepts for the call's result.
+-- Holds if the job called `wp_status`, which kept its promises.
 pub record HasReported (reports : Protection → Answer → Type 0) (named : Option ChipName) (old new : BusState)
     (outcome : Result Answer Refusal) : Type 0 where
   pub result : Result Protection Refusal
@@ -55,8 +48,7 @@ pub record HasReported (reports : Protection → Answer → Type 0) (named : Opt
   pub modelled : IsModelled old → ProtectionModelled named old result
   pub returned : AnswersCall reports result outcome
 
--- Holds if the job called `read_out` for the given ranges and a vault, the call kept its promises, and the job returned
--- the call's report or error. `empty` is the vault's state before the call, and `filled` the state after it.
+-- Holds if the job called `read_out`, which kept its promises. `empty` and `filled` are the vault before and after.
 pub record HasReadInto (named : Option ChipName) (ranges : Option (List Span)) (old new : BusState)
     (empty filled : VaultState) (outcome : Result Answer Refusal) : Type 0 where
   pub result : Result Report Refusal
@@ -65,9 +57,8 @@ pub record HasReadInto (named : Option ChipName) (ranges : Option (List Span)) (
   pub modelled : IsModelled old → ReadOutModelled named ranges old new empty filled result
   pub returned : AnswersCall ReportsReadOut result outcome
 
--- Holds if the job called `read_out` with a fresh vault and returned the call's report or error. If the files obey
--- their contract, the vault is then faithful (`telling`: it holds exactly the bytes that it accepted), and the file has
--- exactly the vault's bytes.
+-- Holds if the job called `read_out` with a fresh vault in the file. If the files obey their contract, the file then
+-- has exactly the bytes that the vault accepted.
 pub record HasReadOut (named : Option ChipName) (file : Text) (ranges : Option (List Span)) (old new : BusState)
     (after : View) (outcome : Result Answer Refusal) : Type 0 where
   pub empty : VaultState
@@ -76,8 +67,7 @@ pub record HasReadOut (named : Option ChipName) (file : Text) (ranges : Option (
   pub read : HasReadInto named ranges old new empty filled outcome
   pub holds : is_lawful after ≡ true → (filled.telling ≡ true) × (after.seen file ≡ Some filled.bytes)
 
--- Holds if the job called `verify` for this image and the given ranges, the call kept its promises, and the job
--- returned the call's report or error.
+-- Holds if the job called `verify`, which kept its promises.
 pub record HasVerified (named : Option ChipName) (ranges : Option (List Span)) (image : List ℕ)
     (old new : BusState) (outcome : Result Answer Refusal) : Type 0 where
   pub result : Result Report Refusal

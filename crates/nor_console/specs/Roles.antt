@@ -21,25 +21,18 @@ IsPrintedTo nature named (end.File file.Taken of cause) = IsSomeAnd named (λ na
     (of.now ≡ name.now) × (nature.fails (Printed name.now) ≡ true))
 IsPrintedTo nature named _ = ⊥
 
--- Holds for file fault 1 with this name, if the name is given and looking it up may fail.
 abbrev pub IsUnseenFile : Nature → Option (Bor Text) → Fault → Type 0
 IsUnseenFile nature named (end.File file.Read of cause) = IsSomeAnd named (λ name.
     (of.now ≡ name.now) × (nature.fails (Unread of.now) ≡ true))
 IsUnseenFile nature named _ = ⊥
 
--- Holds if comparing two names may fail with this fault: both may refer to one file, or looking one of them up may
--- fail.
 abbrev pub FailsApart : Nature → (earlier later : Option (Bor Text)) → Fault → Type 0
 FailsApart nature earlier later fault = IsShared nature earlier later fault
     ⊎ (IsUnseenFile nature earlier fault ⊎ IsUnseenFile nature later fault)
 
--- Holds if comparing a file with the standard streams may fail with this fault: the program may print to the file, or
--- looking up its name may fail.
 abbrev pub FailsUnprinted : Nature → Option (Bor Text) → Fault → Type 0
 FailsUnprinted nature name fault = IsPrintedTo nature name fault ⊎ IsUnseenFile nature name fault
 
--- Holds for file fault 1 with the name of standard output or standard error in `/dev/fd`, if looking up this name may
--- fail.
 abbrev pub IsUnseenStream : Nature → Fault → Type 0
 IsUnseenStream nature (end.File file.Read of cause) = IsStreamName of.now × (nature.fails (Unread of.now) ≡ true)
 IsUnseenStream nature _ = ⊥

@@ -1,5 +1,4 @@
--- The results of a session or a backup whose journal is written into a file: what the contract of `session` or `backup`
--- states, the answer of the job, and the contents of the file.
+-- Sessions and backups whose journal is written into a file: the call's promises, the answer, and the file.
 use Rattle.std.specs.Prelude.{◌≡◌, ℕ, true, List, Option, None, Result}
 use Rattle.nor_model.specs.Bus.{BusState}
 use Rattle.nor_files.specs.Files.{FilesState, IsKnownFile, View, is_lawful}
@@ -20,13 +19,11 @@ use Rattle.nor_console.specs.Stored.{IsKeptFile}
 use Rattle.nor_console.specs.declared.answers.Answer.{Answer}
 use Rattle.nor_console.specs.declared.answers.Answer.TheVariants as answer
 
--- Holds if the answer is `Done` with this report: the answer of a change or a restore that succeeded.
 abbrev pub ReportsDone : Report → Answer → Type 0
 ReportsDone report (answer.Done returned) = returned ≡ report
 ReportsDone report _ = ⊥
 
--- Holds if the job called `session` with a vault for the journal, the call kept all its promises, and the job's outcome
--- is the call's report or error. `vault` is the vault's state before the call, and `vault'` the state after it.
+-- Holds if the job called `session`, which kept its promises. `vault` and `vault'` are its vault before and after.
 pub record HasRunSession (request : Request) (image : List ℕ) (old new : BusState) (vault vault' : VaultState)
     (outcome : Result Answer Refusal) : Type 0 where
   pub result : Result Report Refusal
@@ -36,18 +33,16 @@ pub record HasRunSession (request : Request) (image : List ℕ) (old new : BusSt
   pub modelled : IsModelled old → SessionModelled request image old new vault vault' result
   pub returned : AnswersCall ReportsDone result outcome
 
--- Holds if the job's outcome is the report or the error of a call such as `session_announced`, and if `Announces` holds
--- for that call: the call made an announcement for which `Was` holds or sent no modifying command, and if it succeeded,
--- `Was` holds for the announcement with the report's numbers.
+-- Holds if the call made an announcement for which `Was` holds, or sent no modifying command. If it succeeded, `Was`
+-- also holds for the numbers of its report.
 pub record HasAnnounced (Was : Announcement → Type 0) (old new : BusState)
     (outcome : Result Answer Refusal) : Type 0 where
   pub result : Result Report Refusal
   pub announced : Announces Was old new result
   pub returned : AnswersCall ReportsDone result outcome
 
--- Holds if a session was run with its journal in a new file. If the files obey their contract, the file then has
--- exactly the bytes of the session's vault, and a host crash does not lose them if the vault is sealed. The file was
--- missing before, provided that it was known (`IsKnownFile`).
+-- Holds if a session was run with its journal in a file that was missing before, if it was known (`IsKnownFile`). If
+-- the files obey their contract, the file has exactly the vault's bytes, and a sealed vault is durable.
 pub record HasRunInFile (request : Request) (image : List ℕ) (file : Text) (before : View) (after : FilesState)
     (old new : BusState) (outcome : Result Answer Refusal) : Type 0 where
   pub missing : IsKnownFile file before → before.seen file ≡ None
@@ -59,8 +54,7 @@ pub record HasRunInFile (request : Request) (image : List ℕ) (file : Text) (be
 
 -- ---- backups
 
--- Holds if the job called `backup` with a vault for the journal, the call kept all its promises, and the job's outcome
--- is the call's report or error. `vault` is the vault's state before the call, and `vault'` the state after it.
+-- Holds if the job called `backup`, which kept its promises. `vault` and `vault'` are its vault before and after.
 pub record HasBackedUp (named : Option ChipName) (old new : BusState) (vault vault' : VaultState)
     (outcome : Result Answer Refusal) : Type 0 where
   pub result : Result Report Refusal
@@ -69,9 +63,7 @@ pub record HasBackedUp (named : Option ChipName) (old new : BusState) (vault vau
   pub modelled : IsModelled old → BackupModelled named old new vault' result
   pub returned : AnswersCall ReportsReadOut result outcome
 
--- Holds if a backup was made with its journal in a new file. If the files obey their contract, the file then has
--- exactly the bytes of the backup's vault, and a host crash does not lose them if the vault is sealed. The file was
--- missing before, provided that it was known (`IsKnownFile`).
+-- Holds if a backup was made with its journal in a file, as in `HasRunInFile`.
 pub record HasBackedUpInFile (named : Option ChipName) (file : Text) (before : View) (after : FilesState)
     (old new : BusState) (outcome : Result Answer Refusal) : Type 0 where
   pub missing : IsKnownFile file before → before.seen file ≡ None

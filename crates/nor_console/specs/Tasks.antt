@@ -11,24 +11,20 @@ use Rattle.nor_args.specs.declared.job.Wanted.{Wanted}
 use Rattle.nor_args.specs.declared.job.Wanted.TheVariants as wanted
 use Rattle.nor_console.specs.declared.roles.Named.{Named}
 
--- the file name of a change's journal, or `None` for a rehearsal
 abbrev pub journal_of : JournalUse → Option (Bor Text)
 journal_of (uses.Journal file) = Some file
 journal_of (uses.Rehearse stops) = None
 
--- the name of the file that a task creates or truncates (the output of a read, or the journal of a change), or `None`
--- if it does neither
 abbrev pub made_by : Task → Option (Bor Text)
 made_by (task.Read file regions) = Some file
 made_by (task.Change change) = journal_of change.journal_use
 made_by _ = None
 
--- the file name of the layout, or `None` if no regions are named, or if the layout is read from the chip
+-- the file of the layout, or `None` without regions and for a layout on the chip
 abbrev pub layout_of : Option Regions → Option (Bor Text)
 layout_of None = None
 layout_of (Some regions) = regions.layout
 
--- the file name of the image that a change writes, or `None` if it writes no image
 abbrev pub image_of : Wanted → Option (Bor Text)
 image_of (wanted.Write image) = Some image
 image_of _ = None

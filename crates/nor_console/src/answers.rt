@@ -25,8 +25,7 @@ pub enum Answer {
     Done(Report),
     /// The result of a rehearsal: whether its session was stopped, and the number of restores.
     Rehearsed(Rehearsal),
-    /// The chip's protected range, if the datasheets define one for its protection bits, and whether its status is
-    /// locked.
+    /// The chip's protected range, if the datasheets define one, and whether its status is locked.
     Protection(Protection),
     /// The ranges of the chip that can be protected, as an iterator.
     Ranges(Offered),

@@ -1,5 +1,4 @@
-//! Calls to the engine that read, compare, change or back up a chip. Their functions create or truncate the files that
-//! they write, and turn each call's result into an answer.
+//! Calls to the engine that read, compare, change or back up a chip, and the files that they write.
 ghost use Rattle.std.specs.Prelude.{◌≡◌, IfErr, IfOk, OnErr, false, option_copied, replicate, true};
 ghost use Rattle.nor_files.specs.Calls.{BorrowsNone};
 ghost use Rattle.nor_files.specs.Files.{OthersStay, is_lawful};
@@ -20,8 +19,8 @@ use nor_read::{read_out, verify, wp_status};
 use nor_session::{Announcement, Request, backup, session_announced};
 use std::alloc::{AllocError, Global};
 
-/// Returns the chip's protected range, if the datasheets define one for its protection bits, and whether its status is
-/// locked. Returns an error of `wp_status` if it fails. If `named` is given, the chip must have this name.
+/// Returns the chip's protected range, if the datasheets define one, and whether its status is locked, or an error of
+/// `wp_status`. If `named` is given, the chip must have this name.
 pub fn report_protection<B: Bus>(bus: &mut B, named: Option<ChipName>) -> Outcome
     ensures { HasReported ReportsProtection named (B.state bus.old) (B.state bus.new) result }
 {
@@ -29,8 +28,7 @@ pub fn report_protection<B: Bus>(bus: &mut B, named: Option<ChipName>) -> Outcom
     Ok(Answer::Protection(protection))
 }
 
-/// Returns the ranges of the chip that can be protected, or an error of `wp_status`. If `named` is given, the chip must
-/// have this name.
+/// Returns the ranges that can be protected, or an error of `wp_status`. A chip must have the name `named`, if given.
 pub fn list_ranges<B: Bus>(bus: &mut B, named: Option<ChipName>) -> Outcome
     ensures { HasReported ListsRanges named (B.state bus.old) (B.state bus.new) result }
 {
@@ -38,11 +36,11 @@ pub fn list_ranges<B: Bus>(bus: &mut B, named: Option<ChipName>) -> Outcome
     Ok(Answer::Ranges(offered(protection.size)))
 }
 
-/// Reads the chip into the file `file`, which is created or truncated. The file gets the chip's bytes at the included
-/// addresses, and FFh at all other addresses. If `included` is `None`, the whole chip is included.
+/// Reads the chip into the file `file`, which is created or truncated (`empty`) before the first transaction. The file
+/// gets FFh at addresses that aren't included; `None` includes all.
 ///
-/// The outer error is a fault of `empty`, which creates or truncates the file before the first transaction. The inner
-/// error is an error of `read_out`; the file may then hold only a prefix of the copy.
+/// The outer error is a fault of `empty`. After the inner error, one of `read_out`, the file may hold a prefix of the
+/// copy.
 pub fn read_to_file<'a, R: Store, B: Bus>(
     rt: &mut R,
     bus: &mut B,
@@ -64,8 +62,6 @@ pub fn read_to_file<'a, R: Store, B: Bus>(
     Ok(outcome)
 }
 
-// Appends a copy of the chip to `out`: the chip's bytes at the included addresses, and FFh at all other addresses. If
-// `included` is `None`, the whole chip is included.
 fn read_into<B: Bus, V: Vault>(
     bus: &mut B,
     named: Option<ChipName>,
@@ -81,7 +77,7 @@ fn read_into<B: Bus, V: Vault>(
 }
 
 /// Compares the chip with an image at the included addresses, or at every address if `included` is `None`. Returns an
-/// error of `verify`, for example error 14 if a byte differs. If `named` is given, the chip must have this name.
+/// error of `verify`, such as 14 if a byte differs. If `named` is given, the chip must have this name.
 pub fn verify_image<B: Bus>(
     bus: &mut B,
     named: Option<ChipName>,
@@ -94,18 +90,17 @@ pub fn verify_image<B: Bus>(
     Ok(Answer::Verified(report))
 }
 
-/// Returns `size` bytes of FFh, the contents of an erased chip, or `AllocError` if memory runs out.
+/// Returns `size` bytes of FFh, or `AllocError` if memory runs out.
 pub fn erased(alloc: Global, size: u32) -> Result<Vec<u8>, AllocError>
     ensures { IfOk result (λ bytes. bytes.items ≡ replicate size 255) }
 {
     vec![in alloc; 0xFF; size as usize]
 }
 
-/// Runs the session that `request` asks for, and writes its journal into the file `file`, which must not exist.
+/// Runs the session that `request` asks for, with its journal in the file `file`, which must not exist (`make`).
+/// `announce` must accept every announcement.
 ///
-/// `image` is described at `session`, and `announce` at `session_announced`. `announce` must accept every announcement.
-/// The outer error is a fault of `make`, which creates the file before the first transaction. The inner error is an
-/// error of `session`.
+/// The outer error is a fault of `make`, before the first transaction; the inner error is one of `session_announced`.
 pub fn session_in_file<'a, R: Store, B: Bus, F: FnOnce(Announcement) + Drop>(
     rt: &mut R,
     bus: &mut B,
@@ -133,7 +128,6 @@ pub fn session_in_file<'a, R: Store, B: Bus, F: FnOnce(Announcement) + Drop>(
     Ok(outcome)
 }
 
-// Runs the session that `request` asks for, and writes its journal into `vault`.
 fn run_session<B: Bus, V: Vault, F: FnOnce(Announcement) + Drop>(
     bus: &mut B,
     vault: &mut V,
@@ -152,11 +146,11 @@ fn run_session<B: Bus, V: Vault, F: FnOnce(Announcement) + Drop>(
     Ok(Answer::Done(report))
 }
 
-/// Saves the whole chip in a journal in the file `file`, which must not exist. If `named` is given, the chip must have
-/// this name.
+/// Saves the whole chip in a journal in the file `file`, which must not exist (`make`). If `named` is given, the chip
+/// must have this name.
 ///
-/// The outer error is a fault of `make`, which creates the file before the first transaction. The inner error is an
-/// error of `backup`; the file may then hold only a prefix of the journal.
+/// The outer error is a fault of `make`, before the first transaction. After the inner error, one of `backup`, the file
+/// may hold a prefix of the journal.
 pub fn backup_in_file<'a, R: Store, B: Bus>(
     rt: &mut R,
     bus: &mut B,
@@ -179,8 +173,6 @@ pub fn backup_in_file<'a, R: Store, B: Bus>(
     Ok(outcome)
 }
 
-// Saves the whole chip in a journal in `vault`. On success the answer is `Answer::Read`, as for a chip that was read
-// into a file.
 fn run_backup<B: Bus, V: Vault>(bus: &mut B, vault: &mut V, named: Option<ChipName>) -> Outcome
     requires { IsFresh (V.state vault.old) }
     ensures { HasBackedUp named (B.state bus.old) (B.state bus.new) (V.state vault.old) (V.state vault.new) result }

@@ -1,13 +1,10 @@
-//! Names in messages, with the characters escaped that a terminal doesn't show as themselves.
+//! Names in messages, with hidden characters escaped.
 
 use nor_args::is_hidden;
 use std::fmt;
 
-/// A name that is printed with its control characters and its marks of text direction escaped (`is_hidden`).
-///
-/// Each byte of their UTF-8 is printed as `\xNN`, with two lower-case hexadecimal digits. All other characters are
-/// printed unchanged, including the backslash. The printed name therefore contains neither a line feed nor an escape
-/// sequence for a terminal, and is shown in the order of its characters.
+/// A name whose hidden characters (`is_hidden`) are printed as `\xNN` for each byte of their UTF-8. The printed name
+/// then has no line feed or escape sequence, and is shown in the order of its characters.
 #[derive(Drop)]
 pub struct Escaped<'a>(pub &'a str);
 
@@ -25,7 +22,6 @@ impl fmt::Display for Escaped<'_> {
     }
 }
 
-// One character of a name, escaped if a terminal doesn't show it as itself.
 #[derive(Drop)]
 struct EscapedCharacter(char);
 

@@ -21,20 +21,18 @@ use nor_session::Refusal;
 use std::io;
 use std::io::{BufWriter, ErrorKind};
 
-/// The greatest number of bytes that are read from an image: one more than the largest chip has, so that a longer image
-/// is detected.
+/// The number of bytes read from an image: one more than the largest chip has, so that a longer image is detected.
 pub const MOST_IMAGE_BYTES: u64 = 16_777_217;
 
-/// The greatest number of bytes that are read from a journal. This is one more than the length of the longest journal,
-/// which saves all sectors of the largest chip, so that a longer file is detected.
+/// The number of bytes read from a journal: one more than a journal of the largest chip has, so that a longer file is
+/// detected.
 pub const MOST_JOURNAL_BYTES: u64 = 16_793_662;
 
 /// The greatest length of a layout file, in bytes.
 pub const MOST_LAYOUT_BYTES: u64 = 16_777_216;
 
-/// Reads at most `most` bytes of a file.
-///
-/// Returns file fault 1 if the file is missing or can't be read, or error 18 if memory runs out.
+/// Reads at most `most` bytes of a file. Returns file fault 1 if that fails or the file is missing, and error 18 if
+/// memory runs out.
 #[tactic(auto, using(crate::proofs::FileFaults::unread_reading))]
 pub fn read_file<'a, R: Store>(rt: &R, name: &'a str, most: u64) -> Result<Vec<u8>, Fault<'a>>
     ensures ok { IfOk result (λ bytes. IsRead ((R.state rt.now).view) name.now most bytes.items) }
@@ -73,8 +71,8 @@ pub fn unread_by(name: &str, cause: Cause) -> Fault<'_>
     Fault::File { fault, name, cause }
 }
 
-/// Creates the file `name` or truncates it, and returns a vault that writes to it. If `rt` is a `Disk` (the real files)
-/// and the file is a journal, the file isn't truncated, and the fault is file fault 4. `making` lists the other faults.
+/// Creates or truncates the file `name`, and returns a vault that writes to it. A `Disk` (the real files) truncates no
+/// journal: that is file fault 4. `making` lists the other faults.
 pub fn empty<'a, R: Store>(rt: &mut R, name: &'a str) -> Result<R::Filed, Fault<'a>>
     ensures nature { (R.state rt.new).view.nature ≡ (R.state rt.old).view.nature }
     ensures fresh { IfOk result (λ vault. IsFresh (R.Filed.state vault)) }
@@ -90,8 +88,8 @@ pub fn empty<'a, R: Store>(rt: &mut R, name: &'a str) -> Result<R::Filed, Fault<
     }
 }
 
-/// Creates the file `name`, and returns a vault that writes to it. If `rt` is a `Disk` (the real files) and the file
-/// exists, it is left as it is, and the fault is file fault 4. `making` lists the other faults.
+/// Creates the file `name`, and returns a vault that writes to it. A `Disk` (the real files) leaves a file that exists
+/// as it is: that is file fault 4. `making` lists the other faults.
 pub fn make<'a, R: Store>(rt: &mut R, name: &'a str) -> Result<R::Filed, Fault<'a>>
     ensures nature { (R.state rt.new).view.nature ≡ (R.state rt.old).view.nature }
     ensures fresh { IfOk result (λ vault. IsFresh (R.Filed.state vault)) }
@@ -111,9 +109,8 @@ pub fn make<'a, R: Store>(rt: &mut R, name: &'a str) -> Result<R::Filed, Fault<'
     }
 }
 
-/// Creates the file `name` or truncates it, and returns a buffered writer to it. If `rt` is a `Disk` (the real files)
-/// and the file is a journal, the file isn't truncated, and the fault is file fault 4. `making` lists the other faults.
-/// Error 18 may also occur after the file was created or truncated.
+/// Creates or truncates the file `name`, as `empty` does, and returns a buffered writer to it. Error 18 is possible
+/// after the file was created or truncated.
 pub fn create_log<'a, R: Store>(rt: &mut R, name: &'a str) -> Result<BufWriter<R::Log>, Fault<'a>>
     ensures nature { (R.state rt.new).view.nature ≡ (R.state rt.old).view.nature }
     ensures others { is_lawful (R.state rt.old).view ≡ true
@@ -129,10 +126,9 @@ pub fn create_log<'a, R: Store>(rt: &mut R, name: &'a str) -> Result<BufWriter<R
 
 /// Returns the fault of a file that can't be created or truncated:
 ///
-/// - file fault 4 if the file exists and must be new, or if it is a journal, which the store `Disk` never truncates;
-///   `there` is its cause
+/// - file fault 4, with the cause `there`, if the file exists and must be new, or is a journal (`Disk` truncates none)
 /// - file fault 5 if another process has locked the file
-/// - error 18 if memory ran out (`CreateFault::Memory`)
+/// - error 18 if memory ran out
 /// - file fault 2 for any other reason
 pub fn making(fault: CreateFault, name: &str, there: Cause) -> Fault<'_>
     ensures { (view : View) → IsCreateFault view.nature name.now fault → IsMaking view name.now result }
@@ -156,8 +152,7 @@ pub fn exists(name: &str, cause: Cause) -> Fault<'_>
     Fault::File { fault, name, cause }
 }
 
-/// Returns file fault 5 with this name and this cause: the file is in use, because it has another role in the run,
-/// another run has locked it, or the program prints to it.
+/// Returns file fault 5 with this name and this cause: the file is in use.
 pub fn taken_by(name: &str, cause: Cause) -> Fault<'_>
     ensures { result ≡ Faults.File FileFaults.Taken name.entry cause }
 {
@@ -187,15 +182,14 @@ pub fn lost_output() -> Fault<'static>
     unmade("standard output")
 }
 
-/// Locks the file `journal`, so that other runs can read it but not change it. On a file system without locks nothing
-/// is locked. Returns the file's first `MOST_JOURNAL_BYTES` bytes, or all its bytes if it has fewer, without checking
-/// that they are a journal.
+/// Locks the file `journal`, if the file system has locks, so that other runs can read it but not change it. Returns
+/// the file's first `MOST_JOURNAL_BYTES` bytes or all, which may be no journal.
 ///
 /// Returns one of these faults:
 ///
 /// - file fault 1 if the file is missing or can't be read
 /// - file fault 2 if the file can't be locked
-/// - file fault 5 if another process has locked the file to change it, not only to read it
+/// - file fault 5 if another process has locked the file to change it
 /// - error 18 if memory runs out
 pub fn read_journal<'a, R: Store>(rt: &mut R, journal: &'a str) -> Result<Vec<u8>, Fault<'a>>
     ensures same { AreUntouched (R.state rt.old) (R.state rt.new) }
@@ -212,7 +206,7 @@ pub fn read_journal<'a, R: Store>(rt: &mut R, journal: &'a str) -> Result<Vec<u8
     }
 }
 
-/// Returns the fault of a file that can't be opened or locked.
+/// Returns the fault of a file that can't be opened or locked:
 ///
 /// - error 18 if memory ran out
 /// - file fault 1 if the file can't be looked up, opened or read

@@ -8,16 +8,13 @@ use std::alloc::{AllocError, Global};
 // What precedes a byte in its line.
 #[derive(Clone, Copy)]
 enum Place {
-    /// No word.
     Start,
-    /// A byte of a word.
     Word,
-    /// A blank after a word.
     Blank,
 }
 
-/// Returns a text with one space between the words of each line, and no other blanks. Blanks are the tab, the vertical
-/// tab, the form feed, the carriage return and the space. Fails if memory runs out.
+/// Returns a text with one space between the words of each line. Words end at tabs (also vertical), form feeds,
+/// carriage returns and spaces. Fails if memory runs out.
 pub fn in_words(alloc: Global, text: &[u8]) -> Result<Vec<u8>, AllocError>
     ensures { IfOk result (λ words. words.items ≡ in_words place.Start text.now) }
 {
@@ -29,7 +26,6 @@ pub fn in_words(alloc: Global, text: &[u8]) -> Result<Vec<u8>, AllocError>
     Ok(words)
 }
 
-// Adds what becomes of a byte that `place` precedes, and returns what precedes the next byte.
 fn add_byte(words: &mut Vec<u8>, place: Place, byte: u8) -> Result<Place, AllocError>
     ensures { IfOk result (λ next. (next ≡ place_after place byte)
         × (words.new.items ≡ words.old.items ++ kept_in_words place byte)) }

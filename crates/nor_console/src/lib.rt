@@ -1,14 +1,12 @@
-//! Prints the results and the faults of jobs, reads and creates the files of jobs, and makes their calls to the engine.
-//!
-//! The programs flashnor and flashnor-serprog use this crate for the answers and faults that they have in common, so
-//! that these are printed alike.
+//! Prints the results and faults of jobs, handles the jobs' files, and makes their calls to the engine. flashnor and
+//! flashnor-serprog print alike because both use this crate.
 //!
 //! - `answers.rt`: the result of a job
-//! - `calls.rt`: calls to the engine, with the files that they write (only flashnor-serprog makes backups)
-//! - `messages.rt`: the faults that end a run with exit status 1, and their texts
-//! - `reasons.rt`: the lines that say what is wrong, and may precede the numbered line of a fault
-//! - `causes.rt`: why a file fault occurred, and the line that says so
-//! - `escapes.rt`: file names with the characters escaped that a terminal doesn't show as themselves
+//! - `calls.rt`: calls to the engine, with the files that they write
+//! - `messages.rt`: the faults that end a run with exit status 1
+//! - `reasons.rt`: the lines that say what is wrong
+//! - `causes.rt`: why a file fault occurred
+//! - `escapes.rt`: names with hidden characters escaped
 //! - `printing.rt`: prints answers, help and faults
 //! - `files.rt`: reads, locks and creates the files of a job, and makes the faults of files
 //! - `requests.rt`: the request of a change, and its included addresses
@@ -16,9 +14,7 @@
 //! - `roles.rt`: the files that a task names, and the check that two names refer to two files
 //! - `streams.rt`: keeps the descriptors 0, 1 and 2 open, and prints by lines
 //!
-//! `specs/AnswerLines.antt`, `specs/FaultLines.antt` and `specs/ReasonLines.antt` define each line that this crate
-//! prints, except those of the argument parser. `specs/Files.antt` defines the faults of files, `specs/Readings.antt`
-//! and `specs/Sessions.antt` the results of the calls.
+//! `specs/AnswerLines.antt`, `specs/FaultLines.antt` and `specs/ReasonLines.antt` define each printed line.
 #![tactic(auto)]
 
 mod answers;

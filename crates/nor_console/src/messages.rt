@@ -13,15 +13,15 @@ use std::alloc::AllocError;
 use std::io::ErrorKind;
 use std::{fmt, io};
 
-/// A failure of a file. The variants are numbered from 1 to 5 in this order, and the message has the number.
+/// A failure of a file. Its number is part of the message.
 #[derive(Clone, Copy)]
 pub enum FileFault {
-    /// The file is missing, can't be looked up or read, or is a layout of more than 16 MiB. For a file of the chip
-    /// also: a read of it may block forever.
+    /// The file is missing, can't be looked up or read, is a layout of more than 16 MiB, or is a chip's file and may
+    /// block.
     Read = 1,
-    /// The file can't be created, truncated, read before it is truncated, locked, written or synced, or its directory
-    /// can't be synced. For the trace also: a line could not be written. For a journal also: after it was sealed, it
-    /// was removed or replaced, or its length changed. Standard output has this fault if it can't be written.
+    /// The file can't be created, read before it is truncated, truncated, locked, written or synced, or its directory
+    /// can't be synced. A sealed journal was removed or replaced, or its length changed. Standard output can't be
+    /// written.
     Write,
     /// The file with the chip's bytes has another length than the chip, or the status file doesn't have two bytes.
     Length,
@@ -42,9 +42,8 @@ impl FileFault {
     }
 }
 
-/// The fault that ends a run with exit status 1. Its text is printed to standard error. A request for the help or the
-/// version is a fault of the arguments, too. But its text is printed to standard output, and the exit status is 0 if
-/// printing succeeds.
+/// The fault that ends a run with exit status 1; its text is printed to standard error. A request for help or the
+/// version is printed to standard output instead, with exit status 0 if that succeeds.
 #[derive(Drop)]
 pub enum Fault<'a> {
     /// A usage fault and its reason, or a request for the help or the version.
@@ -52,13 +51,11 @@ pub enum Fault<'a> {
         fault: UsageFault,
         reason: Reason<'a>,
     },
-    /// The arguments are not UTF-8, so they can't be parsed. This is printed as usage fault 1, as if the parser had
-    /// rejected the arguments.
+    /// The arguments are not UTF-8. This is printed as usage fault 1, as if the parser had rejected them.
     NoText,
     /// A layout that can't be used.
     Layout(LayoutFault),
-    /// An FMAP or a flash descriptor that can't be used, or that is missing in the image. The text is only the numbered
-    /// line: `flashnor-serprog` prints what is wrong before it, and `flashnor` reads neither.
+    /// An FMAP or a flash descriptor that is missing or can't be used. Its text is only the numbered line.
     Map(MapFault),
     /// Layout fault 8: the first of the given names that is not the name of a region.
     NoRegion {
@@ -70,11 +67,9 @@ pub enum Fault<'a> {
         name: &'a str,
         cause: Cause,
     },
-    /// Error 15 for a file that is shorter than a journal, and doesn't begin as one. Its number is that of an
-    /// incomplete journal, journal fault 1.
+    /// Error 15 for a file that is shorter than a journal and doesn't begin as one; it is journal fault 1.
     NoJournal,
-    /// An error with a number of the engine. A call to the engine returned it, or the program itself detected it, such
-    /// as error 15 for an invalid journal or error 18 if memory ran out.
+    /// An error of the engine, returned by a call or detected by the program itself.
     Refused(Refusal),
 }
 
@@ -84,8 +79,7 @@ impl Fault<'_> {
     ghost use Rattle.nor_args.specs.declared.reasons.Reason.TheVariants as Reasons;
     ghost use Rattle.nor_args.specs.declared.words.UsageFault.TheVariants as Usage;
 
-    /// Returns the fault of arguments that could not be collected: usage fault 10 if memory ran out, or `NoText` for
-    /// any other error, because the arguments are then not UTF-8.
+    /// Returns usage fault 10 if memory ran out, and `NoText` for any other error: the arguments are then not UTF-8.
     pub fn of_words(error: &io::Error) -> Fault<'static>
         ensures { IsOfArguments error.now result }
     {
@@ -132,8 +126,7 @@ impl From<AllocError> for Fault<'_> {
 pub enum Wording {
     /// The line with the fault's number. Scripts rely on it, so nothing else is printed.
     Numbered,
-    /// First a line for the user that says what is wrong or, for a file fault, what its cause is, if there is such a
-    /// line.
+    /// First the lines for the user that say what is wrong or why, if there are any.
     Explained,
 }
 
@@ -189,8 +182,8 @@ impl fmt::Display for FaultCause<'_> {
     }
 }
 
-/// The line with the number of a fault, without its line feed. For usage fault 1 the text of the argument parser
-/// precedes it.
+/// The line with the number of a fault, without its line feed. For usage fault 1 the argument parser's text precedes
+/// it.
 #[derive(Drop)]
 pub struct NumberedLine<'a>(pub &'a Fault<'a>);
 
@@ -224,8 +217,6 @@ impl fmt::Display for NumberedLine<'_> {
     }
 }
 
-// The part of a message that names the line of a layout fault, ` at line N`. The part is empty if the fault isn't in a
-// single line.
 #[derive(Drop)]
 struct Place(Option<usize>);
 

@@ -19,8 +19,7 @@ use nor_session::{Rehearsal, Report};
 use std::io::Write;
 use std::{fmt, io};
 
-/// If the fault is a request for help, returns the parser's error, which contains the text of the help. Returns `None`
-/// for any other fault.
+/// Returns the parser's error with the text of the help, if the fault is a request for it.
 pub fn help_of<'a>(fault: &'a Fault<'_>) -> Option<&'a WordsError>
     ensures some { IsSome result → IsAnswered (Err fault.now) }
     ensures none { IsNone result → IsAnswered (Err fault.now) → ⊥ }
@@ -34,8 +33,7 @@ pub fn help_of<'a>(fault: &'a Fault<'_>) -> Option<&'a WordsError>
     }
 }
 
-/// If the fault is a request for the version, returns the parser's error, which contains the text of the version.
-/// Returns `None` for any other fault.
+/// Returns the parser's error with the text of the version, if the fault is a request for it.
 pub fn version_of<'a>(fault: &'a Fault<'_>) -> Option<&'a WordsError>
     ensures some { IsSome result → AsksForVersion fault.now }
     ensures none { IsNone result → AsksForVersion fault.now → ⊥ }
@@ -55,8 +53,7 @@ pub fn print_help<W: Write>(output: &mut W, help: &WordsError) -> io::Result<()>
     output.flush()
 }
 
-/// Prints the lines of the answer of a job and flushes the writer. If this fails, a prefix of the lines may have been
-/// printed.
+/// Prints the lines of an answer and flushes the writer. If this fails, a prefix may have been printed.
 pub fn print_answer<W: Write>(output: &mut W, answer: Answer) -> io::Result<()>
     ensures { OnOk result (Prints (AreLines answer) (W.contents output.old) (W.contents output.new)) }
 {
@@ -80,7 +77,6 @@ fn print_lines<W: Write>(output: &mut W, answer: Answer) -> io::Result<()>
     }
 }
 
-// Prints the table of chips, and then a line with `SFDP`, the name of all chips that are known only by their SFDP.
 #[tactic(auto, using(crate::proofs::Printed::appends_then))]
 fn print_chips<W: Write>(output: &mut W) -> io::Result<()>
     ensures { OnOk result (Appends (W.contents output.old) (W.contents output.new) chip_lines) }
@@ -254,8 +250,7 @@ impl fmt::Display for Digits {
     }
 }
 
-/// Prints the text of a fault and a line feed. If there is a line that says what is wrong, it comes first. Returns true
-/// if no write to `errors` failed.
+/// Prints the text of a fault, after the line that says what is wrong. Returns true if no write to `errors` failed.
 pub fn print_fault<W: Write>(errors: &mut W, fault: &Fault<'_>) -> bool
     ensures { IsTrue result → IfSome (with_newline (text_of fault.now))
         (Appends (W.contents errors.old) (W.contents errors.new)) }

@@ -1,4 +1,4 @@
-//! The request that a change makes to a session, and the addresses of the regions to which the change is limited.
+//! The request that a change makes to a session, and the addresses of its regions.
 ghost use Rattle.std.specs.Prelude.{◌≡◌, ◌≤◌, ℕ, IfOk, IfErr, None, OnOk, Some, length, option_map, true};
 ghost use Rattle.nor_layout.specs.Included.{are_known, is_included};
 ghost use Rattle.nor_layout.specs.Ranges.{contains};
@@ -23,10 +23,8 @@ use nor_probe::ChipName;
 use nor_session::{Request, What};
 use std::alloc::Global;
 
-/// Reads the layout of these regions (`read_layout`), and returns the addresses of the named regions. If no regions are
-/// given, returns `None` and reads no file.
-///
-/// Returns the faults of `read_layout`, or layout fault 8 with the first of the names that no region has.
+/// Returns the addresses of the named regions in their layout, or `None` without regions. Returns the faults of
+/// `read_layout`, and layout fault 8 with the first name that no region has.
 pub fn read_included<'a, R: Store>(
     rt: &R,
     regions: Option<Regions<'a>>,
@@ -47,17 +45,14 @@ pub fn read_included<'a, R: Store>(
     }
 }
 
-/// Reads the layout of these regions from its file. If it has no file, reads it from `shown`, the bytes that the chip
-/// returned. The regions of an FMAP or of a flash descriptor may lie outside the file and the chip: a region outside
-/// the chip is refused only if it is included.
+/// Reads the layout of these regions from its file or, without one, from `shown`, the bytes that the chip returned. A
+/// region of an FMAP or flash descriptor outside the chip is refused only if it is included.
 ///
 /// Returns one of these faults:
 ///
 /// - file fault 1 if the file is missing, can't be read, or has more than 16 MiB
-/// - usage fault 7 without a reason if the layout has no file, and `shown` is `None` or has more than 16 MiB
-/// - a layout fault if the layout is wrong, or if memory runs out while the layout is parsed
-/// - a map fault if the file or `shown` has no valid FMAP or flash descriptor, or if memory runs out while the FMAP or
-///   descriptor is parsed
+/// - usage fault 7 if the layout has no file, and `shown` is `None` or has more than 16 MiB
+/// - a layout fault or a map fault if the layout is wrong, or if memory runs out while it is parsed
 /// - error 18 if memory runs out while the file is read
 pub fn read_layout<'a, R: Store>(
     rt: &R,
@@ -76,8 +71,6 @@ pub fn read_layout<'a, R: Store>(
     parse_layout(rt.alloc(), regions.form, &text)
 }
 
-// Reads the file of a layout. Returns file fault 1 if the file is missing, can't be read, or has more than 16 MiB, or
-// error 18 if memory runs out.
 fn read_layout_file<'a, R: Store>(rt: &R, name: &'a str) -> Result<Vec<u8>, Fault<'a>>
     ensures ok { IfOk result (λ text. IsLayoutText ((R.state rt.now).view) None (Some name.entry) text.items) }
     ensures err { IfErr result (LacksText ((R.state rt.now).view) None (Some name.entry)) }
@@ -89,8 +82,6 @@ fn read_layout_file<'a, R: Store>(rt: &R, name: &'a str) -> Result<Vec<u8>, Faul
     Ok(text)
 }
 
-// Returns `shown`, the bytes that the chip returned for a layout. Returns usage fault 7 if `shown` is `None`, or has
-// more than 16 MiB.
 fn shown_layout<'b>(shown: Option<&'b [u8]>) -> Result<&'b [u8], Fault<'static>>
     ensures ok { IfOk result (λ text. (option_map (λ bytes. bytes.now) shown.entry ≡ Some text.now)
         × (length text.now ≤ 16777216)) }
@@ -106,11 +97,9 @@ fn shown_layout<'b>(shown: Option<&'b [u8]>) -> Result<&'b [u8], Fault<'static>>
     }
 }
 
-// The size of chip for which a flash descriptor or an FMAP is read. It is larger than that of any chip, because boards
-// with two chips have a table with the regions of both.
+// A size above that of any chip, because boards with two chips have a table with the regions of both.
 const ANY_SIZE: u32 = u32::MAX;
 
-// Parses `text` as a layout of the given form.
 #[tactic(auto, using(crate::proofs::Included::is_unparsed))]
 fn parse_layout<'a>(alloc: Global, form: LayoutForm, text: &[u8]) -> Result<Layout, Fault<'a>>
     ensures ok { IfOk result (λ layout. HasLayout form text.now layout) }
@@ -133,7 +122,6 @@ fn parse_layout<'a>(alloc: Global, form: LayoutForm, text: &[u8]) -> Result<Layo
     }
 }
 
-// Parses `text` as a layout of the form `Words`.
 #[tactic(auto, using(crate::proofs::Included::is_unparsed))]
 fn parse_words<'a>(alloc: Global, text: &[u8]) -> Result<Layout, Fault<'a>>
     ensures ok { IfOk result (λ layout. HasLayout LayoutForms.Words text.now layout) }
@@ -148,8 +136,7 @@ fn parse_words<'a>(alloc: Global, text: &[u8]) -> Result<Layout, Fault<'a>>
     }
 }
 
-/// Returns the addresses of the regions of `layout` with the comma-separated `names`. If one of the names is no region,
-/// returns the first such name as the error.
+/// Returns the addresses of the named regions of `layout`, or as the error the first of the names that is no region.
 #[tactic(auto, using(crate::proofs::Included::named_unknown))]
 pub fn include_regions<'a>(layout: &Layout, names: &'a str) -> Result<Ranges, &'a str>
     ensures known { OnOk result (are_known layout.now names.now ≡ true) }
@@ -163,15 +150,12 @@ pub fn include_regions<'a>(layout: &Layout, names: &'a str) -> Result<Ranges, &'
     }
 }
 
-// Returns the first of the comma-separated `names` that none of the regions has, or `None` if each name belongs to a
-// region.
 fn first_unknown<'a>(regions: &[Region], names: &'a str) -> Option<&'a str>
     ensures { option_map (λ name. name.now) result ≡ first_unknown regions.now names.now }
 {
     names.split(',').find(|name| !is_named(regions, name))
 }
 
-// True if one of the regions has this name.
 fn is_named(regions: &[Region], name: &str) -> bool
     ensures { result ≡ is_region_named regions.now name.now }
 {
@@ -180,8 +164,8 @@ fn is_named(regions: &[Region], name: &str) -> bool
         .any(|region| region.name.as_slice() == name.as_bytes())
 }
 
-/// Returns the request that `change` makes to a session. `named` is the name that the chip must have, or `None` for any
-/// chip. `included` has the addresses whose bytes may change, or is `None` for the whole chip.
+/// Returns the request of `change`, for a chip with the name `named` (or any), and with the bytes that may change (or
+/// all).
 pub fn request_for(
     change: &Change<'_>,
     named: Option<ChipName>,

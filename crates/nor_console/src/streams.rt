@@ -8,8 +8,7 @@ use std::{fs, io};
 /// A directory that always exists, and to which nothing can be written.
 pub const DIRECTORY: &str = "/";
 
-// The capacity of a line buffer. It is enough for the line of a file fault with a path of 4,096 bytes, even if each
-// byte is escaped as four characters.
+// Enough for the line of a file fault with a path of 4,096 bytes, each escaped as four characters.
 const LINE_BYTES: usize = 32_768;
 
 /// Files that keep the descriptors 0, 1 and 2 in use as long as they are open.
@@ -20,13 +19,10 @@ pub struct Streams<F> {
     _errors: F,
 }
 
-/// Opens a directory three times, so that the descriptors 0, 1 and 2 are in use. Call this function before any other
-/// file is opened.
+/// Opens a directory three times, so that the descriptors 0, 1 and 2 are in use. Call this before any file is opened.
 ///
-/// A descriptor that was closed then refers to the directory, and printing to it fails. Without this call, the next
-/// opened file would get this descriptor, and printed lines would overwrite the first bytes of that file.
-///
-/// Returns an error if the directory can't be opened.
+/// If a descriptor was closed, printing to it then fails. Without this call the next opened file would get this
+/// descriptor, and printed lines would overwrite its first bytes. Fails if the directory can't be opened.
 pub fn keep_streams<R: Files>(files: &R) -> io::Result<Streams<R::File>> {
     Ok(Streams {
         _input: fs::open(files, DIRECTORY)?,
@@ -35,8 +31,8 @@ pub fn keep_streams<R: Files>(files: &R) -> io::Result<Streams<R::File>> {
     })
 }
 
-/// Returns a writer that sends each line of up to `LINE_BYTES` bytes in one write, so that the line isn't mixed with
-/// lines of other programs. If memory for the writer's buffer is lacking, a line is sent in pieces.
+/// Returns a writer that sends each line in one write, so that it isn't mixed with lines of other programs. If memory
+/// is lacking, a line is sent in pieces.
 pub fn by_line<W: Write + Copy + Drop>(alloc: Global, stream: W) -> LineWriter<W> {
     match LineWriter::with_capacity(alloc, LINE_BYTES, stream) {
         Ok(writer) => writer,

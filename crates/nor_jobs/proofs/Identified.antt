@@ -1,5 +1,4 @@
--- Lemmas about an identification with a given result: which result its call of `probe` had, and which promises this
--- call kept.
+-- Lemmas about an identification: which result its call of `probe` had, and which promises the call kept.
 use Rattle.std.proofs.Common.{◌≡◌, IfErr, IfOk, Option, Result, Ok, Err, refl, true}
 use Rattle.nor_model.specs.Bus.{BusState}
 use Rattle.nor_probe.specs.Found.{ProbeAlways, ProbeHonest}

@@ -14,14 +14,11 @@ use Rattle.nor_console.specs.declared.answers.Answer.TheVariants as answer
 use Rattle.nor_console.specs.declared.messages.Fault.{Fault}
 use Rattle.nor_console.specs.declared.messages.Fault.TheVariants as end
 
--- Holds if `result` is that of an identification whose probe had the given result: the same chip, or the error for the
--- probe's fault.
 abbrev pub IsProbed : Result Found ProbeFault → Result Found Refusal → Type 0
 IsProbed (Ok found) result = result ≡ Ok found
 IsProbed (Err fault) result = result ≡ Err (of_probe fault)
 
--- Holds after an identification with this result: the chip that was found, or an error. The identification kept all
--- promises of its call of `probe`.
+-- Holds after an identification with this result, if its call of `probe` kept all promises.
 pub record HasIdentified (named : Option ChipName) (old new : BusState) (result : Result Found Refusal) : Type 0 where
   pub probed : Result Found ProbeFault
   pub always : ProbeAlways named old new probed
@@ -29,37 +26,30 @@ pub record HasIdentified (named : Option ChipName) (old new : BusState) (result 
   pub modelled : IsModelled old → IfOk probed (IsConfigOf old.chip.config)
   pub returned : IsProbed probed result
 
--- Holds if the answer reports the chip that was found.
 abbrev pub ReportsFound : Found → Answer → Type 0
 ReportsFound found (answer.Found returned) = returned ≡ found
 ReportsFound found _ = ⊥
 
--- Holds if the answer reports the size of the chip that was found.
 abbrev pub ReportsSize : Found → Answer → Type 0
 ReportsSize found (answer.Size size) = size ≡ found.size
 ReportsSize found _ = ⊥
 
--- Holds if the chip was identified and `reports` holds for it and the answer, or if the outcome is the error of the
--- identification.
 pub record HasLookedUp (reports : Found → Answer → Type 0) (named : Option ChipName) (old new : BusState)
     (outcome : Result Answer Refusal) : Type 0 where
   pub result : Result Found Refusal
   pub identified : HasIdentified named old new result
   pub returned : AnswersCall reports result outcome
 
--- Holds if the identification returned an error, which is the fault of the run. The bus `new` is that after the
--- identification, so nothing else was sent.
+-- Holds if the identification returned an error, after which nothing was sent, and which is the fault of the run.
 abbrev pub FailsToFind : Option ChipName → (old new : BusState) → Fault → Type 0
 FailsToFind named old new fault =
     (refusal : Refusal) × HasIdentified named old new (Err refusal) × (fault ≡ end.Refused refusal)
 
--- Holds if the chip was identified and has the given name. Without a name, the bus must be as before, since nothing is
--- sent.
+-- Holds if the chip was identified and has the given name. Without a name, nothing is sent.
 abbrev pub IsNamedFirst : Option ChipName → (old new : BusState) → Type 0
 IsNamedFirst None old new = new ≡ old
 IsNamedFirst (Some name) old new = (chip : Found) × HasIdentified (Some name) old new (Ok chip)
 
--- Holds if a check of the chip's name returned this error. Without a name, the check returns none.
 abbrev pub FailsToName : Option ChipName → (old new : BusState) → Refusal → Type 0
 FailsToName None old new refusal = ⊥
 FailsToName (Some name) old new refusal = HasIdentified (Some name) old new (Err refusal)

@@ -20,28 +20,24 @@ use Rattle.nor_console.specs.declared.messages.Fault.{Fault}
 use Rattle.nor_console.specs.declared.messages.Fault.TheVariants as end
 use Rattle.nor_jobs.specs.Finding.{FailsToName, IsNamedFirst}
 
--- Holds if `bytes` are no journal and the fault is error 15, which contains the first fault of the bytes. `NoJournal`
--- contains journal fault 1.
+-- Holds if `bytes` are no journal, and the fault is error 15 with their first fault. `NoJournal` is journal fault 1.
 abbrev pub IsNoJournal : (bytes : List ℕ) → Fault → Type 0
 IsNoJournal bytes end.NoJournal = HasFault bytes Short
 IsNoJournal bytes (end.Refused (BadJournal why)) = HasFault bytes why
 IsNoJournal bytes _ = ⊥
 
--- The choice of the sectors that a restore writes: the saved sectors that differ if the restore is quick, and otherwise
--- every saved sector.
+-- the sectors that a restore writes
 abbrev pub choice_of : (quick : Bool) → Choice
 choice_of true = differing
 choice_of false = every_saved
 
--- The main promise of `restore` (if `quick`) or of `rewrite`, for each chip that the journal can restore at the start:
--- at every exit the journal can still restore this chip, and a restore that succeeds has restored it.
+-- The main promise of `restore` (if `quick`) or of `rewrite` for a chip that the journal can restore: it still can at
+-- every exit, and a success has restored the chip.
 abbrev pub RestoresBy : (quick : Bool) → Journal → (old new : BusState) → Result Report Refusal → Type 0
 RestoresBy true journal old new result = RestoresOriginal journal old new result
 RestoresBy false journal old new result = RewritesOriginal journal old new result
 
--- Holds after a restore that succeeded or returned an error. It kept all promises of `restore` (if `quick`) or of
--- `rewrite`. After success of `rewrite`, each saved sector was the target of an erase, and no erase followed the first
--- page program (`thorough`).
+-- Holds after a restore that kept all promises of `restore` (if `quick`) or of `rewrite`.
 pub record HasRunRestore (quick : Bool) (journal : Journal) (old new : BusState)
     (outcome : Result Answer Refusal) : Type 0 where
   pub result : Result Report Refusal
@@ -52,15 +48,14 @@ pub record HasRunRestore (quick : Bool) (journal : Journal) (old new : BusState)
   pub thorough : quick ≡ false → OnOk result (ErasesFirst (is_saved journal) old new)
   pub returned : AnswersCall ReportsDone result outcome
 
--- Holds if a restore from the journal was run. If a name is given, the chip was identified before, and has this name.
+-- Holds if a restore was run, after an identification if a name is given.
 pub record HasRunNamed (quick : Bool) (named : Option ChipName) (journal : Journal) (old new : BusState)
     (outcome : Result Answer Refusal) : Type 0 where
   pub found : BusState
   pub first : IsNamedFirst named old found
   pub ran : HasRunRestore quick journal found new outcome
 
--- Holds after a restore for which a name may be given: the restore was run (`HasRunNamed`); or the outcome is the error
--- of the check of the name, and nothing else was sent.
+-- Holds after a restore, or after a check of the name that failed and ended the job.
 abbrev pub HasRestoredNamed : (quick : Bool) → Option ChipName → Journal → (old new : BusState) → Result Answer Refusal
     → Type 0
 HasRestoredNamed quick named journal old new outcome = HasRunNamed quick named journal old new outcome

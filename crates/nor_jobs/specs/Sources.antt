@@ -13,26 +13,22 @@ use Rattle.nor_console.specs.Stored.{IsRead}
 use Rattle.nor_console.specs.declared.messages.Fault.{Fault}
 use Rattle.nor_jobs.specs.Restoring.{IsNoJournal}
 
--- Holds if `bytes` are those that were read of the image that a change writes. At most one byte more is read than the
--- largest chip has. For an erase or a protection range, `bytes` must be empty.
+-- Holds if `bytes` were read of the image that a change writes; an erase or a protection range has none.
 abbrev pub IsImage : View → Wanted → List ℕ → Type 0
 IsImage view (wanted.Write image) bytes = IsRead view image.now 16777217 bytes
 IsImage view _ bytes = bytes ≡ []
 
--- Returns the bytes that a change of a chip of this size asks for, if `bytes` are those of its image: FFh for each byte
--- of the chip for an erase, and otherwise `bytes`.
+-- the bytes that a change of a chip of this size asks for, with the `bytes` of its image
 abbrev pub asked_bytes : Wanted → (size : ℕ) → (bytes : List ℕ) → List ℕ
 asked_bytes wanted.Erase size bytes = replicate size 255
 asked_bytes _ size bytes = bytes
 
--- Holds if a change of a chip of this size asks for `asked`, with the image that was read (`IsImage`).
 abbrev pub IsAskedOf : View → Wanted → (size : ℕ) → (asked : List ℕ) → Type 0
 IsAskedOf view wanted size asked =
     (bytes : List ℕ) × IsImage view wanted bytes × (asked ≡ asked_bytes wanted size bytes)
 
--- Holds if `ranges` are the addresses of the job's regions, and `bytes` are those of its image or of the journal that
--- it restores from, as far as the job has them. At most one byte more is read than the largest chip or the longest
--- journal has.
+-- Holds if `ranges` are the addresses of the job's regions, and `bytes` those of its image or journal, if it has one.
+-- One byte more is read than the largest chip or the longest journal has.
 abbrev pub AreSources : View → Task → Option (List Span) → List ℕ → Type 0
 AreSources view (task.Read file regions) ranges bytes = AreRangesOf view None regions ranges
 AreSources view (task.Verify file regions) ranges bytes =
@@ -42,12 +38,10 @@ AreSources view (task.Change change) ranges bytes =
 AreSources view (task.Restore journal) ranges bytes = IsRead view journal.now 16793662 bytes
 AreSources view _ ranges bytes = ⊤
 
--- Holds for the faults of reading the image that a change writes.
 abbrev pub FailsImage : View → Wanted → Fault → Type 0
 FailsImage view (wanted.Write image) fault = IsReadingFault view image.now 16777217 fault
 FailsImage view _ fault = ⊥
 
--- Holds for the faults of reading the files that a task needs: its layout, image or journal.
 abbrev pub FailsSources : View → Task → Fault → Type 0
 FailsSources view (task.Read file regions) fault = FailsToInclude view None regions fault
 FailsSources view (task.Verify file regions) fault =
@@ -57,6 +51,5 @@ FailsSources view (task.Change change) fault =
 FailsSources view (task.Restore journal) fault = IsSharingFault view journal.now 16793662 fault
 FailsSources view _ fault = ⊥
 
--- Holds if the fault is error 15: the bytes that were read of the file of this name are no journal.
 abbrev pub IsInvalid : View → Text → Fault → Type 0
 IsInvalid view name fault = (bytes : List ℕ) × IsRead view name 16793662 bytes × IsNoJournal bytes fault

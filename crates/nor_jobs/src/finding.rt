@@ -8,7 +8,7 @@ use nor_model::Bus;
 use nor_probe::{ChipName, Found, probe};
 use nor_session::Refusal;
 
-/// Identifies the chip, and returns the chip that was found. Returns the errors of `find`.
+/// Identifies the chip, with the errors of `find`.
 pub fn find_chip<B: Bus>(bus: &mut B, named: Option<ChipName>) -> Outcome
     ensures { HasLookedUp ReportsFound named (B.state bus.old) (B.state bus.new) result }
 {
@@ -16,7 +16,7 @@ pub fn find_chip<B: Bus>(bus: &mut B, named: Option<ChipName>) -> Outcome
     Ok(Answer::Found(found))
 }
 
-/// Returns the chip's size in bytes. Returns the errors of `find`.
+/// Returns the chip's size in bytes, with the errors of `find`.
 pub fn report_size<B: Bus>(bus: &mut B, named: Option<ChipName>) -> Outcome
     ensures { HasLookedUp ReportsSize named (B.state bus.old) (B.state bus.new) result }
 {
@@ -24,19 +24,15 @@ pub fn report_size<B: Bus>(bus: &mut B, named: Option<ChipName>) -> Outcome
     Ok(Answer::Size(found.size))
 }
 
-/// Identifies the chip.
-///
-/// Returns error 1 if there is no chip, error 2 if the chip is unknown, or error 3 if `named` is given and the chip has
-/// another name. Returns error 12 if the bus stopped, or error 13 if the chip stayed busy, which doesn't occur on a
-/// well-behaved bus.
+/// Identifies the chip. Returns error 1 if there is no chip, error 2 if it is unknown, error 3 if its name isn't
+/// `named`, error 12 if the bus stopped, and error 13 if the chip stayed busy (never on a well-behaved bus).
 pub fn find<B: Bus>(bus: &mut B, named: Option<ChipName>) -> Result<Found, Refusal>
     ensures { HasIdentified named (B.state bus.old) (B.state bus.new) result }
 {
     Ok(probe(bus, named)?)
 }
 
-/// Identifies the chip, as `find` does, before the job makes a further call to the engine. An error of `find` is
-/// returned as the fault of the run.
+/// Identifies the chip before a further call to the engine. An error of `find` is the fault of the run.
 pub fn find_first<'a, B: Bus>(bus: &mut B, named: Option<ChipName>) -> Result<Found, Fault<'a>>
     ensures ok { IfOk result (λ found. HasIdentified named (B.state bus.old) (B.state bus.new) (Ok found)) }
     ensures err { IfErr result (FailsToFind named (B.state bus.old) (B.state bus.new)) }
@@ -44,8 +40,7 @@ pub fn find_first<'a, B: Bus>(bus: &mut B, named: Option<ChipName>) -> Result<Fo
     or_fault(find(bus, named))
 }
 
-/// Identifies the chip and checks that it has the name `named`, if a name is given. Without a name, sends nothing.
-/// Returns the errors of `find`.
+/// Identifies the chip if a name is given, which the chip must have. Returns the errors of `find`.
 pub fn check_name<B: Bus>(bus: &mut B, named: Option<ChipName>) -> Result<(), Refusal>
     ensures ok { OnOk result (IsNamedFirst named (B.state bus.old) (B.state bus.new)) }
     ensures err { IfErr result (FailsToName named (B.state bus.old) (B.state bus.new)) }

@@ -1,13 +1,10 @@
-//! The code for jobs that `flashnor` and `flashnor-serprog` share, over any bus: it reads the files that a job needs
-//! before its call to the engine (the crates that read or change a chip), and makes the calls that identify or restore
-//! a chip.
+//! Code that `flashnor` and `flashnor-serprog` share, over any bus: it reads the files of a job, and makes the calls
+//! that identify or restore a chip. `nor_console` has the other calls and files.
 //!
 //! - `arguments.rt`: the arguments that follow the program's name
-//! - `sources.rt`: the layout, image or journal of a job, and the bytes that a change asks for
+//! - `sources.rt`: the layout, image or journal of a job
 //! - `finding.rt`: identifies the chip
 //! - `restoring.rt`: restores from a journal
-//!
-//! `nor_console` has the calls that read, verify or change a chip, and that read or create the files for these calls.
 #![tactic(auto)]
 
 mod arguments;

@@ -10,8 +10,8 @@ use nor_model::Bus;
 use nor_probe::ChipName;
 use nor_session::{Announcement, Refusal, restore_announced, rewrite_announced};
 
-/// Returns the journal that `bytes` encode, or error 15 with the first fault of the bytes. If they are too short, and
-/// don't begin as a journal, the fault is `NoJournal`.
+/// Returns the journal that `bytes` encode, or error 15 with their first fault. The error is `NoJournal` if they are
+/// shorter than a journal and don't begin as one.
 pub fn journal_in<'a, 'b>(bytes: &'b [u8]) -> Result<Journal<'b>, Fault<'a>>
     ensures ok { IfOk result (λ journal. IsContent journal × (bytes.now ≡ text journal)) }
     ensures err { IfErr result (IsNoJournal bytes.now) }
@@ -23,7 +23,7 @@ pub fn journal_in<'a, 'b>(bytes: &'b [u8]) -> Result<Journal<'b>, Fault<'a>>
     }
 }
 
-// True if the first eight bytes are those of a journal, or if there are fewer and a journal begins with them.
+// True for a prefix of the first eight bytes, too.
 fn begins_as_journal(bytes: &[u8]) -> bool {
     let start = match bytes.get(..MAGIC.len()) {
         Some(start) => start,
@@ -32,13 +32,11 @@ fn begins_as_journal(bytes: &[u8]) -> bool {
     MAGIC.starts_with(start) || FIRST_MAGIC.starts_with(start)
 }
 
-/// Restores the chip from a journal. If `quick` is true, reads the saved sectors and writes only those that differ
-/// (`restore`). Otherwise erases every saved sector without reading it first, and programs its saved bytes (`rewrite`).
-/// If a name is given, identifies the chip first, and restores it only if it has this name.
+/// Restores the chip from a journal: with `quick`, only the saved sectors that differ (`restore`), otherwise every
+/// saved sector without reading it first (`rewrite`). If a name is given, the chip must have it.
 ///
-/// `announce` receives the numbers of touched sectors and of erases before the first change (see `restore_announced`
-/// and `rewrite_announced`). It must accept every announcement. Returns an error of the identification (1, 2, 3, 12 or
-/// 13), after which nothing else was sent, or an error of `restore` or `rewrite`.
+/// `announce` receives the numbers of touched sectors and erases before the first change, and must accept them. Returns
+/// an error of the identification (1, 2, 3, 12 or 13), before anything else was sent, or one of the restore.
 pub fn restore_named<B: Bus, F: FnOnce(Announcement) + Drop>(
     bus: &mut B,
     named: Option<ChipName>,
@@ -53,7 +51,6 @@ pub fn restore_named<B: Bus, F: FnOnce(Announcement) + Drop>(
     run_restore(bus, journal, quick, announce)
 }
 
-// Restores the chip from a journal: calls `restore` if `quick` is true, and otherwise `rewrite`.
 fn run_restore<B: Bus, F: FnOnce(Announcement) + Drop>(
     bus: &mut B,
     journal: &Journal<'_>,
@@ -70,7 +67,6 @@ fn run_restore<B: Bus, F: FnOnce(Announcement) + Drop>(
     }
 }
 
-// Reads the saved sectors, and writes only those that differ. A sector is erased only if some bit must go from 0 to 1.
 fn restore_differing<B: Bus, F: FnOnce(Announcement) + Drop>(
     bus: &mut B,
     journal: &Journal<'_>,
@@ -83,7 +79,6 @@ fn restore_differing<B: Bus, F: FnOnce(Announcement) + Drop>(
     Ok(Answer::Done(report))
 }
 
-// Erases every saved sector without reading it first, and programs its saved bytes.
 fn restore_all<B: Bus, F: FnOnce(Announcement) + Drop>(
     bus: &mut B,
     journal: &Journal<'_>,

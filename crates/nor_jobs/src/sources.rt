@@ -20,11 +20,9 @@ pub struct Sources {
     pub bytes: Vec<u8>,
 }
 
-/// Reads the files that a task needs: the layout, then the image or the journal. Each file is as it was. A journal is
-/// locked against other runs that would change it (`Store::share`). Whether its bytes are a valid journal isn't checked
-/// here.
-///
-/// Returns the faults of `read_included`, `read_file` and `read_journal`.
+/// Reads the files that a task needs: the layout, then the image or the journal, without checking that it is a journal.
+/// A journal is locked against runs that would change it. Returns the faults of `read_included`, `read_file` and
+/// `read_journal`.
 pub fn read_sources<'a, R: Store>(rt: &mut R, task: &Task<'a>) -> Result<Sources, Fault<'a>>
     ensures same { AreUntouched (R.state rt.old) (R.state rt.new) }
     ensures ok { IfOk result (λ sources.
@@ -57,7 +55,6 @@ fn without_bytes<R: Store>(rt: &R, included: Option<Ranges>) -> Sources
     Sources { included, bytes }
 }
 
-// Reads the layout and the image of a change.
 fn read_for_change<'a, R: Store>(rt: &R, change: &Change<'a>) -> Result<Sources, Fault<'a>>
     ensures ok { IfOk result (λ sources. AreRangesOf (R.state rt.now).view None change.now.regions sources.included
         × IsImage (R.state rt.now).view change.now.wanted sources.bytes.items) }
@@ -69,10 +66,8 @@ fn read_for_change<'a, R: Store>(rt: &R, change: &Change<'a>) -> Result<Sources,
     Ok(Sources { included, bytes })
 }
 
-/// Reads the image that a change writes: at most one byte more than the largest chip has, so that a longer image is
-/// detected. Returns no bytes for an erase or a protection range.
-///
-/// Returns the faults of `read_file`.
+/// Reads the image that a change writes, and one byte more than the largest chip has, so that a longer image is
+/// detected. Returns no bytes without an image, and the faults of `read_file`.
 pub fn read_image<'a, R: Store>(rt: &R, wanted: Wanted<'a>) -> Result<Vec<u8>, Fault<'a>>
     ensures ok { IfOk result (λ bytes. IsImage (R.state rt.now).view wanted.entry bytes.items) }
     ensures err { IfErr result (FailsImage (R.state rt.now).view wanted.entry) }
@@ -83,9 +78,8 @@ pub fn read_image<'a, R: Store>(rt: &R, wanted: Wanted<'a>) -> Result<Vec<u8>, F
     }
 }
 
-/// Returns the bytes that a change asks for. `bytes` are those that were read of its image, and `size` is the size of
-/// the chip. For an erase, the bytes asked for are FFh for each byte of the chip; otherwise they are `bytes`. Returns
-/// an error only for an erase, if memory runs out.
+/// Returns the bytes that a change of a chip of `size` bytes asks for: FFh for an erase, otherwise `bytes`, those of
+/// its image. Fails only for an erase, if memory runs out.
 pub fn asked_bytes(
     alloc: Global,
     wanted: Wanted<'_>,

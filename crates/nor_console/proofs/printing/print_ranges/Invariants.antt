@@ -3,7 +3,6 @@ use Rattle.std.specs.Io.KnownBytes.{Appends}
 use Rattle.nor_console.specs.AnswerLines.{range_line}
 use Rattle.nor_console.proofs.printing.print_ranges.Given as goal
 
--- The lines of the ranges that the iterator has yielded so far were printed, and nothing else.
 abbrev pub invariant-loop-range : goal.invariant-loop-range
 invariant-loop-range g l =
     Appends (g.W.Write.contents l.initial.output) (g.W.Write.contents l.output) (flat_map range_line l.yielded)

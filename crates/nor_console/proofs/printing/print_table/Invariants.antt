@@ -3,7 +3,6 @@ use Rattle.std.specs.Io.KnownBytes.{Appends}
 use Rattle.nor_console.specs.AnswerLines.{chip_line}
 use Rattle.nor_console.proofs.printing.print_table.Given as goal
 
--- The lines of the first `part-index` chips were printed, and nothing else.
 abbrev pub invariant-loop-part : goal.invariant-loop-part
 invariant-loop-part g l =
     Appends (g.W.Write.contents l.initial.output) (g.W.Write.contents l.output) (flat_map chip_line (take l.part-index l.part-items))

@@ -7,7 +7,6 @@ use Rattle.nor_request.proofs.Printed.{padded_hex}
 use Rattle.nor_console.specs.Escapes.{escaped_byte}
 use Rattle.nor_console.proofs.escapes.EscapedCharacterDisplay.fmt.Goals as goal
 
--- The escaped first `i` bytes, followed by the escaped byte at index `i`, are the escaped first `i + 1` bytes.
 escaped_more : (bytes : List ℕ) (i : ℕ) → i < length bytes
     → flat_map escaped_byte (take i bytes) ++ escaped_byte (get_or bytes i 0) ≡ flat_map escaped_byte (take (i + 1) bytes)
 escaped_more bytes i below =
@@ -15,7 +14,6 @@ escaped_more bytes i below =
     rw (add-one, take-suc bytes i 0 below, flat_map-append escaped_byte (take i bytes) (byte ∷ []))
     (rw (append-nil (escaped_byte byte)) refl)
 
--- The loop's invariant still holds after the loop has written one more byte.
 pub loop-byte-preserved : goal.loop-byte-preserved
 loop-byte-preserved g c = λ plain.
     let so_far = c.loop-byte.invariant plain in

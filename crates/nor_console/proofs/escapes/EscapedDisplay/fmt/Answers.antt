@@ -5,8 +5,6 @@ use Rattle.std.proofs.lemmas.Str.{IsUtf8-past_char, chars-nil, chars_past_char}
 use Rattle.nor_console.specs.Escapes.{escaped, escaped_character}
 use Rattle.nor_console.proofs.escapes.EscapedDisplay.fmt.Goals as goal
 
--- If `text` is the UTF-8 of `character` followed by `rest`, its escaped form is the escaped `character` followed by the
--- escaped `rest`.
 escaped_step : (text rest : List ℕ) (character : ℕ) → IsUtf8 text → text ≡ encode_utf8 character ++ rest
     → escaped text ≡ escaped_character character ++ escaped rest
 escaped_step text rest character utf8 is = ap (flat_map escaped_character) (chars_past_char text rest character utf8 is)
@@ -15,7 +13,6 @@ escaped_none : (text : List ℕ) → length text ≡ 0 → escaped text ≡ []
 escaped_none [] none = ap (flat_map escaped_character) chars-nil
 escaped_none (byte ∷ rest) none = absurd (omega (arith, none))
 
--- The loop's invariant still holds after the loop has written one more character.
 pub loop-character-preserved : goal.loop-character-preserved
 loop-character-preserved g c =
     let held = c.loop-character.invariant in
@@ -29,8 +26,7 @@ loop-character-preserved g c =
           ),
     )
 
--- After the loop no character is left, so the whole escaped text was written. This is claimed only for a plain
--- formatter, which formats as `{}` does.
+-- The claim is only for a plain formatter, which formats as `{}` does.
 pub returns-clause-writes : goal.returns-clause-writes
 returns-clause-writes g c = λ plain _.
     let so_far = c.loop-character.invariant.1 plain in
