@@ -97,8 +97,8 @@ IsAsked given (job.Chip on_chip) = (given.list ≡ false) × IsChipJob given on_
 abbrev pub name_in_any_case : Text → ChipName
 name_in_any_case text = name_of (map to_ascii_uppercase text)
 
--- Holds if the options have none of the faults 4 to 9 and ask for this operation: `named` is the chip that `-c` names in
--- upper or lower case, and each other field has the value of its option.
+-- Holds if the options have none of the faults 4 to 9 and ask for this operation: `named` is the chip that `-c` names
+-- in upper or lower case, and each other field has the value of its option.
 pub record IsOperation (given : Texts) (operation : Operation) : Type 0 where
   pub sound : first_fault (operation_faults given) ≡ None
   pub named : operation.named ≡ option_map name_in_any_case given.chip

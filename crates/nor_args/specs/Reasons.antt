@@ -160,8 +160,8 @@ regions_reason given =
     then operations_reason (first_given (layout_choices given)) (first_given (reverse (layout_choices given)))
     else names_reason (first_given (layout_choices given)) given.names
 
--- the reason of fault 8 for an option that needs a journal: `--extract-image` needs `--check-journal`, and `--quick` and
--- `--replaced-chip` need `--restore`
+-- the reason of fault 8 for an option that needs a journal: `--extract-image` needs `--check-journal`, and `--quick`
+-- and `--replaced-chip` need `--restore`
 abbrev pub journal_option_reason : Texts → Reason
 journal_option_reason given =
     if lacks_check given then because.NoCheck

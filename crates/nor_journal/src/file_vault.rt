@@ -11,8 +11,9 @@ use crate::vault::{Vault, VaultFault};
 /// `put` fails if a write fails or writes no bytes. The `kept` of its error is the number of bytes of the piece that
 /// were written before. `seal` fails if the sync fails.
 ///
-/// The vault isn't faithful (`telling`), because contracts don't know what a file of the system contains. The `bytes`
-/// of the vault's state show only whether it has accepted a byte since `new`, not which bytes.
+/// That the file holds exactly the bytes that the vault accepted is assumed. Contracts don't know what a file of the
+/// system contains, so the vault's state isn't `telling`, and its `bytes` show only whether the vault has accepted a
+/// byte since `new`, not which bytes.
 #[derive(Drop)]
 pub struct FileVault<F: VaultFile> {
     file: F,
