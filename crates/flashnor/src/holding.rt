@@ -21,6 +21,7 @@ use nor_chip::{Bus, SimBus};
 use nor_console::{Cause, Fault, SystemReason, unheld, unmade_by, unread_by};
 use nor_files::{LockFault, Store};
 use std::io;
+use std::io::ErrorKind;
 
 /// The initial contents of the chip, and whether its image and its status file existed.
 #[derive(Drop)]
@@ -128,16 +129,22 @@ fn read_held<'a, R: Store>(rt: &mut R, name: &'a str, len: u32) -> Result<Vec<u8
     }
 }
 
-// Returns file fault 2: the file or its directory can't be synced.
+// Returns file fault 2: the file or its directory can't be synced. A sync of a locked file returns `NotFound` if its
+// name no longer refers to it.
 fn unsynced<'a>(error: &io::Error, name: &'a str) -> Fault<'a>
     ensures { IsUnmadeFault name.now result }
 {
-    unmade_by(name, Cause::System(SystemReason::of_making(error)))
+    let cause = match error.kind() {
+        ErrorKind::NotFound => Cause::Replaced,
+        _ => Cause::System(SystemReason::of_making(error)),
+    };
+    unmade_by(name, cause)
 }
 
 /// The names of files that were not written or were lost in a run. The image and the status file are named if they
-/// could not be written, and the trace if it lost a line. The journal is named if it was removed or replaced, or if its
-/// length changed, after the session sealed it.
+/// could not be written, or if they were removed or replaced, or their length changed, after they were written. The
+/// trace is named if it lost a line. The journal is named if it was removed or replaced, or if its length changed,
+/// after the session sealed it.
 #[derive(Clone, Copy)]
 pub struct Unwritten<'a> {
     pub image: Option<&'a str>,
@@ -159,8 +166,9 @@ pub fn lost_journal<'a, R: Store>(rt: &R, task: &Task<'a>) -> Option<&'a str>
 
 /// Writes the chip's bytes and status bytes to the files that are named. `image_there` and `status_there` say which of
 /// the files existed: such a file is overwritten in place, and a missing file is created. Writes the status file even
-/// if the image could not be written. Returns the name of the image and the name of the status file, each only if that
-/// file could not be written.
+/// if the image could not be written. Then looks at both files once more, because another program may have changed the
+/// image while the status file was written and synced. Returns the name of the image and the name of the status file,
+/// each only if that file could not be written, or if a later run won't find what was written (`Store::still_has`).
 pub fn write_back<'a, R: Store>(
     rt: &mut R,
     programmer: &Programmer<'a>,
@@ -187,7 +195,28 @@ pub fn write_back<'a, R: Store>(
 {
     let image = write_if_named(rt, programmer.image, image_there, bus.bytes());
     let status = write_if_named(rt, programmer.status, status_there, &bus.status());
-    (image, status)
+    (
+        last_look(rt, programmer.image, image),
+        last_look(rt, programmer.status, status),
+    )
+}
+
+// Looks once more at the file of this name, if one is given and it was written. `failed` is the name if it could not be
+// written. Returns the name if the file could not be written, or if a later run won't find what was written.
+fn last_look<'a, R: Store>(
+    rt: &R,
+    name: Option<&'a str>,
+    failed: Option<&'a str>,
+) -> Option<&'a str>
+    ensures fails { IsReportedOf name.entry failed.entry (R.state rt.now).view
+        → IsReportedOf name.entry result (R.state rt.now).view }
+    ensures written { result ≡ None → failed.entry ≡ None }
+{
+    match (name, failed) {
+        (_, Some(failed)) => Some(failed),
+        (Some(name), None) if !rt.still_has(name) => Some(name),
+        _ => None,
+    }
 }
 
 // Writes `bytes` to the file of this name, if one is given. A file that existed (`there`) is overwritten in place, and

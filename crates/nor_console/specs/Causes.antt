@@ -71,5 +71,7 @@ cause_line fault name (because.Role used) =
     concat (codes "error: '" ∷ escaped name ∷ codes "' is already used as " ∷ role_text used ∷ codes "\n" ∷ [])
 cause_line fault name because.Locked =
     concat (codes "error: another process has locked '" ∷ escaped name ∷ codes "'\n" ∷ [])
+cause_line fault name because.Replaced =
+    concat (codes "error: another program removed or replaced '" ∷ escaped name ∷ codes "'\n" ∷ [])
 cause_line fault name because.Printed =
     concat (codes "error: the program prints to '" ∷ escaped name ∷ codes "'\n" ∷ [])

@@ -110,6 +110,8 @@ pub enum Cause {
     Role(Role),
     /// Another process has locked the file.
     Locked,
+    /// Another program removed the file or replaced it, after this run locked it.
+    Replaced,
     /// The program prints to the file.
     Printed,
 }
@@ -165,6 +167,7 @@ impl fmt::Display for CauseLine<'_> {
                 writeln!(f, "error: '{name}' is already used as {used}")
             }
             Cause::Locked => writeln!(f, "error: another process has locked '{name}'"),
+            Cause::Replaced => writeln!(f, "error: another program removed or replaced '{name}'"),
             Cause::Printed => writeln!(f, "error: the program prints to '{name}'"),
         }
     }

@@ -8,8 +8,8 @@ ghost use Rattle.nor_console.specs.Stored.{AreTwo};
 ghost use Rattle.nor_console.specs.declared.messages.Fault.TheVariants as Faults;
 ghost use Rattle.nor_request.specs.declared.refusal.Refusal.TheVariants as Refusals;
 
-use crate::causes::Cause;
-use crate::files::{taken_by, unread};
+use crate::causes::{Cause, SystemReason};
+use crate::files::{taken_by, unread_by};
 use crate::messages::Fault;
 use nor_args::{Change, JournalUse, Regions, Task, Wanted};
 use nor_files::{Store, Stream};
@@ -142,7 +142,15 @@ pub fn apart_as<'a, R: Store>(
     match rt.is_one_file(one, other) {
         Ok(false) => Ok(()),
         Ok(true) => Err(taken_by(other, cause)),
-        Err(name) => Err(unread(name)),
+        Err(name) => Err(unread_by(name, unseen_cause(rt, name))),
+    }
+}
+
+// Returns why a name can't be looked up: the system's reason, if a second look-up fails, too.
+fn unseen_cause<R: Store>(rt: &R, name: &str) -> Cause {
+    match rt.look_up_error(name) {
+        Some(error) => Cause::System(SystemReason::of_reading(&error)),
+        None => Cause::Unknown,
     }
 }
 
@@ -178,7 +186,7 @@ pub fn is_printed<'a, R: Store>(
     };
     match rt.is_stream(stream, name) {
         Ok(is_stream) => Ok(is_stream),
-        Err(name) => Err(unread(name)),
+        Err(name) => Err(unread_by(name, unseen_cause(rt, name))),
     }
 }
 
@@ -189,7 +197,7 @@ pub fn found_streams<R: Store>(rt: &R) -> Result<(), Fault<'static>>
     ensures { IfErr result (IsUnseenStream (R.state rt.now).view.nature) }
 {
     match rt.unseen_stream() {
-        Some(name) => Err(unread(name)),
+        Some(name) => Err(unread_by(name, unseen_cause(rt, name))),
         None => Ok(()),
     }
 }

@@ -3,8 +3,10 @@ ghost use Rattle.std.specs.Prelude.{◌≡◌, IfOk, IfSome, None, take};
 ghost use Rattle.std.proofs.lemmas.Bool.{false≢true};
 
 use crate::folder::sync_folder;
-use crate::held::{Held, hold_chip, hold_journal, mode_beside, sync_under, write_from_start};
-use crate::identity::{is_one_file, is_stream, unseen_stream};
+use crate::held::{
+    Held, check_under, hold_chip, hold_journal, mode_beside, sync_under, write_from_start,
+};
+use crate::identity::{is_one_file, is_stream, look_up_error, unseen_stream};
 use crate::locks::LockFile;
 use crate::making::{LogFile, VaultedFile, make_empty, make_journal, make_new, open_log};
 use crate::store::{CreateFault, LockFault, Store, Stream};
@@ -119,6 +121,10 @@ where
         is_stream(self.files, stream, name)
     }
 
+    fn look_up_error(&self, name: &str) -> Option<io::Error> {
+        look_up_error(self.files, name)
+    }
+
     fn unseen_stream(&self) -> Option<&'static str> {
         unseen_stream(self.files)
     }
@@ -213,6 +219,13 @@ where
             }
         }
         Err(ErrorKind::NotFound.into())
+    }
+
+    fn still_has(&self, name: &str) -> bool {
+        match self.held(name) {
+            Some(held) => check_under(self.files, held).is_ok(),
+            None => false,
+        }
     }
 
     fn make(&mut self, name: &str) -> io::Result<()> {

@@ -146,14 +146,22 @@ pub fn write_from_start<F: Write + Seek>(file: &mut F, bytes: &[u8]) -> io::Resu
     file.write_all(bytes)
 }
 
-/// Syncs an open file. Then checks that its name still refers to it, and that it has the length `len`, if there is one.
-/// Otherwise a later run would not find what this run wrote, so the error is `NotFound`. The error is `NotFound`, too,
-/// if no file is open.
+/// Syncs an open file, and checks it as `check_under` does. The error is `NotFound`, too, if no file is open.
 pub fn sync_under<R: Files>(files: &R, held: &Held<R::File>) -> io::Result<()> {
     let Some(file) = &held.file else {
         return Err(ErrorKind::NotFound.into());
     };
     file.sync_all()?;
+    check_under(files, held)
+}
+
+/// Checks that the name of an open file still refers to it, and that it has the length `len`, if there is one.
+/// Otherwise a later run would not find what this run wrote, so the error is `NotFound`. The error is `NotFound`, too,
+/// if no file is open.
+pub fn check_under<R: Files>(files: &R, held: &Held<R::File>) -> io::Result<()> {
+    let Some(file) = &held.file else {
+        return Err(ErrorKind::NotFound.into());
+    };
     let there = fs::metadata(files, held.name.as_str())?;
     if is_same(&there, &file.metadata()?) && there.len() == held.len.unwrap_or(there.len()) {
         Ok(())

@@ -5,11 +5,11 @@ ghost use Rattle.nor_files.specs.Disk.{IsStreamName};
 
 use crate::folder::{folder_of, last_of};
 use crate::store::Stream;
-use std::fs;
 use std::fs::Metadata;
 use std::io::ErrorKind;
 use std::os::unix::fs::MetadataExt;
 use std::rt::Files;
+use std::{fs, io};
 
 /// Returns whether two names refer to one file. If both files exist, they must have the same device and inode. If
 /// neither exists, the names must have the same last part, in the same existing directory. A link to a file that
@@ -21,6 +21,22 @@ pub fn is_one_file<'n, R: Files>(files: &R, one: &'n str, other: &'n str) -> Res
         (Some(one), Some(other)) => Ok(is_same(&one, &other)),
         (None, None) => will_be_one_file(files, one, other),
         _ => Ok(false),
+    }
+}
+
+/// Returns the system's error of looking up this name, or of looking up its directory if the file is missing. Returns
+/// `None` if the file is found, or if only the file or its directory is missing.
+pub fn look_up_error<R: Files>(files: &R, name: &str) -> Option<io::Error> {
+    let missing = match fs::metadata(files, name) {
+        Ok(_) => return None,
+        Err(error) => error,
+    };
+    if !is_missing(missing.kind()) {
+        return Some(missing);
+    }
+    match fs::metadata(files, folder_of(name)) {
+        Err(error) if !is_missing(error.kind()) => Some(error),
+        _ => None,
     }
 }
 

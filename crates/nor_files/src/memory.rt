@@ -196,6 +196,10 @@ impl Store for Memory {
         Ok(false)
     }
 
+    fn look_up_error(&self, _name: &str) -> Option<io::Error> {
+        None
+    }
+
     fn unseen_stream(&self) -> Option<&'static str> {
         None
     }
@@ -266,6 +270,10 @@ impl Store for Memory {
         spend(&mut self.left)?;
         let at = self.find(name)?;
         self.files[at].set_len(self.alloc, len)
+    }
+
+    fn still_has(&self, _name: &str) -> bool {
+        true
     }
 
     fn make(&mut self, name: &str) -> io::Result<()> {

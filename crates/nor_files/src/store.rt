@@ -162,6 +162,12 @@ pub trait Store: AllocGlobal {
         ensures unseen { IfErr result (λ unseen. (unseen.now ≡ name.now)
             × ((state self.now).view.nature.fails (Unread name.now) ≡ true)) };
 
+    /// Returns the system's error of looking up this name, or of looking up its directory if the file is missing. Looks
+    /// both up again, to say why `is_one_file`, `is_stream` or `unseen_stream` failed. Returns `None` if the file is found
+    /// by now, or if only the file or its directory is missing. Contracts claim nothing about it. A store without files
+    /// of the system returns `None`.
+    fn look_up_error(&self, name: &str) -> Option<io::Error>;
+
     /// Returns a name of standard output or standard error, if this stream can't be looked up. No file can then be
     /// compared with the stream.
     fn unseen_stream(&self) -> Option<&'static str>
@@ -260,6 +266,13 @@ pub trait Store: AllocGlobal {
         ensures sets { IsKnownFile name.now (state self.old).view
             → SetsLength name.now len result (state self.old) (state self.new) }
         ensures fails { OnErr result ((state self.old).view.nature.fails (Unwritten name.now) ≡ true) };
+
+    /// Returns whether a later run will find what this run wrote to the named file: the name still refers to the file
+    /// that `hold` or `make` opened, and the file has the length that the last `set_len` gave it. A `sync` of a `Disk`
+    /// checks the same, so a run calls `still_has` if something else happened after the last `sync`. The bytes aren't
+    /// compared. If no file of this name is open, the result is false.
+    fn still_has(&self, name: &str) -> bool
+        ensures { result ≡ false → (state self.now).view.nature.fails (Unwritten name.now) ≡ true };
 
     /// Creates the named file, which must not exist. The new file is empty. A host crash may remove it until its
     /// directory is synced. On lawful files, a failure leaves the file as it was, if no vault or log in it is borrowed.

@@ -9,8 +9,8 @@ use crate::vault::{Vault, VaultFault};
 /// A vault that appends its bytes to a file opened for writing, and syncs the file when it is sealed. `put` fails if a
 /// write fails or writes no bytes, and `seal` if the sync fails.
 ///
-/// The vault isn't faithful, because contracts don't know what a file of the system contains. The `bytes` of its state
-/// show only whether it accepted a byte.
+/// That the file holds exactly the bytes that the vault accepted is assumed. Contracts don't know what a file of the
+/// system contains, so the vault's state isn't `telling`, and its `bytes` show only whether it accepted a byte.
 #[derive(Drop)]
 pub struct FileVault<F: VaultFile> {
     file: F,
