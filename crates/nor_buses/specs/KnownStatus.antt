@@ -61,8 +61,8 @@ pub record KeepsStatus (old new : Known) : Type 0 where
   pub written : new.written ≡ old.written
   pub locks : new.locks ≡ old.locks
 
--- Holds after a transaction that sends `out`, if the bus inside was sent no other modifying command than this one, at
--- most once. A status write was sent only if `IsStatusAllowed` holds.
+-- Holds after a transaction that sends `out`, if the bus inside was sent nothing that may modify the chip except this
+-- transaction, at most once. A status write was sent only if `IsStatusAllowed` holds.
 pub record SendsKept (locks : Bool) (out : List ℕ) (old new : BusState) : Type 0 where
   pub sent : (new.sent ≡ old.sent) ⊎ (new.sent ≡ with_sent out old.sent)
   pub kept : begins_status_write out ≡ true → (new ≡ old) ⊎ IsStatusAllowed locks out old.history

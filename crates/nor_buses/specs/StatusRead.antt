@@ -79,7 +79,7 @@ abbrev pub ends_busy : (history : List Exchange) → Bool
 ends_busy [] = false
 ends_busy (last ∷ earlier) = begins_with 0x05 last.out && shows_busy (bytes_or_none last.reply)
 
--- A busy chip ignores a read of its ID.
+-- True if the ID was read just after a poll that showed BUSY: a busy chip ignores this read.
 abbrev pub read_id_while_busy : (history : List Exchange) → Bool
 read_id_while_busy [] = false
 read_id_while_busy (last ∷ earlier) = has_read_id last && ends_busy earlier

@@ -41,7 +41,8 @@ pub struct Paced<B, C> {
     clock: C,
     // The typical duration in microseconds of the operation that began last; 0 if no command began one.
     typical: u64,
-    // The time at which its command was passed to the bus; `None` if there was none, or if the clock failed.
+    // The time at which the last command that began an operation was passed to the bus; `None` if there was none, or if
+    // the clock failed.
     sent: Option<Instant>,
     busy_polls: u64,
     ghost typical_is_short: { typical ≤ 150000 },
@@ -97,7 +98,7 @@ impl<B, C: Clock> Paced<B, C> {
         }
     }
 
-    // Returns the time in microseconds since that command, or 0 if it isn't known.
+    // Returns the time in microseconds since the last command that began an operation, or 0 if it isn't known.
     fn elapsed(&self) -> u64 {
         let Some(sent) = self.sent else {
             return 0;

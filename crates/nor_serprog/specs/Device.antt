@@ -90,7 +90,8 @@ pub record RepliesTo (commands : List Command) (old new : Device) : Type 0 where
   pub chip : new.chip ≡ old.chip
   pub worn : new.worn ≡ old.worn
 
--- Holds if one call sent all of `bytes`. Their effect is specified only for a frame of O_SPIOP and for `AsksFor`.
+-- Holds if one call sent all of `bytes`. Their effect is specified only if they complete a frame of O_SPIOP, or are
+-- whole frames of other commands (`AsksFor`).
 pub record IsSent (bytes : List ℕ) (old new : PortState) : Type 0 where
   pub left : old.left ≡ new.left + 1
   pub firmware : new.device.firmware ≡ old.device.firmware

@@ -141,7 +141,8 @@ abbrev pub settings_if_offered : Firmware → (opcode : ℕ) → Command → Pro
 settings_if_offered firmware opcode command settings =
     if has_command firmware opcode then settings_after firmware command settings else settings
 
--- The settings of a programmer that was prepared for SPI, which lacks the settings without a command.
+-- The settings of a programmer that was prepared for SPI: SPI (8) is selected and the pin drivers are on, each only if
+-- the programmer has the command for it.
 abbrev pub prepared_settings : Firmware → ProgrammerSettings → ProgrammerSettings
 prepared_settings firmware settings = record {
   bus_type = if has_command firmware 0x12 then Some 8 else settings.bus_type;

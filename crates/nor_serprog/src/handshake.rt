@@ -233,8 +233,8 @@ fn limit_of(reply: Option<[u8; 3]>) -> u32
 }
 
 // Returns the size of the serial buffer, or 0 if the programmer lacks Q_SERBUF. Returns the error `SmallBuffer` if the
-// programmer lacks Q_WRNMAXLEN, and a frame of `least` bytes does not fit into the buffer. A programmer that has
-// Q_WRNMAXLEN accepts a frame of the length that it allows, whatever the size of its buffer.
+// programmer has Q_SERBUF but lacks Q_WRNMAXLEN, and a frame of `least` bytes does not fit into the buffer. A
+// programmer that has Q_WRNMAXLEN accepts a frame of the length that it allows, whatever the size of its buffer.
 pub(crate) fn query_buffer<P: Port + Drop>(
     link: &mut Link<P>,
     commands: &Map,

@@ -176,7 +176,8 @@ fn identify_for<P: Port + Drop>(
     })
 }
 
-// Returns the greatest number of bytes that a transaction may send, if its frame must also fit into the serial buffer.
+// Returns the greatest number of bytes that a transaction may send. Without Q_WRNMAXLEN its frame must also fit into
+// the serial buffer (Q_SERBUF).
 fn part_limit(commands: &Map, longest_write: u32, serial_buffer: u16) -> u32
     requires { 5 ≤ longest_write }
     ensures value { result ≡ part_limit_of commands.now longest_write serial_buffer }

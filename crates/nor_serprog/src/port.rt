@@ -21,8 +21,8 @@ ghost use Rattle.nor_serprog.specs.Device.{PortState, IsSent, IsCutOff, IsReceiv
 ///
 /// Nothing is assumed about a port that isn't well-behaved, such as one of an operating system (`unknown_port`). Every
 /// port records what each call of `send` was asked to send (`asked`), and the bytes that `receive` returned
-/// (`received`), in a `Wire` if it isn't modelled. Each call must return, so an implementation that can block forever
-/// needs a timeout.
+/// (`received`); one of an operating system has a `Wire` for this. Each call must return, so an implementation that can
+/// block forever needs a timeout.
 pub trait Port {
     /// The cause of a failure of the port.
     type Cause: Drop;
