@@ -38,7 +38,8 @@ abbrev pub status_writes : Changes → ℕ
 status_writes changes = (if changes.unlock then 1 else 0) + (if writes_code changes then 1 else 0)
 
 -- True if the changes ask for a status write of the bytes `one` and `two`: one that clears the protection bits, or one
--- that writes the target bits. Both clear BUSY and WEL, and leave the other bits as they were read.
+-- that writes the target bits. The other bits are as they were read, except that BUSY, WEL and (for target bits below
+-- 64) SUS are clear.
 abbrev pub is_status_asked : Changes → (one two : ℕ) → Bool
 is_status_asked changes one two =
     (changes.unlock && is_status_with_code changes.status 0 one two)
@@ -99,8 +100,8 @@ LeavesApply changes wanted =
     Leaves (most_applied (sector_count (touched_in changes))) (most_sent changes) (CanApply changes wanted)
     (MayChange (touched_in changes) (raised_in changes) wanted)
 
--- Holds if each of these sectors was the target of an erase, and all erases were sent before the first page program.
--- `erasing` and `later` are the modifying commands since `old`, the last one first.
+-- Holds if each of these sectors was the target of an erase since `old`, and all erases were sent before the first page
+-- program. `erasing` and then `later` are the transactions since `old` that may modify the chip.
 pub record ErasesFirst (sectors : ℕ → Bool) (old new : BusState) : Type 0 where
   pub erasing : Sent
   pub later : Sent

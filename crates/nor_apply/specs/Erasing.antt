@@ -15,8 +15,8 @@ use Rattle.nor_apply.specs.Spending.{Tallies, may_target}
 abbrev pub is_erase_of : (sector : ℕ) → (out : List ℕ) → Bool
 is_erase_of sector out = begins_erase out && targets out sector
 
--- Holds if each of these sectors was the target of an erase since `old`. `later` has the modifying commands since then,
--- the last one first.
+-- Holds if each of these sectors was the target of an erase since `old`. `later` has the transactions since then that
+-- may modify the chip, the last one first.
 pub record SendsErases (sectors : ℕ → Bool) (old new : BusState) : Type 0 where
   pub later : Sent
   pub added : new.sent ≡ later ++ old.sent

@@ -23,7 +23,7 @@ NamesTimeoutIn sectors (Timeout address) = sectors (address / 4096) ≡ true
 
 -- Holds after a part of the changes succeeded, with `tally.count` operations and at most `readings` reads. Each
 -- operation takes at least 3 transactions, and at most 65,538 including polls that showed BUSY. If `tally.count` is 0,
--- no modifying command was sent.
+-- no transaction that may modify the chip was sent.
 pub record Tallies (readings : ℕ) (old new : BusState) (tally : Tally) : Type 0 where
   pub least : 3 * tally.count ≤ tally.transactions
   pub few : tally.transactions ≤ readings + most_operation * tally.count

@@ -5,8 +5,6 @@ use Rattle.nor_model.specs.Step.{Step, done_of, wears}
 use Rattle.nor_model.specs.Bus.{BusState, AtStop}
 use Rattle.nor_buses.specs.Keeps.{KeepsAll}
 
--- If `worn` is what `mid` and one transaction say about the erase of a sector, the same holds for the state `old`, with
--- the same chip and the same record of erased sectors.
 worn_after : (out : List ℕ) (replies : ℕ) (old mid : BusState) (worn : Bool) (s : ℕ) → KeepsAll old mid
     → worn ≡ (mid.worn s || wears (done_of mid.chip out replies) s)
     → worn ≡ (old.worn s || wears (done_of old.chip out replies) s)
@@ -14,7 +12,6 @@ worn_after out replies old mid worn s keeps is =
     subst (λ (chip : Chip). worn ≡ (mid.worn s || wears (done_of chip out replies) s)) keeps.chip is
     ∙ ap (λ (b : Bool). b || wears (done_of old.chip out replies) s) (keeps.worn s)
 
--- If reads left the chip as it was, and then one transaction stopped, all of them together stopped as this one did.
 pub stopped_after : {out : List ℕ} {old mid new : BusState} → mid.steady ≡ old.steady → KeepsAll old mid
     → AtStop out mid new → AtStop out old new
 stopped_after {out} {old} {mid} {new} steady keeps at = record {

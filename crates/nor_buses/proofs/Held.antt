@@ -1,5 +1,4 @@
--- Lemmas on the block of a `ReadAhead`, which holds the bytes that were read ahead: these bytes are the reply to the
--- last transaction over the bus inside.
+-- The block of a `ReadAhead` has the reply to the last transaction over the bus inside.
 use Rattle.std.proofs.Common.{◌≡◌, ◌∙◌, ◌<◌, ◌≤◌, ◌+◌, ◌-◌, ◌*◌, ◌++◌, ℕ, true, List, [], ◌∷◌, length, refl, sym, ap, subst, arith, take-take}
 use Rattle.std.specs.Prelude.{◌/◌, ◌%◌, Result, Ok, Err, OnOk, take, drop, slice_index}
 use Rattle.std.proofs.lemmas.List.{drop-take}
@@ -10,21 +9,17 @@ use Rattle.nor_model.specs.History.{replied}
 use Rattle.nor_model.specs.declared.bus.Stopped.{Stopped}
 use Rattle.nor_buses.specs.ReadsAs.{reads_data, address_in, part, EndsWithRead, EndsWithData, HoldsReply}
 
--- If the last transaction of a history, its first entry, is a read of data that succeeded, `EndsWithRead` holds.
 pub read_last : (start : ℕ) (out answer : List ℕ) (earlier history : List Exchange) → reads_data out ≡ true
     → address_in out ≡ start → history ≡ replied out answer ∷ earlier → EndsWithRead start answer history
 read_last start out answer earlier history reads address e =
     let P : List Exchange → Type 0 = λ h. EndsWithRead start answer h in
     subst P (sym e) (record { reads = reads; address = address; is = refl })
 
--- A list equals its part that begins at 0 (written `a - a`) and has the length of the list.
 pub whole_part : (a : ℕ) (bytes : List ℕ) → bytes ≡ part bytes (a - a) (length bytes)
 whole_part a bytes =
     let none : a - a ≡ 0 = omega arith in
     sym (ap (λ (k : ℕ). part bytes k (length bytes)) none ∙ take-length bytes)
 
--- If a read of data is passed on to the bus inside and succeeds, it is the last transaction of that bus, and `answer`
--- is its reply.
 pub passed : (out answer : List ℕ) (result : Result Unit Stopped) (old new : BusState)
     → Records out answer result old new → reads_data out ≡ true
     → OnOk result (EndsWithData (address_in out) answer new.history)
@@ -37,7 +32,6 @@ passed out answer (Ok done) old new records reads = record {
   same = whole_part (address_in out) answer;
 }
 
--- If a part of `bytes` ends within the first `len` bytes, it is the same part of these first `len` bytes.
 pub part_of_take : (j n len : ℕ) (bytes : List ℕ) → j + n ≤ len → part bytes j n ≡ part (take len bytes) j n
 part_of_take j n len bytes fits =
     let m = len - j in
@@ -46,8 +40,6 @@ part_of_take j n len bytes fits =
     ap (λ (k : ℕ). drop j (take k bytes)) (sym whole) ∙ drop-take j m bytes in
     sym (ap (λ (xs : List ℕ). take n xs) inner ∙ take-take n m (drop j bytes) (omega (arith, fits)))
 
--- If `bytes` are the four bytes of an address below 2^24, high byte first, the last three of them have the value of the
--- address.
 pub address_sent : (address : ℕ) (bytes : List ℕ) → address ≤ 16777215
     → bytes ≡ address / 16777216 % 256 ∷ address / 65536 % 256 ∷ address / 256 % 256 ∷ address % 256 ∷ []
     → 65536 * slice_index bytes 1 + 256 * slice_index bytes 2 + slice_index bytes 3 ≡ address
@@ -55,8 +47,6 @@ address_sent address bytes below e =
     let P : List ℕ → Type 0 = λ b. 65536 * slice_index b 1 + 256 * slice_index b 2 + slice_index b 3 ≡ address in
     subst P (sym e) (omega (arith, below))
 
--- If a read of data from `address` on succeeded and its reply was stored at the beginning of a block, the first `len`
--- bytes of the block are the reply to the last transaction of the bus inside.
 pub filled : (address len : ℕ) (bytes answer rest : List ℕ) (result : Result Unit Stopped) (old new : BusState)
     → address ≤ 16777215
     → bytes ≡ address / 16777216 % 256 ∷ address / 65536 % 256 ∷ address / 256 % 256 ∷ address % 256 ∷ []
@@ -71,8 +61,6 @@ filled address len bytes answer rest (Ok done) old new below e whole records =
     subst P (sym same)
     (read_last address _ answer old.history new.history refl (address_sent address bytes below e) records.history)
 
--- If a block holds the last reply of the bus inside, the bytes that are copied from the block are the bytes of this
--- reply at the same addresses.
 pub held_reply : (at n k start len : ℕ) (block reply : List ℕ) (history : List Exchange)
     → HoldsReply block start len history → start ≤ at → at + n ≤ start + len → 0 < n → k ≡ n → length reply ≡ n
     → reply ≡ part block (at - start) k → EndsWithData at reply history

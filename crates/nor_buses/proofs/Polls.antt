@@ -1,5 +1,4 @@
--- What polls, reads of status 2 and reads of the ID leave of the chip: a poll that shows that the chip is ready, and
--- each of the others, leave it as it was.
+-- Polls of a ready chip, reads of status 2 and reads of the ID leave the chip as it was.
 use Rattle.std.proofs.Common.{◌≡◌, ◌∙◌, ◌⊎◌, ◌<◌, ◌≤◌, ℕ, zero, suc, Bool, true, false, List, [], ◌∷◌, length, take, refl, sym, ap, subst, arith, inl, inr}
 use Rattle.std.specs.Prelude.{◌+◌, ◌*◌, ◌-◌, ◌%◌, ◌==◌, ◌||◌, slice_index, slice_set, if◌then◌else◌}
 use Rattle.std.proofs.Math.Bool.{or-false}
@@ -11,21 +10,18 @@ use Rattle.nor_model.specs.Bus.{BusState, SameNature, IsHonestFor, AtStop}
 use Rattle.nor_buses.specs.Keeps.{KeepsAll, StopsUnread, MakesStep}
 use Rattle.nor_buses.proofs.ReadsKeep.{same_chip, read_made, stops_then, keeps_then}
 
--- A short transaction fits every well-behaved bus.
 pub fits_short : {out : List ℕ} {n : ℕ} {state : BusState} → length out ≤ 260 → n ≤ 4096 → state.honest ≡ true
     → IsHonestFor out n state
 fits_short sends reads honest = record { honest = honest; fits = inr (sends, omega (arith, reads)) }
 
 -- ---- a chip that is ready
 
--- If the lowest bit of status 1 is 0, the chip is idle.
 ready_by : (idle latch : Bool) (one : ℕ)
     → (4 * one + (if latch then 2 else 0) + (if idle then 0 else 1)) % 2 ≡ 0 → idle ≡ true
 ready_by true latch one even = refl
 ready_by false true one even = let odd : (4 * one + 2 + 1) % 2 ≡ 0 = even in absurd (omega (arith, odd))
 ready_by false false one even = let odd : (4 * one + 0 + 1) % 2 ≡ 0 = even in absurd (omega (arith, odd))
 
--- If a poll showed that the chip is ready, it is.
 pub ready_shown : {status : ℕ} {old new : BusState} → MakesStep (0x05 ∷ []) (status ∷ []) old new → status % 2 ≡ 0
     → old.chip.busy ≡ 0
 ready_shown {status} {old} {new} made even =
@@ -33,14 +29,12 @@ ready_shown {status} {old} {new} made even =
     eqb-true old.chip.busy 0
     (ready_by (old.chip.busy == 0) old.chip.latch old.chip.kept.one (subst (λ (n : ℕ). n % 2 ≡ 0) shown even))
 
--- A poll leaves a chip that is ready as it was.
 poll_same : {chip new : Chip} {answer : List ℕ} → chip.busy ≡ 0 → Step chip (0x05 ∷ []) answer new → new ≡ chip
 poll_same {chip} {new} {answer} ready does =
     let least : chip.busy - 1 ≡ chip.busy = omega (arith, ready) in
     same_chip does.config does.bytes does.kept
     (does.latch ∙ ap (λ (n : ℕ). if n == 1 then false else chip.latch) ready) (does.busy ∙ least) does.running
 
--- The same for the bus: a poll of a chip that is ready keeps the chip and the record of erased sectors.
 pub poll_keeps : {answer : List ℕ} {old new : BusState} → old.chip.busy ≡ 0 → MakesStep (0x05 ∷ []) answer old new
     → KeepsAll old new
 poll_keeps {answer} {old} {new} ready made = record {
@@ -48,11 +42,9 @@ poll_keeps {answer} {old} {new} ready made = record {
   worn = λ s. made.worn s ∙ or-false (old.worn s);
 }
 
--- A read of status 2 leaves the chip as it was, even while it is busy.
 second_same : {chip new : Chip} {answer : List ℕ} → Step chip (0x35 ∷ []) answer new → new ≡ chip
 second_same does = same_chip does.config does.bytes does.kept does.latch does.busy does.running
 
--- The same for the bus.
 pub second_keeps : {answer : List ℕ} {old new : BusState} → MakesStep (0x35 ∷ []) answer old new → KeepsAll old new
 second_keeps {answer} {old} {new} made = record {
   chip = second_same made.step;
@@ -61,17 +53,14 @@ second_keeps {answer} {old} {new} made = record {
 
 -- ---- stops
 
--- The first bytes of a single byte are none or this byte.
 taken : (count opcode : ℕ) → (take count (opcode ∷ []) ≡ []) ⊎ (take count (opcode ∷ []) ≡ opcode ∷ [])
 taken zero opcode = inl refl
 taken (suc zero) opcode = inr refl
 taken (suc (suc n)) opcode = inr refl
 
--- A transaction without bytes leaves the chip as it was.
 none_same : {chip new : Chip} {answer : List ℕ} → Step chip [] answer new → new ≡ chip
 none_same does = same_chip does.config does.bytes does.kept does.latch does.busy does.running
 
--- If a transaction of one byte leaves the chip as it was, so does any part of it.
 part_same : {chip reached : Chip} (count opcode : ℕ) (read : List ℕ)
     → (Step chip (opcode ∷ []) read reached → reached ≡ chip)
     → Step chip (take count (opcode ∷ [])) read reached → reached ≡ chip
@@ -80,7 +69,6 @@ part_same {chip} {reached} count opcode read same step = elim (taken count opcod
   | inr all ↦ same (subst (λ (out : List ℕ). Step chip out read reached) all step)
 ]
 
--- If a transaction of one byte erases no sector, neither does any part of it.
 part_wears : (chip : Chip) (count opcode replies s : ℕ) → wears (done_of chip (opcode ∷ []) replies) s ≡ false
     → wears (done_of chip (take count (opcode ∷ [])) replies) s ≡ false
 part_wears chip count opcode replies s same = elim (taken count opcode) [
@@ -88,8 +76,6 @@ part_wears chip count opcode replies s same = elim (taken count opcode) [
   | inr all ↦ ap (λ (out : List ℕ). wears (done_of chip out replies) s) all ∙ same
 ]
 
--- If a transaction of one byte leaves the chip as it was and erases nothing, a stop at it leaves the chip as it was, or
--- without power.
 stops_same : {opcode : ℕ} {old new : BusState}
     → ((read : List ℕ) (reached : Chip) → Step old.chip (opcode ∷ []) read reached → reached ≡ old.chip)
     → ((replies s : ℕ) → wears (done_of old.chip (opcode ∷ []) replies) s ≡ false)
@@ -104,17 +90,14 @@ stops_same {opcode} {old} {new} same wears_none at =
       unsent = at.unsent;
     }
 
--- A stop at a read of status 2 leaves the chip as it was, or without power.
 pub second_stops : {old new : BusState} → AtStop (0x35 ∷ []) old new → StopsUnread old new
 second_stops at = stops_same (λ read reached step. second_same step) (λ replies s. refl) at
 
--- If the chip is ready, a stop at a poll leaves the chip as it was, or without power.
 pub poll_stops : {old new : BusState} → old.chip.busy ≡ 0 → AtStop (0x05 ∷ []) old new → StopsUnread old new
 poll_stops ready at = stops_same (λ read reached step. poll_same ready step) (λ replies s. refl) at
 
 -- ---- two in a row
 
--- If the chip made a step, and what follows leaves it as it was, it made this one step.
 pub made_then : {out answer : List ℕ} {old mid new : BusState} → MakesStep out answer old mid → KeepsAll mid new
     → MakesStep out answer old new
 made_then {out} {answer} {old} {mid} {new} made keeps = record {
@@ -127,7 +110,6 @@ pub record Quiet (old new : BusState) : Type 0 where
   pub nature : SameNature old new
   pub keeps : KeepsAll old new
 
--- Two such runs of transactions in a row are one.
 pub quiet_then : {old mid new : BusState} → Quiet old mid → Quiet mid new → Quiet old new
 quiet_then {old} {mid} {new} first last = record {
   nature = record {
@@ -141,7 +123,6 @@ quiet_then {old} {mid} {new} first last = record {
   keeps = keeps_then first.keeps last.keeps;
 }
 
--- A read of the ID leaves the chip as it was; so do a read of status 2, and a poll of a chip that is ready.
 pub quiet_id : {answer : List ℕ} {old new : BusState} → SameNature old new → MakesStep (0x9F ∷ []) answer old new
     → Quiet old new
 quiet_id nature made = record { nature = nature; keeps = read_made refl made }
@@ -154,7 +135,6 @@ pub quiet_poll : {answer : List ℕ} {old new : BusState} → SameNature old new
     → MakesStep (0x05 ∷ []) answer old new → Quiet old new
 quiet_poll nature ready made = record { nature = nature; keeps = poll_keeps ready made }
 
--- After such transactions the bus is well-behaved if it was before, and the chip is ready if it was before.
 pub still_honest : {old new : BusState} → Quiet old new → old.honest ≡ true → new.honest ≡ true
 still_honest quiet honest = quiet.nature.honest ∙ honest
 
@@ -165,8 +145,6 @@ still_ready quiet ready = ap (λ (chip : Chip). chip.busy) quiet.keeps.chip ∙ 
 pub behind : {old mid new : BusState} → Quiet old mid → StopsUnread mid new → StopsUnread old new
 behind quiet stops = stops_then quiet.nature.steady quiet.keeps stops
 
--- If the first of several transactions was a step that left the chip as it was, and so did all of them together, all of
--- them make this one step.
 pub quiet_made : {out answer : List ℕ} {old mid new : BusState} → Quiet old mid → Quiet old new
     → MakesStep out answer old mid → MakesStep out answer old new
 quiet_made {out} {answer} {old} {mid} {new} first whole made = made_then made record {
@@ -174,24 +152,20 @@ quiet_made {out} {answer} {old} {mid} {new} first whole made = made_then made re
   worn = λ s. whole.keeps.worn s ∙ sym (first.keeps.worn s);
 }
 
--- No transaction changes nothing.
 pub nature_none : {state : BusState} → SameNature state state
 nature_none = record { honest = refl; steady = refl; unlimited = refl; longer = refl; punctual = refl; config = λ honest. refl }
 
--- A list of one byte, of which the byte is known.
 bare : (out : List ℕ) (opcode : ℕ) → slice_index out 0 ≡ opcode → 1 ≤ length out → length out < 2
     → out ≡ opcode ∷ []
 bare [] opcode is some short = absurd (omega (arith, some))
 bare (first ∷ []) opcode is some short = ap (λ (byte : ℕ). byte ∷ []) is
 bare (first ∷ next ∷ rest) opcode is some short = absurd (omega (arith, short))
 
--- A list of one byte, after it was set.
 alone : (reply : List ℕ) (byte : ℕ) → length reply ≡ 1 → slice_set reply 0 byte ≡ byte ∷ []
 alone [] byte one = absurd (omega (arith, one))
 alone (first ∷ []) byte one = refl
 alone (first ∷ next ∷ rest) byte one = absurd (omega (arith, one))
 
--- A step of a transaction with one byte sent and one byte read, in the caller's own lists.
 pub made_as : {opcode byte : ℕ} {old new : BusState} (out reply : List ℕ) → slice_index out 0 ≡ opcode
     → 1 ≤ length out → length out < 2 → length reply ≡ 1 → MakesStep (opcode ∷ []) (byte ∷ []) old new
     → MakesStep out (slice_set reply 0 byte) old new

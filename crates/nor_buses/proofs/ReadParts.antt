@@ -20,7 +20,6 @@ use Rattle.nor_buses.proofs.SameReply.{same_reply}
 
 -- ---- buses
 
--- If each of two successive calls keeps the nature of a bus, both together keep it.
 pub nature_then : (old mid new : BusState) → SameNature old mid → SameNature mid new → SameNature old new
 nature_then old mid new one two = record {
   honest = two.honest ∙ one.honest;
@@ -38,8 +37,6 @@ record_then old mid new one two = record {
   polled_ready = two.polled_ready ∙ one.polled_ready;
 }
 
--- If a well-behaved bus accepts a transaction, it accepts one that sends at most 260 bytes and reads no more than the
--- first, after a call that keeps the nature of the bus.
 pub fits_less : (out other : List ℕ) (m n : ℕ) (old new : BusState) → SameNature old new → length other ≤ 260 → n ≤ m
     → IsHonestFor out m old → IsHonestFor other n new
 fits_less out other m n old new nature short less fits = record {
@@ -52,16 +49,12 @@ fits_less out other m n old new nature short less fits = record {
 
 -- ---- parts of a reply
 
--- If a part lies within `bytes`, its length is `len` (`part_length`), and its byte with the index `i` is that of
--- `bytes` with the index `n + i`.
 part_length : (bytes : List ℕ) (n len : ℕ) → n + len ≤ length bytes → length (part bytes n len) ≡ len
 part_length bytes n len within = length-take-le len (drop n bytes) (omega (arith, within, length-drop n bytes))
 
 part_byte : (bytes : List ℕ) (n len i : ℕ) → i < len → slice_index (part bytes n len) i ≡ slice_index bytes (n + i)
 part_byte bytes n len i below = get_or-take len (drop n bytes) i 0 below ∙ get_or-drop n bytes i 0
 
--- If `answer` is the data of a chip from `at` on, a read of the `len` bytes from `at + from` on returns this part of
--- `answer`.
 pub part_returned : (chip : Chip) (at from len : ℕ) (answer other : List ℕ) → HasData chip at answer
     → HasData chip (at + from) other → length other ≡ len → from + len ≤ length answer → other ≡ part answer from len
 part_returned chip at from len answer other whole some same within =
@@ -72,8 +65,6 @@ part_returned chip at from len answer other whole some same within =
     some.same i below ∙ ap (λ (a : ℕ). data_byte chip a) next
     ∙ sym (whole.same (from + i) (omega (arith, inside, within))) ∙ sym (part_byte answer from len i inside))
 
--- If the bytes of a reply with the indices `n` to `m - 1` equal those of an image at their addresses, each of them is
--- expected.
 pub expected_part : (image : List ℕ) (at : ℕ) (answer : List ℕ) (n m : ℕ) → n ≤ m → m ≤ length answer
     → part answer n (m - n) ≡ part image (at + n) (m - n) → (i : ℕ) → n ≤ i → i < m → IsExpected image at answer i
 expected_part image at answer n m order within same i above below =
@@ -91,7 +82,6 @@ expected_part image at answer n m order within same i above below =
           ∙ ap (λ (k : ℕ). slice_index image k) far;
     }
 
--- If two lists of equal length differ, they differ at some index.
 differ_at : (xs ys : List ℕ) → length xs ≡ length ys → (xs ≡ ys → ⊥)
     → (j : ℕ) × ((j < length xs) × (slice_index xs j ≡ slice_index ys j → ⊥))
 differ_at [] [] len differ = absurd (differ refl)
@@ -106,7 +96,6 @@ differ_at (x ∷ xs) (y ∷ ys) len differ =
       | inr other ↦ (0, (omega arith, other))
     ]
 
--- If the bytes of a reply with the indices `n` to `m - 1` reach past the end of an image, one of them is not expected.
 pub differs_past : (image : List ℕ) (at : ℕ) (answer : List ℕ) (n m : ℕ) → n < m → length image < at + m
     → DiffersBetween image at answer n m
 differs_past image at answer n m some past = record {
@@ -116,8 +105,6 @@ differs_past image at answer n m some past = record {
   differs = λ (is : IsExpected image at answer (m - 1)). omega (arith, is.within, some, past);
 }
 
--- If the bytes of a reply with the indices `n` to `m - 1` differ from those of an image at their addresses, one of them
--- is not expected.
 pub differs_part : (image : List ℕ) (at : ℕ) (answer : List ℕ) (n m : ℕ) → n < m → m ≤ length answer
     → at + m ≤ length image → (part answer n (m - n) ≡ part image (at + n) (m - n) → ⊥)
     → DiffersBetween image at answer n m
@@ -138,8 +125,6 @@ differs_part image at answer n m some within fits differ =
           ∙ sym (part_byte image (at + n) len k below));
     }
 
--- If one of the bytes with the indices `n` to `m - 1` is not expected, and all of them lie in one sector, each of them
--- lies in a sector that differs from the image.
 pub differs_all : (image : List ℕ) (at : ℕ) (answer : List ℕ) (n m : ℕ) → DiffersBetween image at answer n m
     → m ≤ length answer → ((i : ℕ) → n ≤ i → i < m → (at + i) / 4096 ≡ (at + n) / 4096) → (i : ℕ) → n ≤ i → i < m
     → DiffersInSector image at answer i
@@ -150,14 +135,12 @@ differs_all image at answer n m one within sector i above below = record {
   differs = one.differs;
 }
 
--- The range of an image from `at + n` to `at + m` is its part of `m - n` bytes that begins at `at + n`.
 pub range_part : (image : List ℕ) (at n m : ℕ) → slice_range image (at + n) (at + m) ≡ part image (at + n) (m - n)
 range_part image at n m =
     let len : (at + m) - (at + n) ≡ m - n = omega arith in ap (λ (k : ℕ). take k (drop (at + n) image)) len
 
 -- ---- parts that are read again
 
--- `RepeatsBelow` holds for 0 bytes of a reply if nothing was read again.
 pub repeats_none : (image : List ℕ) (at : ℕ) (answer : List ℕ) (old : BusState)
     → RepeatsBelow image at answer 0 old old
 repeats_none image at answer old = record {
@@ -168,13 +151,10 @@ repeats_none image at answer old = record {
   carried = λ honest. refl;
 }
 
--- If `P` follows from `i < n`, and also from `n ≤ i`, `P` holds.
 by_end : (P : Type 0) (i n : ℕ) → (i < n → P) → (n ≤ i → P) → P
 by_end P i n below above =
     elim (cases_Bool (ltb i n)) [ inl is ↦ below (ltb-true i n is) | inr not ↦ above (ltb-false i n not) ]
 
--- If `RepeatsBelow` holds for the first `n` bytes, and those from the index `n` to `m - 1` are expected, it holds for
--- the first `m` bytes.
 pub repeats_expected : (image : List ℕ) (at : ℕ) (answer : List ℕ) (n m : ℕ) (old new : BusState)
     → RepeatsBelow image at answer n old new → ((i : ℕ) → n ≤ i → i < m → IsExpected image at answer i)
     → RepeatsBelow image at answer m old new
@@ -186,15 +166,12 @@ repeats_expected image at answer n m old new was expected = record {
   carried = was.carried;
 }
 
--- If a byte is expected or was read again, this stays true after one more transaction.
 each_then : (image : List ℕ) (at : ℕ) (answer : List ℕ) (i : ℕ) (more : Exchange) (later : List Exchange)
     → IsExpected image at answer i ⊎ WasReadAgain at answer i later
     → IsExpected image at answer i ⊎ WasReadAgain at answer i (more ∷ later)
 each_then image at answer i more later (inl expected) = inl expected
 each_then image at answer i more later (inr again) = inr (inr again)
 
--- If `RepeatsBelow` holds for the first `n` bytes, and those from the index `n` to `m - 1` lie in sectors that differ
--- from the image and were read again, it holds for the first `m` bytes.
 pub repeats_read : (image : List ℕ) (at : ℕ) (answer : List ℕ) (n m : ℕ) (old mid new : BusState)
     → RepeatsBelow image at answer n old mid → n ≤ m → m ≤ length answer
     → new.history ≡ replied (data_read (at + n)) (part answer n (m - n)) ∷ mid.history
@@ -227,7 +204,6 @@ repeats_read image at answer n m old mid new was order within grows carries diff
 
 -- ---- the whole of a reply
 
--- If `RepeatsBelow` holds for all bytes of the reply to a read of data, `RepeatsDiffering` holds.
 pub repeats_all : (image out answer : List ℕ) (old mid new : BusState) → reads_data out ≡ true
     → mid.history ≡ replied out answer ∷ old.history
     → RepeatsBelow image (address_in out) answer (length answer) mid new
@@ -240,8 +216,6 @@ repeats_all image out answer old mid new reads first was = record {
   each = was.each;
 }
 
--- If `RepeatsBelow` holds for all bytes of the reply, and a well-behaved bus carried out the first read,
--- `CarriesDiffering` holds.
 pub carries_all : (image out answer : List ℕ) (old mid new : BusState) → reads_data out ≡ true
     → mid.history ≡ replied out answer ∷ old.history
     → RepeatsBelow image (address_in out) answer (length answer) mid new
@@ -257,7 +231,6 @@ carries_all image out answer old mid new reads first was carries honest = record
 
 -- ---- a part that is read again on a well-behaved bus
 
--- If a well-behaved bus accepted the whole read, it accepts a read of one of its parts.
 pub part_fits : (at n m : ℕ) (out answer : List ℕ) (old mid : BusState) → out ≡ data_read (at + n) → n ≤ m
     → m ≤ length answer → SameNature old mid → IsHonestFor (data_read at) (length answer) old
     → IsHonestFor out (length (part answer n (m - n))) mid
@@ -266,7 +239,6 @@ part_fits at n m out answer old mid sent order within nature honest =
     fits_less (data_read at) out (length answer) (length (part answer n (m - n))) old mid nature (omega (arith, len))
     (omega (arith, part_length answer n (m - n) (omega (arith, order, within)), order, within)) honest
 
--- After a read of a part, the data of the chip are the same.
 pub part_stays : (at n m : ℕ) (out answer bytes : List ℕ) (mid new : BusState) → out ≡ data_read (at + n)
     → HasData mid.chip at answer → Carries out bytes mid new → HasData new.chip at answer
 part_stays at n m out answer bytes mid new sent has carries =
@@ -274,7 +246,6 @@ part_stays at n m out answer bytes mid new sent has carries =
     data_still at answer mid.chip new.chip
     (data_read_stays (at + n) mid.chip new.chip bytes (subst P sent carries.step)) has
 
--- If a chip has the data `answer`, a second read of a part of them can't return other bytes.
 pub part_same : (at n m : ℕ) (out answer : List ℕ) (mid new : BusState) → out ≡ data_read (at + n) → n < m
     → m ≤ length answer → at + length answer ≤ 16777216 → HasData mid.chip at answer
     → CarriesOther out (part answer n (m - n)) mid new → ⊥
@@ -286,7 +257,6 @@ part_same at n m out answer mid new sent order within below has other =
     other.differs (part_returned mid.chip at n (m - n) answer other.other has got (other.len ∙ len)
     (omega (arith, order, within)))
 
--- If a well-behaved bus carried out a read of data, its reply is the data of the chip from the address of the read on.
 pub first_data : (out answer : List ℕ) (old new : BusState) → reads_data out ≡ true → FirstRead out answer old new
     → HasData new.chip (address_in out) answer
 first_data (opcode ∷ x ∷ y ∷ z ∷ []) answer old new reads first =
@@ -296,32 +266,26 @@ first_data (opcode ∷ x ∷ y ∷ z ∷ []) answer old new reads first =
     (data_stays x y z old.chip new.chip answer step) (data_returned x y z old.chip new.chip answer step)
 first_data _ answer old new reads first = absurd (false≢true reads)
 
--- If `Q x` follows from `P x` for each value `x`, and `P` holds for a result, `Q` holds for it.
 pub if_ok : (result : Result Bool Stopped) (P Q : Bool → Type 0) → IfOk result P → ((x : Bool) → P x → Q x)
     → IfOk result Q
 if_ok (Ok x) P Q fact leads = leads x fact
 if_ok (Err stop) P Q fact leads = tt
 
--- If a truth value is not false, it is true.
 true_by : (b : Bool) → (b ≡ false → ⊥) → b ≡ true
 true_by true never = refl
 true_by false never = absurd (never refl)
 
 -- ---- a read that is confirmed, after its first reply
 
--- If a well-behaved bus accepted the first read, it then also accepts a read of data with a reply of the same length.
 pub fits_first : (at : ℕ) (out answer : List ℕ) (old mid : BusState) → FirstRead out answer old mid
     → IsHonestFor out (length answer) old → IsHonestFor (data_read at) (length answer) mid
 fits_first at out answer old mid first honest =
     fits_less out (data_read at) (length answer) (length answer) old mid first.nature (omega arith) (omega arith) honest
 
--- The predicate `CarriesUnexpected`, with the expected image as an argument.
 abbrev pub CarriesBy : (out answer : List ℕ) → (old new : BusState) → (expected : Option (Vec ℕ Global)) → Type 0
 CarriesBy out answer old new None = ⊥
 CarriesBy out answer old new (Some image) = CarriesDiffering image.items out answer old new
 
--- If an image is expected, and a well-behaved bus read each sector again that differs from it (`RepeatsBelow` for all
--- bytes of the reply), `CarriesUnexpected` holds for that image (`CarriesBy`).
 pub carries_expected : (expected : Option (Vec ℕ Global)) (image : Vec ℕ Global) (items out answer : List ℕ) (at : ℕ)
     (old mid new : BusState) → expected ≡ Some image → items ≡ image.items → reads_data out ≡ true
     → at ≡ address_in out → FirstRead out answer old mid → IsHonestFor out (length answer) old
@@ -335,15 +299,12 @@ carries_expected expected image items out answer at old mid new is same reads ad
     (carries_all image.items out answer old mid new reads first.history (subst R address (subst Q same below))
     first.carries (fits_first (address_in out) out answer old mid first honest))
 
--- If a well-behaved bus carried out a read of data whose address is `at`, its reply is the data of the chip from `at`
--- on.
 pub first_data_at : (at : ℕ) (out answer : List ℕ) (old mid : BusState) → reads_data out ≡ true → at ≡ address_in out
     → FirstRead out answer old mid → HasData mid.chip at answer
 first_data_at at out answer old mid reads address first =
     let P : ℕ → Type 0 = λ a. HasData mid.chip a answer in
     subst P (sym address) (first_data out answer old mid reads first)
 
--- If the second read of the whole reply had the same reply as the first, `ReadsTwice` holds.
 pub carries_whole : (out answer : List ℕ) (old mid new : BusState) (same : Bool) → FirstRead out answer old mid
     → (same ≡ true → Carries out answer mid new) → same ≡ true → ReadsTwice out answer old new
 carries_whole out answer old mid new same first again is = record {
@@ -352,7 +313,6 @@ carries_whole out answer old mid new same first again is = record {
   again = again is;
 }
 
--- If a read of an ID, of SFDP or of data is repeated at once, a well-behaved bus returns the same reply.
 pub whole_same : (out answer : List ℕ) (old mid new : BusState) (same : Bool) → begins_read out ≡ true
     → FirstRead out answer old mid → (same ≡ false → CarriesOther out answer mid new) → same ≡ true
 whole_same out answer old mid new same reads first other =
@@ -361,7 +321,6 @@ whole_same out answer old mid new same reads first other =
     differing.differs (same_reply out old.chip mid.chip new.chip answer differing.other reads first.carries.step
     differing.carries.step differing.len))
 
--- If a well-behaved bus accepts a read, it also accepts a read of data with a reply of the same length.
 pub fits_data : (at : ℕ) (out answer : List ℕ) (bus : BusState) → IsHonestFor out (length answer) bus
     → IsHonestFor (data_read at) (length answer) bus
 fits_data at out answer bus honest = record {

@@ -17,7 +17,6 @@ use Rattle.nor_model.proofs.Steps.{nothing_sent}
 use Rattle.nor_buses.specs.Twice.{begins_read}
 use Rattle.nor_buses.specs.Keeps.{KeepsAll, StopsUnread, MakesStep}
 
--- true if the command reads an ID, SFDP or data, or is ignored
 abbrev is_reading : Command → Bool
 is_reading (ReadData at) = true
 is_reading ReadId = true
@@ -84,13 +83,11 @@ worn_same : (command : Command) (worn now : Bool) (s : ℕ) → is_reading comma
 worn_same command worn now s is by =
     by ∙ ap (λ (b : Bool). worn || b) (reading_wears command is s) ∙ or-false worn
 
--- A read erases nothing.
 pub read_wears_none : (chip : Chip) (out : List ℕ) (replies s : ℕ) (worn : Bool) → begins_read out ≡ true
     → worn ≡ (worn || wears (done_of chip out replies) s)
 read_wears_none chip out replies s worn reads =
     sym (ap (λ (b : Bool). worn || b) (reading_wears _ (reads_done chip out replies reads) s) ∙ or-false worn)
 
--- A read that a well-behaved bus carried out leaves the chip and the record of erased sectors as they were.
 pub read_made : {out answer : List ℕ} {old new : BusState} → begins_read out ≡ true → MakesStep out answer old new
     → KeepsAll old new
 read_made {out} {answer} {old} {new} reads made =
@@ -105,7 +102,6 @@ read_keeps {out} {answer} {old} {new} reads carries =
     read_made {out = out} {answer = answer} {old = old} {new = new} reads
     (record { step = carries.step; worn = carries.worn })
 
--- A stop at a read leaves the chip as it was, or without power.
 pub read_stops : {out : List ℕ} {old new : BusState} → begins_read out ≡ true → Stops out old new
     → StopsUnread old new
 read_stops {out} {old} {new} reads stops =
@@ -135,7 +131,6 @@ stops_then {old} {mid} {new} steady keeps stops = record {
   unsent = λ is. stops.unsent (steady ∙ is) ∙ keeps.chip;
 }
 
--- A stop that leaves the chip as it was, or without power, is a stop before the first byte of any transaction.
 pub stops_at : {out : List ℕ} {old new : BusState} → StopsUnread old new → AtStop out old new
 stops_at {out} {old} {new} stops = record {
   count = 0;
@@ -151,7 +146,6 @@ stops_at {out} {old} {new} stops = record {
 pub step_of : {out answer : List ℕ} {old new : BusState} → Carries out answer old new → MakesStep out answer old new
 step_of carries = record { step = carries.step; worn = carries.worn }
 
--- If a read was carried out, and only reads follow it, the chip made one step.
 pub step_then : {out answer : List ℕ} {old mid new : BusState} → Carries out answer old mid → KeepsAll mid new
     → MakesStep out answer old new
 step_then {out} {answer} {old} {mid} {new} carries keeps = record {
@@ -162,7 +156,6 @@ step_then {out} {answer} {old} {mid} {new} carries keeps = record {
 pub keeps_stops : {old new : BusState} → KeepsAll old new → StopsUnread old new
 keeps_stops keeps = record { chip = inl keeps.chip; worn = keeps.worn; unsent = λ steady. keeps.chip }
 
--- If a read was carried out, a stop at a later read is a stop of both together.
 pub confirmed_stops : {out answer : List ℕ} {old mid new : BusState} → begins_read out ≡ true
     → mid.steady ≡ old.steady → Carries out answer old mid → StopsUnread mid new → AtStop out old new
 confirmed_stops reads steady carries stops = stops_at (stops_then steady (read_keeps reads carries) stops)

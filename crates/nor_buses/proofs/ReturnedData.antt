@@ -9,7 +9,6 @@ use Rattle.nor_model.specs.Step.{Step, Does}
 use Rattle.nor_buses.specs.Again.{data_read, data_byte, HasData}
 use Rattle.nor_buses.proofs.SameReply.{Still, read_of, still_after_reading, reading_or_none}
 
--- An idle chip replies to a read of data from `at` on with its bytes, and a busy chip replies with FFh.
 data_at : (idle : Bool) (at : ℕ) (old new : Chip) (answer : List ℕ)
     → Does (read_of idle (ReadData (at % old.config.size))) [] old answer new → (i : ℕ) → i < length answer
     → slice_index answer i ≡ (if idle then old.bytes ((at + i) % old.config.size) else 255)
@@ -17,7 +16,6 @@ data_at true at old new answer does i below =
     does.replies i below ∙ ap (λ (a : ℕ). old.bytes a) (mod-add-mod at old.config.size i)
 data_at false at old new answer does i below = does.replies i below
 
--- A read of data returns the data of the chip (`data_returned`), and does not change them (`data_stays`).
 pub data_returned : (x y z : ℕ) (old new : Chip) (answer : List ℕ) → Step old (0x03 ∷ x ∷ y ∷ z ∷ []) answer new
     → HasData old (65536 * x + 256 * y + z) answer
 data_returned x y z old new answer step = record {
@@ -43,11 +41,9 @@ data_still at bytes old new still has = record {
   same = λ i below. has.same i below ∙ sym (byte_still (at + i) old new still);
 }
 
--- If `a` is at most FFFFFFh, its three address bytes have the value `a`.
 address_back : (a : ℕ) → a ≤ 16777215 → 65536 * (a / 65536 % 256) + 256 * (a / 256 % 256) + a % 256 ≡ a
 address_back a below = omega (arith, below)
 
--- The next two lemmas state `data_returned` and `data_stays` for a read of data from the address `a` on.
 pub data_read_returned : (a : ℕ) (old new : Chip) (answer : List ℕ) → a ≤ 16777215 → Step old (data_read a) answer new
     → HasData old a answer
 data_read_returned a old new answer below step =

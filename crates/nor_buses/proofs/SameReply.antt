@@ -19,7 +19,6 @@ pub record Still (old new : Chip) : Type 0 where
   pub bytes : (a : ℕ) → new.bytes a ≡ old.bytes a
   pub busy : new.busy ≡ old.busy
 
--- Holds if the command reads an ID, SFDP or data, or if the chip ignores it.
 abbrev pub IsReading : Command → Type 0
 IsReading (ReadData at) = Unit {0}
 IsReading ReadId = Unit {0}
@@ -28,8 +27,6 @@ IsReading ReadUnique = Unit {0}
 IsReading Ignored = Unit {0}
 IsReading _ = ⊥
 
--- The command that a chip carries out when it receives a read: the read itself if the chip is idle, and otherwise
--- `Ignored`.
 abbrev pub read_of : (idle : Bool) → Command → Command
 read_of idle command = if idle then command else Ignored
 
@@ -42,7 +39,6 @@ still_after_reading ReadUnique sent old mid first is one = record { config = one
 still_after_reading Ignored sent old mid first is one = record { config = one.config; bytes = one.bytes; busy = one.busy }
 still_after_reading _ sent old mid first is one = absurd is
 
--- If a chip did not change in configuration, bytes and `busy` (`Still`), each byte of its reply to a read is the same.
 same_byte : (command : Command) (old mid : Chip) → IsReading command → Still old mid → (i : ℕ)
     → reply_byte mid command i ≡ reply_byte old command i
 same_byte (ReadData at) old mid is s i =
@@ -57,8 +53,6 @@ pub reading_or_none : (idle : Bool) (command : Command) → IsReading command �
 reading_or_none true command is = is
 reading_or_none false command is = tt
 
--- If two commands have the same reply byte at each index, and their replies `first` and `again` have the same length,
--- these replies are equal.
 pub alike : (command other : Command) (sent : List ℕ) (old mid new : Chip) (first again : List ℕ)
     → Does command sent old first mid → Does other sent mid again new → length again ≡ length first
     → ((i : ℕ) → reply_byte mid other i ≡ reply_byte old command i) → again ≡ first
@@ -67,8 +61,6 @@ alike command other sent old mid new first again one two len same =
     (λ (i : ℕ) (below : i < length again).
     two.replies i below ∙ same i ∙ sym (one.replies i (let P : ℕ → Type 0 = λ n. i < n in subst P len below)))
 
--- If the same read is sent twice in a row, and both replies have the same length, they are equal. `make` returns the
--- command of the read for the configuration of the chip.
 pub reading_alike : (make : Config → Command) (sent : List ℕ) (old mid new : Chip) (first again : List ℕ)
     → ((c : Config) → IsReading (make c)) → Does (read_of (old.busy == 0) (make old.config)) sent old first mid
     → Does (read_of (mid.busy == 0) (make mid.config)) sent mid again new → length again ≡ length first
@@ -84,14 +76,11 @@ reading_alike make sent old mid new first again is one two len =
     (λ i. ap (λ (k : Command). reply_byte mid k i) command
     ∙ same_byte (read_of (old.busy == 0) (make old.config)) old mid reads s i)
 
--- If a transaction that the chip ignores is sent twice in a row, and both replies have the same length, they are equal.
 ignored_alike : (sent : List ℕ) (old mid new : Chip) (first again : List ℕ) → Does Ignored sent old first mid
     → Does Ignored sent mid again new → length again ≡ length first → again ≡ first
 ignored_alike sent old mid new first again one two len =
     alike Ignored Ignored sent old mid new first again one two len (λ i. refl)
 
--- If a transaction whose first byte is 03h is sent twice in a row, and both replies have the same length, they are
--- equal.
 same_reply_03 : (rest : List ℕ) (old mid new : Chip) (first again : List ℕ)
     → Step old (0x03 ∷ rest) first mid → Step mid (0x03 ∷ rest) again new → length again ≡ length first → again ≡ first
 same_reply_03 [] old mid new first again one two len = ignored_alike [] old mid new first again one two len
@@ -104,8 +93,6 @@ same_reply_03 (x ∷ y ∷ z ∷ b ∷ []) old mid new first again one two len =
 same_reply_03 (x ∷ y ∷ z ∷ b ∷ d ∷ rest) old mid new first again one two len =
     ignored_alike (b ∷ d ∷ rest) old mid new first again one two len
 
--- If a transaction whose first byte is 9Fh is sent twice in a row, and both replies have the same length, they are
--- equal.
 same_reply_9F : (rest : List ℕ) (old mid new : Chip) (first again : List ℕ)
     → Step old (0x9F ∷ rest) first mid → Step mid (0x9F ∷ rest) again new → length again ≡ length first → again ≡ first
 same_reply_9F [] old mid new first again one two len =
@@ -119,8 +106,6 @@ same_reply_9F (x ∷ y ∷ z ∷ b ∷ []) old mid new first again one two len =
 same_reply_9F (x ∷ y ∷ z ∷ b ∷ d ∷ rest) old mid new first again one two len =
     ignored_alike (b ∷ d ∷ rest) old mid new first again one two len
 
--- If a transaction whose first byte is 5Ah is sent twice in a row, and both replies have the same length, they are
--- equal.
 same_reply_5A : (rest : List ℕ) (old mid new : Chip) (first again : List ℕ)
     → Step old (0x5A ∷ rest) first mid → Step mid (0x5A ∷ rest) again new → length again ≡ length first → again ≡ first
 same_reply_5A [] old mid new first again one two len = ignored_alike [] old mid new first again one two len
@@ -133,8 +118,6 @@ same_reply_5A (x ∷ y ∷ z ∷ b ∷ []) old mid new first again one two len =
 same_reply_5A (x ∷ y ∷ z ∷ b ∷ d ∷ rest) old mid new first again one two len =
     ignored_alike (b ∷ d ∷ rest) old mid new first again one two len
 
--- If a transaction whose first byte is 4Bh is sent twice in a row, and both replies have the same length, they are
--- equal.
 same_reply_4B : (rest : List ℕ) (old mid new : Chip) (first again : List ℕ)
     → Step old (0x4B ∷ rest) first mid → Step mid (0x4B ∷ rest) again new → length again ≡ length first → again ≡ first
 same_reply_4B [] old mid new first again one two len = ignored_alike [] old mid new first again one two len
@@ -147,13 +130,11 @@ same_reply_4B (x ∷ y ∷ z ∷ b ∷ []) old mid new first again one two len =
 same_reply_4B (x ∷ y ∷ z ∷ b ∷ d ∷ rest) old mid new first again one two len =
     ignored_alike (b ∷ d ∷ rest) old mid new first again one two len
 
--- If the comparison of `a` and `n` is true, a step for a transaction with the opcode `a` is one with the opcode `n`.
 moved : (a n : ℕ) (rest : List ℕ) (old new : Chip) (answer : List ℕ) → (a == n) ≡ true → Step old (a ∷ rest) answer new
     → Step old (n ∷ rest) answer new
 moved a n rest old new answer same step =
     let P : ℕ → Type 0 = λ k. Step old (k ∷ rest) answer new in subst P (eqb-true a n same) step
 
--- States `same_reply` for the opcode `a`, with the results of its comparisons with 03h, 9Fh and 5Ah as arguments.
 same_by : (a : ℕ) (rest : List ℕ) (old mid new : Chip) (first again : List ℕ) (data_read id_read sfdp_read : Bool)
     → (a == 0x03) ≡ data_read → (a == 0x9F) ≡ id_read → (a == 0x5A) ≡ sfdp_read
     → (data_read || id_read || sfdp_read || a == 0x4B) ≡ true → Step old (a ∷ rest) first mid
@@ -171,16 +152,12 @@ same_by a rest old mid new first again false false false e e' e'' reads one two 
     same_reply_4B rest old mid new first again (moved a 0x4B rest old mid first reads one)
     (moved a 0x4B rest mid new again reads two) len
 
--- If a transaction that reads an ID, SFDP or data is sent twice in a row, and both replies have the same length, they
--- are equal.
 pub same_reply : (out : List ℕ) (old mid new : Chip) (first again : List ℕ) → begins_read out ≡ true
     → Step old out first mid → Step mid out again new → length again ≡ length first → again ≡ first
 same_reply [] old mid new first again reads one two len = absurd (false≢true reads)
 same_reply (a ∷ rest) old mid new first again reads one two len =
     same_by a rest old mid new first again (a == 0x03) (a == 0x9F) (a == 0x5A) refl refl refl reads one two len
 
--- If a well-behaved bus accepts a transaction, it accepts one with the same bytes and a reply of the same length after
--- a call that keeps the nature of the bus (`SameNature`).
 pub fits_again : (out : List ℕ) (m n : ℕ) (old new : BusState) → SameNature old new → n ≡ m → IsHonestFor out m old
     → IsHonestFor out n new
 fits_again out m n old new nature same fits = record {

@@ -11,12 +11,10 @@ use Rattle.nor_buses.specs.ReadsAs.{part}
 use Rattle.nor_buses.specs.Parts.{address_bytes, further, bytes_of_replies, IsReadPart, AreReadParts, SplitsRead}
 use Rattle.nor_buses.specs.Parts.{program_part, bytes_programmed, EndsReady, EndsEnabled, AreProgramSteps, SplitsProgram, ArePolls, WaitsReady, PollsOnce}
 
--- If a call can't have succeeded (`OnOk result ⊥`), `OnOk` holds for its result with any `P`.
 never : (P : Type 0) (result : Result Unit Stopped) → OnOk result ⊥ → OnOk result P
 never P (Ok done) fails = absurd fails
 never P (Err stop) fails = tt
 
--- If `P` holds, `OnOk result P` holds for every `result`.
 always : (P : Type 0) (result : Result Unit Stopped) → P → OnOk result P
 always P (Ok done) fact = fact
 always P (Err stop) fact = tt
@@ -31,12 +29,9 @@ pub record ReadsInParts (most : ℕ) (out answer : List ℕ) (old new : List Exc
   pub parts : AreReadParts most out later
   pub whole : answer ≡ bytes_of_replies later
 
--- If nothing was sent, `ReadsInParts` holds for the empty reply.
 pub none_read : (most : ℕ) (out : List ℕ) (old : List Exchange) → ReadsInParts most out [] old old
 none_read most out old = record { later = []; is = refl; parts = tt; whole = refl }
 
--- If `ReadsInParts` holds for the first `from` bytes of `reply`, and one more part with the reply `answer` succeeded,
--- `ReadsInParts` holds for these bytes followed by `answer`.
 pub read_more : (most from k n : ℕ) (out reply answer : List ℕ) (old mid new : List Exchange)
     → ReadsInParts most out (take from reply) old mid → from ≤ length reply → n ≡ from + length answer
     → length answer ≤ most → new ≡ replied (further out from) answer ∷ mid
@@ -53,7 +48,6 @@ read_more most from k n out reply answer old mid new was within next few e =
           ∙ ap (λ (xs : List ℕ). xs ++ answer) was.whole;
     }
 
--- If the bus stopped at a part, or sent nothing, the read in parts ends as `SplitsRead` requires.
 pub read_stopped : (most from : ℕ) (out reply answer : List ℕ) (result : Result Unit Stopped)
     (old mid new : List Exchange) → ReadsInParts most out (take from reply) old mid → from ≤ length reply
     → OnOk result ⊥ → (new ≡ mid) ⊎ (new ≡ stopped (further out from) ∷ mid)
@@ -77,26 +71,22 @@ read_stopped most from out reply answer result old mid new was within fails (inr
 
 -- ---- programs
 
--- Holds if since `old` only parts of the program of `bytes` at `address` were sent, in order and without a gap, with
--- polls and a write enable before each part except the first. The parts have `n` bytes in total.
+-- Holds if since `old` only parts of the program with `n` bytes in total were sent, in order and without a gap.
 pub record ProgramsInParts (most address : ℕ) (bytes : List ℕ) (n : ℕ) (old new : List Exchange) : Type 0 where
   pub later : List Exchange
   pub is : new ≡ later ++ old
   pub steps : AreProgramSteps most address bytes later
   pub count : bytes_programmed later ≡ n
 
--- Holds if since `old` only polls were sent.
 pub record OnlyPolls (old new : List Exchange) : Type 0 where
   pub later : List Exchange
   pub is : new ≡ later ++ old
   pub polls : ArePolls later
 
--- The history records the bytes `out` of a transaction whether it succeeds or not.
 pub sends_out : (out answer : List ℕ) (result : Result Unit Stopped) → (exchange_of out answer result).out ≡ out
 sends_out out answer (Ok done) = refl
 sends_out out answer (Err stop) = refl
 
--- If the bus added a poll to its history, one poll was sent (`PollsOnce`).
 pub polls_once : (answer : List ℕ) (result : Result Unit Stopped) (old new : List Exchange)
     → new ≡ exchange_of (5 ∷ []) answer result ∷ old → PollsOnce old new
 polls_once answer result old new e = record {
@@ -105,7 +95,6 @@ polls_once answer result old new e = record {
   is = e;
 }
 
--- If only polls were sent, and then one more poll, only polls were sent.
 pub one_more : (old mid new : List Exchange) → OnlyPolls old mid → PollsOnce mid new → OnlyPolls old new
 one_more old mid new was once = record {
   later = once.exchange ∷ was.later;
@@ -113,7 +102,6 @@ one_more old mid new was once = record {
   polls = (once.poll, was.polls);
 }
 
--- If only polls were sent and the wait failed, `WaitsReady` holds.
 pub waits_not : (result : Result Unit Stopped) (old new : List Exchange) → OnlyPolls old new → OnOk result ⊥
     → WaitsReady result old new
 waits_not result old new was fails = record {
@@ -123,7 +111,6 @@ waits_not result old new was fails = record {
   ready = never _ result fails;
 }
 
--- If only polls were sent, and one more poll showed that the chip is ready, `WaitsReady` holds.
 pub waits_ready : (result : Result Unit Stopped) (old mid new : List Exchange) → OnlyPolls old mid → PollsOnce mid new
     → EndsReady new → WaitsReady result old new
 unfolding one_more
@@ -143,21 +130,18 @@ waits_ready result old mid new was once ends =
       ready = always _ result ready;
     }
 
--- Polls add nothing to the number of bytes programmed.
 count_polls : (polls later : List Exchange) → ArePolls polls → bytes_programmed (polls ++ later) ≡ bytes_programmed later
 count_polls [] later all = refl
 count_polls (poll ∷ polls) later all =
     let rest = count_polls polls later all.1 in
     let len : length poll.out ≡ 1 = ap (λ (xs : List ℕ). length xs) all.0.sends in omega (arith, rest, len)
 
--- If polls follow steps of a program, all of these transactions are steps of the program.
 steps_polls : (most address : ℕ) (bytes : List ℕ) (polls later : List Exchange) → ArePolls polls
     → AreProgramSteps most address bytes later → AreProgramSteps most address bytes (polls ++ later)
 steps_polls most address bytes [] later all steps = steps
 steps_polls most address bytes (poll ∷ polls) later all steps =
     (inl all.0, steps_polls most address bytes polls later all.1 steps)
 
--- If the last of some polls showed that the chip is ready, the same holds for these polls after other transactions.
 ready_after : (polls later : List Exchange) → EndsReady polls → EndsReady (polls ++ later)
 ready_after polls later ends = record {
   answer = ends.answer;
@@ -167,7 +151,6 @@ ready_after polls later ends = record {
   ready = ends.ready;
 }
 
--- If a wait follows parts of a program, `ProgramsInParts` still holds with the same number of bytes.
 pub then_waits : (most address : ℕ) (bytes : List ℕ) (n : ℕ) (result : Result Unit Stopped)
     (old mid new : List Exchange) → ProgramsInParts most address bytes n old mid → WaitsReady result mid new
     → ProgramsInParts most address bytes n old new
@@ -178,8 +161,6 @@ then_waits most address bytes n result old mid new was waits = record {
   count = count_polls waits.later was.later waits.polls ∙ was.count;
 }
 
--- If a successful wait and a write enable follow parts of a program, `ProgramsInParts` still holds with the same number
--- of bytes.
 pub then_enables : (most address : ℕ) (bytes : List ℕ) (n : ℕ) (answer : List ℕ) (result : Result Unit Stopped)
     (done : Unit) (old mid waited new : List Exchange) → ProgramsInParts most address bytes n old mid
     → WaitsReady (Ok done) mid waited → new ≡ exchange_of (6 ∷ []) answer result ∷ waited
@@ -202,8 +183,6 @@ then_enables most address bytes n answer result done old mid waited new was wait
       count = omega (arith, after.count, len);
     }
 
--- If a history ends with a write enable, and `later` are its last transactions, `later` is empty or ends with this
--- write enable.
 enabled_later : (later old before : List Exchange) → later ++ old ≡ replied (6 ∷ []) [] ∷ before
     → (later ≡ []) ⊎ EndsEnabled later
 enabled_later [] old before e = inl refl
@@ -211,17 +190,13 @@ enabled_later (exchange ∷ later) old before e =
     let first : exchange ≡ replied (6 ∷ []) [] = cc in
     inr (record { before = later; is = ap (λ (x : Exchange). x ∷ later) first })
 
--- A list of length 0 is empty.
 no_bytes : (bytes : List ℕ) → length bytes ≡ 0 → bytes ≡ []
 no_bytes [] none = refl
 no_bytes (byte ∷ rest) none = absurd (omega (arith, none))
 
--- If a part lies within `bytes`, its length is `len`.
 part_len : (bytes : List ℕ) (n len : ℕ) → n + len ≤ length bytes → length (part bytes n len) ≡ len
 part_len bytes n len within = length-take-le len (drop n bytes) (omega (arith, within, length-drop n bytes))
 
--- If `ProgramsInParts` holds for `n` bytes, and the next part of `len` bytes is sent, either as the first transaction
--- or after a write enable, it holds for `n + len` bytes.
 pub then_programs : (most address : ℕ) (bytes : List ℕ) (n len : ℕ) (piece : List ℕ) (result : Result Unit Stopped)
     (old mid new : List Exchange) (was : ProgramsInParts most address bytes n old mid)
     → (was.later ≡ []) ⊎ EndsEnabled was.later → piece ≡ part bytes n len → 0 < len → 4 + len ≤ most
@@ -256,7 +231,6 @@ then_programs most address bytes n len piece result old mid new was enabled is s
       count = omega (arith, count, long);
     }
 
--- `ProgramsInParts` holds after the first part of a program.
 pub programs_first : (most address : ℕ) (bytes : List ℕ) (len : ℕ) (piece : List ℕ) (result : Result Unit Stopped)
     (old new : List Exchange) → piece ≡ part bytes 0 len → 0 < len → 4 + len ≤ most → len ≤ length bytes
     → new ≡ exchange_of (2 ∷ address_bytes address ++ piece) [] result ∷ old
@@ -276,8 +250,6 @@ programs_first most address bytes len piece result old new is some few within e 
     (then_programs most address bytes 0 len piece result old old new start (inl refl) is some few
     (omega (arith, within)) (subst Q from e))
 
--- If `ProgramsInParts` holds for `n` bytes, and the next part of `len` bytes is sent after a write enable, it holds for
--- `n + len` bytes.
 pub programs_next : (most address : ℕ) (bytes : List ℕ) (n len : ℕ) (piece : List ℕ) (result : Result Unit Stopped)
     (answer : List ℕ) (old mid enabled new : List Exchange) → ProgramsInParts most address bytes n old enabled
     → enabled ≡ replied (6 ∷ []) answer ∷ mid → length answer ≡ 0 → piece ≡ part bytes n len → 0 < len → 4 + len ≤ most
@@ -289,7 +261,6 @@ programs_next most address bytes n len piece result answer old mid enabled new w
     then_programs most address bytes n len piece result old enabled new was
     (enabled_later was.later old mid (sym was.is ∙ ends ∙ bare)) is some few within e
 
--- If a program stopped after some of its parts, it ends as `SplitsProgram` requires.
 pub programs_not : (most address : ℕ) (bytes : List ℕ) (n : ℕ) (result : Result Unit Stopped) (old new : List Exchange)
     → ProgramsInParts most address bytes n old new → OnOk result ⊥
     → SplitsProgram most address bytes result old new
@@ -300,7 +271,6 @@ programs_not most address bytes n result old new was fails = record {
   all = never _ result fails;
 }
 
--- If the parts that were sent have all bytes of a program, it ends as `SplitsProgram` requires.
 pub programs_all : (most address : ℕ) (bytes : List ℕ) (n : ℕ) (result : Result Unit Stopped) (old new : List Exchange)
     → ProgramsInParts most address bytes n old new → n ≡ length bytes → SplitsProgram most address bytes result old new
 programs_all most address bytes n result old new was whole = record {

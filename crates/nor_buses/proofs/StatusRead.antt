@@ -1,5 +1,4 @@
--- Lemmas: if a status register was read twice in a history, this stays true when the history grows. Also which status
--- writes and which reads a `CheckedStatus` passes on.
+-- A status register that was read twice in a history stays so when the history grows.
 use Rattle.std.proofs.Common.{◌≡◌, ◌∙◌, ℕ, Bool, true, false, List, [], ◌∷◌, Option, None, Some, refl, ap, sym, arith, eq-eqb}
 use Rattle.std.specs.Prelude.{◌||◌, ◌&&◌, ◌==◌}
 use Rattle.std.specs.Option.{ForSome}
@@ -13,7 +12,6 @@ or_true : (a : Bool) → (a || true) ≡ true
 or_true true = refl
 or_true false = refl
 
--- If a status register was read twice in a history, it was read twice in the history with one more transaction.
 pub read_grown : (opcode byte : ℕ) (more : Exchange) (old : List Exchange)
     → was_read_twice opcode byte old ≡ true → was_read_twice opcode byte (more ∷ old) ≡ true
 read_grown opcode byte more [] read = absurd (false≢true read)
@@ -23,33 +21,27 @@ read_grown opcode byte more (d ∷ c ∷ b ∷ earlier) read =
     ap (λ (x : Bool). (has_read_id more && has_read opcode byte d && has_read_id c && has_read opcode byte b) || x) read
     ∙ or_true _
 
--- If each status byte that is known was read twice in the history, this stays true after one more transaction.
 pub still_read : (known : Option ℕ) (opcode : ℕ) (more : Exchange) (old new : List Exchange) → new ≡ more ∷ old
     → ForSome known (λ byte. was_read_twice opcode byte old ≡ true)
     → ForSome known (λ byte. was_read_twice opcode byte new ≡ true)
 still_read known opcode more old new grows read =
     λ byte is. ap (λ (h : List Exchange). was_read_twice opcode byte h) grows ∙ read_grown opcode byte more old (read byte is)
 
--- The comparison of a byte with itself is true.
 byte_is : (byte : ℕ) → (byte == byte) ≡ true
 byte_is byte = eq-eqb byte byte refl
 
--- If `IsReadTwice` holds for a poll whose two reply bytes are `byte`, status 1 was read twice as `byte`.
 pub pair_read : (byte : ℕ) (known : Option (List ℕ)) (old new : List Exchange) → IsReadTwice (pair byte) known old new
     → was_read_twice 5 byte new ≡ true
 pair_read byte None old new twice = absurd (false≢true twice.knows)
 pair_read byte (Some id) old new twice =
     ap (λ (h : List Exchange). was_read_twice 5 byte h) twice.is ∙ rw byte_is refl
 
--- If `IsReadTwice` holds for a read of status 2 whose reply is `byte`, status 2 was read twice as `byte`.
 pub second_read : (byte : ℕ) (known : Option (List ℕ)) (old new : List Exchange)
     → IsReadTwice (second byte) known old new → was_read_twice 53 byte new ≡ true
 second_read byte None old new twice = absurd (false≢true twice.knows)
 second_read byte (Some id) old new twice =
     ap (λ (h : List Exchange). was_read_twice 53 byte h) twice.is ∙ rw byte_is refl
 
--- If `IsReadTwice` holds with the ID `known`, and the known ID did not change up to `later` (`KeepsId`), `IsReadTwice`
--- also holds with `later`.
 pub still_known : (read : Exchange) (known later : Option (List ℕ)) (old new : List Exchange)
     → IsReadTwice read known old new → KeepsId known later → IsReadTwice read later old new
 still_known read known later old new twice keeps =
@@ -58,7 +50,6 @@ still_known read known later old new twice keeps =
       is = twice.is ∙ sym (ap (λ (k : Option (List ℕ)). confirmed k (read ∷ confirmed k (read ∷ old))) same);
     }
 
--- A status write that keeps the bits that are known changes only what it may.
 pub allowed_by : (locks : Bool) (one two one_known two_known : ℕ) → KeepsBits locks one two one_known two_known
     → ChangesAsAllowed locks one two one_known two_known
 allowed_by true one two one_known two_known keeps = record { protection = keeps.protection; whole = keeps.whole }
@@ -68,13 +59,11 @@ allowed_by false one two one_known two_known keeps = record {
   low = grind (arith, keeps.low);
 }
 
--- A further alternative keeps a choice true.
 or_more : (a b c d : Bool) → (a || b || c) ≡ true → (a || d || b || c) ≡ true
 or_more true b c d is = refl
 or_more false b c true is = refl
 or_more false b c false is = is
 
--- A transaction after which the ID is read is a read.
 pub confirmed_reads : (out : List ℕ) → begins_confirmed out ≡ true → begins_read out ≡ true
 confirmed_reads [] is = is
 confirmed_reads (opcode ∷ rest) is = or_more (opcode == 0x03) (opcode == 0x5A) (opcode == 0x4B) (opcode == 0x9F) is

@@ -1,4 +1,4 @@
--- A reply to a read of data that is compared with an image, and the second reads of the sectors that differ.
+-- The second reads of those sectors of a reply that differ from an image.
 use Rattle.std.specs.Prelude.{◌≡◌, ◌≢◌, ◌<◌, ◌≤◌, ◌+◌, ◌/◌, ◌%◌, ◌++◌, ◌⊎◌, ◌==◌, ℕ, true, List, [], ◌∷◌, length, slice_index, ⊤, if◌then◌else◌}
 use Rattle.nor_model.specs.Bus.{BusState, Carries, IsHonestFor, SameNature}
 use Rattle.nor_model.specs.Chip.{Chip}
@@ -7,27 +7,23 @@ use Rattle.nor_model.specs.History.{replied, bytes_or_none}
 use Rattle.nor_buses.specs.ReadsAs.{reads_data, address_in, part}
 use Rattle.nor_buses.specs.Parts.{address_bytes}
 
--- Holds if the byte with the index `i` of `answer` is expected: it is the byte that the image has at its address.
--- `answer` was read from the address `at` on.
+-- Holds if the byte with the index `i` of `answer`, which was read from the address `at` on, is the image's byte.
 pub record IsExpected (image : List ℕ) (at : ℕ) (answer : List ℕ) (i : ℕ) : Type 0 where
   pub within : at + i < length image
   pub same : slice_index answer i ≡ slice_index image (at + i)
 
--- Holds if the sector of the byte with the index `i` of `answer` has a byte that is not expected. `answer` was read
--- from the address `at` on.
+-- Holds if the sector of the byte with the index `i` of `answer` has a byte that is not expected.
 pub record DiffersInSector (image : List ℕ) (at : ℕ) (answer : List ℕ) (i : ℕ) : Type 0 where
   pub j : ℕ
   pub within : j < length answer
   pub sector : (at + j) / 4096 ≡ (at + i) / 4096
   pub differs : IsExpected image at answer j → ⊥
 
--- The bytes that a read of data (03h) from `address` on sends.
 abbrev pub data_read : (address : ℕ) → List ℕ
 data_read address = 0x03 ∷ address_bytes address
 
--- Holds if the transaction is a second read of a part of `answer`, which was read from the address `at` on. The part
--- has `len` bytes and follows the first `from` bytes of `answer`. The second reply is the same as this part. Each byte
--- of the part lies in a sector that differs from the image.
+-- Holds if the transaction is a second read of `len` bytes of `answer` from the index `from` on, which all lie in
+-- sectors that differ from the image, and returned the same bytes.
 pub record IsReadAgain (image : List ℕ) (at : ℕ) (answer : List ℕ) (exchange : Exchange) : Type 0 where
   pub from : ℕ
   pub len : ℕ
@@ -35,14 +31,12 @@ pub record IsReadAgain (image : List ℕ) (at : ℕ) (answer : List ℕ) (exchan
   pub is : exchange ≡ replied (data_read (at + from)) (part answer from len)
   pub needed : (i : ℕ) → from ≤ i → i < from + len → DiffersInSector image at answer i
 
--- Holds if each of these transactions is a second read of a part of `answer` (`IsReadAgain`).
 abbrev pub AreReadAgain : (image : List ℕ) → (at : ℕ) → (answer : List ℕ) → List Exchange → Type 0
 AreReadAgain image at answer [] = ⊤
 AreReadAgain image at answer (exchange ∷ earlier) =
     IsReadAgain image at answer exchange × AreReadAgain image at answer earlier
 
--- Holds if the transaction is a second read of a part of `answer` that contains the byte with the index `i`, and had
--- the same reply. `answer` was read from the address `at` on.
+-- Holds if the transaction read a part of `answer` with the index `i` again, and returned the same bytes.
 pub record ReadsByteAgain (at : ℕ) (answer : List ℕ) (i : ℕ) (exchange : Exchange) : Type 0 where
   pub from : ℕ
   pub len : ℕ
@@ -51,15 +45,13 @@ pub record ReadsByteAgain (at : ℕ) (answer : List ℕ) (i : ℕ) (exchange : E
   pub begins : from ≤ i
   pub ends : i < from + len
 
--- Holds if one of these transactions read the byte with the index `i` of `answer` again.
 abbrev pub WasReadAgain : (at : ℕ) → (answer : List ℕ) → (i : ℕ) → List Exchange → Type 0
 WasReadAgain at answer i [] = ⊥
 WasReadAgain at answer i (exchange ∷ earlier) =
     ReadsByteAgain at answer i exchange ⊎ WasReadAgain at answer i earlier
 
--- Holds if since `old` the read of data `out` had the reply `answer`, and after it only parts of `answer` were read
--- again, each with the same reply. Each byte is expected or was read again. Only sectors that differ from the image
--- were read again.
+-- Holds if since `old` the read of data `out` had the reply `answer`, and each of its bytes is expected or was read
+-- again. Only sectors that differ from the image were read again.
 pub record RepeatsDiffering (image out answer : List ℕ) (old new : List Exchange) : Type 0 where
   pub reads : reads_data out ≡ true
   -- the transactions after the first read, the last one first
@@ -71,15 +63,12 @@ pub record RepeatsDiffering (image out answer : List ℕ) (old new : List Exchan
 
 -- ---- a well-behaved bus
 
--- Holds if the bus carried out these transactions with their replies. The list has the last one first.
 abbrev pub CarriesEach : (later : List Exchange) → (old new : BusState) → Type 0
 CarriesEach [] old new = new ≡ old
 CarriesEach (exchange ∷ earlier) old new =
     (between : BusState) × (CarriesEach earlier old between
     × Carries exchange.out (bytes_or_none exchange.reply) between new)
 
--- Holds if the bus carried out the transaction `out` with the reply `answer`, and then the second reads of
--- `RepeatsDiffering`.
 pub record CarriesDiffering (image out answer : List ℕ) (old new : BusState) : Type 0 where
   pub repeats : RepeatsDiffering image out answer old.history new.history
   pub between : BusState
@@ -88,8 +77,7 @@ pub record CarriesDiffering (image out answer : List ℕ) (old new : BusState) :
 
 -- ---- within the functions of this crate
 
--- Holds if since `old` only parts of `answer` were read again, each with the same reply, and each of the first `n`
--- bytes of `answer` is expected or was read again. If the bus is well-behaved, it carried these reads out.
+-- Holds if each of the first `n` bytes of `answer` is expected or was read again since `old`.
 pub record RepeatsBelow (image : List ℕ) (at : ℕ) (answer : List ℕ) (n : ℕ) (old new : BusState) : Type 0 where
   pub later : List Exchange
   pub is : new.history ≡ later ++ old.history
@@ -97,7 +85,6 @@ pub record RepeatsBelow (image : List ℕ) (at : ℕ) (answer : List ℕ) (n : �
   pub each : (i : ℕ) → i < n → IsExpected image at answer i ⊎ WasReadAgain at answer i later
   pub carried : IsHonestFor (data_read at) (length answer) old → CarriesEach later old new
 
--- Holds if one of the bytes of `answer` with the indices `n` to `m - 1` is not expected.
 pub record DiffersBetween (image : List ℕ) (at : ℕ) (answer : List ℕ) (n m : ℕ) : Type 0 where
   pub j : ℕ
   pub after : n ≤ j
@@ -108,17 +95,14 @@ pub record DiffersBetween (image : List ℕ) (at : ℕ) (answer : List ℕ) (n m
 abbrev pub data_byte : Chip → (address : ℕ) → ℕ
 data_byte chip address = if chip.busy == 0 then chip.bytes (address % chip.config.size) else 255
 
--- Holds if a read of data from the address `at` on returns `bytes`.
 pub record HasData (chip : Chip) (at : ℕ) (bytes : List ℕ) : Type 0 where
   pub same : (i : ℕ) → i < length bytes → slice_index bytes i ≡ data_byte chip (at + i)
 
--- Holds if the bus carried out the transaction `out` with the reply `answer`, and recorded both in its history.
 pub record FirstRead (out answer : List ℕ) (old new : BusState) : Type 0 where
   pub carries : Carries out answer old new
   pub nature : SameNature old new
   pub history : new.history ≡ replied out answer ∷ old.history
 
--- Holds if the bus carried out the transaction `out` with another reply than `answer`, of the same length.
 pub record CarriesOther (out answer : List ℕ) (old new : BusState) : Type 0 where
   pub other : List ℕ
   pub carries : Carries out other old new

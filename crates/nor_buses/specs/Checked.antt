@@ -8,20 +8,16 @@ use Rattle.nor_buses.specs.declared.status.CheckedStatus.{CheckedStatus}
 use Rattle.nor_buses.specs.declared.known.CheckFault.{CheckFault}
 use Rattle.nor_buses.specs.declared.known.Known.{Known}
 
--- The bus inside, which carries out the transactions of a `CheckedStatus`.
 abbrev pub bus_of : {B : Type 0} {over : Ghosts B} → CheckedStatus B over → B
 bus_of checked = checked.bus
 
--- The state of the bus inside.
 abbrev pub inner_state : {B : Type 0} {over : Ghosts B} → CheckedStatus B over → BusState
 inner_state {over = over} checked = over.state (bus_of checked)
 
--- What the bus knows about the chip: its status registers and its ID, whether a modifying command was passed on, and
--- the status write that is not read back yet.
+-- What the bus knows about the chip.
 abbrev pub known_of : {B : Type 0} {over : Ghosts B} → CheckedStatus B over → Known
 known_of checked = checked.known
 
--- True if a modifying command was passed on to the bus inside.
 abbrev pub has_begun : {B : Type 0} {over : Ghosts B} → CheckedStatus B over → Bool
 has_begun checked = checked.known.is_changing
 
@@ -37,12 +33,10 @@ locks_of checked = checked.known.locks
 abbrev pub check_fault_of : {B : Type 0} {over : Ghosts B} → CheckedStatus B over → Option CheckFault
 check_fault_of checked = checked.fault
 
--- The transactions that the bus was asked to carry out, each with its reply, the last one first.
 abbrev pub history_of : {B : Type 0} {over : Ghosts B} → CheckedStatus B over → List Exchange
 history_of checked = checked.history.exchanges
 
--- The state of the bus: the chip of the bus inside, with the history of this bus. What the history says (`sent` and
--- `polled_ready`) is that of this bus: a status write that was refused counts as sent. It is not punctual, because it
--- may stop for reasons of its own.
+-- The state of the bus: the chip of the bus inside, with the history of this bus, in which a status write that was
+-- refused counts as sent. It is not punctual, because it may stop for reasons of its own.
 abbrev pub checked_state : {B : Type 0} {over : Ghosts B} → CheckedStatus B over → BusState
 checked_state checked = beside (inner_state checked) (history_of checked)

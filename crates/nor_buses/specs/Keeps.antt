@@ -4,20 +4,18 @@ use Rattle.nor_model.specs.Power.{PowerLost}
 use Rattle.nor_model.specs.Step.{Step, done_of, wears}
 use Rattle.nor_model.specs.Bus.{BusState}
 
--- Holds if the chip and the record of erased sectors are as they were.
 pub record KeepsAll (old new : BusState) : Type 0 where
   pub chip : new.chip ≡ old.chip
   pub worn : (s : ℕ) → new.worn s ≡ old.worn s
 
--- Holds if the chip is as it was or lost its power, and the record of erased sectors is as it was. On a steady bus the
--- chip is as it was.
+-- Holds if the chip is as it was or, on a bus that isn't steady, lost its power.
 pub record StopsUnread (old new : BusState) : Type 0 where
   pub chip : (new.chip ≡ old.chip) ⊎ PowerLost old.chip new.chip
   pub worn : (s : ℕ) → new.worn s ≡ old.worn s
   pub unsent : old.steady ≡ true → new.chip ≡ old.chip
 
--- Holds if the chip made one step, in which it received `out` and replied `answer`. The sectors that it erased in this
--- step are recorded as erased. The definition doesn't say how many transactions took part.
+-- Holds if the chip made one step, in which it received `out` and replied `answer`. The definition doesn't say how many
+-- transactions took part.
 pub record MakesStep (out answer : List ℕ) (old new : BusState) : Type 0 where
   pub step : Step old.chip out answer new.chip
   pub worn : (s : ℕ) → new.worn s ≡ (old.worn s || wears (done_of old.chip out (length answer)) s)

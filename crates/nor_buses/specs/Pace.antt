@@ -2,13 +2,12 @@
 use Rattle.std.specs.Prelude.{◌+◌, ◌-◌, ◌*◌, ◌/◌, ◌^◌, ◌==◌, ◌||◌, nat_lt, ℕ, zero, suc, true, List, [], ◌∷◌, Option, None, Some, min, max, if◌then◌else◌}
 use Rattle.nor_model.specs.PolledReady.{polled_ready_after}
 
--- The number of polls in a row that showed BUSY (at most 2^64 - 1), after one more transaction that sent `out` and read
--- `answer`. Before it the number was `before`. Any transaction except a poll that shows BUSY sets the number to 0.
+-- The number of polls in a row that showed BUSY after one more transaction. Any other transaction sets it to 0.
 abbrev pub busy_row_after : (out answer : List ℕ) → (before : ℕ) → ℕ
 busy_row_after out answer before = if polled_ready_after out answer true then 0 else min (before + 1) (2 ^ 64 - 1)
 
--- The typical duration of the operation that a transaction which sends `out` begins; `None` if it begins none. An erase
--- of the whole chip counts as an erase of 64 KiB. (W25Q64FV datasheet, AC characteristics.)
+-- The typical duration of the operation that a transaction begins. An erase of the whole chip counts as one of 64 KiB.
+-- (W25Q64FV datasheet, AC characteristics.)
 abbrev pub typical_of : (out : List ℕ) → Option ℕ
 typical_of [] = None
 typical_of (opcode ∷ rest) =
@@ -19,12 +18,9 @@ typical_of (opcode ∷ rest) =
     else if opcode == 0xD8 || opcode == 0xC7 then Some 150000
     else None
 
--- The typical duration of the operation that began last, after one more transaction that sent `out`. Before it the
--- duration was `before`.
 abbrev pub typical_after : (out : List ℕ) → (before : ℕ) → ℕ
 typical_after out before = elim (typical_of out) [ None ↦ before | Some typical ↦ typical ]
 
--- The pause before the third poll of a wait, if the operation typically takes `typical`.
 abbrev pub third_pause : (typical : ℕ) → ℕ
 third_pause typical = min 6250 (max 100 (typical / 16))
 
@@ -32,17 +28,16 @@ third_pause typical = min 6250 (max 100 (typical / 16))
 abbrev pub first_pause : (typical elapsed : ℕ) → ℕ
 first_pause typical elapsed = if nat_lt 1000 typical then 0 else typical - elapsed
 
--- The pause before a poll that follows `busy_polls` polls in a row which showed BUSY. The operation typically takes
--- `typical`, and its command was sent `elapsed` ago. From the third poll on, the pause doubles after every 16 polls, up
--- to 6,250.
+-- The pause before a poll that follows `busy_polls` polls in a row which showed BUSY. From the third poll on, the pause
+-- doubles after every 16 polls, up to 6,250.
 abbrev pub pause_before : (typical elapsed busy_polls : ℕ) → ℕ
 pause_before typical elapsed busy_polls =
     if busy_polls == 0 then first_pause typical elapsed
     else if busy_polls == 1 then typical - elapsed
     else min 6250 (third_pause typical * 2 ^ min 6 (busy_polls / 16))
 
--- The sum of the pauses before the first `polls` polls of a wait, if all of them show BUSY and no poll showed BUSY
--- immediately before the wait. The command was sent `elapsed` before the first and the second poll.
+-- The sum of the pauses before the first `polls` polls of a wait, if all of them show BUSY. The command was sent
+-- `elapsed` before the first and the second poll.
 unfoldable pub pauses : (typical elapsed polls : ℕ) → ℕ
 pauses typical elapsed zero = 0
 pauses typical elapsed (suc polls) = pauses typical elapsed polls + pause_before typical elapsed polls

@@ -2,7 +2,6 @@
 use Rattle.std.specs.Prelude.{ℕ}
 use Rattle.nor_buses.specs.declared.paced.Paced.{Paced}
 
--- The bus inside, which carries out the transactions of a `Paced`.
 abbrev pub paced_of : {B C : Type 0} → Paced B C → B
 paced_of paced = paced.bus
 
@@ -10,7 +9,6 @@ paced_of paced = paced.bus
 abbrev pub busy_row : {B C : Type 0} → Paced B C → ℕ
 busy_row paced = paced.busy_polls
 
--- The typical duration in microseconds of the operation that began last. Only transactions that succeeded count; the
--- duration is 0 if none of them began an operation.
+-- The typical duration in microseconds of the operation that began last, or 0.
 abbrev pub typical_in : {B C : Type 0} → Paced B C → ℕ
 typical_in paced = paced.typical

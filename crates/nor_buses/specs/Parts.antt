@@ -11,8 +11,6 @@ address_bytes address = address / 65536 % 256 ∷ address / 256 % 256 ∷ addres
 
 -- ---- reads
 
--- The bytes `out` that a transaction sends, with its address increased by `n`. If `out` has no whole address, it is
--- unchanged.
 abbrev pub further : (out : List ℕ) → (n : ℕ) → List ℕ
 further (opcode ∷ x ∷ y ∷ z ∷ rest) n = opcode ∷ address_bytes (65536 * x + 256 * y + z + n) ++ rest
 further out n = out
@@ -22,28 +20,26 @@ abbrev pub bytes_of_replies : List Exchange → List ℕ
 bytes_of_replies [] = []
 bytes_of_replies (exchange ∷ earlier) = bytes_of_replies earlier ++ bytes_or_none exchange.reply
 
--- Holds if the transaction is a part of the read `out`. It reads at most `most` bytes, which follow the first `from`
--- bytes of the whole reply.
+-- Holds if the transaction reads at most `most` bytes of the reply to `out`, from the index `from` on.
 pub record IsReadPart (most : ℕ) (out : List ℕ) (from : ℕ) (exchange : Exchange) : Type 0 where
   pub sends : exchange.out ≡ further out from
   pub few : length (bytes_or_none exchange.reply) ≤ most
 
--- Holds if each of these transactions is a part of the read `out`, and continues where the part before it ended.
+-- Holds if each of these transactions continues the read `out` where the part before it ended.
 abbrev pub AreReadParts : (most : ℕ) → (out : List ℕ) → List Exchange → Type 0
 AreReadParts most out [] = ⊤
 AreReadParts most out (exchange ∷ earlier) =
     IsReadPart most out (length (bytes_of_replies earlier)) exchange × AreReadParts most out earlier
 
--- True if a transaction that sends `out` is a read that can be split: a read of data (03h) or of SFDP bytes (5Ah) with
--- a whole address, or a read of status 1 (05h) or status 2 (35h).
+-- True for a read that can be split: of data (03h) or SFDP (5Ah) with a whole address, or of status 1 (05h) or status 2
+-- (35h).
 abbrev pub can_split_read : (out : List ℕ) → Bool
 can_split_read (opcode ∷ []) = opcode == 0x05 || opcode == 0x35
 can_split_read (opcode ∷ x ∷ y ∷ z ∷ []) = opcode == 0x03
 can_split_read (opcode ∷ x ∷ y ∷ z ∷ dummy ∷ []) = opcode == 0x5A
 can_split_read _ = false
 
--- Holds if since `old` only parts of the read `out` were sent, in order and without a gap. If the read succeeded, its
--- reply `answer` consists of the replies to the parts.
+-- Holds if since `old` only parts of the read `out` were sent, in order and without a gap.
 pub record SplitsRead (most : ℕ) (out answer : List ℕ) (result : Result Unit Stopped)
     (old new : List Exchange) : Type 0 where
   pub later : List Exchange
@@ -53,20 +49,17 @@ pub record SplitsRead (most : ℕ) (out answer : List ℕ) (result : Result Unit
 
 -- ---- programs
 
--- The bytes that one part of a program sends. The whole program has the data `bytes` and begins at `address`. The part
--- programs the `n` bytes that follow the first `from` ones: it sends 02h, the address of the first of them, and these
--- bytes.
+-- The bytes that a part of a program of `bytes` at `address` sends, for `n` data bytes from the index `from` on.
 abbrev pub program_part : (address : ℕ) → (bytes : List ℕ) → (from n : ℕ) → List ℕ
 program_part address bytes from n = 0x02 ∷ address_bytes (address + from) ++ part bytes from n
 
--- The number of data bytes that the programs among these transactions send. Each program sends four bytes before its
--- data. Polls (05h) and write enables (06h) send one byte, so they count as 0.
+-- The number of data bytes that the programs among these transactions send. Each sends four bytes before its data.
+-- Polls (05h) and write enables (06h) send one byte, so they count as 0.
 abbrev pub bytes_programmed : List Exchange → ℕ
 bytes_programmed [] = 0
 bytes_programmed (exchange ∷ earlier) = bytes_programmed earlier + (length exchange.out - 4)
 
--- Holds if the last of these transactions is a poll (05h) that succeeded, and its reply has at least one byte, all of
--- which show that the chip is ready.
+-- Holds if the last of these transactions is a poll that succeeded and showed that the chip is ready.
 pub record EndsReady (history : List Exchange) : Type 0 where
   pub answer : List ℕ
   pub before : List Exchange
@@ -74,24 +67,20 @@ pub record EndsReady (history : List Exchange) : Type 0 where
   pub some : 0 < length answer
   pub ready : All (λ (status : ℕ). status % 2 ≡ 0) answer
 
--- Holds if the last of these transactions is a write enable (06h) that succeeded.
 pub record EndsEnabled (history : List Exchange) : Type 0 where
   pub before : List Exchange
   pub is : history ≡ replied (0x06 ∷ []) [] ∷ before
 
--- Holds if the transaction is a poll (05h).
 pub record SendsPoll (exchange : Exchange) : Type 0 where
   pub sends : exchange.out ≡ 0x05 ∷ []
 
--- Holds if the transaction is a write enable (06h), and the one just before it is a poll that showed that the chip is
--- ready.
+-- Holds if the transaction is a write enable just after a poll that showed that the chip is ready.
 pub record Enables (exchange : Exchange) (earlier : List Exchange) : Type 0 where
   pub sends : exchange.out ≡ 0x06 ∷ []
   pub ready : EndsReady earlier
 
--- Holds if the transaction programs at least one byte of `bytes`, and continues where the programs among the earlier
--- transactions ended. It sends at most `most` bytes. There is no earlier transaction, or the last one is a write
--- enable.
+-- Holds if the transaction programs the next bytes of `bytes`, at least one, after a write enable or as the first
+-- transaction.
 pub record ProgramsPart (most address : ℕ) (bytes : List ℕ) (exchange : Exchange)
     (earlier : List Exchange) : Type 0 where
   pub len : ℕ
@@ -101,17 +90,13 @@ pub record ProgramsPart (most address : ℕ) (bytes : List ℕ) (exchange : Exch
   pub within : bytes_programmed earlier + len ≤ length bytes
   pub enabled : (earlier ≡ []) ⊎ EndsEnabled earlier
 
--- Holds if each of these transactions is a poll, a write enable after a poll that showed that the chip is ready, or a
--- part of the program of `bytes` at `address`.
 abbrev pub AreProgramSteps : (most address : ℕ) → (bytes : List ℕ) → List Exchange → Type 0
 AreProgramSteps most address bytes [] = ⊤
 AreProgramSteps most address bytes (exchange ∷ earlier) =
     (SendsPoll exchange ⊎ (Enables exchange earlier ⊎ ProgramsPart most address bytes exchange earlier))
     × AreProgramSteps most address bytes earlier
 
--- Holds if since `old` only parts of the program of `bytes` at `address` were sent, in order and without a gap. Before
--- each part except the first, polls and a write enable were sent (`AreProgramSteps`). If the program succeeded, the
--- parts have all of its bytes.
+-- Holds if since `old` only parts of this program were sent, in order, with polls and a write enable between them.
 pub record SplitsProgram (most address : ℕ) (bytes : List ℕ) (result : Result Unit Stopped)
     (old new : List Exchange) : Type 0 where
   pub later : List Exchange
@@ -119,19 +104,16 @@ pub record SplitsProgram (most address : ℕ) (bytes : List ℕ) (result : Resul
   pub steps : AreProgramSteps most address bytes later
   pub all : OnOk result (bytes_programmed later ≡ length bytes)
 
--- Holds if each of these transactions is a poll.
 abbrev pub ArePolls : List Exchange → Type 0
 ArePolls [] = ⊤
 ArePolls (exchange ∷ earlier) = SendsPoll exchange × ArePolls earlier
 
--- Holds if since `old` only polls were sent. If the wait succeeded, the last poll showed that the chip is ready.
 pub record WaitsReady (result : Result Unit Stopped) (old new : List Exchange) : Type 0 where
   pub later : List Exchange
   pub is : new ≡ later ++ old
   pub polls : ArePolls later
   pub ready : OnOk result (EndsReady later)
 
--- Holds if since `old` one poll was sent.
 pub record PollsOnce (old new : List Exchange) : Type 0 where
   pub exchange : Exchange
   pub poll : SendsPoll exchange

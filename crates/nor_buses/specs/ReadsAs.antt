@@ -4,7 +4,6 @@ use Rattle.nor_model.specs.Bus.{BusState, unknown_bus}
 use Rattle.nor_model.specs.Exchange.{Exchange}
 use Rattle.nor_model.specs.History.{replied}
 
--- True if a transaction that sends `out` is a read of data: 03h and the three bytes of an address.
 abbrev pub reads_data : (out : List ℕ) → Bool
 reads_data (opcode ∷ x ∷ y ∷ z ∷ []) = opcode == 0x03
 reads_data _ = false
@@ -14,18 +13,15 @@ abbrev pub address_in : (out : List ℕ) → ℕ
 address_in (opcode ∷ x ∷ y ∷ z ∷ rest) = 65536 * x + 256 * y + z
 address_in _ = 0
 
--- The `n` bytes of `bytes` that follow the first `at` ones. If fewer than `n` bytes follow, all of those.
 abbrev pub part : (bytes : List ℕ) → (at n : ℕ) → List ℕ
 part bytes at n = take n (drop at bytes)
 
--- The state of a bus that has its own history, and may send several transactions of the bus inside for one of its own.
--- The rest of its state is that of the bus inside. It is not punctual, because it may stop at each of these
--- transactions.
+-- The state of a bus that may send several transactions of the bus inside for one of its own. It is not punctual,
+-- because it may stop at each of them.
 abbrev pub around : (inside : BusState) → (history : List Exchange) → BusState
 around inside history = record inside { history = history; punctual = false }
 
--- The state of a bus that has its own history, and what follows from it, and may send several transactions of the bus
--- inside for one of its own, or none. The chip is that of the bus inside.
+-- The state of a bus that has its own history, and what follows from it, and the chip of the bus inside.
 abbrev pub beside : (inside : BusState) → (history : List Exchange) → BusState
 beside inside history = record (unknown_bus history) {
   chip = inside.chip;
@@ -37,27 +33,23 @@ beside inside history = record (unknown_bus history) {
   further = inside.further;
 }
 
--- Holds if no transaction that may modify the chip was recorded, no allowance was set, and the result of the last poll
--- is as it was.
 pub record KeepsRecord (old new : BusState) : Type 0 where
   pub sent : new.sent ≡ old.sent
   pub allowances : new.allowances ≡ old.allowances
   pub polled_ready : new.polled_ready ≡ old.polled_ready
 
--- The bytes that the last transaction of a history sent. The list is empty if the history has no transaction.
 abbrev pub last_out : List Exchange → List ℕ
 last_out [] = []
 last_out (exchange ∷ earlier) = exchange.out
 
--- Holds if the last transaction of the history is a read of data from the address `start` on, which succeeded with the
--- reply `answer`.
+-- Holds if the last transaction of the history is a read of data from `start` on, which succeeded with the reply
+-- `answer`.
 pub record EndsWithRead (start : ℕ) (answer : List ℕ) (history : List Exchange) : Type 0 where
   pub reads : reads_data (last_out history) ≡ true
   pub address : address_in (last_out history) ≡ start
   pub is : history ≡ replied (last_out history) answer ∷ drop 1 history
 
--- Holds if the last transaction of the history is a read of data that succeeded, and `bytes` are the bytes of its reply
--- from the address `at` on.
+-- Holds if `bytes` are the bytes that the last transaction, a read of data, returned from the address `at` on.
 pub record EndsWithData (at : ℕ) (bytes : List ℕ) (history : List Exchange) : Type 0 where
   pub start : ℕ
   pub answer : List ℕ
@@ -65,7 +57,7 @@ pub record EndsWithData (at : ℕ) (bytes : List ℕ) (history : List Exchange) 
   pub begins : start ≤ at
   pub same : bytes ≡ part answer (at - start) (length bytes)
 
--- Holds if `len` is 0, or if the first `len` bytes of `block` are the whole reply to the last transaction of the
--- history. This transaction is a read of data from the address `start` on that succeeded.
+-- Holds if the first `len` bytes of `block` are the whole reply to the last transaction, a read of data from `start`
+-- on.
 pub record HoldsReply (block : List ℕ) (start len : ℕ) (history : List Exchange) : Type 0 where
   pub reply : 0 < len → EndsWithRead start (take len block) history

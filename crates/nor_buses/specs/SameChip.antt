@@ -8,28 +8,22 @@ use Rattle.nor_buses.specs.ReadsAs.{beside}
 use Rattle.nor_buses.specs.declared.same_chip.SameChip.{SameChip}
 use Rattle.nor_buses.specs.declared.same_chip.OtherChip.{OtherChip}
 
--- The bus inside, which carries out the transactions of a `SameChip`.
 abbrev pub checked_by : {B : Type 0} → SameChip B → B
 checked_by same = same.bus
 
--- The reply to the last read of the unique ID, or `None` if there was none.
 abbrev pub unique_in : {B : Type 0} → SameChip B → Option (List ℕ)
 unique_in same = same.unique
 
--- True if a modifying command was passed on to the bus inside.
 abbrev pub has_passed_change : {B : Type 0} → SameChip B → Bool
 has_passed_change same = same.has_begun
 
--- The two unique IDs, if the second read returned another one than the first.
 abbrev pub other_of : {B : Type 0} → SameChip B → Option OtherChip
 other_of same = same.other
 
--- The transactions that the bus was asked to carry out, each with its reply, the last one first.
 abbrev pub history_of : {B : Type 0} → SameChip B → List Exchange
 history_of same = same.history.exchanges
 
--- The state of the bus: the chip of the bus inside, with the history of this bus (`beside`). A modifying command that
--- was refused counts as sent.
+-- The state of the bus. A modifying command that was refused counts as sent.
 abbrev pub same_chip_state : {B : Type 0} → (inside : B → BusState) → SameChip B → BusState
 same_chip_state inside same = beside (inside (checked_by same)) (history_of same)
 
@@ -37,31 +31,26 @@ same_chip_state inside same = beside (inside (checked_by same)) (history_of same
 abbrev pub unique_read : List ℕ
 unique_read = 0x4B ∷ 0 ∷ 0 ∷ 0 ∷ 0 ∷ []
 
--- True if `out` is 4Bh and four more bytes.
 abbrev pub reads_unique : (out : List ℕ) → Bool
 reads_unique (opcode ∷ w ∷ x ∷ y ∷ z ∷ []) = opcode == 0x4B
 reads_unique _ = false
 
--- The unique ID that is remembered after a transaction that sent `out` and received `reply`, if `known` was remembered
--- before it.
 abbrev pub unique_after : (out reply : List ℕ) → (known : Option (List ℕ)) → Option (List ℕ)
 unique_after out reply known = if reads_unique out && length reply == 8 then Some reply else known
 
--- Holds for what the bus inside carried out before a modifying command was passed on. If none was passed on before and
--- a unique ID is remembered, this ID was read once more. Otherwise nothing was sent.
+-- Holds for what was sent before a modifying command: the unique ID was read again if it is the first such command and
+-- a unique ID is remembered.
 pub record IsChecked (begun : Bool) (unique : Option (List ℕ)) (old new : List Exchange) : Type 0 where
   pub later : begun ≡ true → new ≡ old
   pub none : unique ≡ None → new ≡ old
   pub again : (bytes : List ℕ) → begun ≡ false → unique ≡ Some bytes → new ≡ replied unique_read bytes ∷ old
 
--- Holds if the unique ID `other.before` was remembered, and the bus inside returned another one when it was read again.
--- Nothing else was sent.
+-- Holds if the unique ID `other.before` was remembered, and another one was returned when it was read again.
 pub record FindsOther (unique : Option (List ℕ)) (other : OtherChip) (old new : List Exchange) : Type 0 where
   pub before : unique ≡ Some other.before
   pub differs : other.found ≡ other.before → ⊥
   pub found : new ≡ replied unique_read other.found ∷ old
 
--- Holds if the chip was checked (`IsChecked`), and then the transaction `exchange` was passed on.
 pub record SendsChecked (begun : Bool) (unique : Option (List ℕ)) (exchange : Exchange) (old new : List Exchange)
     : Type 0 where
   pub between : List Exchange

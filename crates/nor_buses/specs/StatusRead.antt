@@ -1,5 +1,4 @@
--- How a `CheckedStatus` confirms what it reads: it reads the ID after a reply, and status registers twice. Also the
--- status writes that keep the bits that were read.
+-- How a `CheckedStatus` confirms what it reads, and which status writes keep the bits that were read.
 use Rattle.std.specs.Prelude.{◌≡◌, ◌/◌, ◌%◌, ◌&&◌, ◌||◌, ◌==◌, ℕ, Bool, true, false, List, [], ◌∷◌, Option, None}
 use Rattle.std.specs.Prelude.{Some, slice_index}
 use Rattle.nor_model.specs.Exchange.{Exchange}
@@ -9,20 +8,16 @@ use Rattle.nor_model.specs.History.{begins_with, bytes_or_none, replied}
 abbrev pub pair : (status : ℕ) → Exchange
 pair status = replied (0x05 ∷ []) (status ∷ status ∷ [])
 
--- A read of status 2 (35h) whose reply is the byte `status`.
 abbrev pub second : (status : ℕ) → Exchange
 second status = replied (0x35 ∷ []) (status ∷ [])
 
--- A read of the ID (9Fh) whose reply is `id`.
 abbrev pub read_id : (id : List ℕ) → Exchange
 read_id id = replied (0x9F ∷ []) id
 
--- True if a transaction begins with the opcode of a read of data (03h), of SFDP (5Ah) or of the unique ID (4Bh).
 abbrev pub begins_confirmed : (out : List ℕ) → Bool
 begins_confirmed [] = false
 begins_confirmed (opcode ∷ rest) = opcode == 0x03 || opcode == 0x5A || opcode == 0x4B
 
--- True if an ID is known, so the option isn't `None`.
 abbrev pub is_known : Option (List ℕ) → Bool
 is_known None = false
 is_known (Some id) = true
@@ -36,40 +31,34 @@ confirmed (Some id) history = read_id id ∷ history
 pub record KeepsId (old new : Option (List ℕ)) : Type 0 where
   pub same : is_known old ≡ true → new ≡ old
 
--- Holds if since `old` the bus inside made the transaction `read`, and then a read of the ID. The reply to the latter
--- is `known`, the ID that is known afterwards.
+-- Holds if the bus inside made the transaction `read`, and then read the ID, with the reply `known`.
 pub record IsConfirmed (read : Exchange) (known : Option (List ℕ)) (old new : List Exchange) : Type 0 where
   pub knows : is_known known ≡ true
   pub is : new ≡ confirmed known (read ∷ old)
 
--- Holds if since `old` the bus inside made the transaction `read` twice, with the same reply, and read the ID after
--- each of the two. Both IDs are `known`, the ID that is known afterwards.
+-- Holds if the bus inside made the transaction `read` twice, with the same reply, and read the ID `known` after each.
 pub record IsReadTwice (read : Exchange) (known : Option (List ℕ)) (old new : List Exchange) : Type 0 where
   pub knows : is_known known ≡ true
   pub is : new ≡ confirmed known (read ∷ confirmed known (read ∷ old))
 
--- Holds if after a status write of the bytes `sent`, and after status 1 was read as `one`, status 2 was read twice with
--- the same reply (`IsReadTwice`). All non-volatile bits are those that were sent: all of status 1 except BUSY and WEL,
--- and all of status 2 except SUS.
+-- Holds if, after a status write of the bytes `sent`, status 2 was read twice and all non-volatile bits are those that
+-- were sent. Status 1 was read as `one` before.
 pub record HasStored (sent : List ℕ) (one : ℕ) (known : Option (List ℕ)) (old new : List Exchange) : Type 0 where
   pub two : ℕ
   pub twice : IsReadTwice (second two) known old new
   pub first : one / 4 ≡ slice_index sent 0 / 4
   pub last : two % 128 ≡ slice_index sent 1 % 128
 
--- Holds if status 1 was read twice as `status` (`IsReadTwice`), and then status 2 was read and both agree with the
--- bytes `sent` of the status write (`HasStored`).
+-- Holds if status 1 was read twice as `status`, and then status 2, and both agree with the bytes `sent`.
 pub record AgreesWithSent (sent : List ℕ) (status : ℕ) (known : Option (List ℕ)) (old new : List Exchange)
     : Type 0 where
   pub between : List Exchange
   pub twice : IsReadTwice (pair status) known old between
   pub stored : HasStored sent status known between new
 
--- True if the transaction begins with the byte `opcode`, and its reply begins with the byte `byte`.
 abbrev pub has_read : (opcode byte : ℕ) → Exchange → Bool
 has_read opcode byte exchange = begins_with opcode exchange.out && begins_with byte (bytes_or_none exchange.reply)
 
--- True if the transaction begins with the opcode of a read of the ID (9Fh).
 abbrev pub has_read_id : Exchange → Bool
 has_read_id exchange = begins_with 0x9F exchange.out
 
@@ -78,23 +67,19 @@ abbrev pub shows_busy : (reply : List ℕ) → Bool
 shows_busy (first ∷ last ∷ rest) = first % 2 == 1 || last % 2 == 1
 shows_busy _ = false
 
--- True if a reply has at least one byte.
 abbrev pub is_replied : (reply : List ℕ) → Bool
 is_replied [] = false
 is_replied (first ∷ rest) = true
 
--- True if the last transaction is a poll that has a reply.
 abbrev pub ends_in_poll : (history : List Exchange) → Bool
 ends_in_poll [] = false
 ends_in_poll (last ∷ earlier) = begins_with 0x05 last.out && is_replied (bytes_or_none last.reply)
 
--- True if the last transaction is a poll whose reply shows BUSY.
 abbrev pub ends_busy : (history : List Exchange) → Bool
 ends_busy [] = false
 ends_busy (last ∷ earlier) = begins_with 0x05 last.out && shows_busy (bytes_or_none last.reply)
 
--- True if the last transaction is a read of the ID, and the one before it is a poll that shows BUSY. A busy chip
--- ignores a read of its ID.
+-- True if the ID was read just after a poll that showed BUSY: a busy chip ignores this read.
 abbrev pub read_id_while_busy : (history : List Exchange) → Bool
 read_id_while_busy [] = false
 read_id_while_busy (last ∷ earlier) = has_read_id last && ends_busy earlier
@@ -110,15 +95,12 @@ was_read_twice opcode byte (d ∷ c ∷ b ∷ a ∷ earlier) =
     (has_read_id d && has_read opcode byte c && has_read_id b && has_read opcode byte a)
     || was_read_twice opcode byte (c ∷ b ∷ a ∷ earlier)
 
--- Holds if a status write of `one` and `two` keeps all non-volatile bits that were read, except SRP0 (bit 7 of
--- status 1).
 pub record ChangesOnlySrp0 (one two one_read two_read : ℕ) : Type 0 where
   -- bits 2 to 6 of status 1, the protection bits
   pub protection : one % 128 / 4 ≡ one_read % 128 / 4
   -- bits 0 to 6 of status 2
   pub whole : two % 128 ≡ two_read % 128
 
--- Holds if a status write of `one` and `two` keeps the bits outside the protection bits as they were read.
 pub record ChangesOnlyProtection (one two one_read two_read : ℕ) : Type 0 where
   -- SRP0 (bit 7 of status 1)
   pub srp0 : one / 128 ≡ one_read / 128
@@ -127,19 +109,16 @@ pub record ChangesOnlyProtection (one two one_read two_read : ℕ) : Type 0 wher
   -- SRP1, QE and the reserved bit (bits 0 to 2 of status 2)
   pub low : two % 8 ≡ two_read % 8
 
--- Holds if a status write changes only what it may: with `locks` only SRP0, otherwise only the protection bits.
 abbrev pub ChangesAsAllowed : (locks : Bool) → (one two one_read two_read : ℕ) → Type 0
 ChangesAsAllowed true one two one_read two_read = ChangesOnlySrp0 one two one_read two_read
 ChangesAsAllowed false one two one_read two_read = ChangesOnlyProtection one two one_read two_read
 
--- Holds if a transaction that sends `out` is a status write that a `CheckedStatus` may pass on. Both status registers
--- were read twice with equal replies before, and the ID was read after each read (`was_read_twice`).
+-- Holds if `out` is a status write that a `CheckedStatus` may pass on: both status registers were read twice before,
+-- and the ID was read after each read.
 pub record IsStatusAllowed (locks : Bool) (out : List ℕ) (history : List Exchange) : Type 0 where
-  -- the two bytes that the status write sends
   pub one : ℕ
   pub two : ℕ
   pub is : out ≡ 0x01 ∷ one ∷ two ∷ []
-  -- the values of the status registers, as they were read
   pub one_read : ℕ
   pub two_read : ℕ
   pub first : was_read_twice 0x05 one_read history ≡ true

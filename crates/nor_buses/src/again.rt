@@ -16,13 +16,11 @@ const READ_DATA: u8 = 0x03;
 // A run of neighbouring sectors of a reply that all equal the image, or that all differ from it.
 #[derive(Clone, Copy)]
 struct Run {
-    // The index in the reply of the first byte after the run.
     end: usize,
     is_expected: bool,
 }
 
-// Repeats the read `out`, whose first reply was `reply`. Returns whether the second reply is the same. Overwrites
-// `again` with the second reply.
+// Repeats the read `out`, whose first reply was `reply`. Returns whether the second reply, in `again`, is the same.
 pub(crate) fn is_repeated<B: Bus>(
     bus: &mut B,
     out: &[u8],
@@ -50,9 +48,8 @@ pub(crate) fn is_repeated<B: Bus>(
     Ok(are_same(reply, second))
 }
 
-// Compares `reply`, which was read from `address` on, with the image, and reads the sectors that differ a second time.
-// Returns whether each second reply is the same as the first. Neighbouring sectors are read with one transaction.
-// Overwrites `again` with the second replies.
+// Reads the sectors of `reply`, which was read from `address` on, that differ from the image a second time into
+// `again`, neighbouring ones with one transaction. Returns whether each second reply is the same as the first.
 pub(crate) fn is_repeated_or_expected<B: Bus>(
     bus: &mut B,
     image: &[u8],
@@ -90,7 +87,7 @@ pub(crate) fn is_repeated_or_expected<B: Bus>(
 }
 
 // Returns the longest run of sectors, from the index `from` of a reply on, that all equal the image or that all differ
-// from it. The reply was read from `address` on.
+// from it.
 fn run_from(image: &[u8], address: u32, reply: &[u8], from: usize) -> Run
     requires fits { address + length reply.now ≤ 16777216 }
     requires some { from < length reply.now }
@@ -113,8 +110,7 @@ fn run_from(image: &[u8], address: u32, reply: &[u8], from: usize) -> Run
     Run { end, is_expected }
 }
 
-// Returns the index of the first byte after the sector that contains the byte with the index `from`. The reply has
-// `len` bytes and was read from `address` on. Returns `len` if the reply ends inside this sector.
+// Returns the index after the end of the sector that contains the index `from`, or `len` if the reply ends before it.
 fn sector_end(address: u32, from: usize, len: usize) -> usize
     requires fits { address + len ≤ 16777216 }
     requires some { from < len }
@@ -126,7 +122,6 @@ fn sector_end(address: u32, from: usize, len: usize) -> usize
     len.min(from + left)
 }
 
-// Returns whether the bytes of the reply with the indices `from` to `to - 1` equal the image at their addresses.
 fn is_at(image: &[u8], address: u32, reply: &[u8], from: usize, to: usize) -> bool
     requires some { from < to }
     requires within { to ≤ length reply.now }
@@ -141,7 +136,6 @@ fn is_at(image: &[u8], address: u32, reply: &[u8], from: usize, to: usize) -> bo
     }
 }
 
-// Returns the bytes that a read of data (03h) from this address on sends.
 fn data_read(address: u32) -> [u8; 4]
     requires { address ≤ 16777215 }
     ensures { result ≡ data_read address }

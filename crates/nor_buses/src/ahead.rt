@@ -12,40 +12,38 @@ ghost use Rattle.nor_buses.specs.ReadsAs.{HoldsReply, EndsWithRead, EndsWithData
 use nor_geometry::SECTOR_LEN;
 use nor_model::{Bus, History, Stopped};
 
-// The greatest length of a block. The size of a chip is a power of two and at least 64 KiB, so it is a multiple of this
-// length. Therefore a block that lies between two multiples of this length does not reach past the end of a chip.
+// The greatest length of a block. The size of a chip is a multiple of it, so a block that lies between two multiples of
+// this length does not reach past the end of a chip.
 const LONGEST_BLOCK: u32 = 1 << 16;
 
 const READ_DATA: u8 = 0x03;
 
 /// A bus that reads data (03h) ahead, if reads follow each other. It keeps the bytes that it last read over the bus
 /// inside in memory: the *block*. If the block has all bytes of a read, they are returned from memory. Otherwise a new
-/// block is read, from the address of the read on. If this is the address at which the last block ended, the intended
-/// length of the block doubles, up to 64 KiB; otherwise it is the length of the read. The block is longer if the read
-/// needs more bytes, and shorter if it would pass a multiple of 64 KiB.
+/// block is read, from the address of the read on. If this is the address at which the last block ended, the length of
+/// the block doubles, up to 64 KiB; otherwise it is the length of the read.
 ///
-/// The bus forgets the block at each transaction that it passes on unchanged, and if the bus inside stops. A block ends
-/// at a multiple of 64 KiB at the latest, so it never reaches past the end of a chip. A block is never longer than the
-/// bus inside can read, and `end_blocks_at` can end it earlier. A transaction is passed on unchanged if it is no read
-/// of data, reads more than the longest block, or reaches past a multiple of 64 KiB.
+/// The block is forgotten at each transaction that is passed on unchanged, and if the bus inside stops. It ends at a
+/// multiple of 64 KiB at the latest, and `end_blocks_at` can end it earlier. It is never longer than the bus inside can
+/// read. A transaction is passed on unchanged if it is no read of data, reads more than the longest block, or reaches
+/// past a multiple of 64 KiB.
 ///
 /// If a read of data of at least one byte returns `Ok`, the last transaction over the bus inside is a read of data, and
 /// its reply has the returned bytes at the same addresses.
 ///
-/// A read over this bus may be no transaction over the bus inside, or a longer one, so this bus is never punctual. It
-/// is proved to be well-behaved if the bus inside is and takes the blocks: if that bus is unlimited, or no block has
-/// more than 4,096 bytes (`longest_read` is less than 8,192). While this bus is used, nobody else may modify the chip.
+/// This bus is never punctual. It is proved to be well-behaved if the bus inside is and takes the blocks: if that bus
+/// is unlimited, or no block has more than 4,096 bytes (`longest_read` is less than 8,192). While this bus is used,
+/// nobody else may modify the chip.
 ///
-/// The history lists each transaction over this bus with its reply, even a read whose bytes came from memory; a
-/// transaction that failed is listed without a reply. In contracts, the modifying commands that were sent and the
-/// result of the last poll are those of the bus inside.
+/// The history lists each transaction over this bus with its reply, even a read whose bytes came from memory. In
+/// contracts, the modifying commands that were sent and the result of the last poll are those of the bus inside.
 #[derive(Drop)]
 pub struct ReadAhead<B: Bus + Drop> {
     bus: B,
     block: [u8; LONGEST_BLOCK as usize],
     start: u32,
     len: u32,
-    // The intended length of the last block. The block is shorter if it would pass a multiple of 64 KiB or `end`, and
+    // The intended length of the last block, which is shorter if it would pass a multiple of 64 KiB or `end`, and
     // longer if the read needed more bytes.
     step: u32,
     longest: u32,
@@ -65,8 +63,8 @@ pub struct ReadAhead<B: Bus + Drop> {
 impl<B: Bus + Drop> ReadAhead<B> {
     ghost use Rattle.nor_buses.specs.Ahead.{ahead_of, held, history_of, longest_of};
 
-    /// Returns a bus that reads ahead over `bus`. A transaction over `bus` can read `longest_read` bytes. If that is
-    /// less than 4,096, nothing is read ahead.
+    /// Returns a bus that reads ahead over `bus`, whose transactions can read `longest_read` bytes. If that is less
+    /// than 4,096, nothing is read ahead.
     pub fn new(bus: B, longest_read: u32) -> ReadAhead<B>
         ensures bus { ahead_of result ≡ bus }
         ensures empty { held result ≡ 0 }
@@ -108,7 +106,7 @@ impl<B: Bus + Drop> ReadAhead<B> {
     ghost use Rattle.nor_buses.specs.Ahead.{begin, held, history_of, longest_of, inside_of, ahead_state};
 
     // Makes one transaction, and does not add it to the history. The clause `records` describes the state after the
-    // caller has added the transaction.
+    // caller has added it.
     fn carry(&mut self, out: &[u8], reply: &mut [u8]) -> Result<(), Stopped>
         ensures records { Records out.now reply.new result (ahead_state self.old)
             (around (inside_of self.new) (exchange_of out.now reply.new result ∷ history_of self.old)) }
@@ -134,8 +132,8 @@ impl<B: Bus + Drop> ReadAhead<B> {
         }
     }
 
-    // Fills `reply` with the bytes of the chip from `address` on, which are copied from the block. Reads a new block
-    // first if the block does not hold all of these bytes.
+    // Fills `reply` with the bytes from `address` on, which are copied from the block. Reads a new block first if
+    // needed.
     fn read(&mut self, address: u32, reply: &mut [u8]) -> Result<(), Stopped>
         requires address { address ≤ 16777215 }
         requires len { length reply.old ≤ longest_of self.old }
@@ -158,8 +156,7 @@ impl<B: Bus + Drop> ReadAhead<B> {
         Ok(())
     }
 
-    // Makes the block hold the `len` bytes from `address` on. If it does not hold them already, reads a new block that
-    // begins at `address`.
+    // Makes the block hold the `len` bytes from `address` on, with a new block that begins there if needed.
     fn hold(&mut self, address: u32, len: u32) -> Result<(), Stopped>
         requires address { address ≤ 16777215 }
         requires len { len ≤ longest_of self.old }
@@ -243,7 +240,6 @@ impl<B: Bus + Drop> Bus for ReadAhead<B> {
     }
 }
 
-// Reads `len` bytes of the chip from `address` on into the first bytes of `block`, with one transaction.
 fn read_block<B: Bus>(bus: &mut B, address: u32, len: u32, block: &mut [u8]) -> Result<(), Stopped>
     requires address { address ≤ 16777215 }
     requires len { len ≤ length block.old }
@@ -274,8 +270,6 @@ pub(crate) fn data_address(out: &[u8]) -> Option<u32>
     }
 }
 
-// Returns whether `len` bytes from `address` on fit into a block. A block has at most `longest` bytes, and ends at the
-// next multiple of 64 KiB at the latest.
 fn is_in_block(address: u32, len: usize, longest: u32) -> bool
     ensures { result ≡ true → len ≤ longest }
 {

@@ -25,16 +25,15 @@ const CHANGES: [ChangedByte; 2] = [
     },
 ];
 
-// How many different values the data must have at least, before a value counts as changed. ASCII text, which may lack
-// 0Dh, has at most half of the 256 values.
+// The least number of different values before one counts as changed. ASCII text, which may lack 0Dh, has at most half
+// of the 256 values.
 const FEWEST_VALUES: usize = 192;
 
-// How often `read_as` must occur at least. Since most data is read twice, these are at least 32 bytes of the chip. If
-// `lost` and `read_as` are equally likely in the data, the first 32 of these bytes are all `read_as` in 1 of 2^32
-// cases.
+// The least number of occurrences of `read_as`. Most data is read twice, so these are at least 32 bytes of the chip. If
+// both values are equally likely, the first 32 of these bytes are all `read_as` in 1 of 2^32 cases.
 const FEWEST_OCCURRENCES: u32 = 64;
 
-// How often each value occurs in the data that was read. A count that reaches 2^32 - 1 stays there.
+// The number of occurrences of each value in the data that was read. A count that reaches 2^32 - 1 stays there.
 #[derive(Drop)]
 pub(crate) struct ByteCounts {
     counts: [u32; 256],
@@ -53,7 +52,6 @@ impl ByteCounts {
         }
     }
 
-    // Returns the value that the port seems to change, if there is one.
     pub(crate) fn changed_byte(&self) -> Option<ChangedByte> {
         if self.values() < FEWEST_VALUES {
             return None;
@@ -66,7 +64,6 @@ impl ByteCounts {
         None
     }
 
-    // Returns how many different values occur.
     fn values(&self) -> usize {
         self.counts.iter().filter(|count| **count > 0).count()
     }

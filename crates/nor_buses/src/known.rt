@@ -11,14 +11,13 @@ const WRITE_STATUS: u8 = 0x01;
 /// The reason why a `CheckedStatus` stopped although the bus inside did not.
 #[derive(Clone, Copy, Debug, PartialEq, Eq)]
 pub enum CheckFault {
-    /// Two reads of the same status register (05h or 35h) had different replies, or the two reply bytes of one poll
-    /// differed although both showed that the chip is ready. This also covers a poll that showed that the chip is ready
-    /// and a second one that showed BUSY.
+    /// Two reads of the same status register (05h or 35h) had different replies: also a poll that showed a ready chip
+    /// and a second one that showed BUSY, or two different reply bytes of one poll that both showed a ready chip.
     Differs,
     /// A status write was not sent, because it could change a bit that this bus keeps, and some of these bits can be
-    /// set only once. The bus keeps all bits except the protection bits; one that `locking` made keeps all bits except
-    /// SRP0. The reason is one of these: status 1 or status 2 was not read yet; such a bit differs from the one that
-    /// was read; BUSY, WEL or SUS is set in the write; or the write doesn't have exactly two data bytes.
+    /// set only once. Status 1 or 2 was not read yet, such a bit differs from the one that was read, BUSY, WEL or SUS
+    /// is set in the write, or the write doesn't have exactly two data bytes. All bits are kept except the protection
+    /// bits, or after `locking` except SRP0.
     Refused,
     /// The status write of `sent` was not stored: afterwards the status registers are `found`, which differs in a
     /// non-volatile bit.
@@ -26,8 +25,7 @@ pub enum CheckFault {
     /// The chip first replied the ID `id`, and later `found`. If contact or supply fails, all replies are FFh or 00h,
     /// and so are the bytes of `found`.
     Lost { id: [u8; 3], found: [u8; 3] },
-    /// The first modifying command was not sent, because the port seems to change bytes that are received: see
-    /// `ChangedByte`.
+    /// The first modifying command was not sent, because the port seems to change bytes (`ChangedByte`).
     ChangedByte(ChangedByte),
 }
 
@@ -38,7 +36,6 @@ pub(crate) struct Known {
     // read after each of these reads.
     pub(crate) one: Option<u8>,
     pub(crate) two: Option<u8>,
-    // True if a modifying command was passed on.
     pub(crate) is_changing: bool,
     // The bytes of a status write that was passed on and is not read back yet.
     pub(crate) written: Option<[u8; 2]>,
@@ -48,9 +45,8 @@ pub(crate) struct Known {
     pub(crate) locks: bool,
 }
 
-// Returns the two bytes of the status write `out`, if both status registers are known and `out` keeps their bits, with
-// BUSY, WEL and SUS clear. It may change only the protection bits, or with `known.locks` only SRP0. Returns `None` for
-// any other transaction.
+// Returns the two bytes of the status write `out` if it changes only what it may, with BUSY, WEL and SUS clear. Returns
+// `None` for any other transaction, or if a status register isn't known.
 pub(crate) fn kept_status(known: &Known, out: &[u8]) -> Option<[u8; 2]>
     ensures { IfSome result (KeepsKnown known.now out.now) }
 {
@@ -68,8 +64,6 @@ pub(crate) fn kept_status(known: &Known, out: &[u8]) -> Option<[u8; 2]>
     }
 }
 
-// True if `sent` has the bits of `read` that a status write must keep: all non-volatile bits except SRP0 if `locks` is
-// true, otherwise all except the protection bits.
 fn keeps_bits(locks: bool, sent: Status, read: Status) -> bool
     ensures { result ≡ true → KeepsBits locks sent.one.0 sent.two.0 read.one.0 read.two.0 }
 {

@@ -20,33 +20,29 @@ const LONGEST: u64 = 6250;
 /// A bus that pauses between polls that show BUSY. A poll of a chip that is certainly still busy costs time on the
 /// wire, and without pauses a fast bus may use up the 65,536 polls of a wait before an erase ends.
 ///
-/// The pause before a transaction depends on how many polls in a row showed BUSY before it:
+/// The pause before a poll depends on how many polls in a row showed BUSY before it:
 ///
-/// - none: no pause, except before a poll after an operation that typically takes at most 1 ms (a page program). That
-///   pause lasts until this time has passed since the command was passed to the bus, so the poll often finds the chip
-///   ready, which saves an exchange.
-/// - one: the typical duration of the operation that began last, minus the time since its command was passed to the
-///   bus. A page program typically takes 0.7 ms, a status write 10 ms, an erase of 4 KiB 45 ms, of 32 KiB 120 ms, of
-///   64 KiB 150 ms (W25Q64FV datasheet, AC characteristics). An erase of the whole chip, whose duration depends on the
-///   chip, counts as one of 64 KiB. If the clock fails, the pause has the whole duration. If no command began an
-///   operation, there is no pause.
+/// - none: no pause, except after an operation that typically takes at most 1 ms (a page program). Then the pause lasts
+///   until this time has passed since the command, so the poll often finds the chip ready, which saves an exchange.
+/// - one: the typical duration of the operation that began last, minus the time since its command. A page program
+///   typically takes 0.7 ms, a status write 10 ms, an erase of 4 KiB 45 ms, of 32 KiB 120 ms, of 64 KiB 150 ms
+///   (W25Q64FV datasheet, AC characteristics). An erase of the whole chip counts as one of 64 KiB. If the clock fails,
+///   the pause has the whole duration. If no command began an operation, there is no pause.
 /// - two or more: a sixteenth of the typical duration, but at least 0.1 ms. This pause doubles after every 16 polls, up
 ///   to 6.25 ms.
 ///
 /// No pause is longer than 150 ms. The pauses of a wait whose 65,536 polls all show BUSY add up to at least 400 s, and
-/// to at most 410 s. The longest operation of the known chips is the erase of a whole W25Q128FV, which takes at most
-/// 200 s (datasheet, AC characteristics). It is not proved that `Clock::sleep` is called, or that it waits for the
-/// requested time.
-///
-/// The bus has the state of the bus inside, so it is well-behaved if and only if the bus inside is.
+/// to at most 410 s. The longest operation of the known chips, the erase of a whole W25Q128FV, takes at most 200 s
+/// (datasheet, AC characteristics). It is not proved that `Clock::sleep` is called, or that it waits for the requested
+/// time. The bus has the state of the bus inside.
 #[derive(Drop)]
 pub struct Paced<B, C> {
     bus: B,
     clock: C,
     // The typical duration in microseconds of the operation that began last; 0 if no command began one.
     typical: u64,
-    // When the last command that began an operation was passed to the bus; `None` if there was none, or if the clock
-    // failed.
+    // The time at which the last command that began an operation was passed to the bus; `None` if there was none, or if
+    // the clock failed.
     sent: Option<Instant>,
     busy_polls: u64,
     ghost typical_is_short: { typical ≤ 150000 },
@@ -79,7 +75,7 @@ impl<B: Bus + Drop, C: Clock + Drop> Paced<B, C> {
         &self.bus
     }
 
-    /// Returns the bus inside, without the pacing.
+    /// Returns the bus inside.
     pub fn into_inner(self) -> B
         ensures { result ≡ paced_of self }
     {
@@ -95,7 +91,6 @@ impl<B: Bus + Drop, C: Clock + Drop> Paced<B, C> {
 }
 
 impl<B, C: Clock> Paced<B, C> {
-    // Pauses before the next transaction, for the time that `pause_micros` returns.
     fn pause(&self) {
         let micros = pause_micros(self.typical, self.elapsed(), self.busy_polls);
         if micros > 0 {
@@ -103,8 +98,7 @@ impl<B, C: Clock> Paced<B, C> {
         }
     }
 
-    // Returns the time in microseconds since the last command that began an operation was passed to the bus, or 0 if
-    // that time isn't known.
+    // Returns the time in microseconds since the last command that began an operation, or 0 if it isn't known.
     fn elapsed(&self) -> u64 {
         let Some(sent) = self.sent else {
             return 0;
@@ -156,8 +150,8 @@ impl<B: Bus, C: Clock> Bus for Paced<B, C> {
     }
 }
 
-// Returns whether a transaction that sent `out` and received `reply` is a poll that shows BUSY: it sends only 05h, and
-// the last byte of its reply has bit 0 set. (W25Q64FV datasheet, Read Status Register-1.)
+// Returns whether a transaction is a poll that shows BUSY: it sends only 05h, and the last byte of its reply has bit 0
+// set (W25Q64FV datasheet, Read Status Register-1).
 fn shows_busy(out: &[u8], reply: &[u8]) -> bool
     ensures { result ≡ not (polled_ready_after out.now reply.now true) }
 {
@@ -167,8 +161,8 @@ fn shows_busy(out: &[u8], reply: &[u8]) -> bool
     }
 }
 
-// Returns the typical duration in microseconds of the operation that a transaction which sends `out` begins, or `None`
-// if it begins none. (W25Q64FV datasheet, AC characteristics.)
+// Returns the typical duration in microseconds of the operation that a transaction begins, or `None` if it begins none
+// (W25Q64FV datasheet, AC characteristics).
 fn typical_micros(out: &[u8]) -> Option<u64>
     ensures typical { result ≡ typical_of out.now }
     ensures short { IfSome result (λ typical. typical ≤ 150000) }
@@ -183,8 +177,7 @@ fn typical_micros(out: &[u8]) -> Option<u64>
     }
 }
 
-// Returns the pause in microseconds before a poll that follows `busy_polls` polls in a row which showed BUSY. The
-// operation typically takes `typical` microseconds, and its command was sent `elapsed` microseconds ago.
+// Returns the pause in microseconds before a poll that follows `busy_polls` polls in a row which showed BUSY.
 fn pause_micros(typical: u64, elapsed: u64, busy_polls: u64) -> u64
     ensures { result ≡ pause_before typical elapsed busy_polls }
 {

@@ -58,8 +58,7 @@ pub(crate) fn split_read<B: Bus>(
     }
 }
 
-// Returns the address of a read that can be split, or 0 if the read has no address (05h, 35h). Returns `None` for any
-// other transaction.
+// Returns the address of a read that can be split, 0 for a read without address (05h, 35h), otherwise `None`.
 fn first_address(out: &[u8]) -> Option<u32>
     ensures address { IfSome result (λ address. address ≡ address_in out.now) }
     ensures fits { IfSome result (λ address. address ≤ 16777215) }
@@ -73,8 +72,6 @@ fn first_address(out: &[u8]) -> Option<u32>
     }
 }
 
-// Fills `reply` by reads of at most `longest` bytes each. If `out` is no read that can be split, sends nothing, and
-// returns `Stopped` unless `reply` is empty.
 fn read_parts<B: Bus>(
     bus: &mut B,
     longest: usize,
@@ -95,8 +92,7 @@ fn read_parts<B: Bus>(
     Ok(())
 }
 
-// Reads one part of the reply to `out`: the bytes from the index `from` on, as many as `part` holds. Returns `Stopped`
-// and sends nothing if `out` is no read that can be split.
+// Reads the bytes of the reply to `out` from the index `from` on, as many as `part` holds.
 fn read_part<B: Bus>(bus: &mut B, out: &[u8], from: u32, part: &mut [u8]) -> Result<(), Stopped>
     requires { address_in out.now + from ≤ 16777215 }
     ensures nature { SameNature (B.state bus.old) (B.state bus.new) }
@@ -119,8 +115,7 @@ fn read_part<B: Bus>(bus: &mut B, out: &[u8], from: u32, part: &mut [u8]) -> Res
     }
 }
 
-// Adds `from` to the address with the bytes `high`, `middle` and `low`, and returns the sum as three bytes, high byte
-// first.
+// Adds `from` to the address with these bytes, and returns the sum as three bytes, high byte first.
 fn address_from(high: u8, middle: u8, low: u8, from: u32) -> [u8; 3]
     requires { 65536 * high + 256 * middle + low + from ≤ 16777215 }
     ensures { result ≡ address_bytes (65536 * high + 256 * middle + low + from) }
@@ -130,8 +125,7 @@ fn address_from(high: u8, middle: u8, low: u8, from: u32) -> [u8; 3]
 }
 
 // Carries out the program `out` in parts that send at most `longest` bytes each. Returns `Stopped` and sends nothing if
-// `out` is no program within one page, or if `reply` isn't empty. `polled` is the greatest number of bytes that a poll
-// may read.
+// `out` is no program within one page, or if `reply` isn't empty. A poll may read `polled` bytes.
 pub(crate) fn split_program<B: Bus>(
     bus: &mut B,
     longest: u32,
@@ -171,8 +165,6 @@ fn fits_page(low: u8, bytes: &[u8]) -> bool
     bytes.len() <= PAGE_LEN - usize::from(low)
 }
 
-// Programs `bytes`, which lie in one page, in parts that send at most `longest` bytes each. Each poll reads `polled`
-// bytes.
 fn program_parts<B: Bus>(
     bus: &mut B,
     longest: usize,
@@ -203,7 +195,6 @@ fn program_parts<B: Bus>(
     Ok(())
 }
 
-// Programs the bytes of one part at `address`, with one transaction.
 fn program_part<B: Bus>(bus: &mut B, address: u32, part: &[u8]) -> Result<(), Stopped>
     requires address { address ≤ 16777215 }
     requires len { length part.now ≤ 256 }
@@ -221,8 +212,7 @@ fn program_part<B: Bus>(bus: &mut B, address: u32, part: &[u8]) -> Result<(), St
     bus.transfer(&out, &mut [])
 }
 
-// Polls until the chip is ready, at most 65,536 times. Each poll reads `polled` bytes. Returns `Stopped` if the chip
-// isn't ready then, or if the bus stopped.
+// Polls until the chip is ready. Returns `Stopped` if it isn't after 65,536 polls, or if the bus stopped.
 fn wait<B: Bus>(bus: &mut B, polled: usize) -> Result<(), Stopped>
     requires polled { 1 ≤ polled }
     requires few { polled ≤ 2 }
@@ -237,7 +227,7 @@ fn wait<B: Bus>(bus: &mut B, polled: usize) -> Result<(), Stopped>
     Err(Stopped)
 }
 
-// Polls once: reads `polled` bytes of status 1. Returns whether all of them show that the chip is ready.
+// Polls once. Returns whether all status bytes show that the chip is ready.
 fn poll<B: Bus>(bus: &mut B, polled: usize) -> Result<bool, Stopped>
     requires polled { 1 ≤ polled }
     requires few { polled ≤ 2 }
@@ -251,7 +241,6 @@ fn poll<B: Bus>(bus: &mut B, polled: usize) -> Result<bool, Stopped>
     Ok(show_ready(shown))
 }
 
-// Returns whether BUSY (bit 0) is clear in each of these status bytes.
 fn show_ready(status: &[u8]) -> bool
     ensures { result ≡ true → All (λ (byte : ℕ). byte % 2 ≡ 0) status.now }
 {

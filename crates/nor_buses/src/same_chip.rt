@@ -24,33 +24,29 @@ pub struct OtherChip {
 /// after its chip was read may have a chip of the same kind, which the ID (9Fh) doesn't distinguish. A session would
 /// change it with the journal of the other chip.
 ///
-/// The bus remembers the reply to the last read of the unique ID (4Bh with eight reply bytes). Before the first
-/// modifying command it reads the unique ID again. If the reply differs, it sends neither this modifying command nor a
-/// later one: each returns `Stopped`, and `other` returns both unique IDs. If no unique ID was read before, nothing is
-/// compared. A chip without unique ID returns the same bytes each time, so it can't be distinguished from another one.
-/// A wrong bit in one of the replies looks like another chip, so put this bus around a bus that reads the unique ID
-/// twice (`ReadTwice`).
+/// The bus remembers the reply to the last read of the unique ID (4Bh with eight reply bytes), and reads it again
+/// before the first modifying command. If the reply differs, each modifying command returns `Stopped` and isn't sent,
+/// and `other` returns both unique IDs. If no unique ID was read before, nothing is compared. A chip without unique ID
+/// returns the same bytes each time, so it can't be distinguished from another one. A wrong bit looks like another
+/// chip, so put this bus around a bus that reads the unique ID twice (`ReadTwice`).
 ///
-/// The first modifying command over this bus may be two transactions over the bus inside. So this bus is not punctual,
-/// but well-behaved if and only if the bus inside is. A chip ignores a read of its unique ID while it is busy. The
-/// engine sends the first modifying command only after it has waited for the chip.
+/// This bus is not punctual, but well-behaved if and only if the bus inside is. A chip ignores a read of its unique ID
+/// while it is busy; the engine sends the first modifying command only after it has waited for the chip.
 ///
-/// The history lists each transaction over this bus with its reply; a transaction that failed or was refused is listed
-/// without a reply. In contracts, the chip is that of the bus inside, and the modifying commands and the result of the
-/// last poll are those of this bus's own history.
+/// The history lists each transaction over this bus with its reply, or without one if it failed or was refused. In
+/// contracts, the chip is that of the bus inside, and the modifying commands and the result of the last poll are those
+/// of this bus's own history.
 #[derive(Drop)]
 pub struct SameChip<B> {
     bus: B,
-    // The reply to the last read of the unique ID.
     unique: Option<[u8; 8]>,
-    // True if a modifying command was passed on.
     has_begun: bool,
     other: Option<OtherChip>,
     history: History,
 }
 
 impl<B: Bus + Drop> SameChip<B> {
-    /// Returns a bus over `bus` that reads the unique ID again before the first modifying command.
+    /// Returns a bus over `bus` for which no unique ID was read yet.
     pub fn new(bus: B) -> SameChip<B>
         ensures bus { checked_by result ≡ bus }
         ensures unique { unique_in result ≡ None }
@@ -83,8 +79,7 @@ impl<B: Bus + Drop> SameChip<B> {
 }
 
 impl<B: Bus> SameChip<B> {
-    // Checks that a modifying command may be passed on, and records that it will be. Before the first one, reads the
-    // unique ID again if one is remembered, and stops if the two differ.
+    // Reads the unique ID again if no modifying command was passed on yet, and stops if it isn't the remembered one.
     fn check(&mut self) -> Result<(), Stopped>
         ensures history { history_of self.new ≡ history_of self.old }
         ensures unique { unique_in self.new ≡ unique_in self.old }
@@ -207,8 +202,7 @@ impl<B: Bus> Bus for SameChip<B> {
     }
 }
 
-// Returns the unique ID that is remembered after a transaction: its reply, if it read a unique ID of eight bytes, and
-// otherwise `known`.
+// Returns the unique ID that is remembered after a transaction: its reply, if it read one, and otherwise `known`.
 fn unique_after(out: &[u8], reply: &[u8], known: Option<[u8; 8]>) -> Option<[u8; 8]>
     ensures { result ≡ unique_after out.now reply.now known }
 {

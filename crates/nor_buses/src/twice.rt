@@ -12,7 +12,7 @@ use crate::again::{is_repeated, is_repeated_or_expected};
 use crate::ahead::data_address;
 use nor_model::{Bus, History, Stopped};
 
-// The greatest length of a read, which is the greatest length of a block of `ReadAhead`.
+// The greatest length of a read, which is that of a block of `ReadAhead`.
 const LONGEST_READ: usize = 65536;
 
 // The least address that doesn't fit in three bytes.
@@ -28,28 +28,25 @@ const READ_ID: u8 = 0x9F;
 
 /// A bus that carries out each read of data (03h), of the ID (9Fh), of SFDP (5Ah) and of the unique ID (4Bh) twice, and
 /// stops if the replies differ. A poor contact flips bits in some reads. Without a second read a flipped bit could get
-/// into the journal, and a restore would write it to the chip; or a wrong ID could be read. If such a read requests
-/// more than 65,536 bytes, it is rejected: nothing is sent.
+/// into the journal, and a restore would write it to the chip. Such a read of more than 65,536 bytes is rejected:
+/// nothing is sent.
 ///
-/// If an image is expected (`expecting`), a read of data (03h and three address bytes) that does not pass address
-/// FFFFFFh is carried out once. After that only the sectors of its reply that differ from the image at the same
-/// addresses are read again, neighbouring ones together. If the reply has only a part of a sector, only this part is
-/// compared. If the expected image is the one that a session writes, each sector that the session's journal saves was
-/// read twice: such a session saves only sectors that differ from the image, and reads each one with a single
+/// If an image is expected (`expecting`), only the sectors of a reply that differ from the image at the same addresses
+/// are read again, neighbouring ones together. This holds for reads of data (03h and three address bytes) that do not
+/// pass address FFFFFFh. If the expected image is the one that a session writes, each sector that the session's journal
+/// saves was read twice: such a session saves only sectors that differ from the image, and reads each with a single
 /// transaction.
 ///
 /// An error that is the same in both reads is not detected. On any bus, each byte that a successful read returned is
 /// the expected one, or was returned a second time by a later transaction. If a read fails, `reply` may contain bytes
 /// of it.
 ///
-/// A read over this bus may be several transactions over the bus inside, and this bus may stop at each of them, so it
-/// is never punctual. It is proved to be well-behaved if the bus inside is: contracts give it the state of that bus,
-/// with its own history. If the bus inside is well-behaved and punctual, and accepts a read of this length, a read of
-/// at most 65,536 bytes fails only if no transaction is left afterwards.
+/// This bus is never punctual. It is proved to be well-behaved if the bus inside is: contracts give it the state of
+/// that bus, with its own history. If the bus inside is well-behaved and punctual, and accepts a read of this length, a
+/// read of at most 65,536 bytes fails only if no transaction is left afterwards.
 ///
-/// The history lists each transaction over this bus with its reply; a transaction that failed is listed without a
-/// reply. A read that the bus inside repeated, as a whole or in part, is listed once. In contracts, the modifying
-/// commands that were sent and the result of the last poll are those of the bus inside.
+/// The history lists each transaction over this bus with its reply, or without one if it failed; a repeated read is
+/// listed once.
 #[derive(Drop)]
 pub struct ReadTwice<B> {
     bus: B,
@@ -110,7 +107,7 @@ impl<B: Bus + Drop> ReadTwice<B> {
 
 impl<B: Bus> ReadTwice<B> {
     // Makes one transaction, and does not add it to the history. The clause `records` describes the state after the
-    // caller has added the transaction.
+    // caller has added it.
     fn carry(&mut self, out: &[u8], reply: &mut [u8]) -> Result<(), Stopped>
         ensures once { IsHonestFor out.now (length reply.old) (B.state (twice_of self.old))
             → begins_read out.now ≡ false
@@ -151,9 +148,8 @@ impl<B: Bus> ReadTwice<B> {
         Ok(())
     }
 
-    // Repeats the read `out`, whose first reply was `reply`. If an image is expected and `out` is a read of data that
-    // does not pass address FFFFFFh, repeats only the sectors that differ from the image. Returns whether all second
-    // replies are the same. In the clauses, `before` is the state before the first read.
+    // Repeats the read `out`, whose first reply was `reply`, or only the sectors that differ from an expected image.
+    // Returns whether all second replies are the same. In the clauses, `before` is the state before the first read.
     fn is_confirmed(&mut self, out: &[u8], reply: &[u8]) -> Result<bool, Stopped>
         requires reads { begins_read out.now ≡ true }
         requires len { length reply.now ≤ 65536 }
@@ -233,8 +229,8 @@ impl<B: Bus> Bus for ReadTwice<B> {
     }
 }
 
-// Returns whether a transaction begins with the opcode of a read of data, of the ID, of the unique ID or of SFDP. Only
-// the first byte counts, so a read with an incomplete address counts, too.
+// Returns whether a transaction begins with the opcode of a read of data, of the ID, of the unique ID or of SFDP, even
+// with an incomplete address.
 fn is_read(out: &[u8]) -> bool
     ensures { result ≡ begins_read out.now }
 {

@@ -1,5 +1,4 @@
--- Lemmas: the effect of one exchange of an O_SPIOP over a well-behaved port follows from the effects of the calls of
--- the port, one of which sends the frame and two of which receive the reply.
+-- The effect of one exchange of an O_SPIOP over a well-behaved port, from the effects of the three calls of the port.
 use Rattle.std.proofs.Common.{◌≡◌, ◌∙◌, ◌<◌, ◌≤◌, true, ◌++◌, ℕ, Bool, List, [], ◌∷◌, length, refl, sym, subst, ap, arith, length-append}
 use Rattle.std.specs.Prelude.{slice_index, Result, Ok, Err, OnErr}
 use Rattle.std.proofs.lemmas.List.{append-nil}
@@ -11,7 +10,6 @@ use Rattle.nor_serprog.specs.declared.command.Command.{Command}
 use Rattle.nor_serprog.specs.declared.command.Command.TheVariants.{Operate}
 use Rattle.nor_serprog.specs.Device.{Device, PortState, IsIdle, IfOperates, StepsOnce, IsCut, OperatesFrame, IsWithinLimits, CompletesOperation, AnswerBegins, IsSent, IsCutOff, TakesAnswer, MissesAnswer, Exchanged, Interrupted}
 
--- If a whole frame of O_SPIOP is sent to an idle programmer, the programmer carries it out.
 pub operated : (frame : List ℕ) (old sent : PortState) → IsIdle old.device → IsFrame frame
     → slice_index frame 0 ≡ 0x13 → IsSent frame old sent → OperatesFrame frame old.device sent.device
 operated frame old sent idle whole opcode s =
@@ -21,14 +19,11 @@ operated frame old sent idle whole opcode s =
     let R : List ℕ → Type 0 = λ b. OperatesFrame b old.device sent.device in
     subst R (sym e) (s.done (record { whole = subst P e whole; opcode = subst Q e opcode }))
 
--- If `answer` consists of `reply` and `rest`, and `reply` has the length of `answer`, `rest` is empty.
 pub none_rest : (answer reply rest : List ℕ) → answer ≡ reply ++ rest → length answer ≡ length reply → rest ≡ []
 none_rest answer reply [] e len = refl
 none_rest answer reply (x ∷ rest) e len =
     absurd (omega (arith, length-append reply (x ∷ rest), ap length e))
 
--- If the chip made a step from `old` to `sent`, and the chip and its erased sectors did not change from `sent` to
--- `new`, the chip made this step from `old` to `new`.
 steps_then : (out answer : List ℕ) (old sent new : Device) → new.chip ≡ sent.chip → new.worn ≡ sent.worn
     → StepsOnce out answer old sent → StepsOnce out answer old new
 steps_then out answer old sent new chip worn steps = record {
@@ -56,7 +51,6 @@ exchanged frame out replies reply old sent new idle whole opcode goes comes s t 
       steps = steps_then out reply old.device sent.device new.device t.chip t.worn (subst Q got (subst P goes o.steps));
     }
 
--- If an idle programmer carried out a frame of O_SPIOP, the pending reply begins with ACK.
 pub begins_with_ack : (frame : List ℕ) (old sent : PortState) → IsIdle old.device
     → OperatesFrame frame old.device sent.device → AnswerBegins sent
 begins_with_ack frame old sent idle o =
@@ -66,8 +60,6 @@ begins_with_ack frame old sent idle o =
     let Q : List ℕ → Type 0 = λ p. slice_index p 0 ≡ 6 in
     record { some = subst P (sym e) (omega arith); ack = subst Q (sym e) refl }
 
--- If the port failed while it sent a whole frame of O_SPIOP to an idle programmer, the transaction of the frame was
--- interrupted.
 pub cut_off : (frame out : List ℕ) (replies wanted : ℕ) (old new : PortState) → IsIdle old.device → IsFrame frame
     → slice_index frame 0 ≡ 0x13 → out_in frame ≡ out → replies_in frame ≡ replies → IsCutOff frame old new
     → Interrupted out replies wanted old new
@@ -91,8 +83,6 @@ cut_off frame out replies wanted old new idle whole opcode goes comes c =
       cut = subst S goes (subst R (sym e) (c.cut completes));
     }
 
--- If the port failed while it received the reply to a frame of O_SPIOP, the transaction was interrupted: the chip
--- carried out all of it, and the reply is lost.
 pub missed : (frame out : List ℕ) (replies wanted : ℕ) (old sent new : PortState) → IsIdle old.device → IsFrame frame
     → slice_index frame 0 ≡ 0x13 → out_in frame ≡ out → replies_in frame ≡ replies → IsSent frame old sent
     → MissesAnswer wanted sent new → Interrupted out replies wanted old new
@@ -116,8 +106,6 @@ missed frame out replies wanted old sent new idle whole opcode goes comes s m =
       };
     }
 
--- The next three lemmas state `exchanged`, `cut_off` and `missed` for every command. For a command other than O_SPIOP
--- they are trivially true.
 pub exchanged_by : (command : Command) (frame reply : List ℕ) (len : ℕ) (old sent new : PortState)
     → IsIdle old.device → IsFrame frame → ReadsAs frame command → IsSent frame old sent → TakesAnswer reply sent new
     → length reply ≡ len → IfOperates command (λ out replies. len ≡ replies → Exchanged out reply old new)
@@ -141,13 +129,11 @@ missed_by (Operate out replies) frame wanted old sent new idle whole reads s m =
     (m (begins_with_ack frame old sent idle (operated frame old sent idle whole reads.0 s)))
 missed_by _ frame wanted old sent new idle whole reads s m = tt
 
--- If `P` holds, `OnErr result P` holds for every `result`.
 pub on_err : {T E : Type 0} (result : Result T E) (P : Type 0) → P → OnErr result P
 on_err (Ok x) P p = tt
 on_err (Err e) P p = p
 
--- Holds if a call did not change whether the port is well-behaved (`honest`). If the port is well-behaved, the call did
--- not increase the number of calls left. The call was asked to send nothing.
+-- Holds if a call that sends nothing did not increase the number of calls left of a well-behaved port.
 pub record UsesCalls (old new : PortState) : Type 0 where
   pub honest : new.honest ≡ old.honest
   pub fewer : old.honest ≡ true → new.left ≤ old.left

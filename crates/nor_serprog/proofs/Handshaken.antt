@@ -25,16 +25,12 @@ use Rattle.nor_serprog.specs.Identify.{Concludes, Asked, IsInStepWith, refused, 
 
 -- ---- one step
 
--- If a call in a step succeeded (`Concludes`), and the firmware causes no error of the step, the step succeeded with
--- the effect of this call. `value'` is the value that the step returns.
 pub goes_on : {T T' C : Type 0} {calls : ℕ} {fault fault' : Option (HandshakeFault C)} {IsValue : T → Type 0}
     {IsValue' : T' → Type 0} {value : T} {value' : T'} {old new : PortState}
     → Concludes calls fault IsValue (Ok value) old new → fault' ≡ None → IsValue' value'
     → Concludes calls fault' IsValue' (Ok value') old new
 goes_on done usable is = record { usable = usable; value = is; asks = done.asks; fails = tt; power = tt }
 
--- If a call in a step succeeded, and then the step returned the error that the firmware causes, the step ends as
--- `Concludes` requires.
 pub stops_after : {T T' C : Type 0} {calls : ℕ} {fault fault' : Option (HandshakeFault C)} {IsValue : T → Type 0}
     {IsValue' : T' → Type 0} {value : T} {error : HandshakeFault C} {old new : PortState}
     → Concludes calls fault IsValue (Ok value) old new → fault' ≡ Some error
@@ -47,9 +43,7 @@ stops_after done found = record {
   power = record { chip = inl done.asks.chip; worn = λ s. ap (λ (w : ℕ → Bool). w s) done.asks.worn };
 }
 
--- If a call in a step failed, the step may return the error of this call. If the firmware causes this error in the call
--- (`fault`), it must also cause it in the step (`fault'`). `settings` can be any, because `Concludes` states no
--- settings after an error.
+-- `settings` can be any, because `Concludes` states no settings after an error.
 pub fails_as : {T T' C : Type 0} {calls : ℕ} {fault fault' : Option (HandshakeFault C)} {IsValue : T → Type 0}
     {IsValue' : T' → Type 0} {error : HandshakeFault C} {old new : PortState} (settings : ProgrammerSettings)
     → Concludes calls fault IsValue (Err error) old new → (fault ≡ Some error → fault' ≡ Some error)
@@ -62,7 +56,6 @@ fails_as settings failed same = record {
   power = record { chip = failed.power.chip; worn = failed.power.worn };
 }
 
--- If `Concludes` holds for an error, it holds for a result that is this error.
 pub returns_error : {T C : Type 0} {calls : ℕ} {fault : Option (HandshakeFault C)} {IsValue : T → Type 0}
     {error : HandshakeFault C} {old new : PortState} (result : Result T (HandshakeFault C))
     → IsErrAnd result (λ found. found ≡ error) → Concludes calls fault IsValue (Err error) old new
@@ -70,8 +63,6 @@ pub returns_error : {T C : Type 0} {calls : ℕ} {fault : Option (HandshakeFault
 returns_error (Ok value) is concludes = absurd is
 returns_error (Err found) is concludes = rw is concludes
 
--- If the firmware causes no error in a call, and the call failed, the port failed. `Concludes` holds for a step that
--- returns this error.
 pub port_failed : {T T' C : Type 0} {calls : ℕ} {fault : Option (HandshakeFault C)} {IsValue : T → Type 0}
     {IsValue' : T' → Type 0} {error : HandshakeFault C} {old new : PortState} (result : Result T' (HandshakeFault C))
     → IsErrAnd result (λ found. found ≡ error) → Concludes calls None IsValue (Err error) old new
@@ -80,7 +71,6 @@ port_failed {old = old} result is failed =
     returns_error result is
     (fails_as old.device.settings failed (λ found. let never : ⊥ = cc in absurd never))
 
--- `Concludes` stays true if `fault` is replaced by an equal one, and `IsValue` by a condition that follows from it.
 pub concludes_as : {T C : Type 0} {calls : ℕ} {fault fault' : Option (HandshakeFault C)} {IsValue IsValue' : T → Type 0}
     {old new : PortState} (result : Result T (HandshakeFault C)) → fault' ≡ fault
     → ((value : T) → IsValue value → IsValue' value) → Concludes calls fault IsValue result old new
@@ -90,7 +80,6 @@ concludes_as {old = old} (Err error) same weaker c = fails_as old.device.setting
 
 -- ---- queries
 
--- If `commands` is the map of the firmware, the firmware has the command `opcode` if and only if the map has it.
 pub offered : (firmware : Firmware) (commands : List ℕ) (opcode : ℕ) (found value : Bool)
     → found ≡ is_in_map commands opcode → commands ≡ firmware.commands → found ≡ value → has_command firmware opcode ≡ value
 offered firmware commands opcode found value is same known =
@@ -101,7 +90,6 @@ pub lacks_query : (has_it : Bool) (bytes : List ℕ) (reply : Option (List ℕ))
 lacks_query true bytes reply none is = let e : None ≡ Some bytes = sym none ∙ is in let never : ⊥ = cc in absurd never
 lacks_query false bytes reply none is = refl
 
--- Holds if the programmer has a query, and its reply is `bytes`.
 pub record Replied (has_it : Bool) (bytes reply : List ℕ) : Type 0 where
   pub has_query : has_it ≡ true
   pub bytes_are : reply ≡ bytes
@@ -130,7 +118,6 @@ not_below m n more = not_true (nat_lt m n) (λ is. let less = (Decides-ltb m n).
 
 -- ---- numbers
 
--- If two bytes of a reply encode `n`, little-endian, the number that is read from them is `n`.
 pub two_read : (n value : ℕ) (reply : List ℕ) → value ≡ from_le_bytes w16 reply → reply ≡ two_of n → n < 65536
     → value ≡ n
 two_read n value reply is same fits =
@@ -179,8 +166,6 @@ set_result false firmware setting reply opcode (Ok value) old new replies first 
 set_result false firmware setting reply opcode (Err error) old new replies first a =
     fails_as _ (a.naked replies) (λ found. ap (λ (n : ℕ). Some (Faults.Failure (Refused n))) (sym first) ∙ found)
 
--- If the programmer accepts S_BUSTYPE, SPI is selected afterwards; if the programmer lacks the command, the settings
--- are unchanged.
 bus_selected : {C : Type 0} (has_it takes : Bool) (settings : ProgrammerSettings)
     → refused {C = C} 0x12 has_it takes ≡ None
     → (if has_it then (if takes then record settings { bus_type = Some 8 } else settings) else settings)
@@ -189,8 +174,6 @@ bus_selected true true settings none = refl
 bus_selected true false settings none = let never : ⊥ = cc in absurd never
 bus_selected false takes settings none = refl
 
--- If the programmer accepts S_PIN_STATE, the pin drivers are on afterwards; if the programmer lacks the command, the
--- settings are unchanged.
 pins_switched : {C : Type 0} (has_it takes : Bool) (settings : ProgrammerSettings)
     → refused {C = C} 0x15 has_it takes ≡ None
     → (if has_it then (if takes then record settings { pins_on = true } else settings) else settings)
@@ -199,8 +182,6 @@ pins_switched true true settings none = refl
 pins_switched true false settings none = let never : ⊥ = cc in absurd never
 pins_switched false takes settings none = refl
 
--- If the programmer refuses neither S_BUSTYPE nor S_PIN_STATE, the settings after both commands are those of a
--- programmer that was prepared for SPI (`prepared_settings`).
 pub is_prepared : {C : Type 0} (firmware : Firmware) (settings : ProgrammerSettings)
     → refused {C = C} 0x12 (has_command firmware 0x12) (firmware.takes_buses 8) ≡ None
     → refused {C = C} 0x15 (has_command firmware 0x15) (firmware.takes_pins true) ≡ None
@@ -213,29 +194,23 @@ is_prepared firmware settings bus pins =
 
 -- ---- steps one after another
 
--- The settings after a step that makes no settings.
 abbrev pub unchanged : Firmware → ProgrammerSettings → ProgrammerSettings
 unchanged firmware settings = settings
 
--- The settings after the step that selects SPI.
 abbrev pub after_bus_type : Firmware → ProgrammerSettings → ProgrammerSettings
 after_bus_type firmware settings = settings_if_offered firmware 0x12 (SetBuses 8) settings
 
--- The settings after the step that switches the pin drivers on.
 abbrev pub after_pins : Firmware → ProgrammerSettings → ProgrammerSettings
 after_pins firmware settings = settings_if_offered firmware 0x15 (SetPins true) settings
 
--- The first error in the list `identify_faults` after its first `done` entries.
 abbrev pub faults_from : {C : Type 0} → Least → (done : ℕ) → Firmware → Option ℕ → Option (HandshakeFault C)
 faults_from least done firmware hertz = first_handshake_fault (drop done (identify_faults least firmware hertz))
 
--- Holds if the port is well-behaved, its programmer is idle, and the link is not `Cut`.
 abbrev pub Starts : {P C : Type 0} → (P → PortState) → Link P C → Type 0
 Starts port link = AwaitsCommand (port link.port) × (is_cut link ≡ false)
 
--- Holds after some steps of a handshake that began with the link `start`. The steps made at most `calls` calls, and
--- found none of the first `done` errors of `identify_faults`. The link is in step and the programmer is idle. Its
--- settings are those at the start, changed by `after`. `commands` is the programmer's map.
+-- Holds after some steps of a handshake that began with the link `start`. They made at most `calls` calls, found none
+-- of the first `done` errors of `identify_faults`, and changed the settings by `after`.
 pub record HasReached {P C : Type 0} (port : P → PortState) (start : Link P C) (hertz : Option ℕ) (least : Least)
     (calls done : ℕ) (after : Firmware → ProgrammerSettings → ProgrammerSettings) (commands : List ℕ) (link : Link P C) : Type 0 where
   pub asks : OnlyAsks calls
@@ -246,7 +221,6 @@ pub record HasReached {P C : Type 0} (port : P → PortState) (start : Link P C)
       ≡ faults_from least done (port start.port).device.firmware hertz
   pub map : commands ≡ (port start.port).device.firmware.commands
 
--- `HasReached` holds after the link was synchronized.
 pub begins : {P C T : Type 0} {port : P → PortState} {start : Link P C} {IsValue : T → Type 0} {value : T}
     (hertz : Option ℕ) (least : Least) (link : Link P C)
     → Concludes {C = C} 28 None IsValue (Ok value) (port start.port) (port link.port) → is_in_step link ≡ true
@@ -258,8 +232,6 @@ begins hertz least link done in_step = record {
   map = refl;
 }
 
--- If `HasReached` holds and one more step succeeds, `HasReached` holds again. `sets` is the effect of the step on the
--- settings.
 pub goes : {P C T : Type 0} {port : P → PortState} {start link : Link P C} {hertz : Option ℕ} {least : Least}
     {calls done : ℕ}
     {after : Firmware → ProgrammerSettings → ProgrammerSettings} {commands commands' : List ℕ}
@@ -292,7 +264,6 @@ goes {port = port} {start = start} {hertz = hertz} {least = least} sets done' li
   map = map;
 }
 
--- If `HasReached` holds and one more step fails, the handshake ends with the error of that step (`Concludes`).
 pub fails_at : {P C T T' : Type 0} {port : P → PortState} {start link : Link P C} {hertz : Option ℕ} {least : Least}
     {calls done : ℕ}
     {after : Firmware → ProgrammerSettings → ProgrammerSettings} {commands : List ℕ}
@@ -321,8 +292,6 @@ fails_at {port = port} {start = start} {hertz = hertz} {least = least} {new = ne
   };
 }
 
--- If the handshake succeeded with `any`, and `programmer` was made from it, the handshake of `Programmer::identify`
--- succeeded with `programmer`.
 pub is_whole : {C : Type 0} {fault : Option (HandshakeFault C)} {firmware : Firmware} {hertz : Option ℕ}
     {any : AnyProgrammer} {old new : PortState} (programmer : Programmer)
     → Concludes 58 fault (IsAnyProgrammerOf firmware hertz) (Ok any) old new → programmer.reported ≡ any
@@ -337,8 +306,6 @@ is_whole {firmware = firmware} {hertz = hertz} programmer found same =
       power = tt;
     }
 
--- `Concludes` for an error does not depend on the type of the value, so an error of a part of the handshake is an error
--- of the handshake.
 pub same_error : {C T T' : Type 0} {fault : Option (HandshakeFault C)} {IsValue : T → Type 0} {IsValue' : T' → Type 0}
     {error : HandshakeFault C} {calls : ℕ} {old new : PortState}
     → Concludes calls fault IsValue (Err error) old new → Concludes calls fault IsValue' (Err error) old new

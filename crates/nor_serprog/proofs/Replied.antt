@@ -1,5 +1,4 @@
--- Lemmas: the effect of an exchange of a command other than O_SPIOP over a well-behaved port follows from the effects
--- of the calls of the port that send the frame and receive the reply.
+-- The effect of an exchange of a command other than O_SPIOP over a well-behaved port.
 use Rattle.std.proofs.Common.{◌≡◌, ◌∙◌, ◌<◌, ◌≤◌, ◌⊎◌, true, ◌++◌, ℕ, Bool, true, false, List, [], ◌∷◌, length, refl, sym, subst, ap, arith, inl, inr, length-append}
 use Rattle.std.specs.Prelude.{slice_index, if◌then◌else◌, Option, None, Some, Ok, Err}
 use Rattle.std.proofs.lemmas.List.{append-nil}
@@ -14,8 +13,6 @@ use Rattle.nor_serprog.specs.Device.{Device, PortState, IsIdle, AnswerBegins, Is
 use Rattle.nor_serprog.specs.Replies.{AwaitsCommand, EndsExchange, IsPortFailure, IsRefusal, IsRefused}
 use Rattle.nor_serprog.proofs.Exchanges.{none_rest}
 
--- If the programmer is idle and its reply to `command` is specified, `AsksFor` holds for this one command and its
--- frame.
 pub asks_one : (command : Command) (frame : List ℕ) (old : Device) → IsIdle old → frame ≡ frame_of command
     → HasReply old.firmware command → AsksFor (command ∷ []) frame old
 asks_one command frame old idle exact has = record {
@@ -24,15 +21,12 @@ asks_one command frame old idle exact has = record {
   replies = (has, tt);
 }
 
--- If an idle programmer replied to one command, exactly this reply is pending.
 pub pending_one : (command : Command) (old sent : Device) → IsIdle old → RepliesTo (command ∷ []) old sent
     → sent.pending ≡ reply_of old.firmware command
 pending_one command old sent idle r =
     r.pending ∙ ap (λ (p : List ℕ). p ++ (reply_of old.firmware command ++ [])) idle.pending
     ∙ append-nil (reply_of old.firmware command)
 
--- If the chip did not change from `old` to `sent`, and may have lost its power from `sent` to `new`, it may have lost
--- its power from `old` to `new`.
 pub power_then : (old sent new : Device) → sent.chip ≡ old.chip → sent.worn ≡ old.worn
     → MayLoseDevicePower sent new → MayLoseDevicePower old new
 power_then old sent new chip worn m = record {
@@ -135,8 +129,6 @@ answered_cut_off command frame count reply failure old new awaits exact has cut 
       power = cut.power (command ∷ []) asks;
     }
 
--- If `left < calls` implies `left' < calls'`, then `IsRefused` with `calls` and `left` implies `IsRefused` with
--- `calls'` and `left'`.
 refused_more : {C : Type 0} (opcode opcode' calls calls' left left' : ℕ) (failure : Failure C) → opcode ≡ opcode'
     → (left < calls → left' < calls') → IsRefused opcode calls left failure → IsRefused opcode' calls' left' failure
 refused_more opcode opcode' calls calls' left left' failure same more (inl refusal) =

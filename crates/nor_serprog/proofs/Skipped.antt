@@ -1,5 +1,4 @@
--- Lemmas on `skip_past`, which receives bytes until the last ones are `wanted`: if exactly the bytes `wanted` are
--- pending, `skip_past` receives all of them.
+-- If exactly the bytes `wanted` are pending, `skip_past` receives all of them.
 use Rattle.std.proofs.Common.{◌≡◌, ◌≢◌, ◌∙◌, ◌+◌, ◌-◌, ◌<◌, ◌≤◌, inl, inr, true, ◌++◌, ℕ, suc, Bool, eqb, List, [], ◌∷◌, length, get_or, take, drop, refl, sym, ap, arith, append_assoc, length-append, length-drop, length-take-le}
 use Rattle.std.specs.Prelude.{slice_index, replicate}
 use Rattle.std.specs.Cmp.Lexicographic.{pointwise}
@@ -19,8 +18,7 @@ use Rattle.nor_serprog.proofs.Exchanges.{UsesCalls, uses_none}
 abbrev pub window : (received : List ℕ) → List ℕ
 window received = drop (length received) (replicate 25 0 ++ received)
 
--- Holds if the first `count` bytes of `wanted` were received, and the others are still pending. `last` has the last 25
--- bytes received (`window`). Nothing else of the device changed.
+-- Holds if the first `count` bytes of `wanted` were received, and the others are still pending.
 pub record HasSkipped (wanted last : List ℕ) (count : ℕ) (old now : PortState) : Type 0 where
   pub shows : last ≡ window (take count wanted)
   pub pending : now.device.pending ≡ drop count wanted
@@ -55,8 +53,6 @@ skips_none wanted state = record {
   );
 }
 
--- If one more byte is received, the window (the last 25 bytes received) loses its first byte and gains this byte at its
--- end.
 more : (zeros received : List ℕ) (byte : ℕ) → 0 < length zeros
     → drop 1 (drop (length received) (zeros ++ received)) ++ byte ∷ []
     ≡ drop (length (received ++ byte ∷ [])) (zeros ++ (received ++ byte ∷ []))
@@ -67,8 +63,6 @@ more zeros received byte some =
     ∙ ap (λ (l : List ℕ). drop (length received + 1) l) (simp append_assoc)
     ∙ ap (λ (n : ℕ). drop n (zeros ++ (received ++ byte ∷ []))) (sym (length-append received (byte ∷ [])))
 
--- If fewer bytes were received than `wanted` has, and the first byte of `wanted` is not 0, the window does not end with
--- `wanted`.
 too_early : (zeros received wanted front : List ℕ) → ((i : ℕ) → i < length zeros → get_or zeros i 0 ≡ 0)
     → length received < length wanted → length wanted ≤ length zeros → slice_index wanted 0 ≢ 0
     → drop (length received) (zeros ++ received) ≡ front ++ wanted → ⊥
@@ -90,8 +84,6 @@ too_early zeros received wanted front are_zero some_left few first ends =
     ∙ ap (λ (n : ℕ). get_or wanted n 0) (omega arith) in
     first (sym there ∙ sym (ap (λ (l : List ℕ). get_or l (length front) 0) ends) ∙ at)
 
--- If some bytes of `wanted` are still pending and one more byte is received, it is the next byte of `wanted`, and
--- `HasSkipped` holds with one more byte.
 pub received_more : (wanted last last' : List ℕ) (count byte : ℕ) (old now new : PortState)
     → count < length wanted → HasSkipped wanted last count old now → IsReceived (byte ∷ []) now new
     → new.honest ≡ now.honest → last' ≡ drop 1 last ++ byte ∷ [] → HasSkipped wanted last' (count + 1) old new
@@ -120,7 +112,6 @@ received_more wanted last last' count byte old now new some_left s r honest shif
 zeros_are_zero : (i : ℕ) → i < length (replicate {A = ℕ} 25 0) → get_or (replicate {A = ℕ} 25 0) i 0 ≡ 0
 zeros_are_zero i within = get_or-replicate 25 i 0 0 (omega arith)
 
--- If the window ends with the bytes `wanted`, all of them were received.
 pub all_received : (wanted last : List ℕ) (count : ℕ) (old now : PortState) (ends : Bool) → IsPending wanted old
     → count ≤ length wanted → HasSkipped wanted last count old now
     → ends ≡ pointwise eqb wanted (drop (length last - length wanted) last) → ends ≡ true → count ≡ length wanted
@@ -135,7 +126,6 @@ all_received wanted last count old now ends p within s value is_true =
           (omega (arith, p.few)) p.first (sym s.shows ∙ front))
     ]
 
--- If all of the bytes `wanted` were received, the window ends with them.
 pub ends_if_all : (wanted last : List ℕ) (count : ℕ) (old now : PortState) (ends : Bool) → IsPending wanted old
     → HasSkipped wanted last count old now → count ≡ length wanted
     → ends ≡ pointwise eqb wanted (drop (length last - length wanted) last) → ends ≡ true
@@ -144,7 +134,6 @@ ends_if_all wanted last count old now ends p s all value =
     (s.shows ∙ ap window (ap (λ (n : ℕ). take n wanted) all ∙ take-length wanted)
     ∙ drop-append-le (length wanted) (replicate 25 0) wanted (omega (arith, p.few)))
 
--- If all of the bytes `wanted` were received, the programmer is idle.
 pub skipped : (wanted last : List ℕ) (count : ℕ) (old now : PortState)
     → HasSkipped wanted last count old now → count ≡ length wanted → OnlyAsks (length wanted) old now
 skipped wanted last count old now s all = record {
@@ -162,7 +151,6 @@ skipped wanted last count old now s all = record {
   settings = s.settings;
 }
 
--- If the port failed before the last byte of `wanted` was received, fewer calls were left than `wanted` has bytes.
 pub skips_err : {C : Type 0} (wanted last : List ℕ) (count : ℕ) (failure : Failure C) (old now new : PortState)
     → count < length wanted → HasSkipped wanted last count old now → IsSilent 1 now new → IsPortFailure failure
     → AsksUnlessFew (length wanted) (Err failure) old new

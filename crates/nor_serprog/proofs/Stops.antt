@@ -1,4 +1,4 @@
--- Lemmas: if a transaction over a well-behaved port fails, it fails as the contract of a bus allows (`Stops`).
+-- If a transaction over a well-behaved port fails, it fails as the contract of a bus allows (`Stops`).
 use Rattle.std.proofs.Common.{◌≡◌, ◌∙◌, ◌<◌, ◌≤◌, ◌⊎◌, ℕ, true, false, List, [], length, refl, sym, ap, subst, arith, inl, inr}
 use Rattle.std.proofs.Math.Bool.{or-false}
 use Rattle.std.proofs.lemmas.Bool.{cases_Bool, false≢true}
@@ -10,7 +10,6 @@ use Rattle.nor_serprog.specs.Bus.{over_port}
 use Rattle.nor_serprog.specs.Device.{PortState, Interrupted}
 use Rattle.nor_serprog.specs.Link.{is_in_step, IsSettled}
 
--- If fewer than three calls were left, an interrupted transaction is a stop of the bus.
 stops_cut : (out : List ℕ) (replies : ℕ) (old new : PortState) (history history' : List Exchange)
     → old.left < 3 → Interrupted out replies replies old new
     → Stops out (over_port old history) (over_port new history')
@@ -29,7 +28,6 @@ stops_cut out replies old new history history' few is = record {
   };
 }
 
--- If fewer than three calls are left, a transaction that failed before any byte was sent is a stop of the bus.
 stops_silent : (out : List ℕ) (port : PortState) (history history' : List Exchange) → port.left < 3
     → Stops out (over_port port history) (over_port port history')
 stops_silent out port history history' few = record {
@@ -47,8 +45,6 @@ stops_silent out port history history' few = record {
   };
 }
 
--- If a bus over a well-behaved port accepts a transaction (`IsHonestFor`) and the transaction fails, its failure is a
--- stop of the bus, whether or not the link was in step.
 pub stops_over : {P C : Type 0} (port : P → PortState) (out : List ℕ) (replies : ℕ) (link link' : Link P C)
     (history history' : List Exchange) → IsSettled port link → (is_in_step link ≡ false → link' ≡ link)
     → ((port link.port).honest ≡ true → (link' ≡ link)

@@ -9,15 +9,13 @@ use Rattle.nor_serprog.specs.declared.link.Failure.{Failure}
 use Rattle.nor_serprog.specs.Replies.{IsPortFailure, AwaitsCommand, OnlyAsks, AsksUnlessFew, IsPending}
 use Rattle.nor_serprog.proofs.Replied.{power_then}
 
--- The commands of `ROW` (link.rt), the fixed sequence that the second part of `synchronize` sends.
 abbrev pub row : List Command
 row =
     Nop ∷ Nop ∷ Nop ∷ Nop ∷ Nop ∷ Nop ∷ Nop ∷ Nop ∷ Nop
     ∷ SyncNop ∷ SyncNop ∷ Nop ∷ SyncNop ∷ Nop ∷ Nop ∷ SyncNop ∷ SyncNop ∷ SyncNop ∷ Nop ∷ []
 
--- Holds if `bytes` are the frames of `commands`, and `answers` are the replies to them. Each programmer has these
--- commands, and they make no settings. The frames have at most 260 bytes in total, the replies 1 to 25 bytes. The first
--- byte of the replies is not 0.
+-- Holds if `bytes` are the frames of `commands`, which each programmer has and which make no settings, and `answers`
+-- are the replies to them. The first byte of the replies is not 0.
 pub record IsRow (commands : List Command) (bytes answers : List ℕ) : Type 0 where
   pub frames : bytes ≡ frames_of commands
   pub has : (firmware : Firmware) → HaveReplies firmware commands
@@ -65,7 +63,6 @@ asks_row commands bytes answers old is awaits = record {
   replies = is.has old.device.firmware;
 }
 
--- If the frames of a row (`IsRow`) were sent to an idle programmer, exactly the replies to the row are pending.
 pending_row : (commands : List Command) (bytes answers : List ℕ) (old new : PortState)
     → IsRow commands bytes answers → AwaitsCommand old → new.honest ≡ old.honest → IsSent bytes old new
     → IsPending answers new
@@ -82,8 +79,6 @@ pending_row commands bytes answers old new is awaits nature s =
       first = is.first;
     }
 
--- If the frames of a row were sent to an idle programmer, and then the replies to it were received with at most `calls`
--- calls, the programmer is idle again after at most `calls + 1` calls.
 pub row_done : {C : Type 0} (commands : List Command) (bytes answers : List ℕ) (calls : ℕ) (old sent new : PortState)
     → IsRow commands bytes answers → AwaitsCommand old → sent.honest ≡ old.honest → IsSent bytes old sent
     → (IsPending answers sent → AsksUnlessFew {C = C} calls (Ok tt) sent new) → OnlyAsks (calls + 1) old new
@@ -99,8 +94,6 @@ row_done commands bytes answers calls old sent new is awaits nature s skips =
       settings = asks.settings ∙ r.settings ∙ is.keeps old.device.firmware old.device.settings;
     }
 
--- If one call of a link made at most `first` calls of the port, and the next one at most `second`, both together made
--- at most `first + second` (`OnlyAsks`).
 pub asks_then : (first second : ℕ) (old mid new : PortState) → OnlyAsks first old mid → OnlyAsks second mid new
     → OnlyAsks (first + second) old new
 asks_then first second old mid new asks more = record {
@@ -112,7 +105,6 @@ asks_then first second old mid new asks more = record {
   settings = more.settings ∙ asks.settings;
 }
 
--- If the port failed while it sent the frames of a row to an idle programmer, no call was left (`AsksUnlessFew`).
 pub row_cut : {C : Type 0} (commands : List Command) (bytes answers : List ℕ) (calls : ℕ) (failure : Failure C)
     (old new : PortState) → IsRow commands bytes answers → AwaitsCommand old → IsCutOff bytes old new
     → IsPortFailure failure → 0 < calls → AsksUnlessFew calls (Err failure) old new
@@ -129,8 +121,6 @@ row_cut commands bytes answers calls failure old new is awaits cut failed some =
       power = cut.power commands asks;
     }
 
--- If the frames of a row were sent, and the replies to it were not received because fewer than `calls` calls of the
--- port were left, fewer than `calls + 1` calls were left before the frames were sent.
 pub row_missed : {C : Type 0} (commands : List Command) (bytes answers : List ℕ) (calls : ℕ) (failure : Failure C)
     (old sent new : PortState) → IsRow commands bytes answers → AwaitsCommand old → sent.honest ≡ old.honest
     → IsSent bytes old sent → (IsPending answers sent → AsksUnlessFew calls (Err failure) sent new)
@@ -144,8 +134,6 @@ row_missed commands bytes answers calls failure old sent new is awaits nature s 
       power = power_then old.device sent.device new.device r.chip r.worn missed.power;
     }
 
--- If a call of a link succeeded and the next one failed because fewer than `second` calls of the port were left, fewer
--- than `first + second` calls were left at the start.
 pub few_then : {C : Type 0} (first second : ℕ) (failure : Failure C) (old mid new : PortState) → OnlyAsks first old mid
     → AsksUnlessFew second (Err failure) mid new → AsksUnlessFew (first + second) (Err failure) old new
 few_then first second failure old mid new asks few = record {
@@ -154,8 +142,6 @@ few_then first second failure old mid new asks few = record {
   power = power_then old.device mid.device new.device asks.chip asks.worn few.power;
 }
 
--- If a call failed because fewer than `calls` calls of the port were left, and `more` is at least `calls`, fewer than
--- `more` calls were left.
 pub few_of_more : {C : Type 0} (calls more : ℕ) (failure : Failure C) (old new : PortState) → calls ≤ more
     → AsksUnlessFew calls (Err failure) old new → AsksUnlessFew more (Err failure) old new
 few_of_more calls more failure old new within few = record {

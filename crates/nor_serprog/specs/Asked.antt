@@ -8,7 +8,6 @@ abbrev pub bytes_of_calls : List (List ℕ) → List ℕ
 bytes_of_calls [] = []
 bytes_of_calls (last ∷ before) = bytes_of_calls before ++ last
 
--- The frame of a write enable (06h) that reads nothing.
 abbrev pub enable_frame : List ℕ
 enable_frame = operation_frame (0x06 ∷ []) 0
 
@@ -16,11 +15,9 @@ enable_frame = operation_frame (0x06 ∷ []) 0
 abbrev pub lead_frame : (waits : Bool) → List ℕ
 lead_frame waits = if waits then enable_frame else []
 
--- The reply to a write enable that is sent before another frame: ACK.
 abbrev pub acks : (is_led : Bool) → List ℕ
 acks is_led = if is_led then 0x06 ∷ [] else []
 
--- Holds if the port was asked to send the write enable if it waited, and nothing else.
 abbrev pub AsksLead : (waits : Bool) → (old new : List (List ℕ)) → Type 0
 AsksLead waits old new = new ≡ (if waits then enable_frame ∷ old else old)
 
@@ -41,7 +38,6 @@ pub record AsksInOrder (waits : Bool) (out : List ℕ) (replies : ℕ) (old new 
   pub asks : ((new ≡ (lead_frame waits ++ operation_frame out replies) ∷ old) × (waits ≡ true → IsLongProgram out))
       ⊎ ((waits ≡ true) × (new ≡ operation_frame out replies ∷ enable_frame ∷ old))
 
--- Holds if the bytes are SYNCNOP (10h) and NOP (00h), commands that have no arguments and no effect.
 abbrev pub AreNops : List ℕ → Type 0
 AreNops bytes = All (λ (byte : ℕ). (byte ≡ 0x10) ⊎ (byte ≡ 0x00)) bytes
 
@@ -51,7 +47,6 @@ nop_row =
     0x00 ∷ 0x00 ∷ 0x00 ∷ 0x00 ∷ 0x00 ∷ 0x00 ∷ 0x00 ∷ 0x00 ∷ 0x00
     ∷ 0x10 ∷ 0x10 ∷ 0x00 ∷ 0x10 ∷ 0x00 ∷ 0x00 ∷ 0x10 ∷ 0x10 ∷ 0x10 ∷ 0x00 ∷ []
 
--- Holds if the port was asked for at most what a synchronization sends.
 abbrev pub AsksSync : (old new : List (List ℕ)) → Type 0
 AsksSync old new =
     (new ≡ old) ⊎ ((new ≡ (0x00 ∷ []) ∷ old) ⊎ (new ≡ nop_row ∷ (0x00 ∷ []) ∷ old))
@@ -66,9 +61,8 @@ pub record IsOneOperation (argument : List ℕ) : Type 0 where
   pub led : waits ≡ true → IsLongProgram out
   pub is : argument ≡ lead_frame waits ++ operation_frame out replies
 
--- Holds if `bytes` are what the port may have been asked to send for one transaction of a history. That is the frame of
--- the transaction if it has a reply. If it stopped, its frame may request any number of bytes, or may be missing. Only
--- transactions that fit into a frame are sent (`FitsOperation`).
+-- Holds if `bytes` are what the port may have been asked to send for one transaction of a history. If the transaction
+-- stopped, its frame may request any number of bytes, or may be missing.
 abbrev pub MayFrame : Exchange → List ℕ → Type 0
 MayFrame exchange bytes = elim exchange.reply [
   | Some reply ↦ FitsOperation exchange.out (length reply) × (bytes ≡ operation_frame exchange.out (length reply))
@@ -76,8 +70,6 @@ MayFrame exchange bytes = elim exchange.reply [
       ⊎ ((replies : ℕ) × (FitsOperation exchange.out replies × (bytes ≡ operation_frame exchange.out replies)))
 ]
 
--- Holds if `bytes` are bytes that satisfy `Earlier`, then those for one transaction, and then perhaps those of
--- synchronizations.
 pub record EndsFraming (exchange : Exchange) (Earlier : List ℕ → Type 0) (bytes : List ℕ) : Type 0 where
   pub before : List ℕ
   pub last : List ℕ
@@ -87,15 +79,14 @@ pub record EndsFraming (exchange : Exchange) (Earlier : List ℕ → Type 0) (by
   pub earlier : Earlier before
   pub frame : MayFrame exchange last
 
--- Holds if `bytes` are the frames of the transactions of a history, in order (`MayFrame`), with nothing but
--- synchronizations between them. The last transaction comes first in the history.
+-- Holds if `bytes` are the frames of the transactions of a history, in order, with only synchronizations between them.
+-- The last transaction comes first in the history.
 abbrev pub AreFrames : List Exchange → List ℕ → Type 0
 AreFrames [] bytes = AreNops bytes
 AreFrames (exchange ∷ earlier) bytes = EndsFraming exchange (AreFrames earlier) bytes
 
 -- Holds if all that the port was asked to send since it had been asked for `start`, followed by the write enable if it
--- waits, are the frames of the transactions of the history, in order, and synchronizations. Each call was asked to send
--- one frame, which may come after a write enable, or a part of a synchronization.
+-- waits, are the frames of the transactions of the history, in order, and synchronizations.
 pub record IsFramed (start asked : List (List ℕ)) (waits : Bool) (history : List Exchange) : Type 0 where
   pub later : List (List ℕ)
   pub since : asked ≡ later ++ start

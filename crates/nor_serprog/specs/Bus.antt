@@ -11,11 +11,9 @@ use Rattle.nor_serprog.specs.declared.port.Port.{Ghosts}
 use Rattle.nor_serprog.specs.Device.{PortState}
 use Rattle.nor_serprog.specs.Link.{is_in_step}
 
--- The state of a bus that has this history over a port in this state. The chip of the bus is the programmer's. A
--- transaction takes three calls of the port: one sends the frame, one receives ACK, and one receives the reply. The bus
--- is not `steady`, since the port can fail in the middle of a transaction, and not `unlimited`, since a frame sends at
--- most 260 bytes. The list of allowances is empty, because this bus has no call that sets one. It has no further types,
--- because it may be well-behaved.
+-- The state of a bus over a port in this state. A transaction takes three calls of the port: one sends the frame, one
+-- receives ACK, and one receives the reply. The bus is not `steady`, since the port can fail in the middle of a
+-- transaction, and not `unlimited`, since a frame sends at most 260 bytes.
 abbrev pub over_port : PortState → (history : List Exchange) → BusState
 over_port port history = record {
   chip = port.device.chip;
@@ -33,11 +31,9 @@ over_port port history = record {
   further = false;
 }
 
--- The link to the programmer.
 abbrev pub link_of : {P C : Type 0} {over : Ghosts P C} → SerprogBus P C over → Link P C
 link_of bus = bus.link
 
--- The port to the programmer.
 abbrev pub port_in : {P C : Type 0} {over : Ghosts P C} → SerprogBus P C over → P
 port_in bus = bus.link.port
 
@@ -45,24 +41,19 @@ port_in bus = bus.link.port
 abbrev pub history_of : {P C : Type 0} {over : Ghosts P C} → SerprogBus P C over → List Exchange
 history_of bus = bus.history.exchanges
 
--- The transactions in the history that may modify the chip, whether they succeeded or not. The last one is first.
+-- The transactions in the history that may modify the chip, whether they succeeded or not.
 abbrev pub sent_of : {P C : Type 0} {over : Ghosts P C} → SerprogBus P C over → Sent
 sent_of bus = sent_in (history_of bus)
 
--- True if the last poll in the history that received at least one reply byte showed that the chip is ready. False if
--- there is no such poll.
 abbrev pub polled_ready_of : {P C : Type 0} {over : Ghosts P C} → SerprogBus P C over → Bool
 polled_ready_of bus = polled_ready_in (history_of bus)
 
--- The cause of the last transaction that failed. Transactions that were rejected because an earlier one failed don't
--- count.
+-- Transactions that were rejected because an earlier one failed don't count.
 abbrev pub cause_of : {P C : Type 0} {over : Ghosts P C} → SerprogBus P C over → Option (Failure C)
 cause_of bus = bus.cause
 
--- True if the link is in step. Otherwise a transaction sends nothing.
 abbrev pub is_ready : {P C : Type 0} {over : Ghosts P C} → SerprogBus P C over → Bool
 is_ready bus = is_in_step bus.link
 
--- The state of the bus, from the state of its port and from its history (`over_port`).
 abbrev pub serprog_state : {P C : Type 0} {over : Ghosts P C} → SerprogBus P C over → BusState
 serprog_state {over = over} bus = over_port (over.state bus.link.port) (history_of bus)

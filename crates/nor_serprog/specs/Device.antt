@@ -1,6 +1,6 @@
--- The states of a programmer with its chip and of a port, and the effects of the calls of a well-behaved port.
--- Firmware.antt has the replies to the commands other than O_SPIOP. (serprog protocol version 1, flashrom's
--- Documentation/serprog-protocol.txt: "Command And Answer Sequence", and the note on O_SPIOP.)
+-- The states of a programmer with its chip and of a port, and the effects of the calls of a well-behaved port. (serprog
+-- protocol version 1, flashrom's Documentation/serprog-protocol.txt: "Command And Answer Sequence", and the note on
+-- O_SPIOP.)
 use Rattle.std.specs.Prelude.{◌≡◌, ◌<◌, ◌≤◌, ◌+◌, ◌++◌, ◌⊎◌, ◌||◌, ℕ, Bool, false, List, [], ◌∷◌, None, length, take, slice_index, ⊤}
 use Rattle.nor_model.specs.Chip.{Chip}
 use Rattle.nor_model.specs.Bus.{unknown_chip}
@@ -16,18 +16,15 @@ pub record Device : Type 0 where
   pub chip : Chip
   -- the sectors that the chip has erased
   pub worn : ℕ → Bool
-  -- the firmware, which determines the replies to queries and settings
   pub firmware : Firmware
-  -- the type of bus that is selected, and the state of the pin drivers; no clause says what they are after a failure of
-  -- the port, or after bytes whose effect is not specified (`IsSent`)
+  -- the type of bus and the state of the pin drivers, unknown after a failure of the port, or after bytes whose effect
+  -- is not specified
   pub settings : ProgrammerSettings
   -- the bytes that the programmer received of a command that is not complete yet
   pub begun : List ℕ
   -- the bytes of replies that the host has not received yet
   pub pending : List ℕ
 
--- Holds if the programmer is idle: it has received no part of an incomplete command, and the host has received all
--- replies.
 pub record IsIdle (device : Device) : Type 0 where
   pub begun : device.begun ≡ []
   pub pending : device.pending ≡ []
@@ -35,33 +32,29 @@ pub record IsIdle (device : Device) : Type 0 where
 -- The state of a port, as contracts see it.
 pub record PortState : Type 0 where
   pub device : Device
-  -- if the port is well-behaved: the greatest number of further calls that will succeed, which no program can read
+  -- for a well-behaved port, the greatest number of further calls that will succeed, which no program can read
   pub left : ℕ
   -- true if the port is well-behaved, so that it obeys the contract of `Port`
   pub honest : Bool
-  -- On every port: the bytes that each call of `send` was asked to send, the last call first. The port may have failed
-  -- to send them.
+  -- what each call of `send` was asked to send, the last call first; the port may have failed to send it
   pub asked : List (List ℕ)
-  -- On every port: the bytes that calls of `receive` returned, in order.
+  -- the bytes that calls of `receive` returned, in order
   pub received : List ℕ
 
--- The state of a port that differs from `port` only in the settings of its programmer, which are `settings`.
 abbrev pub with_settings : ProgrammerSettings → PortState → PortState
 with_settings settings port = record port { device = record port.device { settings = settings } }
 
--- Holds if the chip made one step: it received the bytes `out` and returned the bytes `answer`. `worn` then also has
--- the sectors that this step erased.
+-- Holds if the chip made one step: it received the bytes `out` and returned the bytes `answer`.
 pub record StepsOnce (out answer : List ℕ) (old new : Device) : Type 0 where
   pub step : Step old.chip out answer new.chip
   pub worn : (s : ℕ) → new.worn s ≡ (old.worn s || wears (done_of old.chip out (length answer)) s)
 
--- Holds if the chip is as it was, or lost its power. It erased no sector.
 pub record MayLoseDevicePower (old new : Device) : Type 0 where
   pub chip : (new.chip ≡ old.chip) ⊎ PowerLost old.chip new.chip
   pub worn : (s : ℕ) → new.worn s ≡ old.worn s
 
--- Holds if the transaction `out` was cut. The programmer sent its first `count` bytes to the chip (none, some or all)
--- and read the bytes `read`. Then the chip lost its power, or did not.
+-- Holds if the transaction `out` was cut: the programmer sent its first `count` bytes to the chip and read the bytes
+-- `read`, and the chip may have lost its power.
 pub record IsCut (out : List ℕ) (old new : Device) : Type 0 where
   pub count : ℕ
   pub read : List ℕ
@@ -69,8 +62,7 @@ pub record IsCut (out : List ℕ) (old new : Device) : Type 0 where
   pub steps : StepsOnce (take count out) read old reached
   pub then : MayLoseDevicePower reached new
 
--- Holds if the programmer carried out a whole frame of O_SPIOP: the chip made one step, and the reply is ACK and the
--- bytes that the chip returned. The settings are as they were.
+-- Holds if the programmer carried out a whole frame of O_SPIOP.
 pub record OperatesFrame (frame : List ℕ) (old new : Device) : Type 0 where
   pub answer : List ℕ
   pub len : length answer ≡ replies_in frame
@@ -79,20 +71,18 @@ pub record OperatesFrame (frame : List ℕ) (old new : Device) : Type 0 where
   pub pending : new.pending ≡ old.pending ++ 0x06 ∷ answer
   pub settings : new.settings ≡ old.settings
 
--- Holds if `bytes`, together with the bytes of the incomplete command before them, are one whole frame of O_SPIOP.
+-- Holds if `bytes`, after the bytes of the incomplete command before them, complete a frame of O_SPIOP.
 pub record CompletesOperation (bytes : List ℕ) (old : Device) : Type 0 where
   pub whole : IsFrame (old.begun ++ bytes)
   pub opcode : slice_index (old.begun ++ bytes) 0 ≡ 0x13
 
--- Holds if no command is incomplete, `bytes` are the frames of `commands` one after another, and the reply to each of
--- these commands is specified.
+-- Holds if `bytes` are the frames of `commands`, whose replies are specified, and no command is incomplete.
 pub record AsksFor (commands : List Command) (bytes : List ℕ) (old : Device) : Type 0 where
   pub begun : old.begun ≡ []
   pub frames : bytes ≡ frames_of commands
   pub replies : HaveReplies old.firmware commands
 
--- Holds if the programmer replied to each of `commands`, and made the settings that it acknowledged. The chip was not
--- selected.
+-- Holds if the programmer replied to each of `commands`, and the chip was not selected.
 pub record RepliesTo (commands : List Command) (old new : Device) : Type 0 where
   pub pending : new.pending ≡ old.pending ++ replies_of old.firmware commands
   pub begun : new.begun ≡ []
@@ -100,9 +90,8 @@ pub record RepliesTo (commands : List Command) (old new : Device) : Type 0 where
   pub chip : new.chip ≡ old.chip
   pub worn : new.worn ≡ old.worn
 
--- Holds if one call sent all of `bytes`. If they complete a frame of O_SPIOP, the programmer carried it out. If no
--- command was incomplete and they are whole frames of other commands whose replies are specified (`AsksFor`), the
--- programmer replied to them. The effect of other bytes is not specified here.
+-- Holds if one call sent all of `bytes`. Their effect is specified only if they complete a frame of O_SPIOP, or are
+-- whole frames of other commands (`AsksFor`).
 pub record IsSent (bytes : List ℕ) (old new : PortState) : Type 0 where
   pub left : old.left ≡ new.left + 1
   pub firmware : new.device.firmware ≡ old.device.firmware
@@ -110,26 +99,22 @@ pub record IsSent (bytes : List ℕ) (old new : PortState) : Type 0 where
   pub replies : (commands : List Command) → AsksFor commands bytes old.device
       → RepliesTo commands old.device new.device
 
--- Holds if `frame`, a frame of O_SPIOP, is within the limits of every well-behaved port: no reply is pending, and the
--- frame sends at most 260 bytes (a page program) and requests at most 4,096 bytes (a sector).
+-- Holds if `frame`, a frame of O_SPIOP, is within the limits of every well-behaved port: it sends at most a page
+-- program, requests at most a sector, and no reply is pending.
 pub record IsWithinLimits (frame : List ℕ) (device : Device) : Type 0 where
   pub none_pending : device.pending ≡ []
   pub sends : length (out_in frame) ≤ 260
   pub reads : replies_in frame ≤ 4096
 
--- Holds if `commands` are within the limits of every well-behaved port: no reply is pending, their frames have at most
--- 260 bytes in total, and the replies to them at most 4,096.
+-- Holds if `commands` are within the limits of every well-behaved port.
 pub record AreWithinLimits (commands : List Command) (device : Device) : Type 0 where
   pub none_pending : device.pending ≡ []
   pub sends : length (frames_of commands) ≤ 260
   pub reads : length (replies_of device.firmware commands) ≤ 4096
 
--- Holds if the port failed while it sent `bytes`, after any number of them. No further call succeeds. If `bytes` would
--- complete a frame of O_SPIOP, its transaction was cut (`IsCut`), since a programmer may begin a transaction before its
--- frame is complete. If this frame is within the limits (`IsWithinLimits`), the port failed because no call was left.
--- If no command was incomplete and `bytes` are whole frames of other commands whose replies are specified (`AsksFor`),
--- the chip was not selected, but may have lost its power. If these commands are within the limits (`AreWithinLimits`),
--- the port failed because no call was left.
+-- Holds if the port failed while it sent `bytes`, after any number of them. If they would complete a frame of O_SPIOP,
+-- its transaction was cut, since a programmer may begin a transaction before its frame is complete. Bytes within the
+-- limits fail only if no call was left.
 pub record IsCutOff (bytes : List ℕ) (old new : PortState) : Type 0 where
   pub firmware : new.device.firmware ≡ old.device.firmware
   pub none_left_for_commands : (commands : List Command) → AsksFor commands bytes old.device
@@ -141,7 +126,6 @@ pub record IsCutOff (bytes : List ℕ) (old new : PortState) : Type 0 where
   pub left : new.left ≡ 0
   pub cut : CompletesOperation bytes old.device → IsCut (out_in (old.device.begun ++ bytes)) old.device new.device
 
--- Holds if one call received `bytes`, the first pending bytes. Nothing else of the device changed.
 pub record IsReceived (bytes : List ℕ) (old new : PortState) : Type 0 where
   pub left : old.left ≡ new.left + 1
   pub pending : old.device.pending ≡ bytes ++ new.device.pending
@@ -151,15 +135,13 @@ pub record IsReceived (bytes : List ℕ) (old new : PortState) : Type 0 where
   pub firmware : new.device.firmware ≡ old.device.firmware
   pub settings : new.device.settings ≡ old.device.settings
 
--- Holds if the port failed while `count` bytes were to be received. No further call succeeds. If at least `count` bytes
--- were pending, the port failed because no call was left. The chip may have lost its power.
+-- Holds if the port failed while `count` bytes were to be received. The chip may have lost its power.
 pub record IsSilent (count : ℕ) (old new : PortState) : Type 0 where
   pub firmware : new.device.firmware ≡ old.device.firmware
   pub none_left : count ≤ length old.device.pending → old.left ≡ 0
   pub left : new.left ≡ 0
   pub power : MayLoseDevicePower old.device new.device
 
--- Holds if two calls received ACK and then the bytes `reply`. Nothing else of the device changed.
 pub record TakesAnswer (reply : List ℕ) (old new : PortState) : Type 0 where
   pub left : old.left ≡ new.left + 2
   pub pending : old.device.pending ≡ 0x06 ∷ (reply ++ new.device.pending)
@@ -169,42 +151,36 @@ pub record TakesAnswer (reply : List ℕ) (old new : PortState) : Type 0 where
   pub firmware : new.device.firmware ≡ old.device.firmware
   pub settings : new.device.settings ≡ old.device.settings
 
--- Holds if the pending bytes begin with ACK.
 pub record AnswerBegins (port : PortState) : Type 0 where
   pub some : 0 < length port.device.pending
   pub ack : slice_index port.device.pending 0 ≡ 0x06
 
--- Holds if a call failed while ACK and `count` reply bytes were to be received. If all of these were pending, fewer
--- than two calls were left before. Fewer than three calls are left afterwards, and the chip may have lost its power.
+-- Holds if a call failed while ACK and `count` reply bytes were to be received. The chip may have lost its power.
 pub record MissesAnswer (count : ℕ) (old new : PortState) : Type 0 where
   pub few_left : count < length old.device.pending → old.left < 2
   pub few : new.left < 3
   pub power : MayLoseDevicePower old.device new.device
 
--- Holds if three calls carried out the transaction `out` and received its reply `answer`: the chip made one step, and
--- the programmer is idle and has the settings that it had before.
+-- Holds if three calls carried out the transaction `out` and received its reply `answer`.
 pub record Exchanged (out answer : List ℕ) (old new : PortState) : Type 0 where
   pub left : old.left ≡ new.left + 3
   pub idle : IsIdle new.device
   pub settings : new.device.settings ≡ old.device.settings
   pub steps : StepsOnce out answer old.device new.device
 
--- Holds if the transaction `out`, which requests `replies` bytes, was cut, and too few calls are left for another
--- transaction. If the transaction is within the limits of every well-behaved port, and the caller wanted at most
--- `replies` bytes (`wanted`), fewer than three calls were left before it.
+-- Holds if the transaction `out`, which requests `replies` bytes, of which the caller wanted `wanted`, was cut, and too
+-- few calls are left for another transaction.
 pub record Interrupted (out : List ℕ) (replies wanted : ℕ) (old new : PortState) : Type 0 where
   pub few_left : length out ≤ 260 → replies ≤ 4096 → wanted ≤ replies → old.left < 3
   pub few : new.left < 3
   pub cut : IsCut out old.device new.device
 
--- Holds if the command is not O_SPIOP, or if `P` holds for the bytes that it sends and the number of bytes that it
--- reads.
 abbrev pub IfOperates : Command → (List ℕ → ℕ → Type 0) → Type 0
 IfOperates (Operate out replies) P = P out.now replies
 IfOperates _ P = ⊤
 
--- The state of a port about which nothing is known but what it was asked to send, and what it returned. The port is not
--- well-behaved, so nothing is promised about its device, and the device given here is arbitrary.
+-- The state of a port about which only is known what it was asked to send, and what it returned. The device given here
+-- is arbitrary.
 abbrev pub unknown_port : (asked : List (List ℕ)) → (received : List ℕ) → PortState
 unknown_port asked received = record {
   device = record {

@@ -29,7 +29,6 @@ pub record Firmware : Type 0 where
   -- the clock in hertz that the programmer sets if a clock of `hertz` is requested, or `None` if it refuses
   -- (S_SPI_FREQ)
   pub clock : (hertz : ℕ) → Option ℕ
-  -- each value fits in its field of the protocol
   pub version_fits : version < 65536
   pub commands_len : length commands ≡ 32
   pub name_len : length name ≡ 16
@@ -43,34 +42,27 @@ pub record Firmware : Type 0 where
 abbrev pub is_in_map : (commands : List ℕ) → (opcode : ℕ) → Bool
 is_in_map commands opcode = slice_index commands (opcode / 8) / 2 ^ (opcode % 8) % 2 == 1
 
--- True if the programmer has the command `opcode`.
 abbrev pub has_command : Firmware → (opcode : ℕ) → Bool
 has_command firmware opcode = is_in_map firmware.commands opcode
 
--- The 16-bit number `n` as two bytes, the lowest first.
 abbrev pub two_of : ℕ → List ℕ
 two_of n = n % 256 ∷ n / 256 % 256 ∷ []
 
--- The reply NAK.
 abbrev pub nak : List ℕ
 nak = 0x15 ∷ []
 
--- The reply to the query `opcode`: ACK and `bytes`, or NAK if the programmer lacks the query.
 abbrev pub queried : Firmware → (opcode : ℕ) → (bytes : List ℕ) → List ℕ
 queried firmware opcode bytes = if has_command firmware opcode then 0x06 ∷ bytes else nak
 
--- The reply to a setting: ACK if the programmer accepts it, or NAK.
 abbrev pub taken : Bool → List ℕ
 taken accepts = if accepts then 0x06 ∷ [] else nak
 
--- The reply to S_SPI_FREQ: ACK and the clock that was set, or NAK.
 abbrev pub clocked : Option ℕ → List ℕ
 clocked (Some set) = 0x06 ∷ four_of set
 clocked None = nak
 
 -- The reply of a programmer with this firmware to a whole frame of a command, if `HasReply` holds. Each programmer has
--- NOP, Q_IFACE, Q_CMDMAP and SYNCNOP. For a setting that the map of commands lacks, the list means nothing. For O_SPIOP
--- it is empty; `OperatesFrame` in Device.antt has its reply.
+-- NOP, Q_IFACE, Q_CMDMAP and SYNCNOP. For O_SPIOP it is empty; `OperatesFrame` in Device.antt has its reply.
 abbrev pub reply_of : Firmware → Command → List ℕ
 reply_of firmware Nop = 0x06 ∷ []
 reply_of firmware QueryInterface = 0x06 ∷ two_of firmware.version
@@ -87,8 +79,8 @@ reply_of firmware (SetPins enabled) = taken (firmware.takes_pins enabled)
 reply_of firmware (SelectChip number) = taken (firmware.takes_select number)
 reply_of firmware (Operate out replies) = []
 
--- Holds if `reply_of` specifies the reply to this command: the command is not O_SPIOP, and if it has arguments, it is
--- in the map. A programmer that lacks a command treats the argument bytes after the opcode as commands.
+-- Holds if `reply_of` specifies the reply to this command. A programmer that lacks a command treats the argument bytes
+-- after the opcode as commands.
 abbrev pub HasReply : Firmware → Command → Type 0
 HasReply firmware (SetBuses flags) = has_command firmware 0x12 ≡ true
 HasReply firmware (SetFrequency hertz) = has_command firmware 0x14 ≡ true
@@ -97,17 +89,15 @@ HasReply firmware (SelectChip number) = has_command firmware 0x16 ≡ true
 HasReply firmware (Operate out replies) = ⊥
 HasReply firmware _ = ⊤
 
--- Two settings of a programmer: the type of bus that is selected, and the state of its pin drivers. The clock and the
--- chip select, which S_SPI_FREQ and S_SPI_CS set, are not part of this record.
+-- Two settings of a programmer. The clock and the chip select are not part of this record.
 pub record ProgrammerSettings : Type 0 where
   -- the flags of the last S_BUSTYPE that the programmer acknowledged; `None` if it acknowledged none
   pub bus_type : Option ℕ
-  -- true if the last S_PIN_STATE that the programmer acknowledged switched the pin drivers on; false if it switched
-  -- them off, or if none was acknowledged (a programmer that lacks the command may always drive its pins)
+  -- true if the last S_PIN_STATE that the programmer acknowledged switched the pin drivers on (a programmer that lacks
+  -- the command may always drive its pins)
   pub pins_on : Bool
 
--- The settings after a whole frame of a command. Only S_BUSTYPE and S_PIN_STATE change them, and only if the programmer
--- acknowledges the command.
+-- The settings after a whole frame of a command, which change only if the programmer acknowledges it.
 abbrev pub settings_after : Firmware → Command → ProgrammerSettings → ProgrammerSettings
 settings_after firmware (SetBuses flags) settings =
     if firmware.takes_buses flags then record settings { bus_type = Some flags } else settings
@@ -115,23 +105,19 @@ settings_after firmware (SetPins enabled) settings =
     if firmware.takes_pins enabled then record settings { pins_on = enabled } else settings
 settings_after firmware _ settings = settings
 
--- The settings after whole frames of all these commands, one after another.
 abbrev pub settings_after_all : Firmware → List Command → ProgrammerSettings → ProgrammerSettings
 settings_after_all firmware [] settings = settings
 settings_after_all firmware (command ∷ rest) settings =
     settings_after_all firmware rest (settings_after firmware command settings)
 
--- The frames of these commands, one after another.
 abbrev pub frames_of : List Command → List ℕ
 frames_of [] = []
 frames_of (command ∷ rest) = frame_of command ++ frames_of rest
 
--- The replies to these commands, one after another.
 abbrev pub replies_of : Firmware → List Command → List ℕ
 replies_of firmware [] = []
 replies_of firmware (command ∷ rest) = reply_of firmware command ++ replies_of firmware rest
 
--- Holds if `reply_of` specifies the reply to each of these commands.
 abbrev pub HaveReplies : Firmware → List Command → Type 0
 HaveReplies firmware [] = ⊤
 HaveReplies firmware (command ∷ rest) = HasReply firmware command × HaveReplies firmware rest

@@ -4,15 +4,12 @@ use Rattle.std.specs.Prelude.{◌≡◌, ◌<◌, ◌≤◌, ◌+◌, ◌*◌, �
 use Rattle.nor_serprog.specs.declared.command.Command.{Command}
 use Rattle.nor_serprog.specs.declared.command.Command.TheVariants.{Nop, QueryInterface, QueryCommands, QueryName, QuerySerialBuffer, QueryBuses, QueryLongestWrite, SyncNop, QueryLongestRead, SetBuses, Operate, SetFrequency, SetPins, SelectChip}
 
--- The 24-bit number `n` as three bytes, the lowest first.
 abbrev pub three_of : ℕ → List ℕ
 three_of n = n % 256 ∷ n / 256 % 256 ∷ n / 65536 % 256 ∷ []
 
--- The 32-bit number `n` as four bytes, the lowest first.
 abbrev pub four_of : ℕ → List ℕ
 four_of n = n % 256 ∷ n / 256 % 256 ∷ n / 65536 % 256 ∷ n / 16777216 % 256 ∷ []
 
--- The 24-bit number whose bytes are `a`, `b` and `c`, the lowest first.
 abbrev pub number_in : (a b c : ℕ) → ℕ
 number_in a b c = a + 256 * b + 65536 * c
 
@@ -20,7 +17,6 @@ number_in a b c = a + 256 * b + 65536 * c
 abbrev pub operation_frame : (out : List ℕ) → (replies : ℕ) → List ℕ
 operation_frame out replies = 0x13 ∷ three_of (length out) ++ three_of replies ++ out
 
--- The frame of a command: its opcode and its arguments.
 abbrev pub frame_of : Command → List ℕ
 frame_of Nop = 0x00 ∷ []
 frame_of QueryInterface = 0x01 ∷ []
@@ -37,14 +33,13 @@ frame_of (SetFrequency hertz) = 0x14 ∷ four_of hertz
 frame_of (SetPins enabled) = 0x15 ∷ (if enabled then 1 else 0) ∷ []
 frame_of (SelectChip number) = 0x16 ∷ number ∷ []
 
--- Holds if the command fits into one frame of this crate. An O_SPIOP must send at most 260 bytes, and its number of
--- reply bytes must fit in 24 bits.
+-- Holds if the command fits into one frame of this crate.
 abbrev pub FitsFrame : Command → Type 0
 FitsFrame (Operate out replies) = (length out.now ≤ 260) × (replies < 16777216)
 FitsFrame _ = ⊤
 
--- The number of argument bytes after an opcode. It is 0 for all opcodes after 16h. The number is not used for O_SPIOP
--- (13h) and "write n" (0Dh), whose frames `long_len` describes.
+-- The number of argument bytes after an opcode, 0 for all opcodes after 16h. It is not used for O_SPIOP (13h) and
+-- "write n" (0Dh), whose frames `long_len` describes.
 abbrev pub argument_count : (opcode : ℕ) → ℕ
 argument_count opcode =
     if opcode == 0x12 || opcode == 0x15 || opcode == 0x16 then 1
@@ -53,34 +48,29 @@ argument_count opcode =
     else if opcode == 0x0A then 6
     else 0
 
--- The length of a frame of O_SPIOP or "write n". The list has the bytes after its opcode, which begin with two numbers
--- of three bytes each. The first number is the number of bytes that follow both.
+-- The length of a frame of O_SPIOP or "write n". The bytes after its opcode begin with two numbers of three bytes each,
+-- of which the first is the number of bytes that follow both.
 abbrev pub long_len : List ℕ → Option ℕ
 long_len (a ∷ b ∷ c ∷ rest) = Some (7 + number_in a b c)
 long_len _ = None
 
--- The length of the frame that begins with the bytes `begun`, as a programmer without commands after 16h computes it;
--- `None` if more bytes are needed to determine it.
+-- The length of the frame that begins with the bytes `begun`, for a programmer without commands after 16h; `None` if
+-- more bytes are needed to determine it.
 abbrev pub frame_len : (begun : List ℕ) → Option ℕ
 frame_len [] = None
 frame_len (opcode ∷ rest) =
     if opcode == 0x13 || opcode == 0x0D then long_len rest else Some (1 + argument_count opcode)
 
--- Holds if the bytes are one whole frame.
 abbrev pub IsFrame : List ℕ → Type 0
 IsFrame bytes = frame_len bytes ≡ Some (length bytes)
 
--- The bytes that a frame of O_SPIOP sends to the chip.
 abbrev pub out_in : List ℕ → List ℕ
 out_in frame = drop 7 frame
 
--- The number of reply bytes that a frame of O_SPIOP requests.
 abbrev pub replies_in : List ℕ → ℕ
 replies_in frame = number_in (slice_index frame 4) (slice_index frame 5) (slice_index frame 6)
 
--- Holds if a programmer that reads this frame carries out this command. For O_SPIOP the frame has the opcode 13h, and
--- contains the bytes and the number of reply bytes of the command. For any other command the frame is the frame of the
--- command (`frame_of`).
+-- Holds if a programmer that reads this frame carries out this command.
 abbrev pub ReadsAs : List ℕ → Command → Type 0
 ReadsAs frame (Operate out replies) =
     (slice_index frame 0 ≡ 0x13) × (out_in frame ≡ out.now) × (replies_in frame ≡ replies)

@@ -1,5 +1,5 @@
--- The result of the handshake with a programmer. Over a well-behaved port the firmware of the programmer determines the
--- result. (serprog protocol version 1, flashrom's Documentation/serprog-protocol.txt.)
+-- The result of the handshake with a programmer (serprog protocol version 1, flashrom's
+-- Documentation/serprog-protocol.txt).
 use Rattle.std.specs.Prelude.{◌≡◌, ◌<◌, ◌⊎◌, ◌-◌, ◌==◌, ◌&&◌, ◌||◌, not, nat_lt, bit_and, min, max, ℕ, Bool, true, List, [], ◌∷◌, length, slice_index, Option, None, Some, option_and_then, replicate, if◌then◌else◌, Result, IfOk, OnOk, OnErr, IfErr}
 use Rattle.std.specs.Option.{option_or}
 use Rattle.nor_serprog.specs.declared.programmer.HandshakeFault.{HandshakeFault}
@@ -23,29 +23,24 @@ use Rattle.nor_serprog.specs.Replies.{AwaitsCommand, OnlyAsks, IsPortFailure}
 abbrev pub buses_of : Firmware → ℕ
 buses_of firmware = if has_command firmware 0x05 then firmware.buses else 8
 
--- The limit of a programmer for the length of a transaction. `has_query` is true if the programmer has the query for
--- this limit, and `limit` is its reply. Without the query, or if the reply is 0, the limit is 2^24.
+-- The limit of a programmer for the length of a transaction: 2^24 without a query for it, or if the reply is 0.
 abbrev pub limit_in : (has_query : Bool) → (limit : ℕ) → ℕ
 limit_in has_query limit = if has_query && not (limit == 0) then limit else 16777216
 
--- The greatest number of bytes that a transaction may send (`write_limit`), and that it may read (`read_limit`).
 abbrev pub write_limit : Firmware → ℕ
 write_limit firmware = limit_in (has_command firmware 0x08) firmware.longest_write
 
 abbrev pub read_limit : Firmware → ℕ
 read_limit firmware = limit_in (has_command firmware 0x11) firmware.longest_read
 
--- The greatest number of bytes that a transaction may send, if `writes` is the limit of the programmer and `buffer` is
--- the size of its serial buffer. If the programmer has Q_SERBUF (04h) but lacks Q_WRNMAXLEN (08h), the frame of the
--- transaction, which has 7 more bytes, must also fit into the buffer. In this case the number is at least 5, even if
--- the buffer has fewer than 12 bytes.
+-- The greatest number of bytes that a transaction may send. If the programmer has Q_SERBUF (04h) but lacks Q_WRNMAXLEN
+-- (08h), its frame, which has 7 more bytes, must also fit into the buffer. Even then the number is at least 5.
 abbrev pub part_limit_of : (commands : List ℕ) → (writes buffer : ℕ) → ℕ
 part_limit_of commands writes buffer =
     if is_in_map commands 0x08 then writes
     else if is_in_map commands 0x04 then max (min writes (buffer - 7)) 5 else writes
 
--- Holds if `programmer` has the values that this firmware replied to a handshake that requested a clock of `hertz`. For
--- a query that the programmer lacks, the limit is 2^24, the size of the buffer is 0, or the name is all zeros.
+-- Holds if `programmer` has the values that this firmware replied to a handshake that requested a clock of `hertz`.
 pub record IsAnyProgrammerOf (firmware : Firmware) (hertz : Option ℕ) (programmer : AnyProgrammer) : Type 0 where
   pub name : programmer.name ≡ (if has_command firmware 0x03 then firmware.name else replicate 16 0)
   pub writes : programmer.longest_write ≡ write_limit firmware
@@ -56,35 +51,27 @@ pub record IsAnyProgrammerOf (firmware : Firmware) (hertz : Option ℕ) (program
   pub frequency : programmer.frequency ≡ option_and_then firmware.clock hertz
   pub selects : programmer.selects ≡ has_command firmware 0x16
 
--- Holds if `programmer`, whose limits suffice for whole transactions, has the values that this firmware replied to a
--- handshake that requested a clock of `hertz`.
 abbrev pub IsProgrammerOf : (firmware : Firmware) → (hertz : Option ℕ) → Programmer → Type 0
 IsProgrammerOf firmware hertz programmer = IsAnyProgrammerOf firmware hertz programmer.reported
 
 -- ---- why a programmer can't be used
 
--- The error `Refused` with this opcode, if the programmer has the command (`has_it`) and replies NAK to it; otherwise
--- `None`.
 abbrev pub refused : {C : Type 0} → (opcode : ℕ) → (has_it accepts : Bool) → Option (HandshakeFault C)
 refused opcode has_it accepts = if has_it && not accepts then Some (Failure (Refused opcode)) else None
 
--- The error `Version` if the programmer speaks another version of the protocol than 1 (Q_IFACE).
 abbrev pub version_fault : {C : Type 0} → Firmware → Option (HandshakeFault C)
 version_fault firmware = if firmware.version == 1 then None else Some (Version firmware.version)
 
--- The error `Lacks` if the programmer lacks O_SPIOP (13h).
 abbrev pub operation_fault : {C : Type 0} → Firmware → Option (HandshakeFault C)
 operation_fault firmware = if has_command firmware 0x13 then None else Some (Lacks 0x13)
 
--- The error `NotSpi` if the programmer does not support SPI; or if it supports other types of bus, too, and lacks
+-- The error `NotSpi` if the programmer does not support SPI, or if it supports other types of bus, too, and lacks
 -- S_BUSTYPE (12h), which selects one.
 abbrev pub buses_fault : {C : Type 0} → Firmware → Option (HandshakeFault C)
 buses_fault firmware =
     if not (bit_and (buses_of firmware) 8 == 0) && (buses_of firmware == 8 || has_command firmware 0x12) then None
     else Some (NotSpi (buses_of firmware))
 
--- The error `WriteLimit` if a transaction can't send `least` bytes, and the error `ReadLimit` if it can't read `least`
--- bytes.
 abbrev pub write_fault : {C : Type 0} → Firmware → (least : ℕ) → Option (HandshakeFault C)
 write_fault firmware least =
     if nat_lt (write_limit firmware) least then Some (WriteLimit (write_limit firmware)) else None
@@ -93,42 +80,34 @@ abbrev pub read_fault : {C : Type 0} → Firmware → (least : ℕ) → Option (
 read_fault firmware least =
     if nat_lt (read_limit firmware) least then Some (ReadLimit (read_limit firmware)) else None
 
--- The error `SmallBuffer` if the programmer has Q_SERBUF (04h) but lacks Q_WRNMAXLEN (08h), and its serial buffer holds
--- fewer than `least` bytes.
+-- The error `SmallBuffer` if only the serial buffer limits a frame, and holds fewer than `least` bytes.
 abbrev pub buffer_fault : {C : Type 0} → Firmware → (least : ℕ) → Option (HandshakeFault C)
 buffer_fault firmware least =
     if has_command firmware 0x04 && (not (has_command firmware 0x08) && nat_lt firmware.buffer least)
     then Some (SmallBuffer firmware.buffer) else None
 
--- The error `Refused` with the opcode of S_SPI_FREQ (14h), if the programmer set no clock.
 abbrev pub clock_refused : {C : Type 0} → Option ℕ → Option (HandshakeFault C)
 clock_refused (Some set) = None
 clock_refused None = Some (Failure (Refused 0x14))
 
--- The error of the step that requests a clock, if a clock is requested (`hertz`): `Lacks` if the programmer lacks
--- S_SPI_FREQ (14h), or `Refused` if it refuses that clock.
 abbrev pub clock_fault : {C : Type 0} → Firmware → (hertz : Option ℕ) → Option (HandshakeFault C)
 clock_fault firmware None = None
 clock_fault firmware (Some hertz) =
     if has_command firmware 0x14 then clock_refused (firmware.clock hertz) else Some (Lacks 0x14)
 
--- The first error in a list of possible errors; `None` if the list has no error.
 abbrev pub first_handshake_fault : {C : Type 0} → List (Option (HandshakeFault C)) → Option (HandshakeFault C)
 first_handshake_fault [] = None
 first_handshake_fault (fault ∷ later) = option_or fault (first_handshake_fault later)
 
--- The least limits of a programmer that carries out a page program, and the read of a sector, in one transaction each.
--- The frame of a page program has 267 bytes.
+-- The least limits with which a page program, and the read of a sector, are one transaction each.
 abbrev pub whole_limits : Least
 whole_limits = record { write = 260; read = 4096; frame = 267 }
 
--- The least limits of a programmer that can be used with a bus that splits transactions. A program of one byte sends 5
--- bytes, in a frame of 12 bytes, and a read reads at least one byte.
+-- The least limits for a bus that splits transactions: a program of one byte sends 5 bytes, in a frame of 12 bytes.
 abbrev pub part_limits : Least
 part_limits = record { write = 5; read = 1; frame = 12 }
 
--- The errors that the firmware can cause in a handshake that requires the limits `least`, in the order of its steps. An
--- entry is `None` if this firmware doesn't cause the error of that step.
+-- The errors that the firmware can cause in a handshake that requires the limits `least`, in the order of its steps.
 abbrev pub identify_faults : {C : Type 0} → Least → Firmware → (hertz : Option ℕ) → List (Option (HandshakeFault C))
 identify_faults least firmware hertz =
     version_fault firmware
@@ -142,61 +121,48 @@ identify_faults least firmware hertz =
     ∷ refused 0x15 (has_command firmware 0x15) (firmware.takes_pins true)
     ∷ []
 
--- The error of a handshake that requires the limits `least`: the first error of `identify_faults`. `None` if the
--- programmer can be used.
+-- The error of a handshake that requires the limits `least`; `None` if the programmer can be used.
 abbrev pub least_fault : {C : Type 0} → Least → Firmware → (hertz : Option ℕ) → Option (HandshakeFault C)
 least_fault least firmware hertz = first_handshake_fault (identify_faults least firmware hertz)
 
--- The error of a handshake that requires a page program, and the read of a sector, in one transaction each
--- (`whole_limits`). `None` if the programmer can be used.
 abbrev pub identify_fault : {C : Type 0} → Firmware → (hertz : Option ℕ) → Option (HandshakeFault C)
 identify_fault firmware hertz = least_fault whole_limits firmware hertz
 
--- The error of a handshake that also accepts a programmer for which long transactions must be split (`part_limits`).
--- `None` if the programmer can be used.
 abbrev pub narrow_fault : {C : Type 0} → Firmware → (hertz : Option ℕ) → Option (HandshakeFault C)
 narrow_fault firmware hertz = least_fault part_limits firmware hertz
 
--- The error if the chip select `number` can't be used: `Lacks` or `Refused` with S_SPI_CS (16h). `None` if it can be
--- used.
 abbrev pub select_fault : {C : Type 0} → Firmware → (number : ℕ) → Option (HandshakeFault C)
 select_fault firmware number =
     if has_command firmware 0x16 then refused 0x16 true (firmware.takes_select number) else Some (Lacks 0x16)
 
 -- ---- the settings that the handshake makes
 
--- The settings after `command`, whose opcode is `opcode`, if the programmer has this command; otherwise `settings`.
 abbrev pub settings_if_offered : Firmware → (opcode : ℕ) → Command → ProgrammerSettings → ProgrammerSettings
 settings_if_offered firmware opcode command settings =
     if has_command firmware opcode then settings_after firmware command settings else settings
 
--- The settings of a programmer that was prepared for SPI. SPI (8) is selected if the programmer has S_BUSTYPE, and the
--- pin drivers are on if it has S_PIN_STATE. If the programmer lacks a command, the setting of this command is as it
--- was.
+-- The settings of a programmer that was prepared for SPI: SPI (8) is selected and the pin drivers are on, each only if
+-- the programmer has the command for it.
 abbrev pub prepared_settings : Firmware → ProgrammerSettings → ProgrammerSettings
 prepared_settings firmware settings = record {
   bus_type = if has_command firmware 0x12 then Some 8 else settings.bus_type;
   pins_on = if has_command firmware 0x15 then true else settings.pins_on;
 }
 
--- The state of a port whose programmer was prepared for SPI (`prepared_settings`).
 abbrev pub prepared_port : PortState → PortState
 prepared_port port = with_settings (prepared_settings port.device.firmware port.device.settings) port
 
 -- ---- the result of the handshake
 
--- Holds if the error is a failure of the port.
 abbrev pub IsPortFault : {C : Type 0} → HandshakeFault C → Type 0
 IsPortFault (Failure failure) = IsPortFailure failure
 IsPortFault _ = ⊥
 
--- Holds for the result of the handshake, or of a part of it that makes at most `calls` calls, over a well-behaved port
--- to an idle programmer. `fault` is the error that the firmware causes, or `None`. `old` is the state of the port
--- before the part, except that its settings are those that the programmer has after success.
+-- Holds for the result of a part of the handshake with at most `calls` calls, over a well-behaved port to an idle
+-- programmer. `fault` is the error that the firmware causes. `old` is the state of the port before the part, but with
+-- the settings that the programmer has after success.
 pub record Concludes {T C : Type 0} (calls : ℕ) (fault : Option (HandshakeFault C)) (IsValue : T → Type 0)
     (result : Result T (HandshakeFault C)) (old new : PortState) : Type 0 where
-  -- after success the firmware causes no error, `IsValue` holds for the value, the programmer is idle and has the
-  -- settings of `old`, and its chip is as it was
   pub usable : OnOk result (fault ≡ None)
   pub value : IfOk result IsValue
   pub asks : OnOk result (OnlyAsks calls old new)
@@ -205,15 +171,12 @@ pub record Concludes {T C : Type 0} (calls : ℕ) (fault : Option (HandshakeFaul
   -- after any error the chip is as it was, or has lost its power
   pub power : OnErr result (MayLoseDevicePower old.device new.device)
 
--- Holds if the link is in step over a well-behaved port, and the programmer is idle and has this firmware.
 pub record IsInStepWith {P C : Type 0} (port : P → PortState) (firmware : Firmware) (link : Link P C) : Type 0 where
   pub in_step : is_in_step link ≡ true
   pub awaits : AwaitsCommand (port link.port)
   pub same : (port link.port).device.firmware ≡ firmware
 
--- Holds for the result of one exchange of the handshake that sends `command` and requests `count` reply bytes. If the
--- firmware replies ACK and `count` bytes, the exchange returns these bytes. If the firmware replies NAK, the exchange
--- returns `Refused`. In both cases the port may fail instead, if fewer than three calls were left.
+-- Holds for the result of one exchange of the handshake that sends `command` and requests `count` reply bytes.
 pub record Asked {C : Type 0} (firmware : Firmware) (command : Command) (count : ℕ) (reply : List ℕ)
     (result : Result Unit (HandshakeFault C)) (old new : PortState) : Type 0 where
   pub acked : (bytes : List ℕ) → reply_of firmware command ≡ 0x06 ∷ bytes → count ≡ length bytes

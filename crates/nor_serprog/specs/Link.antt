@@ -5,16 +5,13 @@ use Rattle.nor_serprog.specs.declared.link.Sync.{Sync}
 use Rattle.nor_serprog.specs.declared.link.Sync.TheVariants.{InStep, Lost, Cut}
 use Rattle.nor_serprog.specs.Device.{PortState, IsIdle}
 
--- The port of a link.
 abbrev pub port_of : {P C : Type 0} → Link P C → P
 port_of link = link.port
 
--- The synchronization of a link, which says whether each reply can be matched to its frame.
 abbrev pub sync_of : {P C : Type 0} → Link P C → Sync
 sync_of link = link.sync
 
--- True if the link is in step. Since it was synchronized, each call that sent frames received an ACK for each of them
--- and the number of reply bytes that its caller requested.
+-- True if the link is in step, so that each reply can be matched to its frame.
 abbrev pub is_in_step : {P C : Type 0} → Link P C → Bool
 is_in_step link = elim link.sync [ InStep ↦ true | Lost ↦ false | Cut ↦ false ]
 
@@ -22,8 +19,8 @@ is_in_step link = elim link.sync [ InStep ↦ true | Lost ↦ false | Cut ↦ fa
 abbrev pub is_cut : {P C : Type 0} → Link P C → Bool
 is_cut link = elim link.sync [ InStep ↦ false | Lost ↦ false | Cut ↦ true ]
 
--- Over a well-behaved port there are two cases. If the link is in step, the programmer is idle. Otherwise too few calls
--- are left for a transaction.
+-- Over a well-behaved port, the programmer is idle if the link is in step; otherwise too few calls are left for a
+-- transaction.
 pub record IsSettled {P C : Type 0} (port : P → PortState) (link : Link P C) : Type 0 where
   pub idle : (port link.port).honest ≡ true → is_in_step link ≡ true → IsIdle (port link.port).device
   pub spent : (port link.port).honest ≡ true → is_in_step link ≡ false → (port link.port).left < 3

@@ -2,19 +2,15 @@
 use Rattle.std.specs.Prelude.{ℕ, Bool, List, Option}
 use Rattle.nor_serprog.specs.declared.programmer.Programmer.{Programmer}
 
--- The greatest number of bytes that a transaction may send.
 abbrev pub writes_most : Programmer → ℕ
 writes_most programmer = programmer.reported.longest_write
 
--- The greatest number of bytes that a transaction may read.
 abbrev pub reads_most : Programmer → ℕ
 reads_most programmer = programmer.reported.longest_read
 
--- True if the programmer has the command S_SPI_CS.
 abbrev pub has_chip_selects : Programmer → Bool
 has_chip_selects programmer = programmer.reported.selects
 
--- The name of the programmer: 16 bytes.
 abbrev pub programmer_name : Programmer → List ℕ
 programmer_name programmer = programmer.reported.name
 
@@ -22,6 +18,5 @@ programmer_name programmer = programmer.reported.name
 abbrev pub buffer_of : Programmer → ℕ
 buffer_of programmer = programmer.reported.serial_buffer
 
--- The clock in hertz that the programmer set; `None` if no clock was requested.
 abbrev pub frequency_of : Programmer → Option ℕ
 frequency_of programmer = programmer.reported.frequency

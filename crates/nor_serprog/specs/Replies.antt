@@ -7,13 +7,11 @@ use Rattle.nor_serprog.specs.Frame.{frame_of}
 use Rattle.nor_serprog.specs.Firmware.{reply_of, settings_after, nak}
 use Rattle.nor_serprog.specs.Device.{PortState, IsIdle, MayLoseDevicePower, with_settings}
 
--- Holds if the port is well-behaved, and its programmer is idle (`IsIdle`).
 pub record AwaitsCommand (port : PortState) : Type 0 where
   pub honest : port.honest ≡ true
   pub idle : IsIdle port.device
 
--- Holds if at most `calls` calls were made, and the programmer is idle again and has the settings of `old`. The chip
--- was not selected.
+-- Holds if at most `calls` calls were made, and the programmer is idle again. The chip was not selected.
 pub record OnlyAsks (calls : ℕ) (old new : PortState) : Type 0 where
   pub left : old.left ≤ new.left + calls
   pub awaits : AwaitsCommand new
@@ -22,8 +20,8 @@ pub record OnlyAsks (calls : ℕ) (old new : PortState) : Type 0 where
   pub firmware : new.device.firmware ≡ old.device.firmware
   pub settings : new.device.settings ≡ old.device.settings
 
--- Holds if the port is well-behaved, no command is incomplete, and exactly `bytes` are pending. There are 1 to 25 of
--- them, and the first is not 0.
+-- Holds if the port is well-behaved, no command is incomplete, and exactly `bytes` are pending: 1 to 25 of them, the
+-- first of which is not 0.
 pub record IsPending (bytes : List ℕ) (port : PortState) : Type 0 where
   pub honest : port.honest ≡ true
   pub begun : port.device.begun ≡ []
@@ -32,44 +30,36 @@ pub record IsPending (bytes : List ℕ) (port : PortState) : Type 0 where
   pub few : length bytes ≤ 25
   pub first : slice_index bytes 0 ≢ 0
 
--- Holds if the failure is a failure of the port.
 abbrev pub IsPortFailure : {C : Type 0} → Failure C → Type 0
 IsPortFailure (Port cause) = ⊤
 IsPortFailure _ = ⊥
 
--- Holds for the result of a call of a link. After success, at most `calls` calls of the port were made, and the
--- programmer is idle again (`OnlyAsks`). After an error, the port failed because fewer than `calls` calls were left,
--- and the chip is as it was or has lost its power.
+-- Holds for the result of a call of a link that fails only because fewer than `calls` calls of the port were left. The
+-- chip is then as it was or has lost its power.
 pub record AsksUnlessFew {C : Type 0} (calls : ℕ) (result : Result Unit (Failure C))
     (old new : PortState) : Type 0 where
   pub done : OnOk result (OnlyAsks calls old new)
   pub few_left : IfErr result (λ failure. IsPortFailure failure × (old.left < calls))
   pub power : OnErr result (MayLoseDevicePower old.device new.device)
 
--- Holds if the failure says that the programmer replied NAK to the command with this opcode.
 abbrev pub IsRefusal : {C : Type 0} → (opcode : ℕ) → Failure C → Type 0
 IsRefusal opcode (Refused refused) = refused ≡ opcode
 IsRefusal opcode _ = ⊥
 
--- Holds if the failure says that the programmer refused the command with this opcode, or that the port failed because
--- fewer than `calls` calls were left (`left`).
 abbrev pub IsRefused : {C : Type 0} → (opcode calls left : ℕ) → Failure C → Type 0
 IsRefused opcode calls left failure = IsRefusal opcode failure ⊎ (IsPortFailure failure × (left < calls))
 
 -- Holds for the result of an exchange of `command`, which requests `count` reply bytes, over a well-behaved port to an
--- idle programmer. The command is not O_SPIOP, and its reply is specified. For SYNCNOP, whose reply is NAK and ACK,
--- only `power` says something.
+-- idle programmer. For SYNCNOP, whose reply is NAK and ACK, only `power` says something.
 pub record EndsExchange {C : Type 0} (command : Command) (count : ℕ) (reply : List ℕ) (result : Result Unit (Failure C))
     (old new : PortState) : Type 0 where
-  -- if the programmer replies ACK and `count` bytes: either success with these bytes, and the programmer is idle and
-  -- has the settings after the command (`settings_after`); or a failure of the port, because fewer than three calls
-  -- were left
+  -- if the programmer replies ACK and `count` bytes: success with these bytes, or a failure of the port because fewer
+  -- than three calls were left
   pub acked : (bytes : List ℕ) → reply_of old.device.firmware command ≡ 0x06 ∷ bytes → count ≡ length bytes
       → OnOk result ((reply ≡ bytes) × OnlyAsks 3
       (with_settings (settings_after old.device.firmware command old.device.settings) old) new)
       × IfErr result (λ failure. IsPortFailure failure × (old.left < 3))
-  -- if the programmer replies NAK: either `Refused` with the opcode of the command; or a failure of the port, because
-  -- fewer than two calls were left
+  -- if the programmer replies NAK: `Refused`, or a failure of the port because fewer than two calls were left
   pub refused : reply_of old.device.firmware command ≡ nak
       → OnOk result ⊥ × IfErr result (IsRefused (slice_index (frame_of command) 0) 2 old.left)
   -- after any error the chip is as it was, or has lost its power

@@ -4,15 +4,12 @@ use Rattle.nor_model.specs.Exchange.{Exchange}
 use Rattle.nor_serprog.specs.declared.wire.Wire.{Wire}
 use Rattle.nor_serprog.specs.Asked.{bytes_of_calls}
 
--- The bytes of each of these calls, the last call first.
 abbrev pub calls_in : List Exchange → List (List ℕ)
 calls_in [] = []
 calls_in (call ∷ earlier) = call.out ∷ calls_in earlier
 
--- The bytes that each call was asked to send, the last call first.
 abbrev pub asked_on : Wire → List (List ℕ)
 asked_on wire = calls_in wire.sent.exchanges
 
--- The bytes that the calls received, in order.
 abbrev pub received_on : Wire → List ℕ
 received_on wire = bytes_of_calls (calls_in wire.received.exchanges)

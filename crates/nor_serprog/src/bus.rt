@@ -7,26 +7,24 @@ ghost use Rattle.nor_serprog.specs.Link.{port_of, is_in_step, IsSettled};
 use crate::{Command, Failure, Link, Port, Programmer, Sync};
 use nor_model::{Bus, History, Stopped};
 
-/// A bus to the chip at a serial programmer, over any port. Each transaction is carried out with one O_SPIOP (serprog
-/// protocol, flashrom's Documentation/serprog-protocol.txt).
+/// A bus to the chip at a serial programmer, over any port. Each transaction is carried out with one O_SPIOP
+/// (flashrom's Documentation/serprog-protocol.txt).
 ///
 /// Over a well-behaved port this bus is well-behaved, and its chip is the programmer's. A transaction that sends at
-/// most 260 bytes and reads at most 4,096 is one step of the chip if it succeeds, and fails only if fewer than three
-/// calls of the port are left. After such a failure the chip may have carried out any part of the transaction, and may
-/// have lost its power.
+/// most 260 bytes and reads at most 4,096 fails only if fewer than three calls of the port are left. Then the chip may
+/// have carried out any part of it, and may have lost its power.
 ///
-/// Over any port the history lists each transaction with its reply. A transaction that failed or was rejected is listed
-/// without a reply. A transaction that sends more than 260 bytes, or reads 2^24 bytes or more, or more than the
-/// programmer can, is rejected, and nothing is sent. After any other transaction that failed, no transaction is sent
-/// until `synchronize` returns `Ok`.
+/// Over any port the history lists each transaction with its reply, or without one if it failed or was rejected. A
+/// transaction that sends more than 260 bytes, or reads 2^24 bytes or more, or more than the programmer can, is
+/// rejected, and nothing is sent. After any other failure, no transaction is sent until `synchronize` returns `Ok`.
 #[derive(Drop)]
 pub struct SerprogBus<P: Port + Drop> {
     link: Link<P>,
     programmer: Programmer,
     cause: Option<Failure<P::Cause>>,
     history: History,
-    // Over a well-behaved port there are two cases. If the link is in step, the programmer waits for a frame and no
-    // reply is pending. Otherwise the port has too few calls left for a transaction.
+    // Over a well-behaved port, if the link is in step, the programmer waits for a frame and no reply is pending.
+    // Otherwise the port has too few calls left for a transaction.
     ghost idle: { IsSettled P.state link },
 }
 
@@ -71,10 +69,9 @@ impl<P: Port + Drop> SerprogBus<P> {
         self.cause.as_ref()
     }
 
-    /// Synchronizes the programmer after a transaction failed, as `Link::synchronize` does. If the link is in step
-    /// already, nothing is sent. The history of the bus does not change.
-    ///
-    /// The chip may have carried out the transaction that failed, or not.
+    /// Synchronizes the programmer after a transaction failed, as `Link::synchronize` does; the chip may have carried
+    /// out that transaction, or not. If the link is in step already, nothing is sent. The history of the bus does not
+    /// change.
     pub fn synchronize(&mut self) -> Result<(), Failure<P::Cause>>
         ensures history { history_of self.new ≡ history_of self.old }
         ensures sent { sent_of self.new ≡ sent_of self.old }
@@ -127,7 +124,6 @@ impl<P: Port + Drop> Bus for SerprogBus<P> {
     }
 }
 
-// Carries out one transaction with one O_SPIOP.
 fn carry<P: Port + Drop>(
     link: &mut Link<P>,
     longest_read: u32,

@@ -7,8 +7,7 @@ ghost use Rattle.nor_serprog.specs.declared.command.Answer.TheVariants as Answer
 use arrayvec::ArrayVec;
 use thiserror::Error;
 
-/// The greatest number of bytes that an O_SPIOP of this crate sends to the chip: an opcode, three address bytes and a
-/// page of 256 bytes.
+/// The greatest number of bytes that an O_SPIOP sends to the chip here: an opcode, three address bytes and a page.
 pub const LONGEST_OUT: usize = 260;
 
 // The length of the header of an O_SPIOP frame: its opcode and two 24-bit lengths.
@@ -23,14 +22,14 @@ const REPLIES_END: u32 = 1 << 24;
 pub type Frame = ArrayVec<u8, LONGEST_FRAME>;
 
 /// A command of the serprog protocol, version 1 (flashrom's Documentation/serprog-protocol.txt). The commands for
-/// parallel chips are left out, and so are commands after 16h.
+/// parallel chips, and those after 16h, are left out.
 #[derive(Clone, Copy, Debug, PartialEq, Eq)]
 pub enum Command<'a> {
     /// 00h, NOP: has no effect.
     Nop,
     /// 01h, Q_IFACE: queries the version of the protocol. The reply has 2 bytes.
     QueryInterface,
-    /// 02h, Q_CMDMAP: queries the map of the commands that the programmer has. The reply has 32 bytes.
+    /// 02h, Q_CMDMAP: queries the map of the programmer's commands. The reply has 32 bytes.
     QueryCommands,
     /// 03h, Q_PGMNAME: queries the name of the programmer. The reply has 16 bytes, padded with zeros.
     QueryName,
@@ -38,15 +37,13 @@ pub enum Command<'a> {
     QuerySerialBuffer,
     /// 05h, Q_BUSTYPE: queries the types of bus that the programmer supports. The reply is a byte of flags.
     QueryBuses,
-    /// 08h, Q_WRNMAXLEN: queries the greatest number of bytes that an O_SPIOP may send. The reply has 3 bytes; 0 means
-    /// 2^24.
+    /// 08h, Q_WRNMAXLEN: queries how many bytes an O_SPIOP may send. The reply has 3 bytes; 0 means 2^24.
     QueryLongestWrite,
     /// 10h, SYNCNOP: has no effect. The reply is NAK and then ACK.
     SyncNop,
-    /// 11h, Q_RDNMAXLEN: queries the greatest number of bytes that an O_SPIOP may read. The reply has 3 bytes; 0 means
-    /// 2^24.
+    /// 11h, Q_RDNMAXLEN: queries how many bytes an O_SPIOP may read. The reply has 3 bytes; 0 means 2^24.
     QueryLongestRead,
-    /// 12h, S_BUSTYPE: selects the types of bus that have these flags. The flags are those of Q_BUSTYPE.
+    /// 12h, S_BUSTYPE: selects the types of bus with these flags, which are those of Q_BUSTYPE.
     SetBuses(u8),
     /// 13h, O_SPIOP: makes one SPI transaction that sends `out` and then reads `replies` bytes.
     Operate { out: &'a [u8], replies: u32 },
@@ -65,10 +62,8 @@ pub enum Command<'a> {
 pub struct TooLong;
 
 impl Command<'_> {
-    /// Returns the frame of the command, or `TooLong`. Only `Operate` can be too long.
-    ///
-    /// The frame is complete: a programmer reads exactly this command from it, and no longer frame begins with it
-    /// (serprog protocol, flashrom's Documentation/serprog-protocol.txt).
+    /// Returns the frame of the command, or `TooLong`, which only `Operate` can be. A programmer reads exactly this
+    /// command from the frame, and no longer frame begins with it.
     pub fn encode(self) -> Result<Frame, TooLong>
         ensures fits { IsOk result ↔ FitsFrame self.entry }
         ensures exact { IfOk result (λ frame. frame.items ≡ frame_of self.entry) }
@@ -98,7 +93,6 @@ impl Command<'_> {
     }
 }
 
-// Returns `bytes` as a frame.
 fn short(bytes: &[u8]) -> Result<Frame, TooLong>
     requires { length bytes.now ≤ 267 }
     ensures fits { IsOk result }
@@ -109,7 +103,6 @@ fn short(bytes: &[u8]) -> Result<Frame, TooLong>
     Ok(frame)
 }
 
-// Returns the frame of an O_SPIOP that sends `out` and reads `replies` bytes, or `TooLong`.
 fn operation(out: &[u8], replies: u32) -> Result<Frame, TooLong>
     ensures fits { IsOk result ↔ (length out.now ≤ 260) × (replies < 16777216) }
     ensures exact { IfOk result (λ frame. frame.items ≡ operation_frame out.now replies) }
@@ -133,8 +126,7 @@ fn operation(out: &[u8], replies: u32) -> Result<Frame, TooLong>
 }
 
 /// Returns the length of the frame that begins with the bytes `begun`, as a programmer computes it, or `None` if more
-/// bytes are needed to determine it. Further bytes never change a length that is known, so no frame is a prefix of
-/// another.
+/// bytes are needed to determine it. Further bytes never change a length that is known.
 ///
 /// The function knows the commands 00h to 16h, including those for parallel chips. It treats any other opcode as a
 /// command without arguments.
@@ -153,8 +145,7 @@ pub fn frame_len(begun: &[u8]) -> Option<usize>
     }
 }
 
-// Returns the number of argument bytes after an opcode that has a fixed number of them. The number is 0 for all opcodes
-// after 16h.
+// Returns the number of argument bytes after an opcode that has a fixed number of them; 0 for all opcodes after 16h.
 fn arguments_len(opcode: u8) -> usize
     ensures { result ≡ argument_count opcode }
 {

@@ -1,4 +1,4 @@
-//! The steps of the handshake with a serial programmer, which precedes the first transaction.
+//! The steps of the handshake with a serial programmer.
 ghost use Rattle.std.specs.Prelude.{◌≡◌, ◌<◌, ◌≤◌, ℕ, Bool, true, false, List, length, slice_index, None, Some, OnOk, IfOk};
 ghost use Rattle.std.specs.Prelude.{option_and_then, replicate, if◌then◌else◌, ◌||◌, ◌&&◌, ◌==◌, not, bit_and, ⊤};
 ghost use Rattle.nor_serprog.specs.Device.{with_settings};
@@ -25,7 +25,6 @@ const O_SPIOP: u8 = 0x13;
 /// The map of the commands that a programmer has: command `n` is bit `n % 8` of byte `n / 8`.
 pub(crate) type Map = [u8; 32];
 
-// Returns whether the map has the command with this opcode.
 pub(crate) fn offers(commands: &Map, opcode: u8) -> bool
     ensures { result ≡ is_in_map commands.now opcode }
 {
@@ -46,7 +45,6 @@ pub(crate) fn synchronize<P: Port + Drop>(
     }
 }
 
-// Makes one exchange, and returns its failure as an error of the handshake.
 pub(crate) fn ask<P: Port + Drop>(
     link: &mut Link<P>,
     command: Command<'_>,
@@ -63,8 +61,7 @@ pub(crate) fn ask<P: Port + Drop>(
     }
 }
 
-// Sends `query`, whose opcode is `opcode`, and returns the bytes of the reply after ACK. If the programmer lacks the
-// query, sends nothing and returns `None`.
+// Returns the bytes of the reply after ACK. If the programmer lacks the query, sends nothing and returns `None`.
 fn query<P: Port + Drop, const LEN: usize>(
     link: &mut Link<P>,
     commands: &Map,
@@ -87,7 +84,7 @@ fn query<P: Port + Drop, const LEN: usize>(
     Ok(Some(reply))
 }
 
-// Sends `setting`, whose opcode is `opcode`. If the programmer lacks this command, sends nothing and returns `Ok`.
+// Sends `setting`. If the programmer lacks this command, sends nothing and returns `Ok`.
 pub(crate) fn set<P: Port + Drop>(
     link: &mut Link<P>,
     commands: &Map,
@@ -108,7 +105,6 @@ pub(crate) fn set<P: Port + Drop>(
     ask(link, setting, &mut [])
 }
 
-// Queries the version of the protocol, and returns the error `Version` if it isn't 1.
 pub(crate) fn require_version<P: Port + Drop>(
     link: &mut Link<P>,
 ) -> Result<(), HandshakeFault<P::Cause>>
@@ -126,7 +122,7 @@ pub(crate) fn require_version<P: Port + Drop>(
     Ok(())
 }
 
-// Queries the map of the programmer's commands, and returns it. Returns the error `Lacks` if the map lacks O_SPIOP.
+// Returns the map of the programmer's commands, or the error `Lacks` if the map lacks O_SPIOP.
 pub(crate) fn query_commands<P: Port + Drop>(
     link: &mut Link<P>,
 ) -> Result<Map, HandshakeFault<P::Cause>>
@@ -143,7 +139,6 @@ pub(crate) fn query_commands<P: Port + Drop>(
     Ok(commands)
 }
 
-// Returns the error `NotSpi` if the programmer can't be set to SPI.
 pub(crate) fn require_spi<P: Port + Drop>(
     link: &mut Link<P>,
     commands: &Map,
@@ -160,7 +155,6 @@ pub(crate) fn require_spi<P: Port + Drop>(
     Ok(())
 }
 
-// Returns the flags of the types of bus that the programmer supports, or the flag for SPI if it lacks Q_BUSTYPE.
 fn query_buses<P: Port + Drop>(
     link: &mut Link<P>,
     commands: &Map,
@@ -177,8 +171,7 @@ fn query_buses<P: Port + Drop>(
     }
 }
 
-// Returns whether a programmer that supports the types of bus `buses` can be set to SPI. `selects` is true if it has
-// S_BUSTYPE.
+// Returns whether a programmer with the types of bus `buses` can be set to SPI. `selects` says that it has S_BUSTYPE.
 fn can_select_spi(buses: u8, selects: bool) -> bool
     ensures { result ≡ (not (bit_and buses 8 == 0) && (buses == 8 || selects)) }
 {
@@ -223,8 +216,7 @@ pub(crate) fn query_read_limit<P: Port + Drop>(
     Ok(limit)
 }
 
-// Returns the limit that the reply to a query reported. The limit is 2^24 if the programmer replied 0, or lacks the
-// query (`None`).
+// Returns the limit that was reported: 2^24 if the programmer replied 0, or lacks the query (`None`).
 fn limit_of(reply: Option<[u8; 3]>) -> u32
     ensures { (offered : Bool) (limit : ℕ) → limit < 16777216
         → reply ≡ (if offered then Some (three_of limit) else None) → result ≡ limit_in offered limit }
@@ -242,8 +234,7 @@ fn limit_of(reply: Option<[u8; 3]>) -> u32
 
 // Returns the size of the serial buffer, or 0 if the programmer lacks Q_SERBUF. Returns the error `SmallBuffer` if the
 // programmer has Q_SERBUF but lacks Q_WRNMAXLEN, and a frame of `least` bytes does not fit into the buffer. A
-// programmer that has Q_WRNMAXLEN accepts a frame of the length that Q_WRNMAXLEN allows, whatever the size of its
-// buffer.
+// programmer that has Q_WRNMAXLEN accepts a frame of the length that it allows, whatever the size of its buffer.
 pub(crate) fn query_buffer<P: Port + Drop>(
     link: &mut Link<P>,
     commands: &Map,

@@ -1,4 +1,4 @@
-//! The handshake that precedes the first transaction. It identifies a programmer, and prepares it for SPI.
+//! The handshake that identifies a programmer and prepares it for SPI, before the first transaction.
 ghost use Rattle.std.specs.Prelude.{◌≡◌, ◌≤◌, true, false, OnOk, IfOk, IsErr, ⊤};
 ghost use Rattle.nor_serprog.specs.Firmware.{Firmware, has_command};
 ghost use Rattle.nor_serprog.specs.Link.{port_of, is_in_step, is_cut};
@@ -30,12 +30,10 @@ const HEADER_LEN: u32 = 7;
 const SHORTEST_PART: u32 = 5;
 
 impl AnyProgrammer {
-    /// Identifies the programmer on a new link, and prepares it for SPI transactions, with the steps of
-    /// `Programmer::identify`. This function accepts lower limits: a transaction must be able to send 5 bytes and read
-    /// 1 byte. If the programmer has Q_SERBUF but lacks Q_WRNMAXLEN, 12 bytes must fit into its serial buffer.
-    ///
-    /// If the port is well-behaved, the programmer is idle and the link is not `Sync::Cut`, the only errors are those
-    /// that the firmware causes (`narrow_fault`), and a failure of the port because fewer than 58 calls were left.
+    /// Identifies the programmer on a new link, and prepares it for SPI, with the steps and results of
+    /// `Programmer::identify`, but for lower limits: a transaction must be able to send 5 bytes and read 1 byte.
+    /// Without Q_WRNMAXLEN, 12 bytes must fit into the serial buffer (Q_SERBUF). The error that the firmware causes is
+    /// `narrow_fault`.
     pub fn identify<P: Port + Drop>(
         link: &mut Link<P>,
         hertz: Option<u32>,
@@ -57,10 +55,10 @@ impl AnyProgrammer {
     /// Makes the programmer use the chip select with this number (S_SPI_CS, 16h) for all transactions from now on.
     /// `link` must be the one to this programmer.
     ///
-    /// Returns `Lacks` if the programmer lacks the command. Then nothing is sent, because the programmer would treat
-    /// the number as a command. Returns a `Failure` if the exchange failed; this is `Refused` if the programmer has no
-    /// chip select with this number. If the link is in step, the port is well-behaved and the programmer is idle, the
-    /// only errors are `Lacks`, `Refused`, and a failure of the port because fewer than three calls were left.
+    /// Returns `Lacks` if the programmer lacks the command; nothing is sent then, because the programmer would treat
+    /// the number as a command. Returns a `Failure` if the exchange failed, which is `Refused` if there is no such chip
+    /// select. Over a well-behaved port to an idle programmer, other errors occur only if fewer than three calls were
+    /// left.
     pub fn select_chip<P: Port + Drop>(
         &self,
         link: &mut Link<P>,
@@ -85,9 +83,7 @@ impl Programmer {
     ghost use Rattle.nor_serprog.specs.Programmer.{has_chip_selects};
 
     /// Identifies the programmer on a new link, and prepares it for SPI transactions. No transaction is sent, so the
-    /// chip is not selected.
-    ///
-    /// The function carries out these steps:
+    /// chip is not selected. The steps (flashrom's Documentation/serprog-protocol.txt):
     ///
     /// - synchronize
     /// - require version 1 of the protocol (Q_IFACE), and the command O_SPIOP (Q_CMDMAP)
@@ -99,17 +95,13 @@ impl Programmer {
     /// - if `hertz` is given, request a clock of at most that frequency (S_SPI_FREQ)
     /// - switch the pin drivers on (S_PIN_STATE)
     ///
-    /// After the first two steps, a command that is not in the programmer's map is not sent, and its step is skipped.
-    /// However, it is an error if `hertz` is given and the map lacks S_SPI_FREQ. (serprog protocol, flashrom's
-    /// Documentation/serprog-protocol.txt.)
+    /// After the first two steps, a command that is not in the programmer's map is not sent, and its step is skipped,
+    /// except that a clock requested without S_SPI_FREQ is an error.
     ///
     /// If the port is well-behaved, the programmer is idle and the link is not `Sync::Cut`, the firmware determines the
     /// result, unless the port fails because fewer than 58 calls were left. The error that the firmware causes is that
-    /// of the first step that fails (`identify_fault`). Under these premises, after `Ok`:
-    ///
-    /// - The programmer is idle again, and its chip is as it was.
-    /// - SPI is selected if the programmer has S_BUSTYPE; otherwise the type of bus is as it was.
-    /// - The pin drivers are on if the programmer has S_PIN_STATE; otherwise their state is as it was.
+    /// of the first step that fails (`identify_fault`). After `Ok` the programmer is then idle again, its chip is as it
+    /// was, and the settings are `prepared_settings`.
     pub fn identify<P: Port + Drop>(
         link: &mut Link<P>,
         hertz: Option<u32>,
@@ -129,13 +121,7 @@ impl Programmer {
         Ok(Programmer { reported })
     }
 
-    /// Makes the programmer use the chip select with this number (S_SPI_CS, 16h) for all transactions from now on.
-    /// `link` must be the one to this programmer.
-    ///
-    /// Returns `Lacks` if the programmer lacks the command. Then nothing is sent, because the programmer would treat
-    /// the number as a command. Returns a `Failure` if the exchange failed; this is `Refused` if the programmer has no
-    /// chip select with this number. If the link is in step, the port is well-behaved and the programmer is idle, the
-    /// only errors are `Lacks`, `Refused`, and a failure of the port because fewer than three calls were left.
+    /// Makes the programmer use this chip select, as `AnyProgrammer::select_chip` does.
     pub fn select_chip<P: Port + Drop>(
         &self,
         link: &mut Link<P>,
@@ -153,7 +139,6 @@ impl Programmer {
     }
 }
 
-// Identifies the programmer, and returns an error if one of its limits is lower than in `least`.
 fn identify_for<P: Port + Drop>(
     link: &mut Link<P>,
     hertz: Option<u32>,
@@ -191,8 +176,8 @@ fn identify_for<P: Port + Drop>(
     })
 }
 
-// Returns the greatest number of bytes that a transaction may send, which is at least 5. If the programmer has Q_SERBUF
-// but lacks Q_WRNMAXLEN, the frame of such a transaction must also fit into the serial buffer.
+// Returns the greatest number of bytes that a transaction may send. Without Q_WRNMAXLEN its frame must also fit into
+// the serial buffer (Q_SERBUF).
 fn part_limit(commands: &Map, longest_write: u32, serial_buffer: u16) -> u32
     requires { 5 ≤ longest_write }
     ensures value { result ≡ part_limit_of commands.now longest_write serial_buffer }

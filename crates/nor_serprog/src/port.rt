@@ -7,8 +7,7 @@ ghost use Rattle.nor_serprog.specs.Device.{PortState, IsSent, IsCutOff, IsReceiv
 ///
 /// Contracts see a port as a `PortState`. A *well-behaved* port (its field `honest` is true) passes what is sent to a
 /// programmer that carries out O_SPIOP as the protocol says, and replies to whole frames of other commands as its
-/// `Firmware` says, if that specifies the reply (`HasReply`). The port returns the programmer's replies in order. While
-/// calls are left, each of these calls succeeds:
+/// `Firmware` says. The port returns the replies in order. While calls are left, each of these calls succeeds:
 ///
 /// - a call that sends all or the rest of an O_SPIOP frame, while no reply is pending; the O_SPIOP must send at most
 ///   260 bytes and read at most 4,096
@@ -17,16 +16,13 @@ ghost use Rattle.nor_serprog.specs.Device.{PortState, IsSent, IsCutOff, IsReceiv
 ///   arguments must be in the programmer's map
 /// - a call that requests no more bytes than are pending
 ///
-/// Any other call may fail, for example by a timeout or because a buffer is full. After a failure no further call
-/// succeeds. Any number of bytes may have been sent, the programmer may have carried out any part of the transaction,
-/// and the chip may then have lost its power. Nothing is assumed about a port that isn't well-behaved. No call changes
-/// whether a port is well-behaved. The state of a port of an operating system is `unknown_port`, which isn't
-/// well-behaved.
+/// Any other call may fail, and after a failure no further call succeeds. Any number of bytes may have been sent, the
+/// programmer may have carried out any part of the transaction, and the chip may then have lost its power.
 ///
-/// Every port, also one that isn't well-behaved, records what each call of `send` was asked to send (`asked`), and the
-/// bytes that `receive` returned (`received`). A port of an operating system has a `Wire` for this.
-///
-/// Each call must return, so an implementation that can block forever needs a timeout.
+/// Nothing is assumed about a port that isn't well-behaved, such as one of an operating system (`unknown_port`). Every
+/// port records what each call of `send` was asked to send (`asked`), and the bytes that `receive` returned
+/// (`received`); one of an operating system has a `Wire` for this. Each call must return, so an implementation that can
+/// block forever needs a timeout.
 pub trait Port {
     /// The cause of a failure of the port.
     type Cause: Drop;

@@ -14,39 +14,36 @@ pub enum HandshakeFault<C> {
     /// The programmer speaks another version of the protocol than 1. The value is its version.
     #[error("the programmer speaks version {0} of serprog, and only version 1 is known")]
     Version(u16),
-    /// The programmer lacks the command with this opcode. If `identify` returns this error, the opcode is that of
-    /// O_SPIOP (13h), or of S_SPI_FREQ (14h) if a clock was requested. If `select_chip` returns it, the opcode is that
-    /// of S_SPI_CS (16h).
+    /// The programmer lacks the command with this opcode: O_SPIOP (13h), S_SPI_FREQ (14h) if a clock was requested, or
+    /// S_SPI_CS (16h) if `select_chip` returns this error.
     #[error("the programmer lacks command {0:02X}h, which is needed here")]
     Lacks(u8),
-    /// The programmer doesn't support SPI; or it supports other types of bus, too, and has no command that selects one
-    /// (S_BUSTYPE). The value has the flags that it returned: 1 parallel, 2 LPC, 4 FWH, 8 SPI.
+    /// The programmer doesn't support SPI; or it supports other types of bus, too, and can't select one (S_BUSTYPE).
+    /// The value has the flags that it returned: 1 parallel, 2 LPC, 4 FWH, 8 SPI.
     #[error("the programmer cannot be set to SPI: its types of bus are {0:02X}h")]
     NotSpi(u8),
-    /// An O_SPIOP may send at most this many bytes, which is too few. A page program in one transaction sends 260
-    /// bytes, and its shortest part sends 5.
+    /// An O_SPIOP may send at most this many bytes, which is too few for a page program (260 bytes), or for its
+    /// shortest part (5 bytes).
     #[error("the programmer sends at most {0} bytes in a transaction, too few for a page program")]
     WriteLimit(u32),
     /// An O_SPIOP may read at most this many bytes, which is too few for the 4,096 bytes of a sector.
     #[error("the programmer reads at most {0} bytes in a transaction, and a sector needs 4096")]
     ReadLimit(u32),
-    /// The serial buffer of the programmer has this many bytes, which is too few. Because the programmer lacks
-    /// Q_WRNMAXLEN, the buffer limits the length of a frame. The frame of a page program has 267 bytes, and the frame
-    /// of its shortest part has 12.
+    /// The serial buffer has this many bytes, which is too few for the frame of a page program (267 bytes), or of its
+    /// shortest part (12 bytes). It limits the length of a frame because the programmer lacks Q_WRNMAXLEN.
     #[error("the serial buffer of the programmer has {0} bytes, too few for a page program")]
     SmallBuffer(u16),
 }
 
-/// The replies of a programmer to its identification. The type promises only that `longest_part` is at least 5 and
-/// `longest_read` at least 1. If one transaction can't send a page program or read a sector, use a `SplittingBus`.
+/// The replies of a programmer to its identification. Its transactions can send 5 bytes and read 1 byte. If one
+/// transaction can't send a page program or read a sector, use a `SplittingBus`.
 #[derive(Clone, Copy, Debug, PartialEq, Eq)]
 pub struct AnyProgrammer {
     pub(crate) name: [u8; 16],
     pub(crate) longest_write: u32,
     pub(crate) longest_read: u32,
-    // The greatest number of bytes that a part of a program may send. It is `longest_write`, or less if the programmer
-    // lacks Q_WRNMAXLEN, has Q_SERBUF, and its serial buffer is too small for the frame of a transaction that sends
-    // `longest_write`.
+    // The greatest number of bytes that a part of a program may send: `longest_write`, or less if the programmer lacks
+    // Q_WRNMAXLEN and its serial buffer (Q_SERBUF) is too small for such a frame.
     pub(crate) longest_part: u32,
     pub(crate) serial_buffer: u16,
     pub(crate) frequency: Option<u32>,
@@ -75,14 +72,14 @@ pub(crate) struct Least {
 }
 
 impl AnyProgrammer {
-    /// Returns the name of the programmer, 16 bytes padded with zeros. It is all zeros if the programmer has none.
+    /// Returns the name of the programmer, 16 bytes padded with zeros; all zeros if it has none.
     pub fn name(&self) -> [u8; 16]
         ensures { result ≡ self.now.name }
     {
         self.name
     }
 
-    /// Returns the greatest number of bytes that a transaction may send according to Q_WRNMAXLEN. It is 2^24 if the
+    /// Returns the greatest number of bytes that a transaction may send according to Q_WRNMAXLEN, or 2^24 if the
     /// programmer sets no limit. The serial buffer may limit it further (`longest_part`).
     pub fn longest_write(&self) -> u32
         ensures { result ≡ self.now.longest_write }
@@ -90,8 +87,8 @@ impl AnyProgrammer {
         self.longest_write
     }
 
-    /// Returns the greatest number of bytes that a transaction may send, which is at least 5. If the programmer has
-    /// Q_SERBUF but lacks Q_WRNMAXLEN, the frame of such a transaction fits into the serial buffer.
+    /// Returns the greatest number of bytes that a transaction may send, which is at least 5. Its frame fits into the
+    /// serial buffer if the programmer has Q_SERBUF but lacks Q_WRNMAXLEN.
     pub fn longest_part(&self) -> u32
         ensures value { result ≡ self.now.longest_part }
         ensures enough { 5 ≤ result }
@@ -99,8 +96,7 @@ impl AnyProgrammer {
         self.longest_part
     }
 
-    /// Returns the greatest number of bytes that a transaction may read, which is at least 1. It is 2^24 if the
-    /// programmer sets no limit.
+    /// Returns the greatest number of bytes that a transaction may read, at least 1, or 2^24 without a limit.
     pub fn longest_read(&self) -> u32
         ensures value { result ≡ self.now.longest_read }
         ensures enough { 1 ≤ result }
@@ -127,23 +123,21 @@ impl AnyProgrammer {
 impl Programmer {
     ghost use Rattle.nor_serprog.specs.Programmer.{programmer_name, writes_most, reads_most, buffer_of, frequency_of};
 
-    /// Returns the name of the programmer, 16 bytes padded with zeros. It is all zeros if the programmer has none.
+    /// Returns the name of the programmer, as `AnyProgrammer::name` does.
     pub fn name(&self) -> [u8; 16]
         ensures { result ≡ programmer_name self.now }
     {
         self.reported.name
     }
 
-    /// Returns the replies of the programmer as an `AnyProgrammer`, whose type promises only the limits that a bus
-    /// needs to send transactions in parts.
+    /// Returns the replies of the programmer for a bus that sends transactions in parts.
     pub fn reported(&self) -> &AnyProgrammer
         ensures { result.now ≡ self.now.reported }
     {
         &self.reported
     }
 
-    /// Returns the greatest number of bytes that a transaction may send, which is at least 260. It is 2^24 if the
-    /// programmer sets no limit.
+    /// Returns the greatest number of bytes that a transaction may send, at least 260, or 2^24 without a limit.
     pub fn longest_write(&self) -> u32
         ensures value { result ≡ writes_most self.now }
         ensures enough { 260 ≤ result }
@@ -151,8 +145,7 @@ impl Programmer {
         self.reported.longest_write
     }
 
-    /// Returns the greatest number of bytes that a transaction may read, which is at least 4,096. It is 2^24 if the
-    /// programmer sets no limit.
+    /// Returns the greatest number of bytes that a transaction may read, at least 4,096, or 2^24 without a limit.
     pub fn longest_read(&self) -> u32
         ensures value { result ≡ reads_most self.now }
         ensures enough { 4096 ≤ result }
@@ -160,15 +153,14 @@ impl Programmer {
         self.reported.longest_read
     }
 
-    /// Returns the size of the serial buffer in bytes, or 0 if the programmer lacks the query (Q_SERBUF). Frames that
-    /// are sent together, before their replies are read, must fit into this buffer.
+    /// Returns the size of the serial buffer in bytes, or 0, as `AnyProgrammer::serial_buffer` does.
     pub fn serial_buffer(&self) -> u16
         ensures { result ≡ buffer_of self.now }
     {
         self.reported.serial_buffer
     }
 
-    /// Returns the clock in hertz that the programmer set, or `None` if no clock was requested.
+    /// Returns the clock in hertz that the programmer set, if one was requested.
     pub fn frequency(&self) -> Option<u32>
         ensures { result ≡ frequency_of self.now }
     {

@@ -5,7 +5,7 @@ ghost use Rattle.nor_serprog.specs.Replies.{IsPortFailure, IsPending, AsksUnless
 
 use crate::{Failure, Port};
 
-/// The length of the longest reply that is searched for: the replies to the sequence that `Link::synchronize` sends.
+/// The length of the longest reply that is searched for, which is the reply to the sequence of `Link::synchronize`.
 pub(crate) const ROW_ANSWERS_LEN: usize = 25;
 
 // The greatest number of bytes that a search receives.
@@ -33,7 +33,6 @@ pub(crate) fn skip_past<P: Port>(port: &mut P, wanted: &[u8]) -> Result<(), Fail
     Err(Failure::NoSync)
 }
 
-// Removes the first byte of `last`, and appends `byte`.
 fn shift_in(last: &mut [u8; ROW_ANSWERS_LEN], byte: u8)
     ensures { last.new ≡ drop 1 last.old ++ byte ∷ [] }
 {

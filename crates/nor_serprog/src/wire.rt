@@ -1,12 +1,10 @@
-//! The record of what a port was asked to send and of what it returned. It exists only in proofs: it takes no memory,
-//! and its functions do nothing at run time.
+//! The record of what a port was asked to send and of what it returned, which exists only in proofs.
 ghost use Rattle.std.specs.Prelude.{◌≡◌, ◌∷◌, ◌++◌, []};
 
 use nor_model::History;
 
-/// The bytes that each call of a port was asked to send, and the bytes that its calls received.
-///
-/// A port has one `Wire`, to which it adds the bytes of each call. Only contracts can read it.
+/// The bytes that each call of a port was asked to send, and the bytes that its calls received. A port has one `Wire`,
+/// to which it adds the bytes of each call; it takes no memory.
 #[derive(Drop)]
 pub struct Wire {
     sent: History,

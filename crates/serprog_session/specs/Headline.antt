@@ -58,8 +58,8 @@ SessionFails request image port vault vault' Vault = CountsRefusal vault vault'
 SessionFails request image port vault vault' Stopped = HadFewCalls (most_of (port.device.chip.config.size / 4096)) port
 SessionFails request image port vault vault' refusal = IsVerdict request image port.device.chip refusal
 
--- The promise of a session at every exit, wherever the port failed. `sent` and `sent'` list the modifying commands that
--- the bus was asked to send before the session and until its exit.
+-- The promise of a session at every exit, wherever the port failed. `sent` and `sent'` list the transactions that may
+-- modify the chip and that the bus was asked to send, before the session and until its exit.
 pub record KeepsOriginalChip (old new : PortState) (sent sent' : Sent) (vault : VaultState) : Type 0 where
   -- on every port: if the vault isn't sealed, no modifying command was sent
   pub unsent : vault.sealed ≡ false → sent' ≡ sent
@@ -123,7 +123,7 @@ pub record RestoresOriginalChip (journal : Content) (old new : PortState)
 
 -- ---- a restore that rewrites every saved sector
 
--- The promise of a rewrite on a well-behaved port to a genuine chip, like that of a restore.
+-- The promise of a rewrite on a well-behaved port to a genuine chip. The fields are those of `RestoresOriginalChip`.
 pub record RewritesOriginalChip (journal : Content) (old new : PortState)
     (result : Result Report Refusal) : Type 0 where
   pub within : (first : Chip) → CanRestoreChip journal first old.device.chip

@@ -47,8 +47,7 @@ impl<B: Bus + Drop> CheckedStatus<B> {
         }
     }
 
-    // Makes a transaction whose own reply is not checked. Reads the ID after a read of data, of SFDP or of the unique
-    // ID.
+    // Makes a transaction whose own reply is not checked, and reads the ID after it if `is_confirmed`.
     fn pass_confirmed(&mut self, out: &[u8], reply: &mut [u8]) -> Result<(), Stopped>
         ensures history { history_of self.new ≡ history_of self.old }
         ensures locks { locks_of self.new ≡ locks_of self.old }
@@ -77,8 +76,7 @@ impl<B: Bus + Drop> CheckedStatus<B> {
     }
 }
 
-// Returns whether a transaction begins with the opcode of a read of data (03h), of SFDP (5Ah) or of the unique ID
-// (4Bh).
+// Returns whether a transaction begins with the opcode of a read of data (03h), SFDP (5Ah) or the unique ID (4Bh).
 fn is_confirmed(out: &[u8]) -> bool
     ensures { result ≡ begins_confirmed out.now }
 {

@@ -1,5 +1,4 @@
-//! How a `CheckedStatus` reads IDs and status registers. Each ID must equal the first one, and an ID is read after each
-//! read of a status register that must be confirmed.
+//! How a `CheckedStatus` reads IDs and status registers.
 ghost use Rattle.std.specs.Prelude.{◌≡◌, ◌%◌, ◌∷◌, [], true, false, Some, OnOk, OnErr, IfOk};
 ghost use Rattle.nor_model.specs.Bus.{SameNature, AtStop, Transfers};
 ghost use Rattle.nor_model.specs.History.{exchange_of};
@@ -24,7 +23,6 @@ const BUSY: u8 = 0x01;
 impl<B: Bus + Drop> CheckedStatus<B> {
     ghost use Rattle.nor_buses.specs.Checked.{check_fault_of, history_of, inner_state, known_of};
 
-    // Passes one transaction on to the bus inside. The knowledge about the chip does not change.
     pub(super) fn pass(&mut self, out: &[u8], reply: &mut [u8]) -> Result<(), Stopped>
         ensures history { history_of self.new ≡ history_of self.old }
         ensures known { known_of self.new ≡ known_of self.old }
@@ -36,7 +34,6 @@ impl<B: Bus + Drop> CheckedStatus<B> {
         self.bus.transfer(out, reply)
     }
 
-    // Records `fault` as the reason why the bus stops, and returns `Stopped`.
     pub(super) fn stop(&mut self, fault: CheckFault) -> Stopped
         ensures history { history_of self.new ≡ history_of self.old }
         ensures known { known_of self.new ≡ known_of self.old }
@@ -47,8 +44,7 @@ impl<B: Bus + Drop> CheckedStatus<B> {
         Stopped
     }
 
-    // Reads the ID, and stops if it differs from the known ID. If no ID is known yet, the one that was read is known
-    // from now on.
+    // Reads the ID, and stops if it differs from the known one. The first ID that is read is known from then on.
     pub(super) fn read_id(&mut self) -> Result<[u8; 3], Stopped>
         ensures history { history_of self.new ≡ history_of self.old }
         ensures status { KeepsStatus (known_of self.old) (known_of self.new) }
@@ -77,8 +73,7 @@ impl<B: Bus + Drop> CheckedStatus<B> {
         Ok(found)
     }
 
-    // Stops because two replies differ. Reads the ID first: if it is not the known one, the recorded reason is that the
-    // chip is lost.
+    // Stops because two replies differ. Reads the ID first, since the reason may be that the chip is lost.
     fn differ(&mut self) -> Stopped
         ensures history { history_of self.new ≡ history_of self.old }
         ensures status { KeepsStatus (known_of self.old) (known_of self.new) }
@@ -97,8 +92,7 @@ impl<B: Bus + Drop> CheckedStatus<B> {
         }
     }
 
-    // Polls once, with two reply bytes. Returns one that shows BUSY, if there is one. Otherwise both must be equal, and
-    // the function returns their value.
+    // Polls once, with two reply bytes. Returns one that shows BUSY, if any; otherwise both must be equal.
     pub(super) fn poll_once(&mut self) -> Result<u8, Stopped>
         ensures history { history_of self.new ≡ history_of self.old }
         ensures status { KeepsStatus (known_of self.old) (known_of self.new) }
@@ -130,9 +124,8 @@ impl<B: Bus + Drop> CheckedStatus<B> {
         Ok(first)
     }
 
-    // Polls twice, and reads the ID after each poll. If a byte of the first poll shows BUSY, returns it at once.
-    // Otherwise all reply bytes must be equal, and the function returns their value. If the second poll shows BUSY, the
-    // two replies differ, and no ID is read: a busy chip would ignore the read, and would count as lost.
+    // Polls twice, and reads the ID after each poll, unless the first poll shows BUSY. All reply bytes must be equal.
+    // If the second poll shows BUSY, no ID is read: a busy chip would ignore the read, and would count as lost.
     pub(super) fn poll_twice(&mut self) -> Result<u8, Stopped>
         ensures history { history_of self.new ≡ history_of self.old }
         ensures status { KeepsStatus (known_of self.old) (known_of self.new) }
@@ -165,8 +158,7 @@ impl<B: Bus + Drop> CheckedStatus<B> {
         Ok(status)
     }
 
-    // Reads status 2 twice, and reads the ID after each read. Both replies must be equal, and the function returns
-    // their value.
+    // Reads status 2 twice, and the ID after each read. Both replies must be equal.
     pub(super) fn second_twice(&mut self) -> Result<u8, Stopped>
         ensures history { history_of self.new ≡ history_of self.old }
         ensures status { KeepsStatus (known_of self.old) (known_of self.new) }
