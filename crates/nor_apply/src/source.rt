@@ -8,7 +8,7 @@ pub trait Source {
     // True for the sectors whose bytes the source has.
     ghost has: { Self → ℕ → Bool };
 
-    // The target byte at an address in such a sector.
+    // The target byte at an address in a sector that the source has.
     ghost wanted: { Self → ℕ → ℕ };
 
     /// Returns the 4,096 target bytes of a sector that the source has.

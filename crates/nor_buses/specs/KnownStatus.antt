@@ -49,6 +49,8 @@ pub record IsWritten (out : List ℕ) (remembered : Option (List ℕ)) : Type 0 
   pub is : out ≡ 0x01 ∷ one ∷ two ∷ []
   pub written : remembered ≡ Some (one ∷ two ∷ [])
 
+-- Holds if three facts are as before: whether a modifying command was passed on, which status write is to be read
+-- back, and which bits a status write may change.
 pub record KeepsTask (old new : Known) : Type 0 where
   pub is_changing : new.is_changing ≡ old.is_changing
   pub written : new.written ≡ old.written

@@ -11,6 +11,7 @@ address_bytes address = address / 65536 % 256 ∷ address / 256 % 256 ∷ addres
 
 -- ---- reads
 
+-- The bytes `out` with their address, if there is one, increased by `n`.
 abbrev pub further : (out : List ℕ) → (n : ℕ) → List ℕ
 further (opcode ∷ x ∷ y ∷ z ∷ rest) n = opcode ∷ address_bytes (65536 * x + 256 * y + z + n) ++ rest
 further out n = out

@@ -21,7 +21,8 @@ part bytes at n = take n (drop at bytes)
 abbrev pub around : (inside : BusState) → (history : List Exchange) → BusState
 around inside history = record inside { history = history; punctual = false }
 
--- The state of a bus that has its own history, and what follows from it, and the chip of the bus inside.
+-- The state of a bus with its own history and the chip of the bus inside. The modifying commands and the result of the
+-- last poll are those of this history.
 abbrev pub beside : (inside : BusState) → (history : List Exchange) → BusState
 beside inside history = record (unknown_bus history) {
   chip = inside.chip;
@@ -33,6 +34,8 @@ beside inside history = record (unknown_bus history) {
   further = inside.further;
 }
 
+-- Holds if no transaction that may modify the chip and no allowance was recorded, and the result of the last poll is as
+-- it was.
 pub record KeepsRecord (old new : BusState) : Type 0 where
   pub sent : new.sent ≡ old.sent
   pub allowances : new.allowances ≡ old.allowances

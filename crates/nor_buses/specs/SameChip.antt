@@ -38,8 +38,8 @@ reads_unique _ = false
 abbrev pub unique_after : (out reply : List ℕ) → (known : Option (List ℕ)) → Option (List ℕ)
 unique_after out reply known = if reads_unique out && length reply == 8 then Some reply else known
 
--- Holds for what was sent before a modifying command: the unique ID was read again if it is the first such command and
--- a unique ID is remembered.
+-- Holds for what was sent before a modifying command: the unique ID was read again if one is remembered and no
+-- modifying command was passed on before; otherwise nothing.
 pub record IsChecked (begun : Bool) (unique : Option (List ℕ)) (old new : List Exchange) : Type 0 where
   pub later : begun ≡ true → new ≡ old
   pub none : unique ≡ None → new ≡ old

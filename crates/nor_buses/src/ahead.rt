@@ -56,7 +56,7 @@ pub struct ReadAhead<B: Bus + Drop> {
     ghost step_fits: { step ≤ 65536 },
     // If the block holds bytes, they are the whole reply to the last transaction over the bus inside.
     ghost holds: { HoldsReply block start len (B.state bus).history },
-    // They are also the bytes that the chip returns if they are read again.
+    // The bytes of the block are also those that the chip returns if they are read again.
     ghost same: { HoldsData longest block start len (B.state bus) },
 }
 

@@ -20,10 +20,11 @@ const LONGEST: u64 = 6250;
 /// A bus that pauses between polls that show BUSY. A poll of a chip that is certainly still busy costs time on the
 /// wire, and without pauses a fast bus may use up the 65,536 polls of a wait before an erase ends.
 ///
-/// The pause before a poll depends on how many polls in a row showed BUSY before it:
+/// The pause before a transaction depends on how many polls in a row showed BUSY before it:
 ///
-/// - none: no pause, except after an operation that typically takes at most 1 ms (a page program). Then the pause lasts
-///   until this time has passed since the command, so the poll often finds the chip ready, which saves an exchange.
+/// - none: no pause, except before a poll after an operation that typically takes at most 1 ms (a page program). That
+///   pause lasts until this time has passed since the command, so the poll often finds the chip ready, which saves an
+///   exchange.
 /// - one: the typical duration of the operation that began last, minus the time since its command. A page program
 ///   typically takes 0.7 ms, a status write 10 ms, an erase of 4 KiB 45 ms, of 32 KiB 120 ms, of 64 KiB 150 ms
 ///   (W25Q64FV datasheet, AC characteristics). An erase of the whole chip counts as one of 64 KiB. If the clock fails,
@@ -34,7 +35,7 @@ const LONGEST: u64 = 6250;
 /// No pause is longer than 150 ms. The pauses of a wait whose 65,536 polls all show BUSY add up to at least 400 s, and
 /// to at most 410 s. The longest operation of the known chips, the erase of a whole W25Q128FV, takes at most 200 s
 /// (datasheet, AC characteristics). It is not proved that `Clock::sleep` is called, or that it waits for the requested
-/// time. The bus has the state of the bus inside.
+/// time. The bus has the state of the bus inside, so it is well-behaved if and only if the bus inside is.
 #[derive(Drop)]
 pub struct Paced<B, C> {
     bus: B,

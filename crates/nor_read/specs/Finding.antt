@@ -43,10 +43,12 @@ pub record HasFound (named : Option ChipName) (old new : BusState) (probed : Pro
 
 -- ---- the checks of the chip that was found
 
+-- Holds if the chip has the requested name, and some included address is past the end of the chip.
 pub record IsPassed (named : Option ChipName) (included : Option (List Span)) (config : Config) : Type 0 where
   pub is : IsNamed named config
   pub past : ReachesPast included config.size
 
+-- Holds if the chip has the requested name, and all included addresses are on the chip.
 pub record IsTaken (named : Option ChipName) (included : Option (List Span)) (config : Config) : Type 0 where
   pub is : IsNamed named config
   pub fits : FitsInto included config.size

@@ -45,8 +45,8 @@ Lifts request touched unlock = unlock ≡ true → (request.unlock ≡ true) × 
 
 -- ---- for each chip with this identification
 
--- Holds if the check against the identification returns protection bits only if `IdentityAccepts` holds with them, for
--- each image of `len` bytes and each chip that has this identification and the requested name, if any.
+-- Holds if the check against the identification accepts only what `IdentityAccepts` allows, for each image of `len`
+-- bytes and each chip that has this identification and the requested name, if any.
 abbrev pub AcceptsIdentity : Request → ℕ → Identity → Result ℕ Refusal → Type 0
 AcceptsIdentity request len identity judged = (chip : Chip) (image : List ℕ) → IsIdentityOf chip identity
     → IsNamed request.named chip.config → length image ≡ len → IfOk judged (IdentityAccepts request image chip)
@@ -80,8 +80,8 @@ OfTouched request identity code touched promise = (chip : Chip) (image : List �
     → IdentityAccepts request image chip code
     → ((s : ℕ) → touched s ≡ is_touched chip.bytes (wanted request image chip) s) → promise image chip
 
--- Holds if the check against the touched sectors returns whether to lift protection only if `ScanAccepts` holds with
--- that value, for each chip and image that `OfTouched` describes.
+-- Holds if the check against the touched sectors accepts only what `ScanAccepts` allows, for each chip and image that
+-- `OfTouched` describes.
 abbrev pub AcceptsScan : Request → Identity → ℕ → (ℕ → Bool) → Result Bool Refusal → Type 0
 AcceptsScan request identity code touched judged =
     OfTouched request identity code touched (λ image chip. IfOk judged (ScanAccepts request image chip))

@@ -18,7 +18,7 @@ HasWholeChip identity old vault = vault.telling ≡ true
     → (chip : Chip) → IsIdentityOf chip identity → HasIdleChip chip old
     → JournalSaves (header_of chip) chip.bytes (sectors_below (chip.config.size / 4096)) vault.bytes
 
--- Holds if a faithful vault (`telling`) has a prefix of such a journal, with the same premises as `HasWholeChip`.
+-- Holds if a faithful vault (`telling`) has a prefix of the chip's journal, with the same premises as `HasWholeChip`.
 abbrev pub BeginsWholeChip : Identity → BusState → VaultState → Type 0
 BeginsWholeChip identity old vault = vault.telling ≡ true
     → (chip : Chip) → IsIdentityOf chip identity → HasIdleChip chip old

@@ -179,8 +179,8 @@ abbrev pub IfOperates : Command → (List ℕ → ℕ → Type 0) → Type 0
 IfOperates (Operate out replies) P = P out.now replies
 IfOperates _ P = ⊤
 
--- The state of a port about which only is known what it was asked to send, and what it returned. The device given here
--- is arbitrary.
+-- The state of a port about which nothing is known except what it was asked to send, and what it returned. The device
+-- given here is arbitrary.
 abbrev pub unknown_port : (asked : List (List ℕ)) → (received : List ℕ) → PortState
 unknown_port asked received = record {
   device = record {

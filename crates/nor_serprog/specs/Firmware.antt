@@ -51,12 +51,15 @@ two_of n = n % 256 ∷ n / 256 % 256 ∷ []
 abbrev pub nak : List ℕ
 nak = 0x15 ∷ []
 
+-- The reply to the query `opcode`: ACK and `bytes`, or NAK if the programmer lacks the query.
 abbrev pub queried : Firmware → (opcode : ℕ) → (bytes : List ℕ) → List ℕ
 queried firmware opcode bytes = if has_command firmware opcode then 0x06 ∷ bytes else nak
 
+-- The reply to a setting: ACK if the programmer accepts it, or NAK.
 abbrev pub taken : Bool → List ℕ
 taken accepts = if accepts then 0x06 ∷ [] else nak
 
+-- The reply to S_SPI_FREQ: ACK and the clock that was set, or NAK.
 abbrev pub clocked : Option ℕ → List ℕ
 clocked (Some set) = 0x06 ∷ four_of set
 clocked None = nak

@@ -7,6 +7,7 @@ use Rattle.nor_serprog.specs.Frame.{frame_of}
 use Rattle.nor_serprog.specs.Firmware.{reply_of, settings_after, nak}
 use Rattle.nor_serprog.specs.Device.{PortState, IsIdle, MayLoseDevicePower, with_settings}
 
+-- Holds if the port is well-behaved, and its programmer is idle.
 pub record AwaitsCommand (port : PortState) : Type 0 where
   pub honest : port.honest ≡ true
   pub idle : IsIdle port.device

@@ -87,7 +87,7 @@ AcceptsDevice journal identity judged = (chip : Chip) → chip.kept.two < 128 �
     → IsOfType journal chip.config → OnOk judged (FitsJournal journal chip)
 
 -- Holds if the check of the unique ID and the status bits returns only the error of the first failed check, for each
--- such chip.
+-- chip with this identification and the journal's ID and size.
 abbrev pub RefusesDevice : Content → Identity → Result Unit Refusal → Type 0
 RefusesDevice journal identity judged = (choice : Choice) (chip : Chip) → chip.kept.two < 128
     → IsIdentityOf chip identity → IsOfType journal chip.config → IfErr judged (RestoreJudges choice journal chip)
@@ -167,14 +167,17 @@ pub record MayChangeStatus (journal : Content) (touched : ℕ → Bool) (chip : 
   pub free : changes.unlock ≡ true ⊎ NoneProtected touched chip
   pub not_locked : is_locked chip.kept ≡ true → ¬ NeedsStatusWith journal touched chip
 
+-- Holds if the status is locked, but would have to be written.
 pub record IsShut (journal : Content) (touched : ℕ → Bool) (chip : Chip) : Type 0 where
   pub locked : is_locked chip.kept ≡ true
   pub needs : NeedsStatusWith journal touched chip
 
+-- Holds if the changes, if any were returned, treat the status of each chip with this identification correctly.
 abbrev pub MakesChanges : Content → Identity → (ℕ → Bool) → Result Changes Refusal → Type 0
 MakesChanges journal identity touched judged =
     (chip : Chip) → IsIdentityOf chip identity → IfOk judged (MayChangeStatus journal touched chip)
 
+-- Holds if an error means that the status of each chip with this identification is locked (`IsShut`).
 abbrev pub RefusesShut : Content → Identity → (ℕ → Bool) → Result Changes Refusal → Type 0
 RefusesShut journal identity touched judged =
     (chip : Chip) → IsIdentityOf chip identity → OnErr judged (IsShut journal touched chip)

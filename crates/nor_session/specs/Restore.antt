@@ -144,6 +144,7 @@ pub record FitsReplies (journal : Content) (old new : BusState) : Type 0 where
   pub device : HasUniqueRead journal identity
   pub fixed : HasFixedRead journal identity
 
+-- Holds if the address `a` is in a saved sector that isn't touched. `read` has the bytes that were read from the chip.
 abbrev pub IsLeft : Choice → Content → (read : ℕ → ℕ) → (a : ℕ) → Type 0
 IsLeft choice journal read a =
     (is_saved journal (a / 4096) ≡ true) × (choice.touched journal read (a / 4096) ≡ false)

@@ -55,7 +55,7 @@ pub record SessionReturns (old new : VaultState) (refusal : Refusal) : Type 0 wh
 abbrev pub SavesSector : (sector : ℕ) → (bytes : List ℕ) → Type 0
 SavesSector sector bytes = (journal : IsJournal bytes) × (is_saved journal.content sector ≡ true)
 
--- Holds if a timeout names 0 or an address in a sector for which `IsSuch` holds, and a mismatch such an address.
+-- Holds if the error names no address, an address in a sector for which `IsSuch` holds or, for a timeout, 0.
 abbrev pub NamesSector : (IsSuch : (sector : ℕ) → Type 0) → Refusal → Type 0
 NamesSector IsSuch (Timeout address) = (address ≡ 0) ⊎ IsSuch (address / 4096)
 NamesSector IsSuch (Mismatch address) = IsSuch (address / 4096)
@@ -79,6 +79,7 @@ pub record IsPastChipEnd (journal : Content) (sector : ℕ) : Type 0 where
   pub whole : (s : ℕ) → s < journal.size / 4096 → is_saved journal s ≡ true
   pub past_end : journal.size / 4096 ≤ sector
 
+-- Holds for the protection bits that the journal saves, and for 0 (all clear).
 abbrev pub IsSavedCode : Content → (code : ℕ) → Type 0
 IsSavedCode journal code = (code ≡ 0) ⊎ (code ≡ code_of (kept_in journal.status))
 

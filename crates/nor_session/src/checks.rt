@@ -18,7 +18,7 @@ use nor_request::Refusal;
 #[derive(Clone, Copy, Debug, PartialEq, Eq)]
 pub(crate) enum CheckFault {
     Stopped,
-    /// A byte that was read back isn't the target byte. `address` is the first such address.
+    /// A byte that was read back isn't the target byte. `address` is the first address at which this is so.
     Mismatch { address: u32 },
 }
 

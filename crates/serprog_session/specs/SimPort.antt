@@ -68,8 +68,8 @@ device_over bus bus_type pending = record {
   pending = pending;
 }
 
--- A well-behaved port to such a programmer, with `left` calls left. `asked` is what the port was asked to send, and
--- `received` what it returned.
+-- A well-behaved port to the simulated programmer with the chip of this bus, with `left` calls left. `asked` is what
+-- the port was asked to send, and `received` what it returned.
 abbrev pub port_over : BusState → (bus_type : Option ℕ) → (pending : List ℕ) → (left : ℕ) → (asked : List (List ℕ))
     → (received : List ℕ) → PortState
 port_over bus bus_type pending left asked received = record {
