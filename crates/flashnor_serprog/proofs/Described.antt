@@ -1,5 +1,4 @@
--- If `n` of the first `i` saved sectors of a journal are blank (all FFh), then `n + 1` of the first `i + 1` are blank
--- if the saved sector with index `i` is blank (`one_more`), and `n` if it isn't (`no_more`).
+-- The number of blank (all FFh) saved sectors grows by one at a blank sector, and stays at any other.
 use Rattle.std.proofs.Common.{◌≡◌, ◌+◌, ◌<◌, ◌∙◌, ℕ, List, Some, ap, false, length, sym, take, true}
 use Rattle.std.specs.Prelude.{slice_get}
 use Rattle.std.specs.List.{count_by}

@@ -2,7 +2,7 @@
 use Rattle.std.proofs.Common.{◌≡◌, ◌^◌, ◌-◌, None, Some, refl}
 use Rattle.flashnor_serprog.specs.Estimates.{change_time, minutes_in, percent_of, seconds_in, tenths_of, time_for}
 
--- The percentages of 0, 15, 16 and 17 of 16, of 0 of 0, of all but one sector of 16 MiB, and of the greatest numbers.
+-- the percentages of 0, 15, 16 and 17 of 16, of 0 of 0, of all but one sector of 16 MiB, and of the greatest numbers
 none_done : percent_of 0 16 ≡ Some 0
 none_done = refl
 
@@ -24,8 +24,7 @@ one_less = refl
 most_done : percent_of (2 ^ 64 - 1) (2 ^ 64 - 1) ≡ Some 100
 most_done = refl
 
--- 8 MiB in 8 s are 1024.0 KiB/s, and 100 KiB in 60 s are 1.6 KiB/s. If no bytes are transferred in a second, the rate
--- is 0. If no time has passed, there is no rate. A rate above the greatest `u64` is capped.
+-- 8 MiB in 8 s, 100 KiB in 60 s, no bytes in a second, no time, and a rate above the greatest `u64`
 whole_chip : tenths_of 8388608 8000000 ≡ Some 10240
 whole_chip = refl
 
@@ -41,7 +40,7 @@ no_time = refl
 too_fast : tenths_of (2 ^ 64 - 1) 1 ≡ Some (2 ^ 64 - 1)
 too_fast = refl
 
--- If 512 of 2048 sectors took 15 s, the remaining 1536 take 45 s. If no sector is done, the remaining time is unknown.
+-- 512 of 2048 sectors took 15 s
 three_quarters : time_for 1536 512 15000000 ≡ Some 45000000
 three_quarters = refl
 
@@ -51,7 +50,7 @@ nothing_left = refl
 nothing_done : time_for 2048 0 60000000 ≡ None
 nothing_done = refl
 
--- Minutes and seconds of 0 s, of 1 microsecond less than 60 s, of 60 s and of 3600 s.
+-- 0 s, 1 microsecond less than 60 s, 60 s and 3600 s
 start : (minutes_in 0 ≡ 0) × (seconds_in 0 ≡ 0)
 start = (refl, refl)
 
@@ -64,9 +63,8 @@ minute = (refl, refl)
 hour : (minutes_in 3600000000 ≡ 60) × (seconds_in 3600000000 ≡ 0)
 hour = (refl, refl)
 
--- One sector takes 45 ms for its erase and 0.7 ms for each of its 16 programs. 34 scattered sectors take 34 times as
--- long. 16 sectors in one erase block take 150 ms, and 179.2 ms for their programs. The 2,048 sectors of a W25Q64FV
--- take 20 s for the erase of the chip, and 22.9376 s for their programs.
+-- One sector: 45 ms, and 0.7 ms for each of 16 programs. 34 scattered sectors: 34 times as long. 16 sectors in one
+-- block: 150 ms and 179.2 ms. The 2,048 sectors of a W25Q64FV: 20 s and 22.9376 s.
 one_sector : change_time 1 1 ≡ 56200
 one_sector = refl
 

@@ -4,11 +4,9 @@ use Rattle.nor_files.specs.Files.{AreApart, AreUntouched, FilesState, Name, Othe
 use Rattle.nor_console.proofs.Lent.{stays_on}
 use Rattle.flashnor_serprog.proofs.LogMade.{untouched_keeps}
 
--- If no file was touched, each file apart from `name` is as it was.
 pub others_same : (name : Name) (old new : FilesState) → AreUntouched old new → OthersStay name old new
 others_same name old new same other apart = untouched_keeps other same
 
--- If no file was touched, and then each file apart from `name` stayed, each of these is as it was at first.
 pub others_after : (name : Name) (old mid new : FilesState) → AreUntouched old mid
     → (is_lawful mid.view ≡ true → OthersStay name mid new) → is_lawful old.view ≡ true → OthersStay name old new
 others_after name old mid new same stay lawful other apart = stays_on (untouched_keeps other same) (stay

@@ -30,9 +30,6 @@ use Rattle.flashnor_serprog.specs.Restoring.{FailsRestore}
 use Rattle.flashnor_serprog.specs.declared.chip_faults.JobFault.{JobFault}
 use Rattle.flashnor_serprog.specs.declared.chip_faults.JobFault.TheVariants as ended
 
--- Let `result` be the `outcome` of a call, with its error as a fault (`IsReportedAs`). If `P` holds for the value of
--- `outcome`, then `P` holds for the value of `result`. If `Q` holds for the error of `outcome`, then the fault of
--- `result` is `Refused` with an error for which `Q` holds.
 module _ {T : Type 0} (P : T → Type 0) (Q : Refusal → Type 0) where
   pub passes_ok : (outcome : Result T Refusal) (result : Result T Fault) → IsReportedAs outcome result
       → IfOk outcome P → IfOk result P
@@ -44,15 +41,13 @@ module _ {T : Type 0} (P : T → Type 0) (Q : Refusal → Type 0) where
   passes_err (Ok found) result returned is = rw returned tt
   passes_err (Err refusal) result returned is = rw returned (refusal, is, refl)
 
--- Holds if the fault is one of `Fault` or `Protected`. Making the target of a change fails only with such a fault.
+-- Holds for the faults of making the target of a change.
 abbrev IsBefore : JobFault → Type 0
 IsBefore (ended.Fault fault) = ⊤
 IsBefore (ended.Protected byte) = ⊤
 IsBefore _ = ⊥
 
 module _ (named : Option ChipName) (old new : BusState) where
-  -- If making the target fails with chip fault 1, the identification found a chip that may be protected, with this
-  -- status 1.
   refused : (target : Wanted) (ranges : Option (List Span)) (bytes : List ℕ) (byte : ℕ)
       → FailsToTarget named target ranges bytes old new (ended.Protected byte) → IsProtected named old new byte
   refused target ranges bytes byte (inl is) = is
@@ -82,7 +77,6 @@ module _ (named : Option ChipName) (old new : BusState) where
   fills_before (wanted.Range start len) ranges bytes fault fails = absurd fails
   fills_before target ranges bytes fault fails = targets_before target ranges bytes fault fails
 
--- The buffer of a write or an erase is its target. For a change of protection, `bytes` are the buffer.
 module _ (named : Option ChipName) (ranges : Option (List Span)) (bytes : List ℕ) (old new : BusState) where
   pub target_filled : (target : Wanted) (image : List ℕ) → changes_bytes target ≡ true
       → HasTarget named target ranges bytes old new image → IsBufferOf named target ranges bytes old new image
@@ -101,8 +95,6 @@ module _ (named : Option ChipName) (ranges : Option (List Span)) (bytes : List �
 
 module _ (operation : Operation) (old new : BusState) (change : Change) (ranges : Option (List Span))
     (bytes : List ℕ) (file : Bor Text) (view : View) (after : FilesState) where
-  -- If making the buffer of a session fails with this fault, and the files are as they were, a change with a journal in
-  -- a file fails with this fault.
   pub fill_fails : (kept : JournalUse) (fault : JobFault) → kept ≡ uses.Journal file → after.view ≡ view
       → FailsToFill operation.named change.wanted (ranges_of operation change ranges) bytes old new fault
       → FailsChange operation change ranges bytes kept view after old new fault
@@ -113,8 +105,6 @@ module _ (operation : Operation) (old new : BusState) (change : Change) (ranges 
 
 module _ (operation : Operation) (old new : BusState) (change : Change) (ranges : Option (List Span))
     (bytes : List ℕ) (file : Bor Text) (view : View) where
-  -- Let the buffer of a session be made, and creating the journal then fail with this fault (or memory run out). A
-  -- change with a journal in a file then fails with this fault.
   pub start_fails : (image : List ℕ) (fault : Fault)
       → IsBufferOf operation.named change.wanted (ranges_of operation change ranges) bytes old new image
       → IsMaking view file.now fault
@@ -123,21 +113,16 @@ module _ (operation : Operation) (old new : BusState) (change : Change) (ranges 
 
 -- ---- the comparison after a session
 
--- Holds if the fault is `NotCompared`.
 abbrev IsAfter : JobFault → Type 0
 IsAfter (ended.NotCompared refusal) = ⊤
 IsAfter _ = ⊥
 
--- The comparison after a session fails only with `NotCompared`.
 follows_after : (named : Option ChipName) (target : List ℕ) (old new : BusState) (found : Answer) (compared : Bool)
     (fault : JobFault) → FailsToFollow (Ok found) compared named target old new fault → IsAfter fault
 follows_after named target old new found true (ended.NotCompared refusal) fails = tt
 follows_after named target old new found true _ fails = fails
 follows_after named target old new found false fault fails = absurd fails
 
--- Let the journal of a change be in `file`. If the session was run, and the comparison after it was made and succeeded
--- where one is needed (`HasChangedAndCompared`), then `HasChangedBy` holds. If that comparison failed with a fault, the
--- change failed with this fault.
 module _ (operation : Operation) (change : Change) (ranges : Option (List Span)) (bytes : List ℕ)
     (kept : JournalUse) (file : Bor Text) (is : kept ≡ uses.Journal file) (view : View) (after : FilesState)
     (old changed new : BusState) where
@@ -160,7 +145,6 @@ module _ (operation : Operation) (change : Change) (ranges : Option (List Span))
       (follows_after operation.named ran.image changed new found (is_compared operation change) _ fails)
   follow_fails (Err refusal) fault ran fails = absurd fails
 
--- Let `job` be the change `change`. The result of the change is then the result of the job.
 module _ (operation : Operation) (change : Change) (ranges : Option (List Span)) (bytes : List ℕ) (view : View)
     (after : FilesState) (old new : BusState) (job : Task) (is : job ≡ task.Change change)
     (result : Result (Result Answer Refusal) JobFault) where
@@ -174,7 +158,6 @@ module _ (operation : Operation) (change : Change) (ranges : Option (List Span))
       → IfErr result (FailsPerform operation job ranges bytes view after old new)
   change_failed fails = rw is fails
 
--- Let `job` be a restore from `journal`. A fault of the restore is then a fault of the job.
 module _ (operation : Operation) (ranges : Option (List Span)) (bytes : List ℕ) (view : View) (after : FilesState)
     (old new : BusState) (job : Task) (journal : Bor Text) (is : job ≡ task.Restore journal)
     (result : Result (Result Answer Refusal) JobFault) where

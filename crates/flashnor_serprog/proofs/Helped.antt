@@ -1,4 +1,4 @@
--- Lemmas: a run ends early with a request for the help or the version only if its arguments ask for that.
+-- Lemmas: a run ends early with the help or the version only if its arguments ask for that.
 use Rattle.std.proofs.Common.{◌≡◌, arith, Bool, false, List, Some, inl, inr, subst}
 use Rattle.clap.specs.Words.{IsAmong}
 use Rattle.clap.specs.declared.error.Error.{Error}
@@ -16,7 +16,6 @@ use Rattle.nor_console.specs.declared.messages.Fault.TheVariants as end
 use Rattle.flashnor_serprog.specs.Run.{ArgumentsAskForHelp, AsksForHelp, program}
 use Rattle.flashnor_serprog.specs.declared.trouble.Trouble.TheVariants as trouble
 
--- A fault of the arguments is a request for the help or the version only if the arguments ask for it.
 asks-help : (words : List Text) (fault : UsageFault) (reason : Reason) → IsHardwareFault program words fault
     → AsksForHelp (trouble.Fault (end.Usage fault reason)) → ArgumentsAskForHelp words
 asks-help words (usage.Words error) reason may (inl is) =
@@ -34,7 +33,6 @@ not-words : (c d e f g h : Bool) (error : Error) → first_fault (cases false fa
     → ⊥
 not-words c d e f g h error is = grind arith
 
--- None of the usage faults 4 to 9 is a request for the help or the version.
 no-help : (given : Texts) (fault : UsageFault) (reason : Reason) → first_fault (operation_faults given) ≡ Some fault
     → AsksForHelp (trouble.Fault (end.Usage fault reason)) → ⊥
 no-help given (usage.Words error) reason is help = not-words _ _ _ _ _ _ error is

@@ -30,13 +30,11 @@ use Rattle.flashnor_serprog.specs.declared.chip_faults.JobFault.TheVariants as e
 
 -- ---- reading
 
--- A transaction that begins with 35h is no poll.
 no_poll : (out : List ℕ) → begins_with 0x35 out ≡ true → is_poll out ≡ false
 no_poll [] begins = refl
 no_poll (opcode ∷ []) begins = ap (λ (byte : ℕ). byte == 5) (eqb-true opcode 0x35 begins)
 no_poll (opcode ∷ next ∷ rest) begins = refl
 
--- If a wait was followed by a read of status 2, the status registers were read.
 pub status_read : (old polled new : BusState) (waited : Waited) (two : ℕ) → Waits old polled waited
     → ReadsStatus2 polled new two → KeepsSent old polled → KeepsSent polled new
     → ReadsStatus old new (waited.status1 ∷ two ∷ [])
@@ -53,7 +51,6 @@ status_read old polled new waited two waits second one other = record {
 
 -- ---- the status write
 
--- If both bytes are those of `bytes_with`, a write with the protection bits of this status sends exactly these bytes.
 one_same : (one two code : ℕ) → one % 4 ≡ 0 → code ≡ 32 * (two % 128 / 64 % 2) + one / 4 % 32
     → 128 * (one / 128) + 4 * (code % 32) ≡ one
 one_same one two code low is = omega arith
@@ -69,7 +66,6 @@ low_bits false before = omega arith
 small_two : (srp0 : Bool) (before : List ℕ) → slice_index (bytes_with srp0 before) 1 < 128
 small_two srp0 before = omega arith
 
--- Let `status` have the bytes of `bytes_with`, and `code` be its protection bits.
 module _ (srp0 : Bool) (before : List ℕ) (status : Status) (code : ℕ) (is : bytes_of status ≡ bytes_with srp0 before)
     (coded : code ≡ code_of (kept_in (bytes_of status))) where
   one_is : status.one.0 ≡ slice_index (bytes_with srp0 before) 0
@@ -85,7 +81,6 @@ module _ (srp0 : Bool) (before : List ℕ) (status : Status) (code : ℕ) (is : 
   second_sent : status.two.0 % 64 + 64 * (code / 32) ≡ slice_index (bytes_with srp0 before) 1
   second_sent = two_same status.one.0 status.two.0 code (rw two_is (small_two srp0 before)) coded ∙ two_is
 
-  -- A status write with the protection bits `code` and the other bits of `status` changes only SRP0.
   same_write : (one two : ℕ) → is_status_with_code status code one two ≡ sets_srp0 srp0 before one two
   same_write one two = rw (first_sent, second_sent) refl
 
@@ -103,7 +98,6 @@ module _ (srp0 : Bool) (before : List ℕ) (status : Status) (code : ℕ) (is : 
     unknown = sends.unknown;
   }
 
--- If nothing that may modify the chip is sent after `mid`, the limits up to `mid` hold up to `new`.
 pub within_reads : (limits : Limits) (old mid new : BusState) → SendsWithin limits old mid → KeepsSent mid new
     → SendsWithin limits old new
 within_reads limits old mid new sends same = record {
@@ -115,11 +109,9 @@ within_reads limits old mid new sends same = record {
   unknown = rw same sends.unknown;
 }
 
--- If nothing that may modify the chip is sent after `mid`, what was sent up to `mid` is all that was sent.
 pub kept_on : (old mid new : BusState) → KeepsSent old mid → KeepsSent mid new → KeepsSent old new
 kept_on old mid new one other = other ∙ one
 
--- The test whether two truth values are equal, as code makes it.
 pub equal_bits : (a b : Bool) → beq a b ≡ true → a ≡ b
 equal_bits true true same = refl
 equal_bits false false same = refl
@@ -132,12 +124,9 @@ other_bits false false other same = false≢true (sym other)
 other_bits true false other same = false≢true (sym same)
 other_bits false true other same = false≢true same
 
--- Let the chip be identified up to `found`, and its status registers then be read as `before` up to `read`, with SRP1
--- clear.
 module _ (named : Option ChipName) (srp0 : Bool) (chip : Found) (before : List ℕ) (old found read new : BusState)
     (identified : HasIdentified named old found (Ok chip)) (status : ReadsStatus found read before)
     (clear : slice_index before 1 % 2 ≡ 0) where
-  -- If SRP0 then has the value that it must have, the change was made.
   pub lock_set : (after : Option (List ℕ)) → chip.scheme ≡ true → IsSet srp0 before after read new
       → HasSetSrp0 named srp0 old new (record { found = chip; before = before; after = after })
   lock_set after known set = record {
@@ -150,7 +139,6 @@ module _ (named : Option ChipName) (srp0 : Bool) (chip : Found) (before : List �
     set = set;
   }
 
-  -- If SRP0 had another value, a status write that changes only SRP0 may follow.
   pub lock_sends : (shown : Bool) → shown ≡ shows_srp0 (slice_index before 0) → beq shown srp0 ≡ false
       → SendsWithin (writing (sets_srp0 srp0 before) 1) read new → SendsLock srp0 old new
   lock_sends shown is other within = inr (record {
@@ -164,14 +152,12 @@ module _ (named : Option ChipName) (srp0 : Bool) (chip : Found) (before : List �
     within = within;
   })
 
--- If the chip was identified, an error that follows is one of the change.
 pub lock_fails : (named : Option ChipName) (chip : Found) (srp0 : Bool) (old found new : BusState) (error : Refusal)
     → HasIdentified named old found (Ok chip) → FailsFound chip found new error
     → FailsLock named srp0 old new (ended.Fault (end.Refused error))
 lock_fails named chip srp0 old found new error identified fails =
     inr (error, record { chip = chip; found = found; identified = identified; fails = fails }, refl)
 
--- An error of a wait or of a status write is one after the identification.
 pub operation_fails : (chip : Found) (old new : BusState) (error : OperationError) → EndsAt error new.history
     → FailsFound chip old new (of_operation error)
 operation_fails chip old new failed.Stopped ends = ends

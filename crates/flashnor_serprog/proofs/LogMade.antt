@@ -12,7 +12,6 @@ untouched_keeps name same = record {
   leaves = same.leaves name;
 }
 
--- If no file was touched, no file except the log was touched.
 pub log_unstarted : (log : Option (Bor Text)) {old new : FilesState} → AreUntouched old new → CreatesLog log old new
 log_unstarted None same = same
 log_unstarted (Some name) same = (
@@ -20,7 +19,6 @@ log_unstarted (Some name) same = (
   λ lawful other apart. untouched_keeps other same,
 )
 
--- If no file was touched before the log was created, creating it touched no other file of those before.
 log_started : (log : Option (Bor Text)) (old read new : FilesState) → AreUntouched old read
     → CreatesLog log read new → CreatesLog log old new
 log_started None old read new same made = record {
@@ -43,19 +41,16 @@ untouched_on one other = record {
   leaves = λ name left may. one.leaves name left (other.leaves name left may);
 }
 
--- If no file was touched in two steps, no file except the log was touched.
 pub log_unstarted_late : (log : Option (Bor Text)) (old tried new : FilesState) → AreUntouched old tried
     → AreUntouched tried new → CreatesLog log old new
 log_unstarted_late log old tried new one other = log_unstarted log (untouched_on one other)
 
--- If no file was touched in two steps before the log was created, creating it touched no other file of those before.
 pub log_started_late : (log : Option (Bor Text)) (old tried read new : FilesState) → AreUntouched old tried
     → AreUntouched tried read → CreatesLog log read new → CreatesLog log old new
 log_started_late log old tried read new one other made = log_started log old read new (untouched_on one other) made
 
 pub ruleset log_steps = (log_unstarted, log_unstarted_late, log_started_late)
 
--- Creating the log changes what reads return only for the file of the log.
 pub log_seen : (log : Option (Bor Text)) (old new : FilesState) → CreatesLog log old new
     → StayButLog log old.view new.view
 log_seen None old new made = made.view

@@ -1,5 +1,4 @@
--- Lemmas on the target of a change that is limited to regions. The target has bytes of the image in the regions, and
--- bytes that were read from the chip outside them.
+-- Lemmas on the target of a change of regions: bytes of the image in the regions, and the chip's bytes outside them.
 use Rattle.std.proofs.Common.{◌≡◌, ◌<◌, ◌∙◌, ◌++◌, ℕ, List, None, Ok, Option, ap, arith, drop, length, refl, slice_index, take, true}
 use Rattle.std.proofs.Math.Seq.{take-append_seam}
 use Rattle.nor_journal.specs.Vault.{VaultState, new_vault}
@@ -12,7 +11,6 @@ use Rattle.nor_read.specs.Reading.{Grows}
 use Rattle.nor_request.specs.declared.report.Report.{Report}
 use Rattle.flashnor_serprog.specs.Following.{HasReadToMemory, IsMerged}
 
--- If `written`, which has `len` bytes, is written over the start of `items`, the first `len` bytes are `written`.
 pub whole_again : (written items : List ℕ) (len : ℕ) → len ≡ length written
     → take len (written ++ drop (length written) items) ≡ written
 whole_again written items len is = rw is (take-append_seam written (drop (length written) items))
@@ -20,7 +18,6 @@ whole_again written items len is = rw is (take-append_seam written (drop (length
 grown_length : (size : ℕ) (filled : VaultState) → Grows size (new_vault true) filled → length filled.bytes ≡ size
 grown_length size filled grows = ap length grows.grown ∙ grows.long
 
--- If the whole chip was read successfully, the number of bytes that were read is the size of the chip in the report.
 read_length : {named : Option ChipName} {old new : BusState} {chip : List ℕ} {report : Report}
     → HasReadToMemory named None old new chip (Ok report) → length chip ≡ report.found.size
 read_length {report = report} read =

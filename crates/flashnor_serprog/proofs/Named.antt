@@ -10,12 +10,10 @@ use Rattle.nor_console.specs.declared.answers.Answer.{Answer}
 use Rattle.flashnor_serprog.specs.Further.{further_of}
 use Rattle.flashnor_serprog.specs.Run.{AreJobLines, AreLinesBy, AreNameLines}
 
--- If the line with the name of the identified chip was printed, the lines that `--flash-name` requires were printed.
 pub name_printed : (found : Found) (a b : Option (List ℕ)) → Appends a b (name_line found.name)
     → Prints (AreNameLines (answer.Found found)) a b
 name_printed found a b appended = (name_line found.name, refl, appended)
 
--- If the lines of an answer of this operation were printed with these status bytes, the job's lines were printed.
 pub job_lines_printed : (operation : Operation) (status : List ℕ) (found : Answer) (a b : Option (List ℕ))
     → Prints (AreLinesBy operation.is_flash_name (further_of operation.task status) found) a b
     → Prints (AreJobLines operation found) a b

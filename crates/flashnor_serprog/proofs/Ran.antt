@@ -13,8 +13,6 @@ use Rattle.flashnor_serprog.specs.declared.connect.Connected.{Connected}
 
 module _ (state : Connected → BusState) (files after : FilesState) (words : List Text) (name : Bor Text)
     (operation : Operation) (asked : IsAskedFor words name operation) (out out' : Option (List ℕ)) (status : ℕ) where
-  -- If the operation that the arguments ask for was run on the bus that the run left, the job of the arguments was run
-  -- on this bus.
   pub job_ran : (used : Option Connected)
       → IfSome used (λ connected. HasRunOperation state files after name operation (device_of connected)
       (state connected) out out' status)
@@ -23,7 +21,6 @@ module _ (state : Connected → BusState) (files after : FilesState) (words : Li
   job_ran None ran = ran
   job_ran (Some connected) ran = record { name = name; operation = operation; asked = asked; run = ran }
 
--- If there is a bus in `used`, and `P` holds for each bus in `used`, then there is a bus in `used` for which `P` holds.
 pub is_used : (P : Connected → Type 0) (used : Option Connected) → is_some used ≡ true → IfSome used P
     → IsSomeAnd used P
 is_used P None none holds = absurd (false≢true none)

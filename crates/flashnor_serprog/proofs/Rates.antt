@@ -13,7 +13,6 @@ use Rattle.nor_args.specs.Numbers.{decimal_number}
 use Rattle.nor_args.specs.Text.{Text, reads}
 use Rattle.flashnor_serprog.specs.Setting.{HasRate, HasNoRate}
 
--- If `text` is `device`, a colon and a number, the byte at index `length device` is a colon.
 colon_at : (text device rate : Text) → HasRate text device rate
     → (length device < length text) × (get_or text (length device) 0 ≡ 58)
 colon_at text device rate has = (
@@ -21,20 +20,17 @@ colon_at text device rate has = (
   ap (λ t. get_or t (length device) 0) has.parts ∙ get_or-append_seam device 58 rate 0,
 )
 
--- A decimal number contains no colon.
 no_colon : (rate : Text) (i : ℕ) → reads decimal_number rate ≡ true → i < length rate → get_or rate i 0 ≡ 58 → ⊥
 no_colon rate i number inside colon =
     let digit : is_digit (get_or rate i 0) 10 ≡ false = rw colon refl in
     let none = list_all_at (λ d. is_digit d 10) rate i 0 inside digit in
     grind (arith, none, number)
 
--- A text without a colon doesn't end with a colon and a number.
 pub rateless_without_colon : (text : Text) → NoCharPasses (λ d. nat_eq d 58) text → HasNoRate text
 rateless_without_colon text none = λ device rate has.
     let at = colon_at text device rate has in
     NoCharPasses-char 58 text (length device) none (omega arith) at.0 at.1
 
--- If `text` is `device`, a colon and a number, no colon follows this colon.
 not_earlier : (text device rate : Text) (i : ℕ) → HasRate text device rate → i < length text → get_or text i 0 ≡ 58
     → length device < i → ⊥
 not_earlier text device rate i has inside colon earlier =
@@ -44,7 +40,6 @@ not_earlier text device rate i has inside colon earlier =
     no_colon rate (i - (length device + 1)) has.number (omega (arith, ap length parts))
     (sym there ∙ ap (λ t. get_or t i 0) (sym parts) ∙ colon)
 
--- If `text` has no colon from index `j` on, each colon in it has an index below `j`.
 not_later : (text : Text) (j n : ℕ) → NoCharPasses (λ d. nat_eq d 58) (drop j text) → n < length text
     → get_or text n 0 ≡ 58 → n < j
 not_later text j n none inside colon = elim (cases_Bool (nat_lt n j)) [
@@ -55,8 +50,6 @@ not_later text j n none inside colon = elim (cases_Bool (nat_lt n j)) [
       (get_or-drop j text (n - j) 0 ∙ ap (λ k. get_or text k 0) at ∙ colon))
 ]
 
--- If the part of a text that follows its last colon isn't a decimal number, the text doesn't end with a colon and a
--- number.
 pub rateless_after_colon : (text before after : Text) → SplitsAroundMatch (RFindsChar 58) text before after
     → reads decimal_number after ≡ false → HasNoRate text
 rateless_after_colon text before after split other = λ device rate has.

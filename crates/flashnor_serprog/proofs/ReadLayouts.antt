@@ -12,14 +12,12 @@ use Rattle.nor_jobs.specs.Finding.{HasIdentified}
 use Rattle.flashnor_serprog.specs.ChipLayouts.{AreReadFor, HasFoundFirst, HasReadLayout, descriptor_span}
 use Rattle.flashnor_serprog.specs.Sends.{KeepsSent}
 
--- The first 4 KiB are a set of their own.
 is_set : IsSetOf (descriptor_span ∷ []) (descriptor_span ∷ [])
 is_set = record {
   ranges = record { few = omega arith; apart = (omega arith, tt, tt) };
   same = λ a. refl;
 }
 
--- The set that is made of the first 4 KiB has the addresses that are read to find a flash descriptor.
 pub descriptor_read : (made : Option (List Span))
     → MatchOption made (MakeNoSet (descriptor_span ∷ []))
     (λ set. (has_backwards (descriptor_span ∷ []) ≡ false) × IsSetOf (descriptor_span ∷ []) set)
@@ -28,7 +26,6 @@ descriptor_read None (inl backwards) = absurd (false≢true backwards)
 descriptor_read None (inr none) = absurd (none _ is_set)
 descriptor_read (Some set) is = is.1
 
--- If the chip was identified, `ranges` are read for a layout of this form.
 abbrev pub found_first : (named : Option ChipName) (layout : LayoutForm) (old found : BusState) (chip : Found)
     (ranges : Option (List Span)) → HasIdentified named old found (Ok chip) → AreReadFor layout ranges
     → HasFoundFirst named layout old
@@ -40,7 +37,6 @@ found_first named layout old found chip ranges identified for_layout = record {
   for_layout = for_layout;
 }
 
--- The read for a layout sends no modifying command.
 pub layout_reads : (named : Option ChipName) (layout : LayoutForm) (old new : BusState) (bytes : List ℕ)
     → HasReadLayout named layout old new bytes → KeepsSent old new
 layout_reads named layout old new bytes read =

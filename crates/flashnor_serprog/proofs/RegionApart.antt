@@ -7,8 +7,6 @@ use Rattle.nor_files.specs.Files.{AreApart, Nature}
 use Rattle.flashnor_serprog.specs.RegionRoles.{AnyPair, AreTwoFiles}
 use Rattle.flashnor_serprog.specs.declared.region_files.RegionFile.{RegionFile}
 
--- If the files of the first `i` regions are apart from each other, and that of region `i` is apart from each of them,
--- then the files of the first `i + 1` regions are apart from each other.
 pub distinct_more : (nature : Nature) (files : List RegionFile) (i : ℕ) (d : RegionFile) → i < length files
     → AllPairs (AreTwoFiles nature) (take i files)
     → All (λ other. AreApart nature (get_or files i d).file.now other.file.now) (take i files)
@@ -17,12 +15,10 @@ distinct_more nature files i d lt before apart =
     subst (λ (some : List RegionFile). AllPairs (AreTwoFiles nature) some) (sym (take_more files i d lt))
     (all_pairs_push (AreTwoFiles nature) (take i files) (get_or files i d) before apart)
 
--- If `P` holds for element `i` of a list, it holds for some element.
 pub any_at : {X : Type 0} (P : X → Type 0) (xs : List X) (i : ℕ) (d : X) → i < length xs → P (get_or xs i d)
     → Any P xs
 any_at P xs i d lt holds = (i, get_or xs i d, lt, get_or_default xs i (get_or xs i d) d lt, holds)
 
--- If `R` holds for one of the elements before element `j` and for element `j`, it holds for an element and a later one.
 pub pair_at : {X : Type 0} (R : X → X → Type 0) (xs : List X) (j : ℕ) (d : X) → j < length xs
     → Any (λ earlier. R earlier (get_or xs j d)) (take j xs) → AnyPair R xs
 pair_at R xs j d lt found =

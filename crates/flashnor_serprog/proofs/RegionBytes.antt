@@ -5,7 +5,6 @@ use Rattle.nor_files.specs.Files.{View}
 use Rattle.flashnor_serprog.specs.Regions.{AreReplaced, IsReplaced}
 use Rattle.flashnor_serprog.specs.declared.region_files.RegionFile.{RegionFile}
 
--- If the bytes of the regions `xs` were replaced, and then those of `region`, those of all these regions were replaced.
 pub replaced_more : (view : View) (xs : List RegionFile) (region : RegionFile) (old mid new : List ℕ)
     → AreReplaced view xs old mid → IsReplaced view region mid new → AreReplaced view (xs ++ region ∷ []) old new
 replaced_more view [] region old mid new is one =
@@ -13,8 +12,6 @@ replaced_more view [] region old mid new is one =
 replaced_more view (x ∷ xs) region old mid new is one =
     (is.0, is.1, replaced_more view xs region is.0 mid new is.2 one)
 
--- If the bytes of the first `i` regions were replaced, and then those of region `i`, those of the first `i + 1` regions
--- were replaced.
 pub replaced_at : (view : View) (files : List RegionFile) (i : ℕ) (d : RegionFile) (old mid new : List ℕ)
     → i < length files → AreReplaced view (take i files) old mid → IsReplaced view (get_or files i d) mid new
     → AreReplaced view (take (i + 1) files) old new

@@ -16,24 +16,20 @@ use Rattle.std.specs.List.{cons_option}
 use Rattle.flashnor_serprog.specs.Regions.{named_file, pair_in}
 use Rattle.flashnor_serprog.specs.declared.region_files.RegionFile.{RegionFile}
 
--- the two texts of a pair of references
 abbrev pub texts_of : Bor Text × Bor Text → Text × Text
 texts_of pair = (pair.0.now, pair.1.now)
 
--- If `found` is the entry split at its first colon, its texts are those of `pair_in`.
 pub pair_from : (entry : Text) (found : Option (Bor Text × Bor Text)) → IsSplitOnceResult 58 entry found
     → option_map texts_of found ≡ pair_in entry
 pair_from entry None split = grind (arith, nat_tests, split_once_first 58 entry None split (lit< tt))
 pair_from entry (Some pair) split = grind (arith, nat_tests, split_once_first 58 entry (Some pair) split (lit< tt))
 
--- Joining the texts of references gives the same as joining the texts.
 pub joined : (separator : Text) (names : List (Bor Text))
     → join_by (λ name. name.now) separator names ≡ join_by (λ name. name) separator (map (λ name. name.now) names)
 joined separator [] = refl
 joined separator (name ∷ names) =
     ap (λ (more : Text). name.now ++ more) (sym (flat_map-map (λ y. separator ++ y) (λ name. name.now) names))
 
--- The pairs of the first `i + 1` entries are those of the first `i` entries, and that of entry `i` if it has a file.
 pub pairs_more : (entries : List (Bor Text)) (i : ℕ) (d : Bor Text) → i < length entries
     → filter_map pair_in (map (λ entry. entry.now) (take (i + 1) entries))
     ≡ filter_map pair_in (map (λ entry. entry.now) (take i entries))
@@ -43,14 +39,11 @@ pairs_more entries i d lt =
     ∙ ap (filter_map pair_in) (map-append (λ entry. entry.now) (take i entries) (get_or entries i d ∷ []))
     ∙ filter_map-append pair_in (map (λ entry. entry.now) (take i entries)) ((get_or entries i d).now ∷ [])
 
--- A push that didn't fail appended its item.
 pub pushed : {T E X : Type 0} (result : Result T E) (old more new : List X)
     → new ≡ (if is_ok result then more else old) → is_err result ≡ false → new ≡ more
 pushed (Ok _) old more new is ok = is
 pushed (Err _) old more new is ok = absurd (false≢true (sym ok))
 
--- If `files` are the pairs of the first `i` entries, and `region` is the pair of entry `i`, then `files` and `region`
--- are the pairs of the first `i + 1` entries.
 pub pairs_pushed : (files : List RegionFile) (region : RegionFile) (entries : List (Bor Text)) (i : ℕ) (d : Bor Text)
     → i < length entries
     → map named_file files ≡ filter_map pair_in (map (λ entry. entry.now) (take i entries))
@@ -63,8 +56,6 @@ pairs_pushed files region entries i d lt before pair =
     ++ cons_option some []) pair
     ∙ sym (pairs_more entries i d lt)
 
--- If `files` are the pairs of the first `i` entries, and entry `i` has no file, then `files` are the pairs of the first
--- `i + 1` entries.
 pub pairs_skipped : (files : List RegionFile) (entries : List (Bor Text)) (i : ℕ) (d : Bor Text) → i < length entries
     → map named_file files ≡ filter_map pair_in (map (λ entry. entry.now) (take i entries))
     → None ≡ pair_in (get_or entries i d).now

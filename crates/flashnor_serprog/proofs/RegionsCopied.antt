@@ -21,12 +21,10 @@ use Rattle.flashnor_serprog.specs.RegionCopies.{AreCopiedFrom, FailsToCopy, Fail
 use Rattle.flashnor_serprog.specs.RegionCopies.{part_at, part_if_inside}
 use Rattle.flashnor_serprog.specs.declared.region_files.RegionFile.{RegionFile}
 
--- A test that chooses `Some x` is true, and `x` is the value of that branch.
 some_if : {X : Type 0} (test : Bool) (x y : X) → Some x ≡ (if test then Some y else None) → (test ≡ true) × (x ≡ y)
 some_if true x y is = (refl, cc)
 some_if false x y is = cc
 
--- If `part_in` finds a part, the span ends within the bytes, and the part has the bytes at its addresses.
 pub part_inside : (span : Span) (bytes part : List ℕ) → Some part ≡ part_if_inside span bytes
     → (span.last < length bytes) × (part ≡ part_at span bytes)
 part_inside span bytes part is =
@@ -36,7 +34,6 @@ part_inside span bytes part is =
     let inside = (and_parts begins ends both.0).1 in
     (grind (arith, nat_tests, inside), both.1)
 
--- Writing the file `name` leaves those regions' files copied whose names are apart from it.
 pub copied_kept : (bytes : List ℕ) (old new : FilesState) (name : Text) (files : List RegionFile)
     → new.view.nature ≡ old.view.nature → (is_lawful old.view ≡ true → OthersStay name old new)
     → All (λ other. AreApart old.view.nature name other.file.now) files
@@ -48,8 +45,6 @@ copied_kept bytes old new name files same others apart copied k d lt = record {
       (others was (get_or files k d).file.now (apart k d lt)).seen ∙ (copied k d lt).same was;
 }
 
--- If the files of the first `i` regions were copied, and then the file of region `i` was written with its part, those
--- of the first `i + 1` regions were copied.
 pub copied_more : (bytes held part : List ℕ) (old new : FilesState) (files : List RegionFile) (i : ℕ) (d : RegionFile)
     → i < length files → held ≡ bytes → new.view.nature ≡ old.view.nature
     → (is_lawful old.view ≡ true → OthersStay (get_or files i d).file.now old new)
@@ -68,7 +63,6 @@ copied_more bytes held part old new files i d lt whole same others apart inside 
     } in
     All-more (IsCopied bytes new.view) files i d lt before one
 
--- If a file is as it was, the bytes that were read from it are still its bytes.
 pub read_kept : (name : Text) (most : ℕ) (bytes : List ℕ) (old new : FilesState)
     → new.view.nature ≡ old.view.nature → (is_lawful old.view ≡ true → KeepsFile name old new)
     → IsRead old.view name most bytes → IsRead new.view name most bytes
@@ -78,8 +72,6 @@ read_kept name most bytes old new same keeps read known =
     read (record { lawful = was; in_store = sym kept.out ∙ known.in_store })
     ∙ ap (λ (found : Found). option_map (take most) found) (sym kept.seen)
 
--- If the files of all regions were copied from bytes that were read from `out`, and `out` is as it was, these files
--- have the bytes of `out`.
 pub all_copied : (out : Text) (files : List RegionFile) (bytes : List ℕ) (index : ℕ) (old new : FilesState)
     → length files ≤ index → new.view.nature ≡ old.view.nature → (is_lawful old.view ≡ true → KeepsFile out old new)
     → IsRead old.view out 16777217 bytes → All (IsCopied bytes new.view) (take index files)
@@ -93,12 +85,10 @@ all_copied out (x ∷ xs) bytes index old new long same keeps read copied = (
 
 -- ---- faults
 
--- A test that chooses `None` is false.
 none_if : {X : Type 0} (test : Bool) (x : X) → None ≡ (if test then Some x else None) → test ≡ false
 none_if true x is = cc
 none_if false x is = refl
 
--- If `part_in` finds no part, the bytes end before the end of the span, unless the span is backwards.
 pub part_outside : (span : Span) (bytes : List ℕ) → None ≡ part_if_inside span bytes
     → span.first ≤ span.last + 1 → length bytes < span.last + 1
 part_outside span bytes is forwards =
@@ -106,12 +96,10 @@ part_outside span bytes is forwards =
     (part_at span bytes) is in
     grind (arith, nat_tests, none)
 
--- Creating or truncating a file may fail with a fault in every view of the same nature in which it may in one.
 making_before : (name : Text) (fault : Fault) (old mid : View) → mid.nature ≡ old.nature
     → IsMaking mid name fault → IsMaking old name fault
 making_before name fault old mid same fails = grind arith
 
--- If writing the bytes of a region into its file failed, it failed after each earlier view of the same nature.
 pub write_fails : (name : Bor Text) (span : Span) (bytes held part : List ℕ) (fault : Fault) (old mid new : View)
     → mid.nature ≡ old.nature → held ≡ bytes → Some part ≡ part_if_inside span held
     → FailsToWrite name part mid new fault → FailsToWrite name (part_at span bytes) old new fault
@@ -126,7 +114,6 @@ write_fails name span bytes held part fault old mid new same whole inside fails 
 module _ (out : Bor Text) (log : Option (Bor Text)) (files : List RegionFile) (bytes : List ℕ) (i : ℕ) (d : RegionFile)
     (before after : View) (fault : Fault) (within : i < length files)
     (read : IsRead before out.now 16777217 bytes) where
-  -- If copying region `i` failed with this fault, copying the regions failed with it.
   pub region_fails : FailsToCopyRegion out log bytes (get_or files i d) before after fault
       → FailsToCopy out log files before after fault
   region_fails fails = inr (
@@ -135,8 +122,6 @@ module _ (out : Bor Text) (log : Option (Bor Text)) (files : List RegionFile) (b
     inl (any_at (λ region. FailsToCopyRegion out log bytes region before after fault) files i d within fails),
   )
 
-  -- If comparing the file of region `i` with those of the earlier regions fails with this fault, copying the regions
-  -- failed with it.
   pub compare_fails : Any (λ other. FailsApart before.nature (Some other.file) (Some (get_or files i d).file) fault)
       (take i files)
       → FailsToCopy out log files before after fault

@@ -18,12 +18,10 @@ use Rattle.flashnor_serprog.specs.RegionCopies.{AreCopiedBy, KeepsOutput, reads_
 use Rattle.flashnor_serprog.specs.Sends.{SendsOnly}
 use Rattle.flashnor_serprog.specs.declared.region_files.RegionFile.{RegionFile}
 
--- If a job reads the chip into a file (`reads_out`), it is no backup.
 pub no_backup : (backup : Bool) (job : Task) → reads_out backup job ≡ true → backup ≡ false
 no_backup false job reads = refl
 no_backup true job reads = absurd (false≢true reads)
 
--- If `P` holds for each read, and the job reads the chip into a file (`reads_out`), then `P` holds for the job.
 pub only_reads : (P : Task → Type 0)
     → ((file : Bor Text) (regions : Option Regions) → P (task.Read file regions))
     → (backup : Bool) (job : Task) → reads_out backup job ≡ true → P job
@@ -37,7 +35,6 @@ only_reads P read false (task.Change change) reads = absurd (false≢true reads)
 only_reads P read false (task.Restore journal) reads = absurd (false≢true reads)
 only_reads P read true job reads = absurd (false≢true reads)
 
--- If a job doesn't read the chip into a file, nothing is claimed about the files of its regions.
 pub none_copied : (backup : Bool) (job : Task) (files : List RegionFile) (view : View) → reads_out backup job ≡ false
     → AreCopiedBy backup job files view
 none_copied false (task.Read file regions) files view reads = absurd (false≢true (sym reads))
@@ -52,7 +49,6 @@ none_copied true job files view reads = tt
 
 module _ (ranges : Option (List Span)) (bytes : List ℕ) (before : View) (mid after : FilesState)
     (same : after.view.nature ≡ mid.view.nature) (old new : BusState) where
-  -- If the file of a read is kept, the read's promise about this file still holds.
   read_kept : (named : Option ChipName) (file : Text) (outcome : Result Answer Refusal)
       → (is_lawful mid.view ≡ true → KeepsFile file mid after)
       → HasReadChip named file ranges mid.view old new outcome
@@ -78,7 +74,6 @@ module _ (ranges : Option (List Span)) (bytes : List ℕ) (before : View) (mid a
   by_kept false named file outcome is keeps was = read_kept named file outcome keeps was
   by_kept true named file outcome is keeps was = absurd (false≢true (sym is))
 
-  -- If the files of regions were written after a read, and the file of the read was kept, the read was performed.
   pub task_kept : (operation : Operation) (job : Task) (found : Answer) → reads_out operation.is_backup job ≡ true
       → KeepsOutput job mid after → DoesTask operation job ranges bytes before mid old new (Ok found)
       → DoesTask operation job ranges bytes before after old new (Ok found)
@@ -89,7 +84,6 @@ module _ (ranges : Option (List Span)) (bytes : List ℕ) (before : View) (mid a
       (no_backup operation.is_backup job reads) keeps was)
       operation.is_backup job reads
 
-  -- What a read may send doesn't depend on the files.
   pub sends_kept : (operation : Operation) (job : Task) → reads_out operation.is_backup job ≡ true
       → SendsOnly job bytes old new mid → SendsOnly job bytes old new after
   sends_kept operation job reads =

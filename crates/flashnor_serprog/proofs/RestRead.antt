@@ -21,7 +21,6 @@ use Rattle.nor_journal.specs.Text.{Content as Journal}
 use Rattle.nor_plan.proofs.Parts.{HasPart, put_back}
 use Rattle.flashnor_serprog.specs.Rest.{HasReadRest, HasStoppedInRest, IsRestRead}
 
--- A transaction that names the address `at` doesn't name another address `other`.
 names_other : (opcode at other : ℕ) → at ≢ other → (out : List ℕ) → names opcode at out ≡ true
     → names opcode other out ≡ false
 names_other opcode at other differs [] is = refl
@@ -30,9 +29,8 @@ names_other opcode at other differs (first ∷ x ∷ []) is = refl
 names_other opcode at other differs (first ∷ x ∷ y ∷ []) is = refl
 names_other opcode at other differs (first ∷ x ∷ y ∷ z ∷ rest) is = grind (arith, nat_tests)
 
--- Holds if the sectors with a number below `to` that the journal doesn't save were read after `old`, and nothing else
--- was sent. At the addresses of these sectors `bytes` has what was read, and at the addresses in saved sectors it has
--- FFh.
+-- Holds if exactly the sectors below `to` that the journal doesn't save were read after `old`. `bytes` has what was
+-- read, and FFh in saved sectors.
 pub record HasReadUp (journal : Journal) (to : ℕ) (bytes : List ℕ) (old new : BusState) : Type 0 where
   pub reads : ℕ
   pub few : reads ≤ to
@@ -57,7 +55,6 @@ up_none journal bytes state blank = record {
   saved = λ a below is. rw blank (get_or-replicate journal.size a 255 0 below);
 }
 
--- If the journal saves sector `n`, it isn't read, and what holds up to `n` (`HasReadUp`) holds up to `n + 1`.
 pub up_skip : {journal : Journal} {n : ℕ} {bytes : List ℕ} {old new : BusState}
     → is_saved journal n ≡ true → HasReadUp journal n bytes old new → HasReadUp journal (n + 1) bytes old new
 up_skip {journal} {n} {bytes} {old} {new} saved has = record {
@@ -76,8 +73,6 @@ up_skip {journal} {n} {bytes} {old} {new} saved has = record {
   saved = has.saved;
 }
 
--- Let the journal not save sector `n`, let this sector be read (`does`), and let its bytes `part` be put into `bytes`
--- at the sector's addresses. What holds up to `n` (`HasReadUp`) then holds up to `n + 1`.
 module _ {journal : Journal} {n width : ℕ} {bytes part : List ℕ} {old mid new : BusState}
     (exact : width ≡ 4096) (below : n < journal.size / 4096)
     (size : length bytes ≡ journal.size) (long : length part ≡ 4096) (out : is_saved journal n ≡ false)

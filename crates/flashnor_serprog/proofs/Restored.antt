@@ -13,8 +13,6 @@ use Rattle.flashnor_serprog.specs.Restoring.{HasRestoredAndCompared, HasRestored
 use Rattle.flashnor_serprog.specs.declared.chip_faults.JobFault.{JobFault}
 use Rattle.flashnor_serprog.specs.declared.chip_faults.JobFault.TheVariants as ended
 
--- Let `bytes` be the encoding of `journal`. The result of the restore from `journal` is then the result of the restore
--- from `bytes`.
 module _ (operation : Operation) (bytes : List ℕ) (journal : Journal) (sound : IsContent journal)
     (read : bytes ≡ text journal) (old new : BusState) (result : Result (Result Answer Refusal) JobFault) where
   pub restored_from : IfOk result (HasRestoredBy operation.verifies_all operation journal old new)
@@ -27,14 +25,11 @@ module _ (operation : Operation) (bytes : List ℕ) (journal : Journal) (sound :
   fails_from fails = MatchResult-weaker result fails (λ outcome is. is)
       (λ fault is. inl (record { journal = journal; sound = sound; read = read; fails = is }))
 
--- Without a name, the restore was run in each case.
 pub ran_unnamed : (quick : Bool) (journal : Journal) (old new : BusState) (outcome : Result Answer Refusal)
     → HasRestoredNamed quick None journal old new outcome → HasRunRestore quick journal old new outcome
 ran_unnamed quick journal old new outcome (inl has) = rw has.first at has.ran
 ran_unnamed quick journal old new outcome (inr failed) = absurd failed.1
 
--- Let the sectors that the journal doesn't save be read (`first`), and then the restore be run (`ran`). The result of
--- the job then follows from what is sent after the restore.
 module _ (operation : Operation) (journal : Journal) (rest : List ℕ) (old found restored new : BusState)
     (first : HasReadBefore operation.named journal rest old found) (outcome : Result Answer Refusal)
     (ran : HasRunRestore operation.is_quick journal found restored outcome)

@@ -45,8 +45,6 @@ reads_on old mid new one other = other ∙ one
 same_keeps_sent : (old new : BusState) → new ≡ old → KeepsSent old new
 same_keeps_sent old new same = ap (λ (bus : BusState). bus.sent) same
 
--- If the limits of `SendsSaved` hold from `mid` to `new`, and no modifying command was sent from `old` to `mid`, the
--- limits hold from `old` to `new`.
 sends_after : (IsCode : ℕ → Type 0) (journal : Journal) (old mid new : BusState) → KeepsSent old mid
     → SendsSaved IsCode 1 journal mid new → SendsSaved IsCode 1 journal old new
 sends_after IsCode journal old mid new same sends = record {
@@ -57,8 +55,6 @@ sends_after IsCode journal old mid new same sends = record {
   unknown = rw same at sends.unknown;
 }
 
--- If the limits of `SendsSaved` hold from `old` to `mid`, and no modifying command was sent from `mid` to `new`, the
--- limits hold from `old` to `new`.
 sends_before : (IsCode : ℕ → Type 0) (journal : Journal) (old mid new : BusState)
     → SendsSaved IsCode 1 journal old mid → KeepsSent mid new → SendsSaved IsCode 1 journal old new
 sends_before IsCode journal old mid new sends same = record {
@@ -69,9 +65,7 @@ sends_before IsCode journal old mid new sends same = record {
   unknown = rw same sends.unknown;
 }
 
--- Let no modifying command be sent before a session (`same`). Then none is sent up to its end if its journal isn't
--- sealed. If the journal is sealed and the files obey the contract of `Store`, what is sent fits this journal
--- (`SendsJournalled`).
+-- A session without a sealed journal sends no modifying command. With a sealed journal, what is sent fits this journal.
 module _ (request : Request) (image : List ℕ) (file : Text) (before : View) (after : FilesState)
     (old found new : BusState) (outcome : Result Answer Refusal)
     (ran : HasRunInFile request image file before after found new outcome) (same : KeepsSent old found) where
@@ -107,8 +101,6 @@ buffer_reads : (named : Option ChipName) (target : Wanted) (ranges : Option (Lis
 buffer_reads named (wanted.Range start len) ranges bytes old new image is = same_keeps_sent old new is.0
 buffer_reads named target ranges bytes old new image is = made_reads named target ranges bytes old new image is
 
--- Let no modifying command be sent after the session, from `changed` to `new`. What holds for the commands sent up to
--- `changed` then holds for those sent up to `new`.
 module _ (what : What) (file : Text) (old changed new : BusState) (after : FilesState)
     (same : KeepsSent changed new) where
   journalled_before : SendsJournalled what file old changed after → SendsJournalled what file old new after
@@ -179,7 +171,6 @@ named_reads : (named : Option ChipName) (old new : BusState) → IsNamedFirst na
 named_reads None old new same = same_keeps_sent old new same
 named_reads (Some name) old new found = found.1.always.only_reads.sent
 
--- If the check of the name fails, no modifying command is sent. Otherwise what was sent fits the journal.
 named_sends : (quick : Bool) (named : Option ChipName) (journal : Journal) (old new : BusState)
     (outcome : Result Answer Refusal) → HasRestoredNamed quick named journal old new outcome
     → KeepsSent old new ⊎ SendsSaved (IsSavedCode journal) 1 journal old new
@@ -209,8 +200,6 @@ unread_rest journal chip old new OtherChip other = same_keeps_sent old new other
 unread_rest journal chip old new Stopped stopped = stopped.only_reads.sent
 unread_rest journal chip old new _ fails = absurd fails
 
--- If a restore fails before its call to the engine, it sends no modifying command. If the comparison after the call
--- fails, what was sent fits the journal.
 restore_fails : (operation : Operation) (journal : Journal) (old new : BusState) (compared : Bool) (fault : JobFault)
     → FailsBy compared operation journal old new fault
     → KeepsSent old new ⊎ SendsSaved (IsSavedCode journal) 1 journal old new
@@ -227,7 +216,6 @@ restore_fails operation journal old new true (ended.RestNotCompared outcome refu
 restore_fails operation journal old new true _ fails = absurd fails
 restore_fails operation journal old new false fault fails = absurd fails
 
--- Let `bytes` be the encoding of `journal`. What fits the journal then fits the bytes.
 of_journal : (bytes : List ℕ) (journal : Journal) → IsContent journal → bytes ≡ text journal → (old new : BusState)
     → KeepsSent old new ⊎ SendsSaved (IsSavedCode journal) 1 journal old new → KeepsSent old new ⊎ SendsRestore bytes old new
 of_journal bytes journal sound read old new (inl kept) = inl kept
@@ -285,7 +273,6 @@ fill_reads : (named : Option ChipName) (target : Wanted) (ranges : Option (List 
 fill_reads named (wanted.Range start len) ranges bytes old new fault fails = absurd fails
 fill_reads named target ranges bytes old new fault fails = target_fails named target ranges bytes old new fault fails
 
--- A change that fails before its session sends no modifying command.
 fails_change : (operation : Operation) (change : Change) (ranges : Option (List Span)) (bytes : List ℕ)
     (kept : JournalUse) (view : View) (old new : BusState) (fault : Fault)
     → FailsToChange operation change ranges bytes kept view old new fault → KeepsSent old new
@@ -363,7 +350,6 @@ module _ (operation : Operation) (ranges : Option (List Span)) (bytes : List ℕ
   ends_sends (Err fault) fails =
       task_fails_sends operation operation.task ranges bytes before after old new fault fails
 
--- If the states `other` and `old` of the bus are equal, a job that ended from `other` on also ended from `old` on.
 pub ends_from : (operation : Operation) (ranges : Option (List Span)) (bytes : List ℕ) (before : View)
     (after : FilesState) (old other new : BusState) (outcome : Result Answer JobFault) → other ≡ old
     → EndsJob operation ranges bytes before after other new outcome

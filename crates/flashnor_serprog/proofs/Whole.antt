@@ -13,13 +13,11 @@ pub first_none : (journal : Content) → [] ≡ first_sectors journal 0
 unfolding first_sectors
 first_none journal = refl
 
--- If the bytes of the sectors below `n` were joined, and then the bytes of sector `n`, those below `n + 1` were joined.
 pub first_more : (journal : Content) (n : ℕ) (image bytes : List ℕ) → image ≡ first_sectors journal n
     → saved_in journal.saved n ≡ Some bytes → image ++ bytes ≡ first_sectors journal (n + 1)
 unfolding first_sectors
 first_more journal n image bytes is saved = rw (add-one n, is, saved) refl
 
--- If the sector `n` isn't saved, the bytes of the sectors below `n` are those below `n + 1`.
 pub first_same : (journal : Content) (n : ℕ) (image : List ℕ) → image ≡ first_sectors journal n
     → saved_in journal.saved n ≡ None → image ≡ first_sectors journal (n + 1)
 unfolding first_sectors
@@ -29,12 +27,9 @@ records_none : records_text [] ≡ []
 unfolding records_text
 records_none = refl
 
--- A header is followed by no record.
 pub encoded_none : (header : List ℕ) → header ≡ header ++ records_text []
 encoded_none header = rw records_none (sym (append-nil header))
 
--- If the records of the first `i` sectors were appended, and then that of the sector with index `i`, those of the first
--- `i + 1` sectors were appended.
 pub encoded_more : (header bytes : List ℕ) (saved : List SavedSector) (i : ℕ) (s : SavedSector) → i < length saved
     → slice_get saved i ≡ Some s → bytes ≡ header ++ records_text (take i saved)
     → bytes ++ record_text s ≡ header ++ records_text (take (i + 1) saved)
@@ -42,7 +37,6 @@ encoded_more header bytes saved i s inside at is =
     let here = take_more saved i s inside ∙ ap (λ t. take i saved ++ t ∷ []) (get_or_from_slice_get saved i s s at) in
     rw (is, here, records_text-push (take i saved) s) (append_assoc header (records_text (take i saved)) (record_text s))
 
--- The header, the records of all sectors, the end mark and the digest are the encoding.
 pub encoded_all : (journal : Content) (bytes : List ℕ) (i : ℕ) → length journal.saved ≤ i
     → bytes ≡ head (without_unique journal) ++ records_text (take i journal.saved)
     → (bytes ++ end_mark) ++ sha256 (bytes ++ end_mark) ≡ text (without_unique journal)

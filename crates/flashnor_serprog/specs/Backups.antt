@@ -9,7 +9,7 @@ use Rattle.nor_console.specs.declared.messages.Fault.{Fault}
 use Rattle.nor_console.specs.declared.messages.Fault.TheVariants as end
 use Rattle.nor_console.specs.declared.messages.FileFault.TheVariants as file
 
--- Holds if the operation is a backup, and the fault is file fault 4 with the name of its file, which may exist already.
+-- Holds for file fault 4 of a backup whose file may exist already.
 abbrev pub IsExistingBackup : View → Operation → Fault → Type 0
 IsExistingBackup view operation (end.File file.Exists of cause) = (operation.is_backup ≡ true)
     × ((made_by operation.task ≡ Some of) × Happens view (There of.now))

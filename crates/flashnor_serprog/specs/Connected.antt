@@ -14,34 +14,29 @@ use Rattle.nor_args.specs.declared.job.Wanted.TheVariants as wanted
 use Rattle.flashnor_serprog.specs.Jobs.{is_compared}
 use Rattle.flashnor_serprog.specs.declared.connect.Connected.{Connected}
 
--- the name of the device to which the bus belongs
 abbrev pub device_of : Connected → Text
 device_of connected = string_bytes connected.device
 
--- the image that the bus expects, if any. Data that equals this image at its address is read only once; all other data
--- is read twice (`EndsTwice`).
+-- the image that the bus expects, if any: data that equals it is read once, all other data twice (`EndsTwice`)
 abbrev pub expected_by : Connected → Option (List ℕ)
 expected_by connected =
     option_map (λ image. image.items) (expected_of (known_by (checked_by (ahead_of connected.bus.bus))))
 
--- Holds if the bus has carried out no transaction yet.
 pub record IsUnused (state : BusState) : Type 0 where
   pub history : state.history ≡ []
   pub sent : state.sent ≡ []
 
--- true for a write (`-w`), false for an erase or a change of protection
 abbrev pub writes_image : Wanted → Bool
 writes_image (wanted.Write image) = true
 writes_image _ = false
 
--- true for a job that ends with a comparison of the chip with an image: `-v`, and `-w` without `-n` and `-N`
+-- true for `-v`, and for `-w` without `-n` and `-N`: the job ends with a comparison of the chip with an image
 abbrev pub ends_with_image : Operation → Task → Bool
 ends_with_image operation (task.Verify file regions) = true
 ends_with_image operation (task.Change change) = is_compared operation change && writes_image change.wanted
 ends_with_image operation _ = false
 
--- Holds if the bus expects no image, or if `ends_with_image` is true for the job and the bus expects the job's image.
--- It follows that `-r`, `--backup` and `--restore` read all data twice.
+-- Holds if the bus expects no image, or the job ends with its image. So `-r`, `--backup` and `--restore` read twice.
 abbrev pub MayExpectImage : Operation → (bytes : List ℕ) → Option (List ℕ) → Type 0
 MayExpectImage operation bytes None = ⊤
 MayExpectImage operation bytes (Some image) = (ends_with_image operation operation.task ≡ true) × (image ≡ bytes)

@@ -1,52 +1,43 @@
--- The numbers of the progress line: percent, rate and time left, and the estimated duration of a change. Durations are
--- in microseconds.
+-- The numbers of the progress line, and the estimated duration of a change, in microseconds.
 use Rattle.std.specs.Prelude.{◌+◌, ◌-◌, ◌*◌, ◌/◌, ◌%◌, ◌^◌, ◌==◌, ◌&&◌, ℕ, Option, None, Some, min, nat_lt, if◌then◌else◌}
 
--- `n`, or 2^64 - 1 if `n` is greater
 abbrev pub capped : ℕ → ℕ
 capped n = min n (2 ^ 64 - 1)
 
--- `done` of `total` in percent, rounded down and at most 100; `None` if `total` is 0
 abbrev pub percent_of : (done total : ℕ) → Option ℕ
 percent_of done total = if total == 0 then None else Some (min (done * 100 / total) 100)
 
--- the rate in tenths of a KiB per second, rounded down, if `bytes` were transferred in `micros` microseconds; `None` if
--- `micros` is 0
+-- the rate in tenths of a KiB per second
 abbrev pub tenths_of : (bytes micros : ℕ) → Option ℕ
 tenths_of bytes micros = if micros == 0 then None else Some (capped (bytes * 10000000 / (micros * 1024)))
 
--- the time for `amount` if `done` took `micros`, rounded down; `None` if `done` is 0
+-- the time for `amount` if `done` took `micros`
 abbrev pub time_for : (amount done micros : ℕ) → Option ℕ
 time_for amount done micros = if done == 0 then None else Some (capped (amount * micros / done))
 
--- the whole minutes of a time (`minutes_in`), and the whole seconds that are left (`seconds_in`)
 abbrev pub minutes_in : (micros : ℕ) → ℕ
 minutes_in micros = micros / 60000000
 
 abbrev pub seconds_in : (micros : ℕ) → ℕ
 seconds_in micros = micros / 1000000 % 60
 
--- the whole seconds of a time (`whole_seconds_in`), and the whole milliseconds that are left (`millis_in`)
 abbrev pub whole_seconds_in : (micros : ℕ) → ℕ
 whole_seconds_in micros = micros / 1000000
 
 abbrev pub millis_in : (micros : ℕ) → ℕ
 millis_in micros = micros % 1000000 / 1000
 
--- the number of 64 KiB erases among `erases` erases, if they are erases of 4 KiB and 64 KiB that cover exactly
--- `touched` sectors
+-- the number of 64 KiB erases among `erases` that cover exactly `touched` sectors, if the others are of 4 KiB
 abbrev pub blocks_in : (touched erases : ℕ) → ℕ
 blocks_in touched erases = min erases ((touched - erases) / 15)
 
--- the typical time of the erases of a change. A single erase of more than 16 sectors is taken for an erase of the whole
--- chip, which takes 20 s for 2,048 sectors. (W25Q64FV datasheet, AC Electrical Characteristics: 45 ms for 4 KiB, 150 ms
--- for 64 KiB.)
+-- the typical time of the erases of a change. A single erase of more than 16 sectors is one of the whole chip, 20 s for
+-- 2,048 sectors. (W25Q64FV datasheet, AC Electrical Characteristics: 45 ms for 4 KiB, 150 ms for 64 KiB.)
 abbrev pub erase_time : (touched erases : ℕ) → ℕ
 erase_time touched erases =
     if erases == 1 && nat_lt 16 touched then touched * 20000000 / 2048
     else blocks_in touched erases * 150000 + (erases - blocks_in touched erases) * 45000
 
--- the typical time of a change: its erases, and 16 page programs of 0.7 ms for each touched sector (the same table of
--- the datasheet)
+-- the typical time of a change, with 0.7 ms for each page program (the same table of the datasheet)
 abbrev pub change_time : (touched erases : ℕ) → ℕ
 change_time touched erases = erase_time touched erases + touched * 16 * 700

@@ -19,8 +19,7 @@ use Rattle.flashnor_serprog.specs.declared.chip_faults.JobFault.TheVariants as e
 
 -- ---- the target
 
--- Holds if `read_out` was called for the given ranges (if `None`, for the whole chip) and a new faithful vault, and
--- kept its promises. `result` is what the call returned, and `bytes` are all bytes that the vault accepted.
+-- Holds if `read_out`, called with a new faithful vault in memory, kept its promises and returned `result`.
 pub record HasReadToMemory (named : Option ChipName) (ranges : Option (List Span)) (old new : BusState)
     (bytes : List ℕ) (result : Result Report Refusal) : Type 0 where
   pub filled : VaultState
@@ -29,8 +28,7 @@ pub record HasReadToMemory (named : Option ChipName) (ranges : Option (List Span
   pub modelled : IsModelled old → ReadOutModelled named ranges old new (new_vault true) filled result
   pub holds : bytes ≡ filled.bytes
 
--- Holds if the whole chip was read, and has as many bytes as `image`. `target` has the byte of `image` at each address
--- in `spans`, and the byte that was read at every other address.
+-- Holds if the whole chip was read, and `target` has its bytes with those of `image` at the addresses in `spans`.
 pub record IsMerged (named : Option ChipName) (spans : List Span) (image : List ℕ) (old new : BusState)
     (target : List ℕ) : Type 0 where
   pub chip : List ℕ
@@ -41,34 +39,29 @@ pub record IsMerged (named : Option ChipName) (spans : List Span) (image : List 
   pub bytes : (a : ℕ) → a < length chip
       → slice_index target a ≡ merged_byte (contains spans) (slice_index image) (slice_index chip) a
 
--- Holds if `target` is the target of a change. If the change is compared and limited to regions, `ranges` are those of
--- the regions: then the chip was read, and `target` has the bytes that were read at all addresses outside the ranges.
--- If `ranges` is `None`, nothing was sent, and `target` is `image`.
+-- Holds if `target` is the target of a change. For a change of regions that is compared, the chip was read before; for
+-- `None`, nothing was sent.
 abbrev pub IsWholeTarget : Option ChipName → (ranges : Option (List Span)) → (image : List ℕ) → (old new : BusState)
     → (target : List ℕ) → Type 0
 IsWholeTarget named None image old new target = (new ≡ old) × (target ≡ image)
 IsWholeTarget named (Some spans) image old new target = IsMerged named spans image old new target
 
--- the ranges of a change if it is compared; otherwise `None`, because the chip is then not read before the session
+-- the ranges of a change if it is compared; otherwise the chip isn't read before the session
 abbrev pub ranges_if : (compared : Bool) → Option (List Span) → Option (List Span)
 ranges_if true ranges = ranges
 ranges_if false ranges = None
 
--- Holds for error 4 if the image isn't as long as a chip of this size, and for error 5 if an address in `spans` is past
--- the end of that chip.
 abbrev pub IsUnfit : (size : ℕ) → List Span → (image : List ℕ) → Refusal → Type 0
 IsUnfit size spans image (ImageSize chip len) = (chip ≡ size) × (len ≡ length image) × (length image ≢ size)
 IsUnfit size spans image RegionOutside = ReachesPast (Some spans) size
 IsUnfit size spans image _ = ⊥
 
--- the error of reading a chip into memory: error 19 becomes error 18, because the vault in memory refuses a piece only
--- if memory runs out
+-- Error 19 becomes error 18, because the vault in memory refuses a piece only if memory runs out.
 abbrev pub into_memory : Refusal → Refusal
 into_memory (Output written) = Memory
 into_memory refusal = refusal
 
--- Holds if the chip was read, `image` isn't as long as this chip, and the error is 4 with both lengths. The caller has
--- compared the length of `image` with the size of the identified chip before, so another chip was read.
+-- Holds if another chip was read than the one that was identified before, with another size than the image (error 4).
 pub record IsOtherRead (named : Option ChipName) (image : List ℕ) (old new : BusState)
     (refusal : Refusal) : Type 0 where
   pub bytes : List ℕ
@@ -77,15 +70,12 @@ pub record IsOtherRead (named : Option ChipName) (image : List ℕ) (old new : B
   pub is : refusal ≡ ImageSize report.found.size (length image)
   pub differ : length image ≢ report.found.size
 
--- Holds if reading the chip into memory in the given ranges failed with this error.
 abbrev pub FailsInMemory : Option ChipName → (ranges : Option (List Span)) → (old new : BusState) → Refusal → Type 0
 FailsInMemory named ranges old new refusal =
     (bytes : List ℕ) × (why : Refusal) × HasReadToMemory named ranges old new bytes (Err why)
     × (refusal ≡ into_memory why)
 
--- Holds if making the target of a change that is compared and limited to regions failed with this error: the image or
--- the regions don't fit the chip of this size (`IsUnfit`), and nothing was sent; reading the chip failed; or a chip of
--- another size was read.
+-- Holds if making the target of a change of regions that is compared failed with this error.
 abbrev pub FailsToMerge : Option ChipName → (size : ℕ) → (ranges : Option (List Span)) → (image : List ℕ)
     → (old new : BusState) → Refusal → Type 0
 FailsToMerge named size None image old new refusal = ⊥
@@ -94,9 +84,7 @@ FailsToMerge named size (Some spans) image old new refusal = ((new ≡ old) × I
 
 -- ---- the comparison
 
--- Holds if this was done after the session of a change: if the session succeeded and the change is compared, the whole
--- chip was compared with the target, and no difference was found (`HasVerified`). Otherwise nothing was sent after the
--- session.
+-- Holds after a session that succeeded and is compared, if no difference was found; otherwise nothing was sent.
 abbrev pub IsFollowed : (session : Result Answer Refusal) → (compared : Bool) → Option ChipName → (target : List ℕ)
     → (old new : BusState) → Type 0
 IsFollowed (Ok found) true named target old new =
@@ -104,8 +92,7 @@ IsFollowed (Ok found) true named target old new =
 IsFollowed (Ok found) false named target old new = new ≡ old
 IsFollowed (Err refusal) compared named target old new = new ≡ old
 
--- Holds if the session of a change succeeded, the change is compared, and the comparison of the whole chip with the
--- target failed with the error in this fault.
+-- Holds if the comparison of the whole chip with the target failed with the error in this fault.
 abbrev pub FailsToFollow : (session : Result Answer Refusal) → (compared : Bool) → Option ChipName → (target : List ℕ)
     → (old new : BusState) → JobFault → Type 0
 FailsToFollow (Ok found) true named target old new (ended.NotCompared refusal) =

@@ -10,29 +10,26 @@ use Rattle.nor_request.specs.Texts.{hex_digits}
 use Rattle.flashnor_serprog.specs.declared.ending.Further.{Further}
 use Rattle.flashnor_serprog.specs.declared.ending.Further.TheVariants as further
 
--- the line after a change that was not verified
 abbrev pub unverified_line : List ℕ
 unverified_line = line (codes "Nothing was verified (-n)." ∷ [])
 
--- the words that say which of SRP0 (bit 7 of the first byte) and SRP1 (bit 0 of the second) is set in status bytes
+-- the words that say whether SRP0 (bit 7 of the first byte) and SRP1 (bit 0 of the second) are set
 abbrev pub lock_words : (bytes : List ℕ) → List ℕ
 lock_words bytes = if slice_index bytes 0 / 128 == 1
     then (if slice_index bytes 1 % 2 == 1 then codes ", SRP0 and SRP1 are set" else codes ", SRP0 is set")
     else (if slice_index bytes 1 % 2 == 1 then codes ", SRP1 is set" else codes "")
 
--- the line with these status bytes
 abbrev pub status_bytes_line : (bytes : List ℕ) → List ℕ
 status_bytes_line bytes = line (codes "Status: 0x" ∷ hex_digits 2 (slice_index bytes 0) ∷ codes " 0x"
     ∷ hex_digits 2 (slice_index bytes 1) ∷ lock_words bytes ∷ [])
 
--- the bytes of the line that follows, or no bytes if no line does
 abbrev pub further_line : Further → List ℕ
 further_line further.Nothing = []
 further_line further.Unverified = unverified_line
 further_line (further.Protected start len) = protected_line (Some (start, len))
 further_line (further.Status bytes) = status_bytes_line bytes
 
--- the line after a change: the range that `--wp-range` protects, or that a write or an erase with `-n` wasn't verified
+-- the line after a change: the range of `--wp-range`, or that `-n` left a write or an erase unverified
 abbrev pub further_of_change : Wanted → (verify : Bool) → Further
 further_of_change (wanted.Range start len) verify = further.Protected (if len == 0 then 0 else start) len
 further_of_change _ true = further.Nothing

@@ -1,5 +1,4 @@
--- What a job does to the chip over any bus: its call to the engine, the result of that call, and the faults before and
--- after the call.
+-- What a job does to the chip over any bus: its call to the engine, the result, and the faults before and after it.
 use Rattle.std.specs.Prelude.{◌≡◌, ◌&&◌, ◌⊎◌, ℕ, Bool, true, false, List, Option, Result, Ok}
 use Rattle.std.specs.Prelude.{bit_and, nat_eq, not}
 use Rattle.nor_model.specs.Bus.{BusState}
@@ -36,14 +35,12 @@ use Rattle.flashnor_serprog.specs.declared.chip_faults.JobFault.TheVariants as e
 
 -- ---- reading
 
--- Holds if the chip was identified and nothing else was sent, and creating or truncating the file of this name then
--- failed with this fault.
+-- Holds if creating or truncating this file failed, after the chip was identified and before anything else was sent.
 abbrev pub FailsToMake : Option ChipName → Text → View → (old new : BusState) → Fault → Type 0
 FailsToMake named file view old new fault =
     (chip : Found) × HasIdentified named old new (Ok chip) × IsMaking view file fault
 
--- Holds if the chip was identified, and `read_out` was then called to read it into the file, in the given ranges.
--- `outcome` is the result of that call.
+-- Holds if the chip was identified, and then read into the file with this outcome.
 pub record HasReadChip (named : Option ChipName) (file : Text) (ranges : Option (List Span)) (after : View)
     (old new : BusState) (outcome : Result Answer Refusal) : Type 0 where
   pub found : BusState
@@ -51,8 +48,7 @@ pub record HasReadChip (named : Option ChipName) (file : Text) (ranges : Option 
   pub identified : HasIdentified named old found (Ok chip)
   pub read : HasReadOut named file ranges found new after outcome
 
--- Holds if the chip was identified, and `backup` was then called to save it in a journal in a new file. `outcome` is
--- the result of that call.
+-- Holds if the chip was identified, and then saved in a journal in a new file with this outcome.
 pub record HasBackedUpChip (named : Option ChipName) (file : Text) (before : View) (after : FilesState)
     (old new : BusState) (outcome : Result Answer Refusal) : Type 0 where
   pub found : BusState
@@ -60,41 +56,37 @@ pub record HasBackedUpChip (named : Option ChipName) (file : Text) (before : Vie
   pub identified : HasIdentified named old found (Ok chip)
   pub saved : HasBackedUpInFile named file before after found new outcome
 
--- Holds if a read was performed. If `backup` is true, the chip was saved in a journal in a new file; otherwise it was
--- read into the file, in the given ranges.
+-- Holds if a read or, if `backup` is true, a backup was performed.
 abbrev pub HasReadBy : (backup : Bool) → Option ChipName → (file : Text) → (ranges : Option (List Span))
     → (before : View) → (after : FilesState) → (old new : BusState) → Result Answer Refusal → Type 0
 HasReadBy true named file ranges before after old new outcome = HasBackedUpChip named file before after old new outcome
 HasReadBy false named file ranges before after old new outcome =
     HasReadChip named file ranges after.view old new outcome
 
--- Holds if a read or a backup failed with this fault before its call to the engine: in the identification, or in
--- creating or truncating its file.
 abbrev pub FailsToRead : Option ChipName → Text → View → (old new : BusState) → Fault → Type 0
 FailsToRead named file view old new fault =
     FailsToFind named old new fault ⊎ FailsToMake named file view old new fault
 
 -- ---- chips that may be protected
 
--- true if no row applies to the chip's ID, so that its block protection is unknown, and at least one of the bits 2 to 6
--- of its status 1 is set. On nearly every chip these bits protect sectors, which then ignore erases and programs.
+-- true for a chip of an unknown type with one of the bits 2 to 6 of status 1 set. On nearly every chip these bits
+-- protect sectors, which then ignore erases and programs.
 abbrev pub may_be_protected : Found → Bool
 may_be_protected chip = not chip.scheme && not (nat_eq (bit_and chip.status1 0x7C) 0)
 
--- Holds if the chip was identified, and its block protection is known or the bits 2 to 6 of its status 1 are clear.
 pub record IsChangeable (named : Option ChipName) (old new : BusState) (chip : Found) : Type 0 where
   pub identified : HasIdentified named old new (Ok chip)
   pub unprotected : may_be_protected chip ≡ false
 
--- Holds if the chip was identified, `may_be_protected` is true for it, and `byte` is its status 1.
+-- Holds if the chip was identified and may be protected, and `byte` is its status 1.
 pub record IsProtected (named : Option ChipName) (old new : BusState) (byte : ℕ) : Type 0 where
   pub chip : Found
   pub identified : HasIdentified named old new (Ok chip)
   pub protected : may_be_protected chip ≡ true
   pub shown : byte ≡ chip.status1
 
--- Holds if a write or an erase failed with this fault before its target was made: the identification returned an error,
--- or the chip may be protected (chip fault 1). Nothing else was sent.
+-- Holds if a write or an erase failed before its target was made: the identification failed, or the chip may be
+-- protected (chip fault 1).
 abbrev pub FailsToAdmit : Option ChipName → (old new : BusState) → JobFault → Type 0
 FailsToAdmit named old new (ended.Fault fault) = FailsToFind named old new fault
 FailsToAdmit named old new (ended.Protected status1) = IsProtected named old new status1
@@ -102,8 +94,7 @@ FailsToAdmit named old new _ = ⊥
 
 -- ---- changes
 
--- Holds if the chip was identified, `may_be_protected` is false for it, and then `image`, the target of a write or an
--- erase, was made (`IsWholeTarget`).
+-- Holds if the chip was identified and isn't protected, and `image`, the target of a write or an erase, was made.
 pub record HasTarget (named : Option ChipName) (target : Wanted) (ranges : Option (List Span)) (bytes : List ℕ)
     (old new : BusState) (image : List ℕ) : Type 0 where
   pub chip : Found
@@ -111,15 +102,13 @@ pub record HasTarget (named : Option ChipName) (target : Wanted) (ranges : Optio
   pub changeable : IsChangeable named old found chip
   pub is : IsWholeTarget named ranges (asked_bytes target chip.size bytes) found new image
 
--- Holds if `image` is the content of the buffer that the session gets. For a write or an erase, this is the target
--- (`HasTarget`). For a change of protection it is `bytes`, and nothing was sent.
+-- Holds if `image` is in the session's buffer: the target, or `bytes` for a change of protection.
 abbrev pub IsBufferOf : Option ChipName → Wanted → (ranges : Option (List Span)) → (bytes : List ℕ)
     → (old new : BusState) → (image : List ℕ) → Type 0
 IsBufferOf named (wanted.Range start len) ranges bytes old new image = (new ≡ old) × (image ≡ bytes)
 IsBufferOf named target ranges bytes old new image = HasTarget named target ranges bytes old new image
 
--- Holds if the chip was identified, `may_be_protected` is false for it, and making the target then failed with this
--- error: memory ran out before anything more was sent, or `FailsToMerge` holds for the error.
+-- Holds if making the target failed with this error after the identification.
 pub record HasNoTarget (named : Option ChipName) (target : Wanted) (ranges : Option (List Span)) (bytes : List ℕ)
     (old new : BusState) (refusal : Refusal) : Type 0 where
   pub chip : Found
@@ -128,35 +117,30 @@ pub record HasNoTarget (named : Option ChipName) (target : Wanted) (ranges : Opt
   pub fails : ((new ≡ found) × (refusal ≡ Memory))
       ⊎ FailsToMerge named chip.size ranges (asked_bytes target chip.size bytes) found new refusal
 
--- Holds if making the target of a write or an erase failed with this fault: a fault of `FailsToAdmit`, or an error
--- after the identification (`HasNoTarget`).
 abbrev pub FailsToTarget : Option ChipName → Wanted → (ranges : Option (List Span)) → (bytes : List ℕ)
     → (old new : BusState) → JobFault → Type 0
 FailsToTarget named target ranges bytes old new fault = FailsToAdmit named old new fault
     ⊎ ((refusal : Refusal) × HasNoTarget named target ranges bytes old new refusal
     × (fault ≡ ended.Fault (end.Refused refusal)))
 
--- Holds if making the buffer of a session failed with this fault. For a change of protection it can't fail.
 abbrev pub FailsToFill : Option ChipName → Wanted → (ranges : Option (List Span)) → (bytes : List ℕ)
     → (old new : BusState) → JobFault → Type 0
 FailsToFill named (wanted.Range start len) ranges bytes old new fault = ⊥
 FailsToFill named target ranges bytes old new fault = FailsToTarget named target ranges bytes old new fault
 
--- true for a write or an erase, false for a change of protection
 abbrev pub changes_bytes : Wanted → Bool
 changes_bytes (wanted.Range start len) = false
 changes_bytes _ = true
 
--- true if the whole chip is compared after this change: it is a write or an erase, and neither `-n` nor `-N` is given
+-- true for a write or an erase without `-n` and `-N`: the whole chip is compared after it
 abbrev pub is_compared : Operation → Change → Bool
 is_compared operation change = changes_bytes change.wanted && (change.verify && operation.verifies_all)
 
--- the ranges of a change if it is compared; the chip is then read before the change, for its bytes outside these ranges
+-- the ranges of a change if it is compared; the chip is then read before, for its bytes outside these ranges
 abbrev pub ranges_of : Operation → Change → Option (List Span) → Option (List Span)
 ranges_of operation change ranges = ranges_if (is_compared operation change) ranges
 
--- Holds if the session of a change was run with its journal in a new file, after the session's buffer was made
--- (`IsBufferOf`). Before a write or an erase, the chip was identified, and `may_be_protected` was false for it.
+-- Holds if the session was run with its journal in a new file, after its buffer was made.
 pub record HasRunChange (operation : Operation) (change : Change) (ranges : Option (List Span)) (bytes : List ℕ)
     (file : Text) (before : View) (after : FilesState) (old new : BusState)
     (outcome : Result Answer Refusal) : Type 0 where
@@ -165,9 +149,7 @@ pub record HasRunChange (operation : Operation) (change : Change) (ranges : Opti
   pub buffer : IsBufferOf operation.named change.wanted (ranges_of operation change ranges) bytes old found image
   pub ran : HasRunInFile (request_for change operation.named ranges) image file before after found new outcome
 
--- Holds if the session of a change was run with its journal in a new file. If the session succeeded and the change is
--- compared, the chip was then compared with the session's buffer, and no difference was found. Otherwise nothing was
--- sent after the session.
+-- Holds if the session was run, and a comparison after it (if there was one) found no difference.
 pub record HasChangedAndCompared (operation : Operation) (change : Change) (ranges : Option (List Span))
     (bytes : List ℕ) (file : Text) (before : View) (after : FilesState) (old new : BusState)
     (outcome : Result Answer Refusal) : Type 0 where
@@ -175,16 +157,14 @@ pub record HasChangedAndCompared (operation : Operation) (change : Change) (rang
   pub session : HasRunChange operation change ranges bytes file before after old changed outcome
   pub followed : IsFollowed outcome (is_compared operation change) operation.named session.image changed new
 
--- Holds if the session of a change was run with its journal in a new file, and then the comparison
--- (`HasChangedAndCompared`). It never holds for a rehearsal, because this program performs none.
+-- Holds for a change with its journal in a file. This program performs no rehearsal.
 abbrev pub HasChangedBy : Operation → Change → Option (List Span) → (bytes : List ℕ) → JournalUse
     → (before : View) → (after : FilesState) → (old new : BusState) → Result Answer Refusal → Type 0
 HasChangedBy operation change ranges bytes (uses.Journal file) before after old new outcome =
     HasChangedAndCompared operation change ranges bytes file.now before after old new outcome
 HasChangedBy operation change ranges bytes (uses.Rehearse stops) before after old new outcome = ⊥
 
--- Holds if the session of a change succeeded, with its journal in a new file, and the comparison then failed with this
--- error.
+-- Holds if the session succeeded, and the comparison then failed with this error.
 pub record HasNotCompared (operation : Operation) (change : Change) (ranges : Option (List Span)) (bytes : List ℕ)
     (file : Text) (before : View) (after : FilesState) (old new : BusState) (refusal : Refusal) : Type 0 where
   pub changed : BusState
@@ -193,16 +173,14 @@ pub record HasNotCompared (operation : Operation) (change : Change) (ranges : Op
   pub fails : FailsToFollow (Ok reported) (is_compared operation change) operation.named session.image changed new
       (ended.NotCompared refusal)
 
--- Holds if the buffer of the session was made (`IsBufferOf`), and then creating the journal failed with this fault or
--- memory ran out.
+-- Holds if creating the journal failed, or memory ran out, after the session's buffer was made.
 abbrev pub FailsToBeginChange : Operation → Change → Option (List Span) → (bytes : List ℕ) → Text → View
     → (old new : BusState) → Fault → Type 0
 FailsToBeginChange operation change ranges bytes file view old new fault = (image : List ℕ)
     × IsBufferOf operation.named change.wanted (ranges_of operation change ranges) bytes old new image
     × IsMaking view file fault
 
--- Holds if a change failed with this fault before its session, other than chip fault 1: making the session's buffer or
--- creating its journal failed. A rehearsal always fails, with usage fault 6.
+-- Holds if a change failed before its session, except with chip fault 1. A rehearsal fails with usage fault 6.
 abbrev pub FailsToChange : Operation → Change → Option (List Span) → (bytes : List ℕ) → JournalUse → View
     → (old new : BusState) → Fault → Type 0
 FailsToChange operation change ranges bytes (uses.Rehearse stops) view old new fault =
@@ -211,13 +189,11 @@ FailsToChange operation change ranges bytes (uses.Journal file) view old new fau
     FailsToFill operation.named change.wanted (ranges_of operation change ranges) bytes old new (ended.Fault fault)
     ⊎ FailsToBeginChange operation change ranges bytes file.now view old new fault
 
--- true if the journal of a change is written into a file, false for a rehearsal
 abbrev pub has_journal_file : JournalUse → Bool
 has_journal_file (uses.Journal file) = true
 has_journal_file (uses.Rehearse stops) = false
 
--- Holds if a write or an erase with its journal in a file was refused with chip fault 1, and `byte` is the chip's
--- status 1. The files are as they were, so no journal was created.
+-- Holds if a change was refused with chip fault 1, with the chip's status 1 as `byte`. No file was changed.
 pub record IsRefusedAsProtected (named : Option ChipName) (target : Wanted) (kept : JournalUse) (before : View)
     (after : FilesState) (old new : BusState) (byte : ℕ) : Type 0 where
   pub changes : changes_bytes target ≡ true
@@ -225,8 +201,6 @@ pub record IsRefusedAsProtected (named : Option ChipName) (target : Wanted) (kep
   pub protected : IsProtected named old new byte
   pub unmade : after.view ≡ before
 
--- Holds if the journal of the change is in a file, and the comparison after the change failed with this error
--- (`HasNotCompared`).
 abbrev pub FailsComparison : Operation → Change → Option (List Span) → (bytes : List ℕ) → JournalUse
     → (before : View) → (after : FilesState) → (old new : BusState) → Refusal → Type 0
 FailsComparison operation change ranges bytes (uses.Journal file) before after old new refusal =
@@ -246,9 +220,8 @@ FailsChange operation change ranges bytes kept before after old new _ = ⊥
 
 -- ---- tasks
 
--- Holds if the task was performed with this outcome: its call to the engine and, for a change or a restore, the
--- comparison after the call. `ranges` and `bytes` are those of the regions and of the image or journal that were read
--- before.
+-- Holds if the task was performed with this outcome, for the ranges of its regions and the bytes of its image or
+-- journal.
 abbrev pub DoesTask : Operation → Task → (ranges : Option (List Span)) → (bytes : List ℕ) → (before : View)
     → (after : FilesState) → (old new : BusState) → Result Answer Refusal → Type 0
 DoesTask operation task.Probe ranges bytes before after old new outcome =
@@ -268,13 +241,11 @@ DoesTask operation (task.Change change) ranges bytes before after old new outcom
 DoesTask operation (task.Restore journal) ranges bytes before after old new outcome =
     HasRestored operation bytes old new outcome
 
--- Holds if a read or a backup failed with this fault before its call (`FailsToRead`). It holds for no other task.
 abbrev pub FailsBefore : Option ChipName → Task → (bytes : List ℕ) → View → (old new : BusState) → Fault → Type 0
 FailsBefore named (task.Read file regions) bytes view old new fault = FailsToRead named file.now view old new fault
 FailsBefore named _ bytes view old new fault = ⊥
 
--- Holds if `perform` failed with this fault: for a read or a backup before its call; for a change before its session,
--- or in the comparison after it; for a restore before its call, or in the comparison after it.
+-- Holds if `perform` failed with this fault: before the call to the engine, or in the comparison after it.
 abbrev pub FailsPerform : Operation → Task → (ranges : Option (List Span)) → (bytes : List ℕ) → (before : View)
     → (after : FilesState) → (old new : BusState) → JobFault → Type 0
 FailsPerform operation (task.Change change) ranges bytes before after old new fault =

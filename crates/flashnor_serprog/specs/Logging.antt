@@ -12,7 +12,7 @@ use Rattle.nor_console.specs.declared.causes.Cause.TheVariants as causes
 use Rattle.nor_console.specs.declared.messages.Fault.TheVariants as end
 use Rattle.nor_console.specs.declared.messages.FileFault.TheVariants as file
 
--- Holds if the name of the log, if `-o` gives one, is apart from the name of the device and of each file of the job.
+-- Holds if the name of the log is apart from the device and from each file of the job.
 pub record HasOwnLog (nature : Nature) (device : Bor Text) (job : Task) (log : Option (Bor Text)) : Type 0 where
   pub device_log : AreTwo nature (Some device) log
   pub layout_log : AreTwo nature (named_by job).layout log
@@ -20,8 +20,6 @@ pub record HasOwnLog (nature : Nature) (device : Bor Text) (job : Task) (log : O
   pub output_log : AreTwo nature (named_by job).output log
   pub journal_log : AreTwo nature (named_by job).journal log
 
--- Holds if the check of the log's file may fail with this fault. It compares the log with the device, with the files of
--- the job, and with the files to which the program prints.
 abbrev pub FailsLogRole : Nature → Bor Text → Task → Option (Bor Text) → Fault → Type 0
 FailsLogRole nature device job log fault = FailsApart nature (Some device) log fault
     ⊎ (FailsApart nature (named_by job).layout log fault
@@ -29,28 +27,25 @@ FailsLogRole nature device job log fault = FailsApart nature (Some device) log f
     ⊎ (FailsApart nature (named_by job).output log fault
     ⊎ (FailsApart nature (named_by job).journal log fault ⊎ FailsUnprinted nature log fault))))
 
--- Holds if a file whose first 23 bytes are `start` isn't empty and doesn't begin as a log.
+-- Holds for the first 23 bytes of a file that isn't empty and doesn't begin as a log.
 pub record BeginsNoLog (start : List ℕ) : Type 0 where
   pub some : ¬ (start ≡ [])
   pub other : ¬ (start ≡ codes "Log of flashnor-serprog")
 
--- Holds for file fault 4 of a file that exists, isn't empty, and doesn't begin as a log. `start` are the first 23 bytes
--- of the file, or all its bytes if it has fewer. Nothing is claimed if the file isn't known (`IsKnownFile`).
+-- Holds for file fault 4 of a file that begins as no log. Nothing is claimed if the file isn't known (`IsKnownFile`).
 pub record IsExistingLog (view : View) (name : Bor Text) (fault : Fault) : Type 0 where
   pub start : List ℕ
   pub read : IsRead view name.now 23 start
   pub begins : BeginsNoLog start
   pub is : fault ≡ end.File file.Exists name causes.Unknown
 
--- Holds if the file of the log, if a name is given, may have been created, truncated or lent between these two states,
--- and no other file was touched. Without a name, each file is as it was.
+-- Holds if no file except the log was changed.
 abbrev pub CreatesLog : Option (Bor Text) → (old new : FilesState) → Type 0
 CreatesLog None old new = AreUntouched old new
 CreatesLog (Some name) old new = (new.view.nature ≡ old.view.nature)
     × (is_lawful old.view ≡ true → OthersStay name.now old new)
 
--- Holds if `old` and `new` may be the files before and after the log was created: reads of each file that is not the
--- log return the same. Without a name of the log, all files are the same.
+-- Holds if reads of each file except the log return the same before and after the log was created.
 abbrev pub StayButLog : Option (Bor Text) → (old new : View) → Type 0
 StayButLog None old new = new ≡ old
 StayButLog (Some name) old new = (new.nature ≡ old.nature)

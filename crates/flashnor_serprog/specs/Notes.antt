@@ -5,8 +5,7 @@ use Rattle.flashnor_serprog.specs.declared.notes.Notes.{Notes}
 use Rattle.flashnor_serprog.specs.declared.sums_file.Before.{Before}
 use Rattle.flashnor_serprog.specs.declared.sums_file.Before.TheVariants as before
 
--- Holds if each sector whose sum before the session is known had the same sum in the comparison after the restore.
--- Nothing is claimed if no sums are known, or if the run made no notes.
+-- Holds if each sector whose sum before the session is known has the same sum after the restore.
 abbrev pub IsAsBefore : Before → Option Notes → Type 0
 IsAsBefore (before.Known sums) (Some notes) = (s : ℕ) → s < 4096
     → Agree (entry_of sums.entries.items s) (entry_of notes.after.entries.items s)

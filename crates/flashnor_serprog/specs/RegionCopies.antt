@@ -19,72 +19,58 @@ use Rattle.nor_console.specs.declared.messages.FileFault.TheVariants as file
 use Rattle.flashnor_serprog.specs.RegionRoles.{FailsDistinct}
 use Rattle.flashnor_serprog.specs.declared.region_files.RegionFile.{RegionFile}
 
--- the bytes at the addresses of a span
 abbrev pub part_at : Span → List ℕ → List ℕ
 part_at span bytes = take (span.last + 1 - span.first) (drop span.first bytes)
 
--- Holds if the region lies in `bytes`, and its file has exactly the bytes at the region's addresses. The second is
--- claimed only if the files obey their contract.
+-- Holds if the region lies in `bytes`, and its file has its bytes (if the files obey their contract).
 pub record IsCopied (bytes : List ℕ) (view : View) (region : RegionFile) : Type 0 where
   pub inside : region.span.last < length bytes
   pub same : is_lawful view ≡ true → view.seen region.file.now ≡ Some (part_at region.span bytes)
 
--- Holds if no region has a file, or if the file of each region has the bytes that the file `out` has at the region's
--- addresses (`IsCopied`).
+-- Holds if the file of each region has the bytes that the file `out` has at the region's addresses.
 abbrev pub AreCopiedFrom : (out : Text) → List RegionFile → View → Type 0
 AreCopiedFrom out [] view = ⊤
 AreCopiedFrom out (first ∷ rest) view = (bytes : List ℕ) × IsRead view out 16777217 bytes
     × All (IsCopied bytes view) (first ∷ rest)
 
--- true for a read, except a backup
 abbrev pub reads_out : (backup : Bool) → Task → Bool
 reads_out false (task.Read file regions) = true
 reads_out _ _ = false
 
--- Holds for the files of regions after a job: after a read, each has the bytes that the file of the read has at the
--- region's addresses. Nothing is claimed after another job.
+-- Holds for the files of regions after a job. Only a read copies bytes into them.
 abbrev pub AreCopiedBy : (backup : Bool) → Task → List RegionFile → View → Type 0
 AreCopiedBy false (task.Read out regions) files view = AreCopiedFrom out.now files view
 AreCopiedBy _ _ files view = ⊤
 
--- Holds for the files of regions after this operation (`AreCopiedBy`).
 abbrev pub AreCopied : Operation → List RegionFile → View → Type 0
 AreCopied operation files view = AreCopiedBy operation.is_backup operation.task files view
 
--- Holds if the file of a read is as it was, provided that the files obey their contract. Nothing is claimed about the
--- files of another task.
+-- Holds if the file of a read is as it was. Nothing is claimed about the files of another task.
 abbrev pub KeepsOutput : Task → (old new : FilesState) → Type 0
 KeepsOutput (task.Read out regions) old new = is_lawful old.view ≡ true → KeepsFile out.now old new
 KeepsOutput _ old new = ⊤
 
 -- ---- faults
 
--- the bytes at the addresses of a span, or `None` if the bytes end before its end
 abbrev pub part_if_inside : Span → List ℕ → Option (List ℕ)
 part_if_inside span bytes = if nat_le span.first (span.last + 1) && nat_le (span.last + 1) (length bytes)
     then Some (part_at span bytes) else None
 
--- Holds for file fault 2 of a file that was created or truncated, and then could not be written. If the files obey
--- their contract, the file has a prefix of the `bytes` that it should get.
+-- Holds for file fault 2 of a file that could not be written. It has a prefix of `bytes` (if files obey their
+-- contract).
 pub record IsWrittenPartly (name : Bor Text) (bytes : List ℕ) (after : View) (fault : Fault) : Type 0 where
   pub is : fault ≡ end.File file.Write name causes.Unknown
   pub has : is_lawful after ≡ true → (kept : ℕ) × (after.seen name.now ≡ Some (take kept bytes))
 
--- Holds if writing these bytes into the file of a region failed with this fault: creating or truncating the file may
--- fail with it, or the file could not be written (`IsWrittenPartly`).
 abbrev pub FailsToWrite : Bor Text → (bytes : List ℕ) → (before after : View) → Fault → Type 0
 FailsToWrite name bytes before after fault = IsMaking before name.now fault ⊎ IsWrittenPartly name bytes after fault
 
--- Holds for file fault 1 of the file `out`, if its bytes are `bytes` and end before the end of the region.
+-- Holds for file fault 1 of the file `out`, if its bytes end before the end of the region.
 pub record EndsInRegion (out : Bor Text) (region : RegionFile) (bytes : List ℕ) (fault : Fault) : Type 0 where
   pub is : fault ≡ end.File file.Read out causes.Unknown
   pub ends : region.span.first ≤ region.span.last + 1 → length bytes < region.span.last + 1
 
--- Holds if copying a region of the file `out`, whose bytes are `bytes`, into the region's file failed with this fault:
---
--- - `out` ends before the end of the region (`EndsInRegion`)
--- - the region's file may be the log or `out`, or looking up one of these names may fail (`FailsApart`)
--- - the region's bytes can't be written into its file (`FailsToWrite`)
+-- Holds if copying a region of the file `out`, whose bytes are `bytes`, into the region's file failed with this fault.
 abbrev pub FailsToCopyRegion : (out : Bor Text) → (log : Option (Bor Text)) → (bytes : List ℕ) → RegionFile
     → (before after : View) → Fault → Type 0
 FailsToCopyRegion out log bytes region before after fault = EndsInRegion out region bytes fault
@@ -92,23 +78,18 @@ FailsToCopyRegion out log bytes region before after fault = EndsInRegion out reg
     ⊎ (FailsApart before.nature (Some out) (Some region.file) fault
     ⊎ FailsToWrite region.file (part_at region.span bytes) before after fault))
 
--- Holds if copying the regions of the file `out` into their files failed with this fault after `out` was read: at one
--- of the regions (`FailsToCopyRegion`), or because the files of two regions may be one (`FailsDistinct`).
 abbrev pub FailsAfterRead : (out : Bor Text) → (log : Option (Bor Text)) → List RegionFile → (before after : View)
     → Fault → Type 0
 FailsAfterRead out log files before after fault = (bytes : List ℕ) × IsRead before out.now 16777217 bytes
     × (Any (λ region. FailsToCopyRegion out log bytes region before after fault) files
     ⊎ FailsDistinct before.nature files fault)
 
--- Holds if copying the regions of the file `out` into their files failed with this fault: `out` can't be read, or the
--- fault is one of `FailsAfterRead`.
+-- Holds if copying the regions of the file `out` into their files failed with this fault.
 abbrev pub FailsToCopy : (out : Bor Text) → (log : Option (Bor Text)) → List RegionFile → (before after : View)
     → Fault → Type 0
 FailsToCopy out log files before after fault =
     IsReadingFault before out.now 16777217 fault ⊎ FailsAfterRead out log files before after fault
 
--- Holds if the job is a read, except a backup, a region has a file, and copying the regions failed with this fault
--- (`FailsToCopy`).
 abbrev pub FailsToCopyBy : (backup : Bool) → Task → (log : Option (Bor Text)) → List RegionFile
     → (before after : View) → Fault → Type 0
 FailsToCopyBy false (task.Read out regions) log files before after fault =

@@ -28,12 +28,10 @@ use Rattle.flashnor_serprog.specs.declared.trouble.Trouble.TheVariants as troubl
 
 -- ---- names
 
--- true for an erase, false for a write or a change of protection
 abbrev pub is_erase : Wanted → Bool
 is_erase wanted.Erase = true
 is_erase _ = false
 
--- true if the task is an erase
 abbrev pub erases : Task → Bool
 erases (task.Change change) = is_erase change.wanted
 erases _ = false
@@ -43,7 +41,6 @@ pub record AreNamed (job : Task) (files : List RegionFile) : Type 0 where
   pub unerased : erases job ≡ true → files ≡ []
   pub named : All (λ region. ¬ region.file.now ≡ []) files
 
--- Holds for the fault of an erase that has regions with files, and for that of a region whose file has an empty name.
 abbrev pub FailsNames : Task → List RegionFile → RegionFault → Type 0
 FailsNames job files wrong.Erased = (erases job ≡ true) × (¬ files ≡ [])
 FailsNames job files (wrong.Unnamed name) =
@@ -52,13 +49,11 @@ FailsNames job files _ = ⊥
 
 -- ---- roles
 
--- Holds if there is no output, or if the layout and the region's file are apart.
 abbrev pub IsApartFromLayout : Nature → (output layout : Option (Bor Text)) → Bor Text → Type 0
 IsApartFromLayout nature None layout of = ⊤
 IsApartFromLayout nature (Some output) layout of = AreTwo nature layout (Some of)
 
--- Holds if a region's file is apart from the device, from the log and from the journal; if the job writes it, also from
--- the layout and from the output.
+-- Holds if a region's file is apart from the device, the log and the journal and, for a read, from layout and output.
 pub record HasOneRole (nature : Nature) (device : Bor Text) (log : Option (Bor Text)) (named : Named) (of : Bor Text)
     : Type 0 where
   pub from_device : AreTwo nature (Some device) (Some of)
@@ -67,55 +62,45 @@ pub record HasOneRole (nature : Nature) (device : Bor Text) (log : Option (Bor T
   pub from_output : AreTwo nature named.output (Some of)
   pub from_layout : IsApartFromLayout nature named.output named.layout of
 
--- Holds if the files of two regions are apart.
 abbrev pub AreTwoFiles : Nature → (one other : RegionFile) → Type 0
 AreTwoFiles nature one other = AreTwo nature (Some one.file) (Some other.file)
 
--- Holds if there is no output, or if the files of the regions are apart from each other.
 abbrev pub AreDistinctIf : Nature → (output : Option (Bor Text)) → List RegionFile → Type 0
 AreDistinctIf nature None files = ⊤
 AreDistinctIf nature (Some output) files = AllPairs (AreTwoFiles nature) files
 
--- Holds if each region's file has one role (`HasOneRole`), and if the job writes these files, each is apart from each
--- other.
+-- Holds if each region's file has one role, and a read writes each region to another file.
 pub record HaveFileRoles (nature : Nature) (device : Bor Text) (job : Task) (log : Option (Bor Text))
     (files : List RegionFile) : Type 0 where
   pub each : All (λ region. HasOneRole nature device log (named_by job) region.file) files
   pub distinct : AreDistinctIf nature (named_by job).output files
 
--- Holds if there is an output, and the check of a region's file that a read will write may fail with this fault: the
--- file may be the layout, the output, or a file to which the program prints.
+-- Holds if the check of a region's file that a read will write may fail with this fault.
 abbrev pub FailsWrittenRole : Nature → (output layout : Option (Bor Text)) → Bor Text → Fault → Type 0
 FailsWrittenRole nature None layout of fault = ⊥
 FailsWrittenRole nature (Some output) layout of fault = FailsApart nature layout (Some of) fault
     ⊎ (FailsApart nature (Some output) (Some of) fault ⊎ FailsUnprinted nature (Some of) fault)
 
--- Holds if the check of the role of a region's file may fail with this fault: the file may be the device, the log or
--- the journal, or the fault is one of a file that the job writes (`FailsWrittenRole`).
+-- Holds if the check of the role of a region's file may fail with this fault.
 abbrev pub FailsFileRole : Nature → Bor Text → (log : Option (Bor Text)) → Named → Bor Text → Fault → Type 0
 FailsFileRole nature device log named of fault = FailsApart nature (Some device) (Some of) fault
     ⊎ (FailsApart nature log (Some of) fault
     ⊎ (FailsApart nature named.journal (Some of) fault ⊎ FailsWrittenRole nature named.output named.layout of fault))
 
--- Holds if `R` holds for an element and a later one. (`AllPairs` holds if `R` holds for all such pairs.)
+-- Holds if `R` holds for an element and a later one, while `AllPairs` holds if `R` holds for all such pairs.
 abbrev pub AnyPair : {X : Type 0} → (X → X → Type 0) → List X → Type 0
 AnyPair {X} R xs = (i : ℕ) × (j : ℕ) × (any : X) × (i < j) × (j < length xs)
     × R (slice_index_or xs i any) (slice_index_or xs j any)
 
--- Holds if comparing the files of the regions with each other may fail with this fault: the files of two regions may be
--- one, or looking one of them up may fail. File fault 5 has the name of the later region's file.
+-- Holds if the files of two regions may be one; file fault 5 then has the name of the later one.
 abbrev pub FailsDistinct : Nature → List RegionFile → Fault → Type 0
 FailsDistinct nature files fault =
     AnyPair (λ earlier later. FailsApart nature (Some earlier.file) (Some later.file) fault) files
 
--- Holds if there is an output, and comparing the files of the regions with each other may fail with this fault
--- (`FailsDistinct`).
 abbrev pub FailsDistinctIf : Nature → (output : Option (Bor Text)) → List RegionFile → Fault → Type 0
 FailsDistinctIf nature None files fault = ⊥
 FailsDistinctIf nature (Some output) files fault = FailsDistinct nature files fault
 
--- Holds if the check of the roles of the regions' files may fail with this fault: at one of them (`FailsFileRole`), or
--- in comparing them with each other if the job writes them (`FailsDistinctIf`).
 abbrev pub FailsRegionRoles : Nature → Bor Text → Task → (log : Option (Bor Text)) → List RegionFile → Fault → Type 0
 FailsRegionRoles nature device job log files fault =
     Any (λ region. FailsFileRole nature device log (named_by job) region.file fault) files
@@ -123,8 +108,7 @@ FailsRegionRoles nature device job log files fault =
 
 -- ---- the output
 
--- Holds for the fault of an output that can't be read back, if a region has a file, and a read of the output may fail
--- or block: it is a FIFO or a device.
+-- Holds if the regions' bytes can't be read back from the output, because it is a FIFO or a device.
 abbrev pub IsNotReadBack : Nature → (output : Option (Bor Text)) → List RegionFile → RegionFault → Type 0
 IsNotReadBack nature (Some output) files (wrong.NotReadBack name) =
     (name ≡ output) × (¬ files ≡ []) × (nature.fails (Unread output.now) ≡ true)
@@ -132,33 +116,26 @@ IsNotReadBack nature output files _ = ⊥
 
 -- ---- journals
 
--- true for the first eight bytes of a journal, of either format
 abbrev pub is_magic : List ℕ → Bool
 is_magic start = bytes_eq start (magic (Some [])) || bytes_eq start (magic None)
 
--- Holds for file fault 4 of this file, whose first eight bytes are those of a journal.
+-- Holds for file fault 4 of a file that begins as a journal.
 abbrev pub IsOldJournal : View → Bor Text → Fault → Type 0
 IsOldJournal view name (end.File file.Exists of cause) = (of ≡ name)
     × ((start : List ℕ) × IsRead view name.now 8 start × (is_magic start ≡ true))
 IsOldJournal view name fault = ⊥
 
--- Holds if the check of a file that a read will truncate may fail with this fault: the file begins as a journal, or
--- reading it may fail.
 abbrev pub FailsOldFile : View → Bor Text → Fault → Type 0
 FailsOldFile view name fault =
     IsOldJournal view name fault ⊎ (IsUnreadFault name.now fault × Happens view (Unread name.now))
 
--- Holds if the task is a read, and the check of the files that it will truncate may fail with this fault, at one of
--- them.
 abbrev pub FailsOldFiles : View → Task → List RegionFile → Fault → Type 0
 FailsOldFiles view (task.Read output regions) files fault = Any (λ region. FailsOldFile view region.file fault) files
 FailsOldFiles view _ files fault = ⊥
 
 -- ---- all checks
 
--- Holds if the checks of the regions' files may fail with this fault: that of their names (`FailsNames`), that of the
--- output (`IsNotReadBack`), that of their roles (`FailsRegionRoles`), or that of the files that a read will truncate
--- (`FailsOldFiles`).
+-- Holds if the checks of the regions' files may fail with this fault.
 abbrev pub FailsRegionFiles : View → Bor Text → Task → (log : Option (Bor Text)) → List RegionFile → Trouble → Type 0
 FailsRegionFiles view device job log files (trouble.Region fault) =
     FailsNames job files fault ⊎ IsNotReadBack view.nature (named_by job).output files fault

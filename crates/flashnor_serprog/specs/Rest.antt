@@ -1,5 +1,4 @@
--- The sectors that a restore's journal doesn't save: what the chip replied to the reads of these sectors before and
--- after the restore.
+-- The sectors that a restore's journal doesn't save: what the chip replied to their reads before and after it.
 use Rattle.std.specs.Prelude.{◌≡◌, ◌<◌, ◌/◌, ◌*◌, ◌++◌, ℕ, Bool, true, false, List, Some, Result, Ok, Err, length}
 use Rattle.std.specs.Prelude.{slice_index}
 use Rattle.std.specs.List.{All}
@@ -16,8 +15,7 @@ use Rattle.nor_console.specs.declared.answers.Answer.{Answer}
 use Rattle.flashnor_serprog.specs.declared.chip_faults.JobFault.{JobFault}
 use Rattle.flashnor_serprog.specs.declared.chip_faults.JobFault.TheVariants as ended
 
--- Holds if the transaction was a read (03h) from the start of a sector that the journal doesn't save, and the bus
--- didn't stop at this transaction.
+-- Holds for a read (03h) of a sector that the journal doesn't save, at which the bus didn't stop.
 pub record IsRestRead (journal : Journal) (exchange : Exchange) : Type 0 where
   pub sector : ℕ
   pub bytes : List ℕ
@@ -25,15 +23,13 @@ pub record IsRestRead (journal : Journal) (exchange : Exchange) : Type 0 where
   pub reads : names 0x03 (4096 * sector) exchange.out ≡ true
   pub replied : exchange.reply ≡ Some bytes
 
--- Holds if `bytes` has one byte for each address of the chip, and FFh at each address in a sector that the journal
--- saves.
+-- Holds if `bytes` has one byte for each address of the chip, and FFh in each sector that the journal saves.
 pub record AreUnsaved (journal : Journal) (bytes : List ℕ) : Type 0 where
   pub long : length bytes ≡ journal.size
   pub saved : (a : ℕ) → a < journal.size → is_saved journal (a / 4096) ≡ true → slice_index bytes a ≡ 255
 
--- Holds if each sector that the journal doesn't save was read after `old`, and nothing else was sent. At the addresses
--- of such a sector, `bytes` has the 4,096 bytes of the last reply to a read of that sector after `old`. At all other
--- addresses it has FFh.
+-- Holds if exactly the sectors that the journal doesn't save were read after `old`. `bytes` has the last reply for
+-- each, and FFh elsewhere.
 pub record HasReadRest (journal : Journal) (bytes : List ℕ) (old new : BusState) : Type 0 where
   pub only_reads : OnlyReads (journal.size / 4096) old new
   pub later : List Exchange
@@ -43,59 +39,49 @@ pub record HasReadRest (journal : Journal) (bytes : List ℕ) (old new : BusStat
       → IsWholeSector (slice_index bytes) s (last_reply (names 0x03 (4096 * s)) later)
   pub unsaved : AreUnsaved journal bytes
 
--- Holds if the bus stopped while the sectors that the journal doesn't save were read. No modifying command was sent,
--- and nothing was sent after the stop.
+-- Holds if the bus stopped while these sectors were read, and nothing was sent after that.
 pub record HasStoppedInRest (journal : Journal) (old new : BusState) : Type 0 where
   pub only_reads : OnlyReads (journal.size / 4096) old new
   pub stopped : HasStopped (journal.size / 4096) old new
 
 -- ---- the comparison after a restore
 
--- True if the sectors that the journal doesn't save are compared after a restore with this outcome: it succeeded, or
--- returned error 14 (mismatch). They are not compared after error 12 (the bus stopped) or 13 (the chip stays busy and
--- ignores reads), and not after any other error, because then the chip was not changed.
+-- True if these sectors are compared after a restore with this outcome. They aren't after error 12 (the bus stopped) or
+-- 13 (a busy chip ignores reads), nor after an error that left the chip as it was.
 abbrev pub is_followed : Result Answer Refusal → Bool
 is_followed (Ok answer) = true
 is_followed (Err (Mismatch address)) = true
 is_followed (Err refusal) = false
 
--- Holds if the sectors that the journal doesn't save were read again, and each byte that was read was as before the
--- restore (`rest`).
+-- Holds if these sectors were read again, and were as before the restore (`rest`).
 pub record HasKeptRest (journal : Journal) (rest : List ℕ) (old new : BusState) : Type 0 where
   pub again : List ℕ
   pub read : HasReadRest journal again old new
   pub equal : AllAgree rest again
 
--- Holds if this was done after a restore: if `followed` is true, the sectors that the journal doesn't save were
--- compared with their bytes before the restore (`rest`), and no difference was found. Otherwise nothing was sent after
--- the restore.
 abbrev pub FollowsRestore : (followed : Bool) → Journal → (rest : List ℕ) → (old new : BusState) → Type 0
 FollowsRestore true journal rest old new = HasKeptRest journal rest old new
 FollowsRestore false journal rest old new = new ≡ old
 
--- Holds if the sectors that the journal doesn't save were read again, and the byte at `address` is the first one that
--- differs from the byte before the restore (`rest`). This byte lies in a sector that the journal doesn't save.
+-- Holds if these sectors were read again, and the byte at `address` is the first that differs.
 pub record HasLostRest (journal : Journal) (rest : List ℕ) (old new : BusState) (address : ℕ) : Type 0 where
   pub again : List ℕ
   pub read : HasReadRest journal again old new
   pub first : IsFirstDifference rest again address
   pub unsaved : is_saved journal (address / 4096) ≡ false
 
--- Holds if the comparison after a restore failed with this error: 12 if the bus stopped, or 14 if a byte differs.
+-- Holds if the comparison after a restore failed: with error 12 if the bus stopped, or 14 if a byte differs.
 abbrev pub FailsRest : Journal → (rest : List ℕ) → (old new : BusState) → Refusal → Type 0
 FailsRest journal rest old new Stopped = HasStoppedInRest journal old new
 FailsRest journal rest old new (Mismatch address) = HasLostRest journal rest old new address
 FailsRest journal rest old new _ = ⊥
 
--- Holds if the comparison after a restore with the result `outcome` failed with the error `refusal`. `restored`, the
--- result of the restore in the job's fault, is `outcome`.
 pub record FailsAfterRestore (outcome : Result Answer Refusal) (journal : Journal) (rest : List ℕ) (old new : BusState)
     (restored : Result Answer Refusal) (refusal : Refusal) : Type 0 where
   pub same : restored ≡ outcome
   pub followed : is_followed outcome ≡ true
   pub fails : FailsRest journal rest old new refusal
 
--- Holds if the comparison after a restore with this outcome failed with this fault.
 abbrev pub FailsToFollowRestore : Result Answer Refusal → Journal → (rest : List ℕ) → (old new : BusState) → JobFault
     → Type 0
 FailsToFollowRestore outcome journal rest old new (ended.RestNotCompared restored refusal) =

@@ -17,8 +17,7 @@ use Rattle.flashnor_serprog.specs.Rest.{FailsRest, FollowsRestore, HasReadRest, 
 use Rattle.flashnor_serprog.specs.declared.chip_faults.JobFault.{JobFault}
 use Rattle.flashnor_serprog.specs.declared.chip_faults.JobFault.TheVariants as ended
 
--- Holds if the chip was identified and has the journal's ID and size, and if the sectors that the journal doesn't save
--- were then read. `rest` has their bytes (`HasReadRest`).
+-- Holds if the chip was identified and has the journal's ID and size, and `rest` was then read (`HasReadRest`).
 pub record HasReadBefore (named : Option ChipName) (journal : Journal) (rest : List ℕ)
     (old new : BusState) : Type 0 where
   pub chip : Found
@@ -27,9 +26,8 @@ pub record HasReadBefore (named : Option ChipName) (journal : Journal) (rest : L
   pub kind : IsOfTypeFound journal chip
   pub read : HasReadRest journal rest found new
 
--- Without `-N`: holds if the sectors that the journal doesn't save were read, and then a restore from the journal was
--- run. If the restore succeeded or returned error 14, these sectors were read again, and had the same bytes
--- (`FollowsRestore`).
+-- Holds for a restore without `-N`: the sectors that the journal doesn't save were read before it and compared after
+-- it.
 pub record HasRestoredAndCompared (operation : Operation) (journal : Journal) (old new : BusState)
     (outcome : Result Answer Refusal) : Type 0 where
   pub rest : List ℕ
@@ -39,16 +37,13 @@ pub record HasRestoredAndCompared (operation : Operation) (journal : Journal) (o
   pub ran : HasRunRestore operation.is_quick journal found restored outcome
   pub followed : FollowsRestore (is_followed outcome) journal rest restored new
 
--- Holds if a restore from this journal was run. If `compared` is true, the sectors that the journal doesn't save were
--- read before the restore, and compared after it. Otherwise only the name that `-c` gives was checked before the
--- restore, and the outcome may be the error of this check.
+-- Holds if a restore from this journal was run, with the comparison or, with `-N`, after a check of the name.
 abbrev pub HasRestoredBy : (compared : Bool) → Operation → Journal → (old new : BusState) → Result Answer Refusal
     → Type 0
 HasRestoredBy true operation journal old new outcome = HasRestoredAndCompared operation journal old new outcome
 HasRestoredBy false operation journal old new outcome =
     HasRestoredNamed operation.is_quick operation.named journal old new outcome
 
--- Holds if `bytes` are a journal, and a restore from that journal was run.
 pub record HasRestored (operation : Operation) (bytes : List ℕ) (old new : BusState)
     (outcome : Result Answer Refusal) : Type 0 where
   pub journal : Journal
@@ -56,14 +51,12 @@ pub record HasRestored (operation : Operation) (bytes : List ℕ) (old new : Bus
   pub read : bytes ≡ text journal
   pub restored : HasRestoredBy operation.verifies_all operation journal old new outcome
 
--- Holds if reading the sectors that the journal doesn't save failed with this error, after the chip was identified:
--- with error 16 if the chip lacks the journal's ID or size (nothing was sent), or with error 12 if the bus stopped.
+-- Holds if reading the rest failed: error 16 if the chip lacks the journal's ID or size, error 12 if the bus stopped.
 abbrev pub FailsRestOf : Journal → Found → (old new : BusState) → Refusal → Type 0
 FailsRestOf journal chip old new OtherChip = (new ≡ old) × (¬ IsOfTypeFound journal chip)
 FailsRestOf journal chip old new Stopped = HasStoppedInRest journal old new
 FailsRestOf journal chip old new _ = ⊥
 
--- Holds if the chip was identified, and reading the sectors that the journal doesn't save then failed with this error.
 pub record HasNotReadRest (named : Option ChipName) (journal : Journal) (old new : BusState)
     (refusal : Refusal) : Type 0 where
   pub chip : Found
@@ -71,14 +64,11 @@ pub record HasNotReadRest (named : Option ChipName) (journal : Journal) (old new
   pub identified : HasIdentified named old found (Ok chip)
   pub fails : FailsRestOf journal chip found new refusal
 
--- Holds if a restore without `-N` failed with this fault before its call to the engine: in the identification, or while
--- the sectors that the journal doesn't save were read.
 abbrev pub FailsToReadRest : Option ChipName → Journal → (old new : BusState) → Fault → Type 0
 FailsToReadRest named journal old new fault = FailsToFind named old new fault
     ⊎ ((refusal : Refusal) × HasNotReadRest named journal old new refusal × (fault ≡ end.Refused refusal))
 
--- Holds if a restore without `-N` was run with this outcome, and the comparison of the sectors that the journal doesn't
--- save then failed with this error (`FailsRest`).
+-- Holds if a restore without `-N` had this outcome, and the comparison after it failed with this error.
 pub record HasNotComparedRest (operation : Operation) (journal : Journal) (old new : BusState)
     (outcome : Result Answer Refusal) (refusal : Refusal) : Type 0 where
   pub rest : List ℕ
@@ -89,8 +79,7 @@ pub record HasNotComparedRest (operation : Operation) (journal : Journal) (old n
   pub followed : is_followed outcome ≡ true
   pub fails : FailsRest journal rest restored new refusal
 
--- Holds if a restore without `-N` failed with this fault: memory ran out before anything was sent, the job failed
--- before its call to the engine (`FailsToReadRest`), or the comparison after the call failed (`HasNotComparedRest`).
+-- Holds if a restore without `-N` failed with this fault: before its call to the engine, or in the comparison after it.
 abbrev pub FailsCompared : Operation → Journal → (old new : BusState) → JobFault → Type 0
 FailsCompared operation journal old new (ended.Fault fault) = ((new ≡ old) × (fault ≡ end.Refused Memory))
     ⊎ FailsToReadRest operation.named journal old new fault
@@ -98,14 +87,11 @@ FailsCompared operation journal old new (ended.RestNotCompared outcome refusal) 
     HasNotComparedRest operation journal old new outcome refusal
 FailsCompared operation journal old new _ = ⊥
 
--- Holds if a restore from this journal failed with this fault. `compared` is true without `-N`: the sectors that the
--- journal doesn't save are then compared after the restore. With `-N` there is no such fault, because an error of the
--- check of the name is the outcome of the restore.
+-- With `-N` there is no such fault, because an error of the check of the name is the outcome of the restore.
 abbrev pub FailsBy : (compared : Bool) → Operation → Journal → (old new : BusState) → JobFault → Type 0
 FailsBy true operation journal old new fault = FailsCompared operation journal old new fault
 FailsBy false operation journal old new fault = ⊥
 
--- Holds if `bytes` are a journal, and the restore from that journal failed with this fault.
 pub record HasNotRestored (operation : Operation) (bytes : List ℕ) (old new : BusState)
     (fault : JobFault) : Type 0 where
   pub journal : Journal
@@ -113,8 +99,6 @@ pub record HasNotRestored (operation : Operation) (bytes : List ℕ) (old new : 
   pub read : bytes ≡ text journal
   pub fails : FailsBy operation.verifies_all operation journal old new fault
 
--- Holds if a restore failed with this fault: the restore from the journal in `bytes` failed; or `bytes` are no journal
--- (error 15), and nothing was sent.
 abbrev pub FailsRestore : Operation → (bytes : List ℕ) → (old new : BusState) → JobFault → Type 0
 FailsRestore operation bytes old new fault = HasNotRestored operation bytes old new fault
     ⊎ ((new ≡ old) × ((error : Fault) × IsNoJournal bytes error × (fault ≡ ended.Fault error)))

@@ -42,7 +42,6 @@ use Rattle.flashnor_serprog.specs.declared.run.Asked.TheVariants as asked
 use Rattle.flashnor_serprog.specs.declared.trouble.Trouble.{Trouble}
 use Rattle.flashnor_serprog.specs.declared.trouble.Trouble.TheVariants as trouble
 
--- the name of this program, for `clap`
 abbrev pub program : Text
 program = codes "flashnor-serprog"
 
@@ -53,17 +52,13 @@ pub record IsAskedFor (words : List Text) (device : Bor Text) (operation : Opera
       (hardware.Chip (record { programmer = programmer; operation = Ok operation }))
   pub named : IsDeviceOf programmer.now device.now
 
--- Holds if the arguments ask for this: the list of chips, the description of the journal in a file, or an operation on
--- the chip of a programmer.
 abbrev pub IsAskedByArguments : List Text → Asked → Type 0
 IsAskedByArguments words asked.List = IsHardwareJob program words hardware.List
 IsAskedByArguments words (asked.Description file image) = IsHardwareJob program words (hardware.CheckJournal file image)
 IsAskedByArguments words (asked.Chip setting operation) = IsAskedFor words setting.device operation
 
--- Holds if a job is prepared, before the programmer is used for it: neither the device nor a file that the job writes
--- has a second role (`HaveOneRole`), nor does the log (`HasOwnLog`); `files` are the regions that have a file of their
--- own, and the job's ranges and bytes were read. In an image, the bytes of these regions are those of their files. If
--- the layout of the regions is on the chip, its bytes `shown` were read from there before (`IsShown`).
+-- Holds if a job is prepared, before the programmer is used for it: no file has two roles, and the ranges and bytes of
+-- the job were read. `files` are the regions with a file of their own; `shown` are the bytes of a layout on the chip.
 pub record IsPrepared (state : Connected → BusState) (view : View) (device : Bor Text) (operation : Operation)
     (files : List RegionFile) (ranges : Option (List Span)) (bytes : List ℕ) : Type 0 where
   pub shown : Option (List ℕ)
@@ -75,8 +70,7 @@ pub record IsPrepared (state : Connected → BusState) (view : View) (device : B
   pub file_roles : HaveFileRoles view.nature device operation.task operation.log files
   pub sources : ArePreparedBytes view operation.is_replaced_chip operation.task files bytes
 
--- Holds if a job ended with this result: the answer or the error of its call of the engine (such as `session` or
--- `restore`), or a fault that occurred before that call or in the comparison of the chip after it.
+-- Holds if a job ended with this result of its call to the engine, or with a fault before or after the call.
 abbrev pub EndsJob : Operation → (ranges : Option (List Span)) → (bytes : List ℕ) → (before : View)
     → (after : FilesState) → (old new : BusState) → Result Answer JobFault → Type 0
 EndsJob operation ranges bytes before after old new (Ok found) =
@@ -87,43 +81,35 @@ EndsJob operation ranges bytes before after old new (Err (ended.Fault (end.Refus
 EndsJob operation ranges bytes before after old new (Err fault) =
     FailsPerform operation operation.task ranges bytes before after old new fault
 
--- Holds if the result of the job is the answer or the error of its call.
 abbrev pub IsEndedAs : Result Answer Refusal → Result Answer JobFault → Type 0
 IsEndedAs (Ok found) result = result ≡ Ok found
 IsEndedAs (Err refusal) result = result ≡ Err (ended.Fault (end.Refused refusal))
 
--- Holds if `text` is what `--flash-name` prints: the line with the chip's name if the answer is an identified chip, and
--- the lines of the answer otherwise.
 abbrev pub AreNameLines : Answer → List ℕ → Type 0
 AreNameLines (answer.Found found) text = text ≡ name_line found.name
 AreNameLines found text = AreLines found text
 
--- Holds if `text` consists of the lines that are printed for this answer. If `named` is true (`--flash-name`), only the
--- chip's name is printed (`AreNameLines`). Otherwise the answer's lines are followed by the line `further`.
+-- Holds if `text` has the lines of this answer, followed by `further`, or only the chip's name for `--flash-name`.
 abbrev pub AreLinesBy : (named : Bool) → Further → Answer → List ℕ → Type 0
 AreLinesBy true further found text = AreNameLines found text
 AreLinesBy false further found text = (lines : List ℕ) × AreLines found lines × (text ≡ lines ++ further_line further)
 
--- Holds if `text` consists of the lines that are printed for this answer of this operation (`AreLinesBy`), for some
--- status bytes.
+-- Holds if `text` has the lines of this answer of this operation, for some status bytes.
 abbrev pub AreJobLines : Operation → Answer → List ℕ → Type 0
 AreJobLines operation found text =
     (status : List ℕ) × AreLinesBy operation.is_flash_name (further_of operation.task status) found text
 
--- Holds if the job ended with an answer, and the answer's lines were printed.
 abbrev pub HasPrintedAnswer : Operation → Result Answer JobFault → (out out' : Option (List ℕ)) → Type 0
 HasPrintedAnswer operation (Ok found) out out' = Prints (AreJobLines operation found) out out'
 HasPrintedAnswer operation (Err fault) out out' = ⊥
 
--- Holds if this was sent after a job with this result: nothing after an answer, and no modifying command after a fault.
+-- Holds if this was sent after a job: nothing after an answer, and no modifying command after a fault.
 abbrev pub LooksAfter : Result Answer JobFault → (ended new : BusState) → Type 0
 LooksAfter (Ok found) ended new = new ≡ ended
 LooksAfter (Err fault) ended new = KeepsSent ended new
 
--- Holds for a run of a job on a chip; `old` and `new` are the states of the bus before and after it, and `ended` is the
--- state when the job ended. The run sent only what its job may send (`SendsOnly`), and then only what `LooksAfter`
--- allows. Its exit status is 0 or 1, and 0 only if the job ended with an answer, the
--- answer's lines were printed, and the files of regions have the bytes that a read copies into them (`AreCopied`).
+-- Holds for a run of a job on a chip, which sent only what the job may send. `ended` is the bus when the job ended. The
+-- exit status is 0 only if the answer was printed and a read copied the bytes of regions into their files.
 pub record HasRun (operation : Operation) (files : List RegionFile) (ranges : Option (List Span)) (bytes : List ℕ)
     (before : View) (after : FilesState) (old new : BusState) (out out' : Option (List ℕ)) (status : ℕ)
     : Type 0 where
@@ -136,8 +122,7 @@ pub record HasRun (operation : Operation) (files : List RegionFile) (ranges : Op
   pub printed : status ≡ 0 → HasPrintedAnswer operation outcome out out'
   pub copied : status ≡ 0 → AreCopied operation files after.view
 
--- Holds for a run of an operation on a chip: of `--wp-enable` or `--wp-disable` if there is a value for SRP0
--- (`HasRunLock`; every file is then as it was), and of any other operation otherwise (`HasRun`).
+-- Holds for a run of an operation on a chip. `--wp-enable` and `--wp-disable` change no file.
 abbrev pub HasRunBy : (srp0 : Option Bool) → Operation → List RegionFile → Option (List Span) → (bytes : List ℕ)
     → (before : View) → (after : FilesState) → (old new : BusState) → (out out' : Option (List ℕ)) → (status : ℕ)
     → Type 0
@@ -146,26 +131,20 @@ HasRunBy None operation files ranges bytes before after old new out out' status 
 HasRunBy (Some srp0) operation files ranges bytes before after old new out out' status =
     HasRunLock operation.named srp0 old new out out' status × (after.view ≡ before)
 
--- Holds if the arguments ask for the help or the version, so that `clap` may reject them with the error that contains
--- the help, or with the one that contains the version.
 abbrev pub ArgumentsAskForHelp : List Text → Type 0
 ArgumentsAskForHelp words = IsAmong kind.DisplayHelp (hardware_refusals_of program words)
     ⊎ IsAmong kind.DisplayVersion (hardware_refusals_of program words)
 
--- Holds if the run ended early because its arguments are a request for the help or the version.
 abbrev pub AsksForHelp : Trouble → Type 0
 AsksForHelp (trouble.Fault fault) = IsAnswered (Err fault) ⊎ AsksForVersion fault
 AsksForHelp _ = ⊥
 
--- Holds if this is true of a run that ended early with the trouble `ended`: if `ended` is a request for the help or the
--- version, then the arguments `words` ask for the help or the version.
+-- Holds if a trouble that is a request for the help or the version comes from arguments that ask for it.
 abbrev pub IsHelpAskedBy : List Text → Trouble → Type 0
 IsHelpAskedBy words ended = AsksForHelp ended → ArgumentsAskForHelp words
 
--- Holds if an operation was prepared, its log was created, and then the operation was run on a bus that had carried out
--- no transaction before. `made` are the files after the log was created; without `-o` each file is as it was. The bus
--- belongs to the device `name`; `start` is the bus before the operation, and `last` is the state of the bus after it.
--- At the start the bus expected no image, or the image that `MayExpectImage` allows.
+-- Holds if an operation was run on a new bus to the device `name`, from `start` to `last`, after its log was created.
+-- `made` are the files after that. The bus expects only an image that `MayExpectImage` allows.
 pub record HasRunOperation (state : Connected → BusState) (files after : FilesState) (name : Bor Text)
     (operation : Operation) (device : Text) (last : BusState) (out out' : Option (List ℕ)) (status : ℕ)
     : Type 0 where
@@ -182,7 +161,6 @@ pub record HasRunOperation (state : Connected → BusState) (files after : Files
   pub logged : StayButLog operation.log files.view made
   pub ran : HasRunBy operation.srp0 operation regions ranges bytes made after (state start) last out out' status
 
--- Holds if the operation that the arguments ask for was run on the device that `dev=` names (`HasRunOperation`).
 pub record HasRunJob (state : Connected → BusState) (files after : FilesState) (words : List Text) (device : Text)
     (last : BusState) (out out' : Option (List ℕ)) (status : ℕ) : Type 0 where
   pub name : Bor Text
@@ -190,17 +168,15 @@ pub record HasRunJob (state : Connected → BusState) (files after : FilesState)
   pub asked : IsAskedFor words name operation
   pub run : HasRunOperation state files after name operation device last out out' status
 
--- Holds if the arguments ask for the description of a journal, and this journal is sealed and undamaged. If they also
--- ask for the image in it, the file of that name has this image (`HasDescribed`).
+-- Holds if the journal that `--check-journal` names is sealed and undamaged, and its image was written if asked for.
 pub record HasChecked (before after : View) (words : List Text) : Type 0 where
   pub file : Bor Text
   pub image : Option (Bor Text)
   pub asked : IsHardwareJob program words (hardware.CheckJournal file image)
   pub described : HasDescribed before file.now after image
 
--- Holds if a run may end with exit status 0: its arguments ask for the help, the version or the list of chips; they ask
--- for the description of a journal that is sealed and undamaged, whose image was written if they ask for it; or their
--- job was run, with status 0, on the bus that the run left in `used`.
+-- Holds if a run may end with exit status 0: for help, version or list, for a sound journal, or for a job that ended
+-- with status 0 on the bus `used`.
 abbrev pub HasSucceeded : (state : Connected → BusState) → (files after : FilesState) → List Text
     → (used : Option Connected) → (out out' : Option (List ℕ)) → Type 0
 HasSucceeded state files after words used out out' = (ArgumentsAskForHelp words

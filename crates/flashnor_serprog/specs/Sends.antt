@@ -12,39 +12,33 @@ use Rattle.nor_args.specs.declared.job.Task.{Task}
 use Rattle.nor_args.specs.declared.job.Task.TheVariants as task
 use Rattle.nor_console.specs.Requests.{what_of}
 
--- Holds if no modifying command was sent: the record of modifying commands is the same before and after.
 abbrev pub KeepsSent : (old new : BusState) → Type 0
 KeepsSent old new = new.sent ≡ old.sent
 
--- Holds if the file's content is a journal that a host crash does not lose, and what was sent fits this journal and the
--- request (`SendsSaved`). Each sector that was targeted now, but not before, is saved, or lies past the end of a chip
--- that the journal saves whole. Each status write of bytes that had not been written before sends only what
--- `WritesOnly` allows: protection bits that the session of this request may write, and every other non-volatile bit as
--- the journal saves it.
+-- Holds if the file durably has a journal, and what was sent fits it: each sector that was targeted is saved (or lies
+-- past the end of a chip that is saved whole), and each new status write changes only protection bits that the request
+-- may change (`WritesOnly`).
 pub record SendsJournalled (what : What) (file : Text) (old new : BusState) (after : FilesState) : Type 0 where
   pub bytes : List ℕ
   pub journal : IsJournal bytes
   pub durable : IsDurable file (Some bytes) after
   pub sends : SendsSaved (IsWrittenCode what journal.content) 1 journal.content old new
 
--- Holds if a change sent no modifying command, or if its journal is durable and all that it sent fits that journal. The
--- second is claimed only if the files obey the contract of `Store`. A rehearsal, which this program doesn't perform,
--- sends no modifying command.
+-- Holds if a change sent no modifying command, or only what its durable journal allows, if files obey their contract.
 abbrev pub SendsChange : What → JournalUse → (old new : BusState) → FilesState → Type 0
 SendsChange what (uses.Journal file) old new after =
     KeepsSent old new ⊎ (is_lawful after.view ≡ true → SendsJournalled what file.now old new after)
 SendsChange what (uses.Rehearse stops) old new after = KeepsSent old new
 
--- Holds if `bytes` are a journal, and what was sent fits this journal (`SendsSaved`). Each sector that was targeted
--- now, but not before, is saved, or lies past the end of a chip that the journal saves whole. Each status write of
--- bytes that had not been written before has the status bits that the journal saves, or the same bits with all
--- protection bits clear.
+-- Holds if what was sent fits the journal in `bytes`: each sector that was targeted is saved (or lies past the end of a
+-- chip that is saved whole), and each new status write has the saved status bits, or these with all protection bits
+-- clear.
 pub record SendsRestore (bytes : List ℕ) (old new : BusState) : Type 0 where
   pub journal : IsJournal bytes
   pub sends : SendsSaved (IsSavedCode journal.content) 1 journal.content old new
 
--- Holds if a job sent only what it may send. A change or a restore sent no modifying command, or only what its journal
--- allows. Any other job sent no modifying command; this includes a read into a file and a backup.
+-- Holds if a job sent only what it may send: a change or a restore what its journal allows, any other job nothing that
+-- modifies the chip.
 abbrev pub SendsOnly : Task → (bytes : List ℕ) → (old new : BusState) → FilesState → Type 0
 SendsOnly (task.Change change) bytes old new after =
     SendsChange (what_of change.wanted) change.journal_use old new after

@@ -1,5 +1,4 @@
--- A change of SRP0 (`--wp-enable`, `--wp-disable`): what is read, what is sent, and how the change can fail. The
--- definitions hold for any bus.
+-- A change of SRP0 (`--wp-enable`, `--wp-disable`) over any bus.
 use Rattle.std.specs.Prelude.{◌≡◌, ◌≢◌, ◌≤◌, ◌+◌, ◌*◌, ◌/◌, ◌%◌, ◌==◌, ◌&&◌, ◌⊎◌, ℕ, Bool, true, false, List, [], ◌∷◌}
 use Rattle.std.specs.Prelude.{◌++◌, Option, None, Some, Result, Ok, Err, codes, slice_index, if◌then◌else◌}
 use Rattle.nor_model.specs.Bus.{BusState}
@@ -27,34 +26,30 @@ use Rattle.flashnor_serprog.specs.declared.status_lock.LockChange.{LockChange}
 
 -- ---- the bytes
 
--- true if SRP0 (bit 7) is set in the byte `one` of status 1
 abbrev pub shows_srp0 : (one : ℕ) → Bool
 shows_srp0 one = one / 128 == 1
 
--- status 1 as a status write sends it if `one` was read before: with this value of SRP0 and the protection bits of
--- `one`. BUSY and WEL (bits 0 and 1) are clear.
+-- status 1 as a status write sends it: `one` with this value of SRP0, and BUSY and WEL (bits 0 and 1) clear
 abbrev pub one_with : (srp0 : Bool) → (one : ℕ) → ℕ
 one_with srp0 one = (if srp0 then 128 else 0) + one % 128 / 4 * 4
 
--- the two bytes that a status write sends, status 1 first: SUS (bit 7 of status 2) is clear
+-- the two bytes of a status write, status 1 first; SUS (bit 7 of status 2) is clear
 abbrev pub bytes_with : (srp0 : Bool) → (before : List ℕ) → List ℕ
 bytes_with srp0 before = one_with srp0 (slice_index before 0) ∷ slice_index before 1 % 128 ∷ []
 
--- true if a status write of the bytes `one` and `two` changes only SRP0, to this value, if the status registers were
--- read as `before`, status 1 first
+-- true if a status write of these bytes changes only SRP0
 abbrev pub sets_srp0 : (srp0 : Bool) → (before : List ℕ) → (one two : ℕ) → Bool
 sets_srp0 srp0 before one two =
     one == one_with srp0 (slice_index before 0) && two == slice_index before 1 % 128
 
--- Holds if the status registers `after` have this value of SRP0, and every other non-volatile bit as in `before`.
+-- Holds if the status registers `after` have this value of SRP0, and the other non-volatile bits of `before`.
 pub record HasOnlySrp0 (srp0 : Bool) (before after : List ℕ) : Type 0 where
   pub one : slice_index after 0 / 4 * 4 ≡ one_with srp0 (slice_index before 0)
   pub two : slice_index after 1 % 128 ≡ slice_index before 1 % 128
 
 -- ---- reading and writing
 
--- Holds if the status registers were read as `bytes`: a wait, whose last poll showed that the chip is ready, and then a
--- read of status 2. Nothing that may modify the chip was sent.
+-- Holds if the status registers were read as `bytes`: after a wait for a chip that is ready, and without changing it.
 pub record ReadsStatus (old new : BusState) (bytes : List ℕ) : Type 0 where
   pub polled : BusState
   pub waited : Waited
@@ -66,23 +61,21 @@ pub record ReadsStatus (old new : BusState) (bytes : List ℕ) : Type 0 where
   pub two_replied : last_reply (begins_with 0x35) new.history ≡ slice_index bytes 1 ∷ []
   pub kept : KeepsSent old new
 
--- Holds if one status write was sent, and nothing else that may modify the chip except write enables. The write changes
--- only SRP0 of the status registers `before` (`sets_srp0`). After it they were read as `after`.
+-- Holds if only one status write was sent, which changes only SRP0, and the status registers were then read as `after`.
 pub record WritesSrp0 (srp0 : Bool) (before after : List ℕ) (old new : BusState) : Type 0 where
   pub wrote : BusState
   pub within : SendsWithin (writing (sets_srp0 srp0 before) 1) old wrote
   pub exactly : SendsExactly 0 0 1 old wrote
   pub read : ReadsStatus wrote new after
 
--- Holds if SRP0 has this value. `after` is `None` if it had the value already; nothing was then sent. Otherwise SRP0
--- differed, it was written, and the status registers were then read as `after`, with all other bits as before.
+-- Holds if SRP0 has this value: it had it already (`None`), or it was written and is read with all other bits as
+-- before.
 abbrev pub IsSet : (srp0 : Bool) → (before : List ℕ) → (after : Option (List ℕ)) → (old new : BusState) → Type 0
 IsSet srp0 before None old new = (shows_srp0 (slice_index before 0) ≡ srp0) × (new ≡ old)
 IsSet srp0 before (Some after) old new =
     (shows_srp0 (slice_index before 0) ≢ srp0) × WritesSrp0 srp0 before after old new × HasOnlySrp0 srp0 before after
 
--- Holds if the chip was identified and has known block protection, its status registers were read with SRP1 (bit 0 of
--- status 2) clear, and SRP0 has this value afterwards (`IsSet`).
+-- Holds if the chip has known block protection, SRP1 (bit 0 of status 2) is clear, and SRP0 has this value afterwards.
 pub record HasSetSrp0 (named : Option ChipName) (srp0 : Bool) (old new : BusState) (change : LockChange) : Type 0 where
   pub found : BusState
   pub read : BusState
@@ -92,8 +85,7 @@ pub record HasSetSrp0 (named : Option ChipName) (srp0 : Bool) (old new : BusStat
   pub open_to : slice_index change.before 1 % 2 ≡ 0
   pub set : IsSet srp0 change.before change.after read new
 
--- Holds if nothing that may modify the chip was sent up to `read`, where the last replies to 05h and 35h are `before`,
--- with SRP1 clear and another value of SRP0. After that at most one status write was sent, which changes only SRP0.
+-- Holds if SRP1 was read as clear and SRP0 as different, and then at most one status write was sent, for SRP0 only.
 pub record SendsSrp0 (srp0 : Bool) (old new : BusState) : Type 0 where
   pub read : BusState
   pub before : List ℕ
@@ -104,15 +96,12 @@ pub record SendsSrp0 (srp0 : Bool) (old new : BusState) : Type 0 where
   pub differs : shows_srp0 (slice_index before 0) ≢ srp0
   pub within : SendsWithin (writing (sets_srp0 srp0 before) 1) read new
 
--- Holds if nothing that may modify the chip was sent, or only one status write that changes SRP0 to this value.
 abbrev pub SendsLock : (srp0 : Bool) → (old new : BusState) → Type 0
 SendsLock srp0 old new = KeepsSent old new ⊎ SendsSrp0 srp0 old new
 
 -- ---- errors
 
--- The meaning of an error after the chip was identified. Error 6: its block protection is unknown, and nothing more was
--- sent. Error 9: SRP1 is set, and the status was only read. Errors 12 and 13: the bus stopped, or the last poll showed
--- BUSY.
+-- Error 6: the block protection is unknown. Error 9: SRP1 is set. In both cases no status write was sent.
 abbrev pub FailsFound : Found → (old new : BusState) → Refusal → Type 0
 FailsFound chip old new NoProtection = (chip.scheme ≡ false) × (new ≡ old)
 FailsFound chip old new StatusLocked = (bytes : List ℕ) × ReadsStatus old new bytes × (slice_index bytes 1 % 2 ≡ 1)
@@ -120,14 +109,13 @@ FailsFound chip old new Stopped = EndsStopped new.history
 FailsFound chip old new (Timeout address) = EndsBusy new.history
 FailsFound chip old new _ = ⊥
 
--- Holds if the chip was identified, and the job then failed with this error.
 pub record FailsToSet (named : Option ChipName) (old new : BusState) (refusal : Refusal) : Type 0 where
   pub chip : Found
   pub found : BusState
   pub identified : HasIdentified named old found (Ok chip)
   pub fails : FailsFound chip found new refusal
 
--- Holds if `sent` was written, and the status registers were then read as `after`, which differ from what was sent.
+-- Holds if `sent` was written, and the status registers were then read as `after`, which differ from it.
 pub record HasNotSet (named : Option ChipName) (srp0 : Bool) (old new : BusState) (sent after : List ℕ) : Type 0 where
   pub chip : Found
   pub found : BusState
@@ -139,8 +127,7 @@ pub record HasNotSet (named : Option ChipName) (srp0 : Bool) (old new : BusState
   pub sends : sent ≡ bytes_with srp0 before
   pub differs : HasOnlySrp0 srp0 before after → ⊥
 
--- Holds if a change of SRP0 failed with this fault: in the identification, with an error after it, or because the chip
--- did not store the status write (chip fault 3).
+-- Holds if a change of SRP0 failed. Chip fault 3: the chip did not store the status write.
 abbrev pub FailsLock : Option ChipName → (srp0 : Bool) → (old new : BusState) → JobFault → Type 0
 FailsLock named srp0 old new (ended.Fault fault) = FailsToFind named old new fault
     ⊎ ((refusal : Refusal) × FailsToSet named old new refusal × (fault ≡ end.Refused refusal))
@@ -149,12 +136,10 @@ FailsLock named srp0 old new _ = ⊥
 
 -- ---- lines
 
--- the line that consists of a label and the bytes of the status registers
 abbrev pub registers_line : (label bytes : List ℕ) → List ℕ
 registers_line label bytes = line (label ∷ codes ": 0x" ∷ hex_digits 2 (slice_index bytes 0) ∷ codes " 0x"
     ∷ hex_digits 2 (slice_index bytes 1) ∷ [])
 
--- the lines with the status registers before and after a change of SRP0, or the line with those that stay
 abbrev pub registers_lines : (before : List ℕ) → (after : Option (List ℕ)) → List ℕ
 registers_lines before (Some after) =
     registers_line (codes "Status before") before ++ registers_line (codes "Status now") after
@@ -169,26 +154,22 @@ meaning_lines false =
     line (codes "SRP0 is clear: the status can be changed. The protected range is as before." ∷ [])
     ++ line (codes "To set SRP0 again, also before a restore from a journal that has it set, use --wp-enable." ∷ [])
 
--- the lines that are printed for a change of SRP0 to this value
 abbrev pub lock_lines : (srp0 : Bool) → LockChange → List ℕ
 lock_lines srp0 change =
     found_line change.found ++ (registers_lines change.before change.after ++ meaning_lines srp0)
 
 -- ---- the job
 
--- Holds if the job ended with this result: SRP0 has this value, or the fault occurred.
 abbrev pub EndsLock : Option ChipName → (srp0 : Bool) → (old new : BusState) → Result LockChange JobFault → Type 0
 EndsLock named srp0 old new (Ok change) = HasSetSrp0 named srp0 old new change
 EndsLock named srp0 old new (Err fault) = FailsLock named srp0 old new fault
 
--- Holds if SRP0 has this value, and the lines of the change were printed.
 abbrev pub HasPrintedLock : (srp0 : Bool) → Result LockChange JobFault → (out out' : Option (List ℕ)) → Type 0
 HasPrintedLock srp0 (Ok change) out out' = Prints (λ text. text ≡ lock_lines srp0 change) out out'
 HasPrintedLock srp0 (Err fault) out out' = ⊥
 
--- Holds for a run of `--wp-enable` or `--wp-disable`; `old` and `new` are the states of the bus before and after it.
--- The run sent only what it may send (`SendsLock`). Its exit status is 0 or 1, and 0 only if SRP0 has this value and
--- the lines of the change were printed.
+-- Holds for a run of `--wp-enable` or `--wp-disable`. The exit status is 0 only if SRP0 has this value and the lines
+-- were printed.
 pub record HasRunLock (named : Option ChipName) (srp0 : Bool) (old new : BusState) (out out' : Option (List ℕ))
     (status : ℕ) : Type 0 where
   pub outcome : Result LockChange JobFault

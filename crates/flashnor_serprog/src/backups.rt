@@ -12,9 +12,7 @@ use nor_geometry::SECTOR_LEN;
 use nor_jobs::find_first;
 use nor_probe::ChipName;
 
-/// Checks that the file which a backup is to create does not exist. Does nothing for other jobs.
-///
-/// Returns file fault 4 if the file exists.
+/// Checks that the file which a backup is to create does not exist (file fault 4). Does nothing for other jobs.
 pub fn check_new<'a, R: Store>(rt: &R, operation: &Operation<'a>) -> Result<(), Fault<'a>>
     ensures { IfErr result (IsExistingBackup (R.state rt.now).view operation.now) }
 {
@@ -26,11 +24,11 @@ pub fn check_new<'a, R: Store>(rt: &R, operation: &Operation<'a>) -> Result<(), 
     }
 }
 
-/// Identifies the chip, and saves the whole chip in a journal, in a new file of this name. Sends no modifying command.
+/// Identifies the chip, and then saves it in a journal in a new file, so without a chip no file is created. Sends no
+/// modifying command.
 ///
-/// The chip is identified before the file is created, so no file is created if there is no chip. Returns a fault if the
-/// identification fails or the file can't be created. Otherwise returns the result of `backup`: after an error of
-/// `backup` the file may hold only a part of the journal.
+/// The outer error is a fault of these two steps. After the inner error, one of `backup`, the file may hold only a part
+/// of the journal.
 pub fn backup_chip<'a, R: Store, B: Progress>(
     rt: &mut R,
     bus: &mut B,

@@ -14,17 +14,15 @@ use std::fmt;
 pub enum JobFault<'a> {
     /// A fault that `flashnor` reports too, with the same line.
     Fault(Fault<'a>),
-    /// Chip fault 1, before a write or an erase: no row applies to the chip's ID, and at least one of the bits 2 to 6
-    /// of its status 1 is set. Nothing was changed, and the journal was not created.
+    /// Chip fault 1, before a write or an erase: the chip has no row, and one of the bits 2 to 6 of its status 1 is
+    /// set. Nothing was changed, and the journal was not created.
     Protected { status1: u8 },
     /// Chip fault 3, of a change of SRP0: `sent` was written, and the status registers were read back as `found`.
     NotStored { sent: [u8; 2], found: [u8; 2] },
-    /// The change was made, and each sector that it touched was read back. Then the comparison of the whole chip with
-    /// its target returned this error: 14 is printed as chip fault 4.
+    /// The change was made and read back; then the comparison of the whole chip returned this error (14: chip fault 4).
     NotCompared { refusal: Refusal },
-    /// The sectors that a journal doesn't save were read, and a restore from it ended with this outcome. Then the
-    /// comparison of these sectors returned this error: 14 is printed as chip fault 4, and 12 means that the bus
-    /// stopped. If the restore returned an error, its line is printed before.
+    /// After a restore with this outcome, whose error is printed before, the comparison of the sectors that the journal
+    /// doesn't save returned this error (14: chip fault 4; 12: the bus stopped).
     RestNotCompared { outcome: Outcome, refusal: Refusal },
 }
 
@@ -97,8 +95,8 @@ impl JobFault<'_> {
         )
     }
 
-    /// Returns a last line for the fault, if the change or restore was performed, and the comparison after it failed
-    /// with another error than a difference. For any other fault returns `None`.
+    /// Returns a last line for a comparison after the change or restore that failed with another error than a
+    /// difference.
     pub fn note(&self) -> Option<&'static str> {
         match self {
             JobFault::NotCompared {
@@ -162,7 +160,6 @@ impl fmt::Display for JobFault<'_> {
     }
 }
 
-// Writes the line of an error, without the newline.
 fn write_error<W: fmt::Write>(f: &mut fmt::Formatter<W>, error: &Refusal) -> fmt::Result {
     write!(f, "Error {}: {error}.", error.number())
 }

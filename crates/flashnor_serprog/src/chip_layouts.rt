@@ -23,23 +23,18 @@ use nor_probe::ChipName;
 use std::alloc::Global;
 use std::io::Write;
 
-// The first 4 KiB of the chip, where the flash descriptor is.
 const DESCRIPTOR: Span = Span {
     first: 0,
     last: 4095,
 };
 
-// The line before the first transaction.
 const READING: &str = "Reading the layout from the chip.";
 
-/// If the layout of the task is on the chip, connects to the programmer, and reads the bytes that contain the layout
-/// into memory: for a flash descriptor the first 4 KiB (all other bytes are then FFh), for an FMAP the whole chip.
-/// Returns `None`, and uses no programmer, if the layout is in a file or the task has none. The connection ends before
-/// the function returns, so that another one can be made for the job.
+/// If the layout of the task is on the chip, reads it over a connection that ends here: for a flash descriptor the
+/// first 4 KiB (FFh elsewhere), for an FMAP the whole chip. Otherwise returns `None`, and uses no programmer.
 ///
-/// No modifying command is sent, and all data is read twice. Returns the faults of `connect_by`. Prints a fault of the
-/// chip or of the bus, with its cause, before it returns `Trouble::Printed`. Also does this if the port seems to change
-/// bytes that are received, because the layout could then be wrong.
+/// No modifying command is sent, and all data is read twice. Returns the faults of `connect_by`. A fault of the chip or
+/// of the bus, or of a port that seems to change bytes, is printed with its cause (`Trouble::Printed`).
 pub fn read_shown<'a, 'b, E: Write>(
     rt: &'b HostRuntime,
     terminal: Terminal<'b>,
@@ -57,8 +52,7 @@ pub fn read_shown<'a, 'b, E: Write>(
     }
 }
 
-/// Returns the form of the task's layout if it is on the chip: if the task has regions, but no file with their layout.
-/// Returns `None` if the task has no regions, or their layout is in a file.
+/// Returns the form of the task's layout if it is on the chip, or `None`.
 pub fn form_on_chip(task: &Task<'_>) -> Option<LayoutForm>
     ensures { result ≡ form_on_chip (regions_of task.now) }
 {
@@ -74,7 +68,6 @@ pub fn form_on_chip(task: &Task<'_>) -> Option<LayoutForm>
     }
 }
 
-// Connects to the programmer, reads the bytes that contain a layout of this form, and ends the connection.
 fn read_first<'a, 'b, E: Write>(
     rt: &'b HostRuntime,
     terminal: Terminal<'b>,
@@ -91,8 +84,6 @@ fn read_first<'a, 'b, E: Write>(
     read_and_report(&mut connected.bus, operation, form, rt.alloc(), errors)
 }
 
-// Reads the bytes that contain a layout of this form. If they can't be read, or if the port seems to change bytes that
-// are received, prints the lines of the fault.
 fn read_and_report<'a, 'b, E: Write>(
     bus: &mut ChipBus<'b>,
     operation: &Operation<'_>,
@@ -119,7 +110,6 @@ fn read_and_report<'a, 'b, E: Write>(
     }
 }
 
-// Identifies the chip, and reads the bytes that contain a layout of this form into memory.
 fn read_layout<'a, B: Progress>(
     bus: &mut B,
     named: Option<ChipName>,
@@ -140,7 +130,6 @@ fn read_layout<'a, B: Progress>(
     }
 }
 
-// Returns the addresses that are read to find a layout of this form, or `None` for all addresses.
 fn ranges_for(form: LayoutForm) -> Option<Ranges>
     ensures { AreReadFor form result }
 {

@@ -3,8 +3,7 @@
 use std::io;
 use std::io::Write;
 
-// The chips that have a row, and chips without one: the name, the ID, the size and the supply. Source: Winbond
-// datasheets of these chips, operating ranges.
+// The name, the ID, the size and the supply of each chip. Source: Winbond datasheets of these chips, operating ranges.
 const CHIPS: &str = "\
 W25Q32FV    ef4016   4 MiB  2.7 to 3.6 V
 W25Q64FV    ef4017   8 MiB  2.7 to 3.6 V

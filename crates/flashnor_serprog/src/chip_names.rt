@@ -3,7 +3,7 @@
 use nor_probe::{ChipName, part_for};
 use std::fmt;
 
-/// The name in the row for this ID, a row of the table or a further row, or `SFDP` without a row. Then the ID.
+/// The name in the row for this ID, or `SFDP` without a row, and then the ID.
 #[derive(Clone, Copy, Drop)]
 pub struct ChipText(pub [u8; 3]);
 

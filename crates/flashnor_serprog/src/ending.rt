@@ -21,8 +21,7 @@ pub fn end_badly<E: Write>(errors: &mut E, fault: &Fault<'_>) -> u8
     1
 }
 
-/// Returns the exit status after something was printed to standard output with the result `printed`: 0 if printing
-/// succeeded. If it failed, prints file fault 2 of standard output to `errors`, and returns 1.
+/// Returns exit status 0 if printing to standard output succeeded. Otherwise prints file fault 2, and returns 1.
 pub fn status_of<E: Write>(printed: io::Result<()>, errors: &mut E) -> u8
     ensures few { result ≤ 1 }
     ensures printed { result ≡ 0 → IsOk printed }
@@ -46,8 +45,7 @@ pub enum Further {
     Status { bytes: [u8; 2] },
 }
 
-// Returns the line that follows the lines of the answer of a task. `status` are the status bytes that were read last,
-// the first for status 1. An empty range begins at 0, whatever start was given.
+// An empty range begins at 0, whatever start was given. `status` has the bytes that were read last, status 1 first.
 fn further_of(task: &Task<'_>, status: [u8; 2]) -> Further
     ensures { result ≡ further_of task.now status }
 {
@@ -67,8 +65,8 @@ fn further_of(task: &Task<'_>, status: [u8; 2]) -> Further
     }
 }
 
-/// Prints an answer, and returns the exit status, which is 0 only if all lines were printed. `status` are the status
-/// bytes that were read last, the first for status 1.
+/// Prints an answer, and returns the exit status, 0 only if all lines were printed. `status` is what was read last,
+/// status 1 first.
 #[tactic(auto, using(crate::proofs::Named::job_lines_printed))]
 pub fn end_well<O: Write, E: Write>(
     output: &mut O,
@@ -84,7 +82,6 @@ pub fn end_well<O: Write, E: Write>(
     status_of(print_lines(output, answer, operation, status), errors)
 }
 
-// Prints the lines of an answer, or only the chip's name with `--flash-name`.
 fn print_lines<O: Write>(
     output: &mut O,
     answer: Answer,
@@ -102,7 +99,6 @@ fn print_lines<O: Write>(
     }
 }
 
-// Prints the lines of an answer, and the line that follows them.
 fn print_followed<O: Write>(output: &mut O, answer: Answer, further: Further) -> io::Result<()>
     ensures { OnOk result
         (Prints (AreLinesBy false further answer) (O.contents output.old) (O.contents output.new)) }
@@ -122,7 +118,6 @@ fn print_further<O: Write>(output: &mut O, further: Further) -> io::Result<()>
     }
 }
 
-// Prints the name of the chip if the answer is an identified chip, and otherwise the lines of the answer.
 #[tactic(auto, using(crate::proofs::Named::name_printed))]
 fn print_name<O: Write>(output: &mut O, answer: Answer) -> io::Result<()>
     ensures { OnOk result (Prints (AreNameLines answer) (O.contents output.old) (O.contents output.new)) }
@@ -169,7 +164,6 @@ fn print_status<O: Write>(output: &mut O, bytes: [u8; 2]) -> io::Result<()>
     output.flush()
 }
 
-// Returns which of the bits is set that lock the status, after a comma.
 fn lock_words(bytes: [u8; 2]) -> &'static str
     ensures { result.now ≡ lock_words bytes }
 {

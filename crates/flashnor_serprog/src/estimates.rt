@@ -15,8 +15,7 @@ pub fn percent(done: u64, total: u64) -> Option<u64>
     Some((u128::from(done) * 100 / u128::from(total)).min(100) as u64)
 }
 
-/// Returns the rate in tenths of a KiB per second if `bytes` were transferred in `micros` microseconds, rounded down
-/// and at most `u64::MAX`; or `None` if `micros` is 0.
+/// Returns the rate in tenths of a KiB per second, rounded down and at most `u64::MAX`; or `None` if `micros` is 0.
 pub fn tenths_of_kib(bytes: u64, micros: u64) -> Option<u64>
     ensures { result ≡ tenths_of bytes micros }
 {
@@ -26,8 +25,7 @@ pub fn tenths_of_kib(bytes: u64, micros: u64) -> Option<u64>
     Some(cap(u128::from(bytes) * 10_000_000 / (u128::from(micros) * 1024)))
 }
 
-/// Returns how many microseconds `amount` takes if `done` took `micros` microseconds, rounded down and at most
-/// `u64::MAX`; or `None` if `done` is 0.
+/// Returns the microseconds for `amount` if `done` took `micros`, rounded down and at most `u64::MAX`, or `None` for 0.
 pub fn time_for(amount: u64, done: u64, micros: u64) -> Option<u64>
     ensures { result ≡ time_for amount done micros }
 {
@@ -37,11 +35,9 @@ pub fn time_for(amount: u64, done: u64, micros: u64) -> Option<u64>
     Some(cap(u128::from(amount) * u128::from(micros) / u128::from(done)))
 }
 
-/// Returns the typical time of a change in microseconds: of its erases, and of 16 page programs for each touched
-/// sector, without the transfers. (W25Q64FV datasheet, AC Electrical Characteristics.)
-///
-/// Only the numbers of touched sectors and of erases are known, so it is assumed that all touched sectors are erased,
-/// by erases of 4 KiB and 64 KiB, or by one erase of the whole chip.
+/// Returns the typical time of a change in microseconds, without the transfers: of its erases, and of 16 page programs
+/// for each touched sector. (W25Q64FV datasheet, AC Electrical Characteristics.) All touched sectors are taken to be
+/// erased, by erases of 4 KiB and 64 KiB, or by one of the whole chip.
 pub fn change_micros(touched: u32, erases: u32) -> u64
     ensures { result ≡ change_time touched erases }
 {
@@ -65,7 +61,7 @@ fn cap(number: u128) -> u64
     u64::try_from(number).unwrap_or(u64::MAX)
 }
 
-/// A time in microseconds, printed as minutes and seconds, as `1:05`. A part of a second is left out.
+/// A time in microseconds, printed as minutes and seconds, as `1:05`, rounded down.
 #[derive(Clone, Copy, Drop)]
 pub struct Minutes(pub u64);
 
@@ -76,7 +72,6 @@ impl fmt::Display for Minutes {
     }
 }
 
-// Returns the whole minutes of a time in microseconds, and the whole seconds that are left.
 fn split_minutes(micros: u64) -> (u64, u64)
     ensures minutes { result.0 ≡ minutes_in micros }
     ensures seconds { result.1 ≡ seconds_in micros }

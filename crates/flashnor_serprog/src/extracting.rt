@@ -15,12 +15,9 @@ use nor_jobs::journal_in;
 use std::io;
 use std::io::Write;
 
-/// Creates or truncates the file `image`, and writes the image in the journal `name` into it: the bytes of all sectors.
-/// A journal is never truncated. Prints the description of the journal to `output`, or to `errors` why there is no
-/// image. Returns the exit status: 0 if the journal is sealed and undamaged and saves the whole chip, the image was
-/// written, and all was printed.
-///
-/// The file is not synced, as that of `-r` isn't.
+/// Creates or truncates the file `image`, but no journal, and writes the image in the journal `name` into it, without a
+/// sync. Prints the description of the journal to `output`, or to `errors` why there is no image. Returns exit status 0
+/// if the journal is sound and whole, and all was written and printed.
 pub fn extract_image<R: Store, O: Write, E: Write>(
     files: &mut R,
     name: &str,
@@ -49,10 +46,8 @@ pub fn extract_image<R: Store, O: Write, E: Write>(
     }
 }
 
-// Writes the image in the journal `name` into the file `image`, and returns the description of the journal.
-//
-// Returns file fault 5 if both names are of one file, or the program prints to `image`; the faults of `read_journal`;
-// error 15 if the file is no journal; `NotWhole` if a sector isn't saved; or a fault of `write_file`.
+// Returns file fault 5 if both names are of one file, or the program prints to `image`; `NotWhole` if a sector isn't
+// saved; error 15 if the file is no journal; or a fault of `read_journal` or `write_file`.
 #[tactic(auto, using(crate::proofs::Extracted::others_after, crate::proofs::Extracted::others_same))]
 fn extract<'a, R: Store>(
     files: &mut R,
@@ -73,7 +68,6 @@ fn extract<'a, R: Store>(
     Ok(description_of(&journal))
 }
 
-// Prints the description of the journal `name`, and the line about the file `image`.
 fn print_extracted<W: Write>(
     output: &mut W,
     name: &str,

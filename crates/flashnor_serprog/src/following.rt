@@ -19,11 +19,11 @@ use nor_read::read_out;
 use nor_session::{Refusal, Report};
 use std::alloc::Global;
 
-/// Returns the target of a change of a chip of `size` bytes: `image` as it is or, if `ranges` are given, with the
-/// chip's own bytes outside the ranges. For that the whole chip is read, into memory.
+/// Returns the target of a change of a chip of `size` bytes: `image` or, with `ranges`, `image` there and the chip's
+/// own bytes elsewhere, for which the whole chip is read into memory.
 ///
-/// With `ranges`, returns error 4 (`image` isn't as long as the chip), 5 (an address in the ranges isn't on the chip),
-/// 18 (out of memory) or another error of `read_out`.
+/// With `ranges`, returns error 4 (`image` isn't as long as the chip), 5 (an address isn't on the chip), 18 (out of
+/// memory) or another error of `read_out`.
 pub fn complete<'a, B: Progress>(
     bus: &mut B,
     named: Option<ChipName>,
@@ -44,7 +44,6 @@ pub fn complete<'a, B: Progress>(
     }
 }
 
-// Returns `image` with the chip's own bytes at all addresses that aren't included. The chip must have `size` bytes.
 fn merge_chip<B: Progress>(
     bus: &mut B,
     named: Option<ChipName>,
@@ -71,7 +70,6 @@ fn merge_chip<B: Progress>(
     Ok(target)
 }
 
-// Returns error 4 if the chip's size isn't the length of the image.
 fn check_size(size: u32, len: usize) -> Result<(), Refusal>
     ensures ok { OnOk result (len ≡ size) }
     ensures err { IfErr result (λ refusal. (refusal ≡ Refusal.ImageSize size len) × (len ≢ size)) }
@@ -86,10 +84,8 @@ fn check_size(size: u32, len: usize) -> Result<(), Refusal>
     }
 }
 
-/// Appends a copy of the chip to a new vault in memory: the chip's byte at each included address, and FFh at all other
-/// addresses. If `included` is `None`, all addresses are included.
-///
-/// Returns error 18 (out of memory) if the vault refuses a piece, or another error of `read_out`.
+/// Copies the chip to a new vault in memory, with FFh at addresses that aren't included (`None` includes all). Returns
+/// error 18 (out of memory) or another error of `read_out`.
 pub fn read_to_memory<B: Bus>(
     bus: &mut B,
     included: Option<&Ranges>,
@@ -109,7 +105,6 @@ pub fn read_to_memory<B: Bus>(
     }
 }
 
-// Copies the bytes of the chip to `target` at all addresses that aren't included. Both must have the same length.
 fn fill_rest(target: &mut [u8], chip: &[u8], included: &Ranges)
     requires same { length target.old ≡ length chip.now }
     requires short { length chip.now < 2 ^ 32 }
@@ -123,8 +118,8 @@ fn fill_rest(target: &mut [u8], chip: &[u8], included: &Ranges)
     }
 }
 
-/// Returns the number of sectors that a change reads before it changes anything: those with an included address and, if
-/// `merged` is true, before that all sectors of the chip once, for the target's bytes outside the regions.
+/// Returns the number of sectors that a change reads first: those with an included address and, if `merged`, before
+/// that the whole chip.
 pub fn sectors_before_change(size: usize, included: Option<&Ranges>, merged: bool) -> usize {
     let scanned = sectors_to_read(size, included);
     if merged {
@@ -134,12 +129,9 @@ pub fn sectors_before_change(size: usize, included: Option<&Ranges>, merged: boo
     }
 }
 
-/// Returns the number of sectors with an included address on a chip of `size` bytes. If `included` is `None`, these are
-/// all sectors.
+/// Returns the number of sectors with an included address on a chip of `size` bytes (with `None`, all).
 pub fn sectors_to_read(size: usize, included: Option<&Ranges>) -> usize {
-    // `size` may be the length of an image that fits no chip (`verify_chip` and `change_chip` pass the length before it
-    // is checked). `verify_image` or the session then returns an error before it reads a sector, so no progress line
-    // shows the number that is returned here.
+    // The length of an image that fits no chip is refused before a sector is read, so its number is never shown.
     let sectors = u32::try_from(size / SECTOR_LEN as usize).unwrap_or(0);
     (0..sectors)
         .filter(|sector| includes_in_sector(included, *sector))
@@ -154,7 +146,7 @@ pub fn ranges_if(compared: bool, ranges: Option<&Ranges>) -> Option<&Ranges>
 }
 
 /// After a session that succeeded, compares the whole chip with the target, if the change is `compared`. Returns the
-/// outcome of the session; or, if the comparison fails, its error as the fault of the job.
+/// outcome of the session, or the error of the comparison as the fault of the job.
 pub fn follow<'a, B: Progress>(
     bus: &mut B,
     outcome: Outcome,

@@ -4,13 +4,11 @@ use crate::steps::{Step, StepLine, Tally, Total};
 use crate::terminal::Transfer;
 use std::time::Instant;
 
-// The shortest time in microseconds between two drawings of the progress line. The line of a step that is complete is
-// drawn at once.
+// Microseconds between two drawings of the progress line; the line of a complete step is drawn at once.
 const BETWEEN: u64 = 100_000;
 
 const READ_STATUS: u8 = 0x05;
 
-// The operations of each step that are done.
 #[derive(Clone, Copy, Default)]
 struct Tallies {
     identify: Tally,
@@ -49,8 +47,7 @@ impl Tallies {
     }
 }
 
-/// Counts the operations of a job. A read is done when its reply is there. An erase, a program or a status write is
-/// done when a poll shows that the chip is ready again.
+/// Counts the operations of a job. A read is done with its reply, any other operation when a poll shows a ready chip.
 #[derive(Clone, Copy)]
 pub struct Gauge {
     tallies: Tallies,
@@ -73,7 +70,7 @@ impl Gauge {
         }
     }
 
-    /// Measures from `now` on: the time since the last operation belongs to no step.
+    /// Measures from `now` on.
     pub fn restart(&mut self, now: Option<Instant>) {
         self.last = now;
     }
@@ -84,7 +81,7 @@ impl Gauge {
     }
 
     /// Records a transaction of this step, or of no step, that was carried out before `now`. Returns the step whose
-    /// line changed, if one did.
+    /// line changed.
     pub fn record(
         &mut self,
         step: Option<Step>,
@@ -106,8 +103,7 @@ impl Gauge {
         }
     }
 
-    // Records a transaction that belongs to no step. If the transaction is a poll, and the chip was performing an
-    // operation, returns the step of this operation.
+    // A poll belongs to no step, but may complete the operation of one.
     fn record_poll(&mut self, out: &[u8], reply: &[u8], now: Option<Instant>) -> Option<Step> {
         let (step, bytes) = self.running?;
         let ([READ_STATUS, ..], Some(status)) = (out, reply.last()) else {
@@ -155,8 +151,6 @@ impl Gauge {
     }
 }
 
-// Returns the number of data bytes of a transaction of this step: for a program the bytes after its opcode and address,
-// for a read of data the reply bytes, and otherwise 0.
 fn data_len(step: Step, out: &[u8], reply: &[u8]) -> u64 {
     match step {
         Step::Program => (out.len() as u64).saturating_sub(4),

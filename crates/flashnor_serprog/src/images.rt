@@ -12,7 +12,7 @@ use nor_session::Refusal;
 use std::alloc::{AllocError, Global};
 use std::fmt;
 
-/// The fault of a journal that doesn't save every sector of its chip, where only a whole chip will do.
+/// The fault of a journal that doesn't save every sector of its chip.
 #[derive(Clone, Copy, Drop)]
 pub struct NotWhole<'a> {
     /// The name of the file with the journal.
@@ -39,8 +39,7 @@ impl fmt::Display for NotWhole<'_> {
     }
 }
 
-/// Checks that the journal, which is in the file of this name, saves every sector of its chip. Returns the fault
-/// otherwise.
+/// Checks that the journal in the file of this name saves every sector of its chip.
 pub fn check_whole<'a>(name: &'a str, journal: &Journal<'_>) -> Result<(), NotWhole<'a>>
     ensures ok { OnOk result (IsWhole journal.now) }
     ensures err { IfErr result (IsNotWholeIn journal.now name.entry) }
@@ -59,9 +58,8 @@ pub fn check_whole<'a>(name: &'a str, journal: &Journal<'_>) -> Result<(), NotWh
     Ok(())
 }
 
-/// Returns the image in the journal, which is in the file of this name: the bytes of all sectors, in order.
-///
-/// Returns `NotWhole` if a sector isn't saved, or error 18 if memory runs out.
+/// Returns the image in the journal in the file of this name. Returns `NotWhole` if a sector isn't saved, or error 18
+/// if memory runs out.
 pub fn whole_image<'a>(
     alloc: Global,
     name: &'a str,
@@ -77,7 +75,6 @@ pub fn whole_image<'a>(
     }
 }
 
-// Returns the bytes of the saved sectors, in the order of their addresses.
 fn join_sectors(alloc: Global, journal: &Journal<'_>) -> Result<Vec<u8>, AllocError>
     ensures { IfOk result (λ image. image.items ≡ saved_image journal.now) }
 {
@@ -90,11 +87,8 @@ fn join_sectors(alloc: Global, journal: &Journal<'_>) -> Result<Vec<u8>, AllocEr
     Ok(image)
 }
 
-/// Returns the image in `bytes`, which were read from the file of this name: the image in the journal if they begin as
-/// a journal does, and otherwise `bytes`.
-///
-/// If they begin as a journal does, returns error 15 if they are none, `NotWhole` if a sector isn't saved, or error 18
-/// if memory runs out.
+/// Returns the image in `bytes` from the file of this name: `bytes` or, if they begin as a journal, the image in it.
+/// Then returns error 15 if they are no journal, `NotWhole` if a sector isn't saved, and error 18 if memory runs out.
 pub fn unpacked<'a>(alloc: Global, name: &'a str, bytes: Vec<u8>) -> Result<Vec<u8>, Trouble<'a>>
     ensures ok { IfOk result (λ image. IsUnpacked bytes.items image.items) }
     ensures err { IfErr result (FailsToUnpack bytes.items name.entry) }
@@ -106,7 +100,6 @@ pub fn unpacked<'a>(alloc: Global, name: &'a str, bytes: Vec<u8>) -> Result<Vec<
     whole_image(alloc, name, &journal)
 }
 
-// True if the bytes begin as a journal of any format does.
 fn begins_as_journal(bytes: &[u8]) -> bool
     ensures { result ≡ begins_as_journal bytes.now }
 {

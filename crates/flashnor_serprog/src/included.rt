@@ -1,4 +1,4 @@
-//! The addresses of the regions of `-i`. If a name is no region, the fault has the regions of the layout.
+//! The addresses of the regions of `-i`.
 ghost use Rattle.std.specs.Prelude.{IfOk, option_map};
 ghost use Rattle.nor_console.specs.Requests.{AreRangesOf};
 
@@ -9,11 +9,8 @@ use nor_console::{include_regions, read_layout};
 use nor_files::Store;
 use nor_layout::Ranges;
 
-/// Returns the addresses of the named regions, or `None` if no regions are given. `shown` are the bytes that were read
-/// from the chip, if the layout is there.
-///
-/// Returns the faults of `read_layout`. If a name is no region, returns the fault with the layout, so that its regions
-/// can be listed.
+/// Returns the addresses of the named regions, or `None` without regions. `shown` are the bytes of a layout on the
+/// chip. Returns the faults of `read_layout`; the fault of a name that is no region lists the regions of the layout.
 pub fn find_included<'a, R: Store>(
     rt: &R,
     regions: Option<Regions<'a>>,

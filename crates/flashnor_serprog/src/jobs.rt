@@ -26,19 +26,13 @@ use nor_layout::Ranges;
 use nor_probe::{ChipName, Found};
 use std::alloc::{AllocError, Global};
 
-/// Performs the job that the arguments ask for, with the contents of the files that it needs. An error is a fault that
-/// occurred before the job's call to the engine, or in the comparison after a write, an erase or a restore.
+/// Performs the job that the arguments ask for, with the contents of the files that it needs. `terminal` receives the
+/// line that says what a session or restore will change. An error is a fault before the call to the engine, or in the
+/// comparison after a write, an erase or a restore. The clauses hold on every bus.
 ///
-/// The clauses hold on every bus: the promises of each call (`DoesTask`), and the faults with the commands sent until
-/// then (`FailsPerform`). If the files obey the contract of `Store`, only the file that the task creates or truncates
-/// is changed: each file whose name is apart from that file's name stays as it was.
-///
-/// `terminal` receives the line that says what a session or restore will change.
-///
-/// A read identifies the chip before it truncates its file, so the file is kept if there is no chip. A backup
-/// identifies the chip before its file is created. A write or an erase identifies the chip before its journal is
-/// created: an erase to know the chip's size, and both because chip fault 1 refuses a chip that may be protected in a
-/// way that this program doesn't know.
+/// Except for the task's own file, each file stays as it was, if files obey the contract of `Store`. A read, backup,
+/// write or erase identifies the chip before this file is created or truncated, so the file is kept if there is no
+/// chip.
 pub fn perform<'a, R: Store, B: Progress>(
     rt: &mut R,
     bus: &mut B,
@@ -70,8 +64,6 @@ pub fn perform<'a, R: Store, B: Progress>(
     }
 }
 
-// Identifies a chip whose bytes will be changed. Returns chip fault 1 if it may be protected in a way that this program
-// doesn't know.
 fn find_changeable<'a, B: Bus>(bus: &mut B, named: Option<ChipName>) -> Result<Found, JobFault<'a>>
     ensures ok { IfOk result (IsChangeable named (B.state bus.old) (B.state bus.new)) }
     ensures err { IfErr result (FailsToAdmit named (B.state bus.old) (B.state bus.new)) }
@@ -85,7 +77,6 @@ fn find_changeable<'a, B: Bus>(bus: &mut B, named: Option<ChipName>) -> Result<F
     Ok(found)
 }
 
-// True if the chip has no known block protection, and at least one of the bits 2 to 6 of its status 1 is set.
 fn may_be_protected(found: &Found) -> bool
     ensures { result ≡ may_be_protected found.now }
 {
@@ -95,7 +86,6 @@ fn may_be_protected(found: &Found) -> bool
 // Bits 2 to 6 of status 1, which protect sectors on nearly every chip.
 const PROTECTION_BITS: u8 = 0x7C;
 
-// Identifies the chip, and reads it into the file of this name.
 fn read_chip<'a, R: Store, B: Progress>(
     rt: &mut R,
     bus: &mut B,
@@ -114,8 +104,6 @@ fn read_chip<'a, R: Store, B: Progress>(
     read_to_file(rt, bus, named, file, included)
 }
 
-// Compares the chip with an image at the included addresses: those of the included regions, or all if no regions were
-// given.
 fn verify_chip<B: Progress>(bus: &mut B, named: Option<ChipName>, sources: Sources) -> Outcome
     ensures { HasVerified named sources.included sources.bytes.items (B.state bus.old) (B.state bus.new) result }
 {
@@ -124,12 +112,7 @@ fn verify_chip<B: Progress>(bus: &mut B, named: Option<ChipName>, sources: Sourc
     verify_image(bus, named, &bytes, included.as_ref())
 }
 
-// Changes the chip, with its journal in a new file. After a write or an erase that succeeded, compares the whole chip
-// with the target, except with `-n` or `-N`. If the change is limited to regions, this target has outside them the
-// bytes that were read from the chip before the session.
-//
-// Returns a usage fault for a rehearsal, which this program doesn't perform, and chip fault 1 for a write or an erase
-// of a chip that may be protected in a way that isn't known.
+// The target of a change of regions has the chip's own bytes outside them. A rehearsal is refused with a usage fault.
 fn change_chip<'a, R: Store, B: Progress>(
     rt: &mut R,
     bus: &mut B,
@@ -171,14 +154,13 @@ fn change_chip<'a, R: Store, B: Progress>(
     follow(bus, outcome, compared, named, &target)
 }
 
-// Returns a copy of these bytes, or an error if memory runs out.
 fn copy_of(bytes: &[u8], alloc: Global) -> Result<Vec<u8>, AllocError>
     ensures { IfOk result (λ copy. copy.items ≡ bytes.now) }
 {
     bytes.to_vec(alloc)
 }
 
-/// True if the whole chip is compared after this change: after a write or an erase, except with `-n` or `-N`.
+/// True if the whole chip is compared after this change: a write or an erase without `-n` and `-N`.
 pub fn is_compared(operation: &Operation<'_>, change: &Change<'_>) -> bool
     ensures { result ≡ is_compared operation.now change.now }
 {
@@ -190,7 +172,7 @@ pub fn is_session(task: &Task<'_>) -> bool {
     matches!(task, Task::Change(_))
 }
 
-/// Returns the name of the journal's file if the task is a session, whose journal is written to a file.
+/// Returns the name of the journal's file if the task is a session with one.
 pub fn journal_of<'a>(task: &Task<'a>) -> Option<&'a str> {
     match task {
         Task::Change(
@@ -203,7 +185,7 @@ pub fn journal_of<'a>(task: &Task<'a>) -> Option<&'a str> {
     }
 }
 
-/// Returns whether a task may write the status. `saved` is what the journal of a restore says.
+/// Returns whether a task may write the status; `saved` is from the journal of a restore.
 pub fn status_write_of(task: &Task<'_>, saved: Option<Saved>) -> StatusWrite {
     match task {
         Task::Change(change) if !changes_bytes(change.wanted) => StatusWrite::OnAnyChip,
@@ -223,10 +205,7 @@ pub fn changes_bytes(wanted: Wanted<'_>) -> bool
     !matches!(wanted, Wanted::Range { .. })
 }
 
-// Returns the bytes of the session's buffer. For a write or an erase they are the target of the change: the bytes of
-// the image, or FFh for each byte of the chip; with `ranges`, the chip's own bytes at all other addresses. For a change
-// of protection, returns `bytes`. Before a write or an erase, identifies the chip, and returns chip fault 1 if the chip
-// may be protected in a way that this program doesn't know.
+// Returns the target of a write or an erase, after identifying the chip, or `bytes` for a change of protection.
 fn fill_buffer<'a, B: Progress>(
     bus: &mut B,
     named: Option<ChipName>,

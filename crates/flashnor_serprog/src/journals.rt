@@ -24,7 +24,7 @@ pub struct Description {
     pub id: [u8; 3],
     /// The chip's size in bytes.
     pub size: u32,
-    /// The eight bytes of the chip's unique ID, or `None` for a journal of format 1, which doesn't contain it.
+    /// The eight bytes of the chip's unique ID, or `None` for a journal of format 1.
     pub unique: Option<[u8; 8]>,
     /// Status 1 and status 2.
     pub status: [u8; 2],
@@ -36,9 +36,8 @@ pub struct Description {
     pub blank: usize,
 }
 
-/// Reads the journal in the named file, and prints its description to `output`; or prints to `errors` why it is no
-/// journal or can't be read. Returns the exit status: 0 if the journal is sealed and undamaged, and its description was
-/// printed. Each file is as it was.
+/// Prints the description of the journal in the named file to `output`, or to `errors` why there is none. Returns exit
+/// status 0 if the journal is sealed and undamaged, and all was printed. Each file is as it was.
 pub fn check_journal<R: Store, O: Write, E: Write>(
     files: &mut R,
     name: &str,
@@ -62,9 +61,6 @@ pub fn check_journal<R: Store, O: Write, E: Write>(
     }
 }
 
-// Reads the journal in the named file, and returns its description.
-//
-// Returns the faults of `read_journal`, or error 15 if the file's bytes aren't a journal.
 fn describe<'a, R: Store>(files: &mut R, name: &'a str) -> Result<Description, Fault<'a>>
     ensures same { AreUntouched (R.state files.old) (R.state files.new) }
     ensures ok { IfOk result (IsDescribedIn (R.state files.old).view name.now) }
@@ -92,7 +88,6 @@ pub fn description_of(journal: &Journal<'_>) -> Description
     }
 }
 
-// Returns the first and the last of the saved addresses, or `None` if no sector is saved.
 fn ends_of(journal: &Journal<'_>) -> Option<(u64, u64)>
     ensures { AreEnds journal.now.saved result }
 {
@@ -105,14 +100,12 @@ fn ends_of(journal: &Journal<'_>) -> Option<(u64, u64)>
     Some((first_byte(first), first_byte(last) + 4095))
 }
 
-// Returns the address of the first byte of a sector.
 fn first_byte(sector: u32) -> u64
     ensures { result ≡ 4096 * sector }
 {
     u64::from(SECTOR_LEN) * u64::from(sector)
 }
 
-// Returns the number of saved sectors that hold only FFh.
 fn count_blank(journal: &Journal<'_>) -> usize
     ensures { result ≡ count_by is_blank journal.now.saved }
 {
@@ -154,7 +147,6 @@ pub fn print_description<W: Write>(
     output.flush()
 }
 
-// The lines of a description. `name` is that of the file.
 #[derive(Drop)]
 struct Lines<'a> {
     name: &'a str,
@@ -210,7 +202,6 @@ impl fmt::Display for Lines<'_> {
     }
 }
 
-// Returns the name in the row with this ID and size, a row of the table or a further row, or `SFDP` without such a row.
 fn name_of(id: [u8; 3], size: u32) -> &'static str {
     match part_for(true, id) {
         Some(part) if part.size == size => part.name.as_str(),
@@ -218,7 +209,6 @@ fn name_of(id: [u8; 3], size: u32) -> &'static str {
     }
 }
 
-// The line with the unique ID of the device from which the journal was saved, if the journal contains it.
 #[derive(Drop)]
 struct UniqueId(Option<[u8; 8]>);
 
@@ -243,7 +233,6 @@ pub struct StatusBits(pub [u8; 2]);
 // The bits of status 1, from bit 0 on (datasheets of W25Q64FV and W25Q128FV, section 7.1).
 const STATUS1: [&str; 8] = ["BUSY", "WEL", "BP0", "BP1", "BP2", "TB", "SEC", "SRP0"];
 
-// The bits of status 2, from bit 0 on.
 const STATUS2: [&str; 8] = ["SRP1", "QE", "reserved", "LB1", "LB2", "LB3", "CMP", "SUS"];
 
 impl fmt::Display for StatusBits {
@@ -255,7 +244,6 @@ impl fmt::Display for StatusBits {
     }
 }
 
-// Writes the name of each bit that is set, after a space.
 fn write_bits<W: fmt::Write>(
     f: &mut fmt::Formatter<W>,
     byte: u8,

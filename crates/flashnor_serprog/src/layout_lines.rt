@@ -8,8 +8,7 @@ use nor_maps::MapFault;
 use std::fmt;
 use std::str::from_utf8;
 
-/// The lines of a map fault: what is wrong with the table that was looked for, and the number of the fault. In these
-/// lines the entries of a flash descriptor are numbered from 0, and the areas of an FMAP from 1.
+/// The lines of a map fault. They number the entries of a flash descriptor from 0, and the areas of an FMAP from 1.
 #[derive(Clone, Copy, Drop)]
 pub struct MapLines {
     fault: MapFault,
@@ -85,8 +84,7 @@ fn text_of_region(fault: RegionFault) -> &'static str {
     }
 }
 
-/// The line with the names of a layout's regions, in the order of the layout, as far as a few lines of a terminal can
-/// hold them.
+/// The line with the names of a layout's regions, as far as a few lines of a terminal can hold them.
 #[derive(Drop)]
 pub struct NamesLine<'a> {
     /// The name of the file with the layout, or `None` if the layout is on the chip.
@@ -94,8 +92,7 @@ pub struct NamesLine<'a> {
     pub layout: Layout,
 }
 
-// Once the names that are printed have this number of bytes, with what separates them, only the number of the further
-// regions follows.
+// After this number of bytes, only the number of the further regions is printed.
 const MOST_NAMES: usize = 200;
 
 impl fmt::Display for NamesLine<'_> {

@@ -43,7 +43,6 @@ pub fn run_lock<'b, O: Write, E: Write>(
     }
 }
 
-// Prints the lines of a change of SRP0, and returns the exit status, which is 0 only if all lines were printed.
 fn end_changed<O: Write, E: Write>(
     output: &mut O,
     errors: &mut E,
@@ -57,8 +56,6 @@ fn end_changed<O: Write, E: Write>(
     status_of(print_change(output, srp0, change), errors)
 }
 
-// Prints the lines of a change of SRP0 to the value `srp0`: the chip, its status registers, what the value means, and
-// how to change it back. Then flushes the writer.
 fn print_change<W: Write>(output: &mut W, srp0: bool, change: &LockChange) -> io::Result<()>
     ensures { OnOk result
         (Prints (λ text. text ≡ lock_lines srp0 change.now) (W.contents output.old) (W.contents output.new)) }
@@ -68,7 +65,6 @@ fn print_change<W: Write>(output: &mut W, srp0: bool, change: &LockChange) -> io
     output.flush()
 }
 
-// Prints the lines of a change of SRP0 that follow the line with the chip.
 #[tactic(auto, using(nor_console::proofs::Printed::appends_then))]
 fn print_lock_lines<W: Write>(
     output: &mut W,
@@ -83,7 +79,6 @@ fn print_lock_lines<W: Write>(
     print_meaning(output, srp0)
 }
 
-// Prints the lines with the status registers before and after a change, or the line with those that stay.
 #[tactic(auto, using(nor_console::proofs::Printed::appends_then))]
 fn print_registers<W: Write>(
     output: &mut W,
@@ -111,7 +106,6 @@ fn print_status<W: Write>(output: &mut W, label: &str, bytes: [u8; 2]) -> io::Re
     writeln!(output, "{label}: 0x{one:02x} 0x{two:02x}")
 }
 
-// Prints the lines that say what this value of SRP0 means, and how to change it back.
 #[tactic(auto, using(nor_console::proofs::Printed::appends_then))]
 fn print_meaning<W: Write>(output: &mut W, srp0: bool) -> io::Result<()>
     ensures { OnOk result (Appends (W.contents output.old) (W.contents output.new) (meaning_lines srp0)) }

@@ -1,16 +1,13 @@
-//! `flashnor_serprog` does the jobs of `flashnor`, except rehearsals, on a chip at a serial programmer.
+//! `flashnor_serprog` does the jobs of `flashnor`, except rehearsals, on a SPI NOR chip at a serial programmer (serprog
+//! protocol). It uses the engine of `flashnor`, and prints the same error numbers and mostly the same lines.
 //!
-//! It identifies, reads, verifies, writes, erases and write-protects a SPI NOR chip over the serprog protocol. Before a
-//! change it saves a journal in a new file, from which `--restore` restores the original chip. It uses the engine of
-//! `flashnor`, and prints the same error numbers and mostly the same lines.
-//!
-//! - `run.rt`: a run of the program, from its arguments to its exit status
+//! - `run.rt`: a run of the program
 //! - `preparing.rt`: checks and reads the files of a job, and identifies the programmer
 //! - `ending.rt`: the end of a run: prints an answer or a fault
 //! - `reports.rt`: what a run prints after an operation failed
 //! - `help.rt`: the text of the help that `-h` prints
 //! - `layout_lines.rt`: the lines of a fault of a layout
-//! - `hints.rt`: the line after that of a fault, for example with what to do, or what was found and expected
+//! - `hints.rt`: the line after that of a fault
 //! - `chip_names.rt`: how a chip is named in a line
 //! - `chip_list.rt`: the list of chips that `-L` prints
 //! - `quoted.rt`: names of files in commands that you may copy
@@ -42,7 +39,7 @@
 //! - `replacing.rt`: the journal of a whole chip for another device of its type, for `--replaced-chip`
 //! - `backups.rt`: saves a whole chip in a new journal
 //! - `restoring.rt`: restores the chip from a journal
-//! - `rest.rt`: the sectors that a restore's journal does not save, and the comparison of them after the restore
+//! - `rest.rt`: the sectors that a restore's journal does not save
 //! - `notes.rt`: the sums of the sectors that a run reads, before the first modifying command and in a comparison
 //! - `sums_file.rt`: the file with these sums, beside a session's journal
 //! - `strays.rt`: the sectors that a run changed by accident, which these sums show
@@ -50,8 +47,7 @@
 //! - `lock_bits.rt`: which of the bits is set that lock the status, and what to do
 //! - `lock_job.rt`: a run of `--wp-enable` or `--wp-disable`, and what it prints
 //! - `following.rt`: the target of a change, and the comparison of the whole chip with it
-//! - `status_line.rt`: the lines for replies that differ, for a lost chip, for a status write that was refused or not
-//!   stored, and for a port that changes bytes
+//! - `status_line.rt`: the lines for replies that differ, a lost chip, a status write and a port that changes bytes
 //! - `chip_faults.rt`: the faults with which a job ends, and the lines of those that `flashnor` lacks
 //! - `trouble.rt`: the reasons why a run ends early, and their printed lines
 //! - `stop_line.rt`: the line after error 12, with its cause and what the job left
@@ -123,8 +119,7 @@ fn main(rt: HostRuntime) -> ExitCode {
     ExitCode::from(run_logged(&rt, &screen, streams.is_ok()))
 }
 
-// Runs the program. What it prints also goes to the log of the run. If descriptors 0, 1 and 2 could not be kept open,
-// opens no file, and prints a fault.
+// If descriptors 0, 1 and 2 could not be kept open, opens no file, and prints a fault.
 fn run_logged<'b>(rt: &'b HostRuntime, screen: &'b Screen, has_descriptors: bool) -> u8 {
     let mut output = Logged::new(by_line(rt.alloc(), rt.stdout()), screen.log());
     let mut errors = Logged::new(by_line(rt.alloc(), rt.stderr()), screen.log());

@@ -11,7 +11,7 @@ use std::{fmt, io};
 /// The reason why a port failed.
 #[derive(Debug, Drop)]
 pub enum PortFault {
-    /// A read returned no byte. This happens if no byte arrives in the time that `stty` set.
+    /// A read returned no byte in the time that `stty` set.
     Silent,
     /// The system returned an error.
     System(io::Error),
@@ -26,8 +26,7 @@ impl fmt::Display for PortFault {
     }
 }
 
-/// A port over the device of a programmer. Its contract assumes nothing about the device, and records what the port is
-/// asked to send, and what it returns.
+/// A port over the device of a programmer. Its contract only records what it is asked to send, and what it returns.
 #[derive(Drop)]
 pub struct DevicePort {
     file: File,

@@ -1,5 +1,4 @@
-//! What a run does before its job: it checks and reads the job's files and the layout on the chip, if there is one,
-//! starts the log, and identifies the programmer for the job.
+//! What a run does before its job: it checks and reads the files, starts the log, and identifies the programmer.
 ghost use Rattle.std.specs.Prelude.{◌≡◌, IfOk, option_map};
 ghost use Rattle.nor_files.specs.Files.{AreUntouched};
 ghost use Rattle.nor_journal.specs.MemVault.{held_by};
@@ -40,17 +39,13 @@ pub struct Prepared<'a, 'b> {
     pub connected: Connected<'b>,
 }
 
-/// Prepares the operation. `names` must be the names of the regions without their files (`plain_names`). The steps are,
-/// up to the first fault, which is returned:
+/// Prepares the operation, and returns the first fault. `names` must be the names of the regions without files
+/// (`plain_names`). The steps:
 ///
-/// 1. The names of the device and the files are checked: none has two roles, the file of a backup doesn't exist, and
-///    that of the log may be overwritten.
-/// 2. If the layout is on the chip, the image is read, and the name of a new journal is checked. Then the layout is
-///    read from the chip, over a connection that ends with this step (`read_shown`).
-/// 3. The included addresses are found, the files of regions are checked, and the image or the journal is read and
-///    checked, even if that was done in step 2.
-/// 4. The log is started, and what `--replaced-chip` does is printed.
-/// 5. The programmer is identified for the job.
+/// 1. Check that no file has two roles, that the file of a backup is new, and that the log may be overwritten.
+/// 2. If the layout is on the chip, check the image and the journal's name, and then read the layout (`read_shown`).
+/// 3. Find the included addresses, check the files of regions, and read and check the image or the journal.
+/// 4. Start the log, print what `--replaced-chip` does, and identify the programmer for the job.
 #[tactic(auto, using(crate::proofs::LogMade::log_steps))]
 pub fn prepare<'a, 'b, R: Store<Log = LogFile<File>>, E: Write>(
     rt: &'b HostRuntime,
@@ -97,7 +92,6 @@ pub fn prepare<'a, 'b, R: Store<Log = LogFile<File>>, E: Write>(
     })
 }
 
-// Returns which modifying commands the bus refuses during this operation.
 fn checks_for(operation: &Operation<'_>) -> Checks {
     if operation.srp0.is_some() {
         Checks::Lock
@@ -108,8 +102,8 @@ fn checks_for(operation: &Operation<'_>) -> Checks {
     }
 }
 
-// Returns the ID of the chip from which the journal of a restore was made, if its session read a status 2 other than
-// 00h. Then 35h was sent to this chip before. A session of a chip that isn't known to have 35h stores 00h.
+// The ID of the chip of a restore's journal with a status 2 other than 00h, so this chip has the command 35h. A session
+// of a chip that isn't known to have 35h stores 00h.
 fn id_before(operation: &Operation<'_>, bytes: &[u8]) -> Option<[u8; 3]> {
     match (&operation.task, Journal::read(bytes)) {
         (Task::Restore { .. }, Ok(journal)) if journal.status()[1] != 0 => Some(journal.id()),
@@ -117,13 +111,12 @@ fn id_before(operation: &Operation<'_>, bytes: &[u8]) -> Option<[u8; 3]> {
     }
 }
 
-// True if a log in the file of `-o` is kept: that of the session which a restore restores may be needed.
+// The log of the session that a restore undoes may be needed.
 fn keeps_log(operation: &Operation<'_>) -> bool {
     matches!(operation.task, Task::Restore { .. })
 }
 
-// If the layout of the task is on the chip, reads and checks the task's image or journal, and returns a fault of it
-// before the chip is read, which may take minutes.
+// Finds a fault of the image or journal before a layout is read from the chip, which may take minutes.
 fn try_sources<'a, R: Store>(files: &mut R, operation: &Operation<'a>) -> Result<(), Trouble<'a>>
     ensures { AreUntouched (R.state files.old) (R.state files.new) }
 {
@@ -139,7 +132,6 @@ fn try_sources<'a, R: Store>(files: &mut R, operation: &Operation<'a>) -> Result
     Ok(())
 }
 
-// Returns the bytes that a vault accepted, if there is one.
 fn bytes_of(vault: &Option<MemVault>) -> Option<&[u8]>
     ensures { option_map (λ bytes. bytes.now) result ≡ option_map (λ vault. (held_by vault).bytes) vault.now }
 {

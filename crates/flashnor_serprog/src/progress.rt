@@ -19,69 +19,57 @@ pub use crate::terminal::Terminal;
 use nor_chip::{Bus, Stopped, is_changing};
 use std::time::Instant;
 
-// A bit of status 1, and one of status 2 (W25Q64FV datasheet, Status Registers).
+// Bits of status 1 and 2 (W25Q64FV datasheet, Status Registers).
 const BUSY: u8 = 0x01;
 
 const QE: u8 = 0x02;
 
-// The line before the first modifying command of a restore. The line of a session is `SealedLine`.
+// The line before the first modifying command of a restore.
 const CHANGED: &str = "The chip is changed from here on.";
 
-// The line before `SealedLine` or `CHANGED` if SRP1 is set without SRP0 (W25Q64FV datasheet, Status Register Protect).
+// Before that line, if SRP1 is set without SRP0 (W25Q64FV datasheet, Status Register Protect).
 const POWER_LOCKED: &str =
     "Keep its power on: a loss of power clears SRP1, and a restore then ends with error 17.";
 
-// The line before `SealedLine` or `CHANGED` if QE is set and the job may write the status.
+// Before that line, if QE is set and the job may write the status.
 const QUAD: &str =
     "Keep its power on: a status write that is cut off may clear QE, and a restore then ends with error 17.";
 
-// The line at poll number `POLLS_UNTIL_LINE` that shows BUSY before the ID is read.
 const BUSY_CHIP: &str =
     "The chip shows BUSY. If no erase is running, it has no contact or no supply: press Ctrl-C, and check both. \
     (The run gives up after 400 seconds.)";
 
-// 256 polls take about a second (`Paced`), or longer over a slow wire. If the chip has no contact, all replies are FFh,
-// which shows BUSY, and the wait ends only after 400 seconds.
+// 256 polls take about a second (`Paced`) or more. Without contact all replies are FFh, which shows BUSY for 400
+// seconds.
 const POLLS_UNTIL_LINE: u32 = 256;
 
-/// A bus that shows the progress of a job.
+/// A bus that shows the progress of a job. These functions leave its state, as contracts see it, the same.
 pub trait Progress: Bus {
-    /// Records how many sectors the job reads before it changes anything, for the progress lines of its scan. `sectors`
-    /// counts all these reads since the start of the job, or only a part of them; the greatest number counts. If the
-    /// sectors that were recorded before have been read, and `sectors` is greater, the further ones are shown as a
-    /// second scan. The state of the bus, as contracts see it, stays the same.
+    /// Records that the job reads `sectors` sectors before it changes anything. The greatest number counts; if the
+    /// reads recorded before are done, more reads are a second scan.
     fn expect_reads(&mut self, sectors: usize)
         ensures { Self.state self.new ≡ Self.state self.old };
 
-    /// Records that the comparison after a change or restore begins, and how many sectors it will read, for its
-    /// progress lines. The state of the bus, as contracts see it, stays the same.
+    /// Records that the comparison after a change or restore begins, and how many sectors it will read.
     fn expect_comparison(&mut self, sectors: usize)
         ensures { Self.state self.new ≡ Self.state self.old };
 
-    /// Sets the address at which each further block that is read ahead ends at the latest, unless the read itself needs
-    /// more bytes. `u32::MAX` removes this limit. The state of the bus, as contracts see it, stays the same.
+    /// Sets where each further block that is read ahead ends at the latest, unless a read needs more bytes (`u32::MAX`:
+    /// no limit).
     fn end_blocks_at(&mut self, address: u32)
         ensures { Self.state self.new ≡ Self.state self.old };
 }
 
 /// A bus that shows the progress of a job on standard error, as the `Look` of its `Terminal` says.
 ///
-/// With `Look::Line` the progress is one line, which is rewritten at most ten times a second, but at once if a step is
-/// complete. It has the step, how many of its operations are done, the rate of data, and the time that is left or
-/// passed; if the total number of operations is known, also the percentage. The line is ended if the step is complete
-/// (`StepLine::is_complete`). It is ended or cleared before any other line is printed.
+/// `Look::Line` rewrites one line (`StepLine`), at most ten times a second, and ends it if the step is complete.
+/// `Look::Plain` prints a line for the first transaction of a step and after each `Step::stride` further ones.
+/// `Look::Minutes` prints the line if nothing was printed for a minute, `Look::Hidden` only the lines of `-V`. The log
+/// (`-o`) has the plain lines, those of `-V`, and how long the change takes and took.
 ///
-/// With `Look::Plain` there is a line for the first transaction of each step, and then one after each `Step::stride`
-/// further transactions of that step. With `Look::Minutes` the line of the step is printed if nothing was printed for a
-/// minute. With `Look::Hidden` nothing is shown, except the lines of `-V`. The log (`-o`)
-/// receives the lines of `Look::Plain`, the lines of `-V`, and those that say how long the change takes and took, with
-/// any look.
-///
-/// A step is recognized by the opcode of a transaction and, for a read of data, by the phase of the job. If 256 polls
-/// show BUSY before the ID is read, a line says what may be wrong. Before the first modifying command a line says that
-/// the chip is changed from here on. In a session this line begins with `SEALED`, since a session sends no modifying
-/// command before its journal is sealed. If SRP1 is set without SRP0, or if QE is set and the job may write the status,
-/// an earlier line says what a loss of power would mean. In contracts, the state of this bus is that of the bus inside.
+/// A step is known by the opcode of a transaction and the phase of the job. Before the first modifying command a line
+/// says that the chip is changed from here on; in a session it begins with `SEALED`. Contracts see the state of the bus
+/// inside.
 #[derive(Drop)]
 pub struct Shown<'a, B> {
     bus: B,
@@ -90,14 +78,12 @@ pub struct Shown<'a, B> {
     // the name of the journal's file, if the job is a session and memory for the name was left
     journal: Option<String>,
     phase: Phase,
-    // the number of sectors that the present scan reads (a job may have two), or the comparison after a change, if that
-    // number is known
+    // the sectors of the present scan or comparison, if known
     expected: Option<usize>,
     counts: Counts,
     gauge: Gauge,
     // when the first modifying command was sent
     changed: Option<Instant>,
-    // whether the job may write the status
     status_write: StatusWrite,
     // what the chip replied before the first modifying command
     replies: Replies,
@@ -122,8 +108,7 @@ pub enum StatusWrite {
 }
 
 impl<'a, B: Bus + Drop> Shown<'a, B> {
-    /// Returns a bus that shows the progress of the job on `bus` on `terminal`. `status_write` says whether the job may
-    /// write the status, unless `begin_job` says it.
+    /// Returns a bus that shows the progress of the job on `bus`. `status_write` holds until `begin_job` replaces it.
     pub fn new(bus: B, terminal: Terminal<'a>, status_write: StatusWrite) -> Shown<'a, B>
         ensures { result.bus ≡ bus }
     {
@@ -160,8 +145,8 @@ impl<'a, B: Bus + Drop> Shown<'a, B> {
         self.replies
     }
 
-    /// Records whether the transactions from now on are those of a session, whose journal is sealed before the first
-    /// change, the name of the journal's file, and whether the job may write the status.
+    /// Records whether a session begins, whose journal is sealed before the first change, the name of the journal's
+    /// file, and whether the job may write the status.
     pub fn begin_job(
         &mut self,
         in_session: bool,
@@ -175,9 +160,8 @@ impl<'a, B: Bus + Drop> Shown<'a, B> {
         self.status_write = status_write;
     }
 
-    /// Ends the line of the progress. Must be called after the last transaction of the job, before any other line is
-    /// printed. If the job was a change that succeeded and isn't compared, first shows the final numbers of its steps
-    /// and how long the change took (`show_duration`).
+    /// Ends the line of the progress: call it after the last transaction, before any other line. After a successful
+    /// change that isn't compared, first shows its final numbers (`show_duration`).
     pub fn end_progress(&self, succeeded: bool) {
         if succeeded {
             self.show_duration();
@@ -187,9 +171,6 @@ impl<'a, B: Bus + Drop> Shown<'a, B> {
 }
 
 impl<B> Shown<'_, B> {
-    // Prints and logs what is shown before this transaction: the lines of `begin_change` if it is the first modifying
-    // command; with `-V`, a line if it is the first transaction of a step that reads; and with `Look::Plain`, a line if
-    // it is number 1, 1 + `stride`, 1 + 2 * `stride` and so on of its step.
     fn show(&mut self, out: &[u8])
         ensures { self.new.bus ≡ self.old.bus }
     {
@@ -208,7 +189,6 @@ impl<B> Shown<'_, B> {
         }
     }
 
-    // Prints the lines before the first modifying command.
     fn begin_change(&mut self)
         ensures { self.new.bus ≡ self.old.bus }
     {
@@ -229,12 +209,10 @@ impl<B> Shown<'_, B> {
         }
     }
 
-    // True if SRP1 was set without SRP0 before the first modifying command.
     fn has_power_lock(&self) -> bool {
         Lock::of(self.replies.status) == Lock::Power
     }
 
-    // True if QE was set before the first modifying command, and the job may write the status.
     fn may_clear_quad(&self) -> bool {
         let writes = match self.status_write {
             StatusWrite::Never => false,
@@ -247,7 +225,6 @@ impl<B> Shown<'_, B> {
         writes && self.replies.status[1] & QE != 0
     }
 
-    // Stores what the chip replied before the first modifying command.
     fn remember(&mut self, out: &[u8], reply: &[u8])
         ensures { self.new.bus ≡ self.old.bus }
     {
@@ -260,7 +237,6 @@ impl<B> Shown<'_, B> {
         }
     }
 
-    // Counts the polls that show BUSY before the ID is read, and prints a line at number `POLLS_UNTIL_LINE`.
     fn count_busy(&mut self, status1: u8)
         ensures { self.new.bus ≡ self.old.bus }
     {
@@ -274,7 +250,6 @@ impl<B> Shown<'_, B> {
         self.print_each_minute(&BUSY_CHIP);
     }
 
-    // Prints and logs the plain line of a step. `count` is the number of its transactions so far.
     fn show_step(&self, step: Step, count: u64) {
         let expected = match step {
             Step::Scan | Step::Compare => self.expected.map(|sectors| sectors as u64),
@@ -287,8 +262,7 @@ impl<B> Shown<'_, B> {
         });
     }
 
-    // Returns the step that a transaction belongs to. If the job announced what it will change, its scan is done: a
-    // sector that is programmed without an erase is read again, maybe before the first modifying command.
+    // After the announcement the scan is done: a sector that is programmed without an erase is read again.
     fn step_of(&self, out: &[u8]) -> Option<Step> {
         match step_of(out, self.phase) {
             Some(Step::Scan) if self.terminal.announced().is_some() => Some(Step::ReadBack),
@@ -296,8 +270,6 @@ impl<B> Shown<'_, B> {
         }
     }
 
-    // Counts and times a transaction that was carried out, if there is a log or the look is `Look::Line` or
-    // `Look::Minutes`. Then draws or prints the line of its step (`draw`, `print_each_minute`).
     fn measure(&mut self, out: &[u8], reply: &[u8])
         ensures { self.new.bus ≡ self.old.bus }
     {
@@ -317,8 +289,6 @@ impl<B> Shown<'_, B> {
         self.print_each_minute(&line);
     }
 
-    // With `Look::Line`, draws the line of a step if the last drawing is a tenth of a second old, or if the step is
-    // complete.
     fn draw(&mut self, step: Step, now: Option<Instant>)
         ensures { self.new.bus ≡ self.old.bus }
     {
@@ -335,7 +305,7 @@ impl<B> Shown<'_, B> {
         }
     }
 
-    // Returns how many operations a step has. A touched sector has at most 16 pages to program.
+    // A touched sector has at most 16 pages to program.
     fn total_of(&self, step: Step) -> Total {
         match (step, self.expected, self.terminal.announced()) {
             (Step::Scan | Step::Compare, Some(sectors), _) => Total::Exactly(sectors as u64),

@@ -3,16 +3,14 @@ use crate::trouble::MODES;
 use nor_console::Escaped;
 use std::fmt;
 
-/// The name of a file as one argument of a command: every POSIX shell takes it back as it is. A name whose characters
-/// are ASCII letters, digits and those of `./_-+,=` is printed unchanged. Any other name is in single quotes, with
-/// `'\''` for each single quote in it. A name that begins with `-` has `./` before it, since it would be an option
-/// otherwise.
+/// The name of a file as one argument for every POSIX shell: unchanged if it has only ASCII letters, digits and
+/// `./_-+,=`, otherwise in single quotes. A name that begins with `-` gets `./`, since it would be an option.
 #[derive(Clone, Copy, Drop)]
 pub struct Quoted<'a>(&'a str);
 
 impl<'a> Quoted<'a> {
-    /// Returns the name as an argument. Returns `None` for a name with characters that aren't printed as they are, or
-    /// that change the order in which a terminal shows the others: a command with such a name can't be copied.
+    /// Returns the name as an argument, or `None` if a terminal doesn't show its characters as they are, so it can't be
+    /// copied.
     pub fn new(name: &'a str) -> Option<Quoted<'a>> {
         if name.chars().all(|character| is_printed(character)) {
             Some(Quoted(name))
@@ -45,15 +43,13 @@ fn is_plain(byte: u8) -> bool {
     byte.is_ascii_alphanumeric() || matches!(byte, b'.' | b'/' | b'_' | b'-' | b'+' | b',' | b'=')
 }
 
-// False for control characters, and for those that embed, override or isolate a direction of writing (Unicode Standard
-// Annex 9, Explicit Directional Embeddings, Overrides and Isolates).
+// Unicode Standard Annex 9, Explicit Directional Embeddings, Overrides and Isolates.
 fn is_printed(character: char) -> bool {
     let is_directional = matches!(character, '\u{202a}'..='\u{202e}' | '\u{2066}'..='\u{2069}');
     !character.is_control() && !is_directional
 }
 
-/// The command that sets up this device as a serial port, or a text without a command if the device's name can't be
-/// copied.
+/// The command that sets up this device as a serial port, or a text if the device's name can't be copied.
 #[derive(Clone, Copy, Drop)]
 pub struct SetUp<'a>(pub &'a str);
 

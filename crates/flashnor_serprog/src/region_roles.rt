@@ -1,5 +1,4 @@
-//! Checks the files of regions (`-i NAME:FILE`) before the programmer is used: their names, their roles, and that none
-//! that will be truncated is a journal.
+//! Checks the files of regions (`-i NAME:FILE`) before the programmer is used.
 ghost use Rattle.std.specs.Prelude.{◌≡◌, All, IfErr, OnOk, Some};
 ghost use Rattle.std.specs.List.{AllPairs, Any};
 ghost use Rattle.nor_console.specs.Roles.{FailsApart};
@@ -18,9 +17,8 @@ use nor_console::{Cause, Fault, Named, apart, exists, named_by, reading, unprint
 use nor_files::Store;
 use nor_journal::{FIRST_MAGIC, MAGIC};
 
-/// Checks the files of the regions of a job: their names (`check_names`), their roles (`have_file_roles`), that they
-/// can be copied from the output of a read (`can_be_read_back`), and that none that will be truncated is a journal
-/// (`are_no_journals`). Returns the faults of these checks.
+/// Checks the files of regions: their names and roles, that the output of a read can be read back to fill them, and
+/// that none that will be truncated is a journal. Returns the first fault of these checks.
 pub fn check_region_files<'a, R: Store>(
     rt: &R,
     device: &'a str,
@@ -40,7 +38,6 @@ pub fn check_region_files<'a, R: Store>(
     Ok(())
 }
 
-// Checks that no file of a region has an empty name, and that an erase has no such file.
 fn check_names<'a>(task: &Task<'_>, files: &[RegionFile<'a>]) -> Result<(), RegionFault<'a>>
     ensures ok { OnOk result (AreNamed task.now files.now) }
     ensures err { IfErr result (FailsNames task.now files.now) }
@@ -58,7 +55,6 @@ fn check_names<'a>(task: &Task<'_>, files: &[RegionFile<'a>]) -> Result<(), Regi
     Ok(())
 }
 
-// True for an erase.
 fn erases(task: &Task<'_>) -> bool
     ensures { result ≡ erases task.now }
 {
@@ -71,11 +67,7 @@ fn erases(task: &Task<'_>) -> bool
     )
 }
 
-// Checks the roles of the files of the regions: each is apart from the device, from the log and from the journal. If
-// the job writes them, each is also apart from the layout, from the output and from each other, and the program doesn't
-// print to it. Checks nothing if no region has a file.
-//
-// If a check fails, returns file fault 5 with the name of the file. Returns file fault 1 if a name can't be looked up.
+// Returns file fault 5 with the name of the file, or file fault 1 if a name can't be looked up.
 fn have_file_roles<'a, R: Store>(
     rt: &R,
     device: &'a str,
@@ -99,7 +91,6 @@ fn have_file_roles<'a, R: Store>(
     Ok(())
 }
 
-// Checks that the files of the regions are apart from each other, if the job has an output.
 fn are_distinct_if<'a, R: Store>(
     rt: &R,
     output: Option<&'a str>,
@@ -114,7 +105,6 @@ fn are_distinct_if<'a, R: Store>(
     }
 }
 
-// Checks that the files of the regions are apart from each other. Returns the faults of `is_apart_from`.
 fn are_distinct<'a, R: Store>(rt: &R, files: &[RegionFile<'a>]) -> Result<(), Fault<'a>>
     ensures ok { OnOk result (AllPairs (AreTwoFiles (R.state rt.now).view.nature) files.now) }
     ensures err { IfErr result (FailsDistinct (R.state rt.now).view.nature files.now) }
@@ -125,9 +115,8 @@ fn are_distinct<'a, R: Store>(rt: &R, files: &[RegionFile<'a>]) -> Result<(), Fa
     Ok(())
 }
 
-/// Checks that a region's file is apart from those of the `earlier` regions.
-///
-/// Returns file fault 5 with the name `file`, or file fault 1 with the name that can't be looked up.
+/// Checks that a region's file is apart from those of the `earlier` regions. Returns file fault 5 with the name `file`,
+/// or file fault 1 with the name that can't be looked up.
 pub fn is_apart_from<'a, R: Store>(
     rt: &R,
     earlier: &[RegionFile<'a>],
@@ -144,8 +133,7 @@ pub fn is_apart_from<'a, R: Store>(
     Ok(())
 }
 
-// Checks that the output of a read can be read back, if a region has a file: that it is no FIFO and no device. Checks
-// nothing for a job without an output. Returns file fault 1 of the output.
+// Returns file fault 1 for an output that is a FIFO or a device.
 fn can_be_read_back<'a, R: Store>(
     rt: &R,
     task: &Task<'a>,
@@ -162,8 +150,6 @@ fn can_be_read_back<'a, R: Store>(
     }
 }
 
-// Checks that no file of a region that a read will truncate is a journal. Checks nothing for other jobs.
-//
 // Returns file fault 4 for a journal, and a fault of `reading` for a file that exists and can't be read.
 fn are_no_journals<'a, R: Store>(
     rt: &R,
@@ -181,7 +167,7 @@ fn are_no_journals<'a, R: Store>(
     Ok(())
 }
 
-// Checks that the file of this name doesn't begin as a journal. A FIFO or a device isn't read.
+// A FIFO or a device isn't read.
 fn is_no_journal<'a, R: Store>(rt: &R, name: &'a str) -> Result<(), Fault<'a>>
     ensures { IfErr result (FailsOldFile (R.state rt.now).view name.entry) }
 {
@@ -195,14 +181,12 @@ fn is_no_journal<'a, R: Store>(rt: &R, name: &'a str) -> Result<(), Fault<'a>>
     }
 }
 
-// True for the first eight bytes of a journal, of either format.
 fn is_magic(start: &[u8]) -> bool
     ensures { result ≡ is_magic start.now }
 {
     start == MAGIC.as_slice() || start == FIRST_MAGIC.as_slice()
 }
 
-// The device, the log and the other files of a job.
 #[derive(Clone, Copy)]
 struct Others<'a> {
     device: &'a str,
@@ -210,7 +194,6 @@ struct Others<'a> {
     named: Named<'a>,
 }
 
-// Checks the role of a region's file against the device, the log and the other files of the job.
 fn has_one_role<'a, R: Store>(rt: &R, others: &Others<'a>, file: &'a str) -> Result<(), Fault<'a>>
     ensures ok { OnOk result
         (HasOneRole (R.state rt.now).view.nature others.now.device others.now.log others.now.named file.entry) }

@@ -1,5 +1,4 @@
-//! The journal of a whole chip for another device of the same type, for `--replaced-chip`; and the bytes that a job
-//! uses in place of those of its file.
+//! The journal of a whole chip for another device of the same type, for `--replaced-chip`.
 ghost use Rattle.std.specs.Prelude.{◌≡◌, ◌++◌, IfErr, IfOk, OnOk};
 ghost use Rattle.nor_journal.specs.Text.{end_mark, head, record_text, text};
 ghost use Rattle.sha2.specs.Sha256.{sha256};
@@ -17,9 +16,8 @@ use sha2::{Digest, Sha256};
 use std::alloc::{AllocError, Global};
 use std::io::Write;
 
-/// Returns the bytes that the task uses in place of `bytes`, those of its file: for `-v` of the journal of a whole chip
-/// the image in it; for a restore on a replaced chip (`is_replaced`) the journal without its unique ID; and otherwise
-/// `bytes`.
+/// Returns what the task uses in place of `bytes`, those of its file: the image in a journal for `-v`, the journal
+/// without its unique ID for a restore on a replaced chip, otherwise `bytes`.
 ///
 /// Returns error 15 if the bytes should be a journal and are none, `NotWhole` if a sector isn't saved, or error 18 if
 /// memory runs out.
@@ -49,11 +47,7 @@ pub fn print_replaced<E: Write>(errors: &mut E, operation: &Operation<'_>) {
 const REPLACES: &str =
     "The backup replaces all that this chip holds, whatever the chip's unique ID is (--replaced-chip).";
 
-// Returns the journal in `bytes` in format 1, which has no unique ID, so that a restore accepts any chip with its ID
-// and size. The journal, which is in the file of this name, must save the whole chip: a session's journal says nothing
-// about the other sectors of a replaced chip.
-//
-// Returns error 15 if the bytes are no journal, `NotWhole` if a sector isn't saved, or error 18 if memory runs out.
+// Format 1 has no unique ID. A session's journal is refused, since it says nothing about the other sectors of the chip.
 fn for_any_device<'a>(alloc: Global, name: &'a str, bytes: &[u8]) -> Result<Vec<u8>, Trouble<'a>>
     ensures ok { IfOk result (λ new. IsForAnyDevice bytes.now new.items) }
     ensures err { IfErr result (FailsToUnpack bytes.now name.entry) }
@@ -66,7 +60,6 @@ fn for_any_device<'a>(alloc: Global, name: &'a str, bytes: &[u8]) -> Result<Vec<
     }
 }
 
-// Returns the encoding of the journal in format 1.
 fn encode(alloc: Global, journal: &Journal<'_>) -> Result<Vec<u8>, AllocError>
     ensures { IfOk result (λ new. new.items ≡ text (without_unique journal.now)) }
 {
@@ -79,7 +72,6 @@ fn encode(alloc: Global, journal: &Journal<'_>) -> Result<Vec<u8>, AllocError>
     Ok(bytes)
 }
 
-// Appends the record of a saved sector.
 #[tactic(auto, unfolding(nor_journal::specs::Text::record_text, nor_journal::specs::Number::number_text))]
 fn append_record(bytes: &mut Vec<u8>, number: u32, saved: &[u8]) -> Result<(), AllocError>
     ensures { OnOk result (bytes.new.items
@@ -89,7 +81,6 @@ fn append_record(bytes: &mut Vec<u8>, number: u32, saved: &[u8]) -> Result<(), A
     bytes.extend_from_slice(saved)
 }
 
-// Appends the end mark, and the digest of all bytes up to its end.
 #[tactic(auto, unfolding(nor_journal::specs::Text::end_mark))]
 fn append_end(bytes: &mut Vec<u8>) -> Result<(), AllocError>
     ensures { OnOk result (bytes.new.items
@@ -100,7 +91,6 @@ fn append_end(bytes: &mut Vec<u8>) -> Result<(), AllocError>
     bytes.extend_from_slice(digest.as_slice())
 }
 
-// Returns the header of the journal in format 1.
 #[tactic(auto, unfolding(nor_journal::specs::Text::head, nor_journal::specs::Number::number_text))]
 fn encode_header(alloc: Global, journal: &Journal<'_>) -> Result<Vec<u8>, AllocError>
     ensures { IfOk result (λ header. header.items ≡ head (without_unique journal.now)) }

@@ -5,15 +5,14 @@ use nor_probe::part_for;
 // The length of an SFDP table, as a probe reads it (JESD216: double words 1 to 9).
 const TABLE_LEN: usize = 36;
 
-/// What the chip replied last before the first modifying command. An ID is `None` if it was not read, and the status
-/// bytes are 0 if they were not read.
+/// What the chip replied last before the first modifying command. Status bytes that were not read are 0.
 #[derive(Clone, Copy, Default)]
 pub struct Replies {
     pub id: Option<[u8; 3]>,
     pub unique: Option<[u8; 8]>,
     /// Status 1 and status 2.
     pub status: [u8; 2],
-    // Double word 2 of the SFDP table, which has the size in bits.
+    // Double word 2 of the SFDP table: the size in bits.
     density: Option<u32>,
 }
 
@@ -34,8 +33,7 @@ impl Replies {
         }
     }
 
-    /// Returns the size of the chip in bytes, if it is known: that of the row for its ID or, without a row, the one
-    /// that its SFDP gives.
+    /// Returns the size of the chip in bytes, of the row for its ID or else of its SFDP, if it is known.
     pub fn size(&self) -> Option<u32> {
         match part_for(true, self.id?) {
             Some(part) => Some(part.size),
@@ -44,8 +42,8 @@ impl Replies {
     }
 }
 
-// Returns the size in bytes that a density double word gives: the number of bits minus 1 or, if bit 31 is set, the
-// binary logarithm of this number (JESD216, double word 2). Returns `None` for less than 8 bits, and for 4 GiB or more.
+// The number of bits minus 1 or, with bit 31 set, its binary logarithm (JESD216, double word 2). `None` for less than 8
+// bits, and for 4 GiB or more.
 fn size_in_bytes(density: u32) -> Option<u32> {
     match density.checked_sub(1 << 31) {
         None => Some(density / 8 + 1),

@@ -16,11 +16,10 @@ use nor_session::Refusal;
 // The number of sectors in 64 KiB, the longest block that is read at once.
 const LONGEST_RUN: u32 = 16;
 
-/// Reads each sector that the journal doesn't save, and stores its bytes in `bytes` at the sector's address. `bytes`
-/// must have one FFh for each byte of a chip of the journal's size.
+/// Reads each sector that the journal doesn't save into `bytes`, which must have one FFh for each byte of the chip.
 ///
-/// A saved sector is never read, since two reads of a sector may differ after an interrupted operation, and that would
-/// end the job before the restore. Therefore no block that is read ahead reaches a saved sector.
+/// Two reads of a saved sector may differ after an interrupted operation, and would end the job. Therefore no saved
+/// sector is read, not even ahead.
 pub fn read_rest<B: Progress>(
     bus: &mut B,
     journal: &Journal<'_>,
@@ -41,8 +40,6 @@ pub fn read_rest<B: Progress>(
     Ok(())
 }
 
-// Returns the first sector that the journal saves, of the `LONGEST_RUN` sectors from `sector` on. If the journal saves
-// none of these, returns the sector after them.
 fn next_saved(journal: &Journal<'_>, sector: u32) -> u32
     requires { sector < 4096 }
     ensures { result ≤ 4112 }
@@ -63,16 +60,15 @@ pub fn sectors_of(journal: &Journal<'_>) -> u32
     journal.size() / SECTOR_LEN
 }
 
-// True if the journal saves this sector.
 fn saves(journal: &Journal<'_>, sector: u32) -> bool
     ensures { result ≡ is_saved journal.now sector }
 {
     journal.find(sector).is_some()
 }
 
-/// Reads again the sectors that the journal doesn't save, and compares them with `rest`, their bytes before the
-/// restore. Returns error 14 with the address of the first byte that differs, or error 12 if the bus stopped. `again`
-/// must have one FFh for each byte of a chip of the journal's size.
+/// Reads these sectors again into `again`, which must have one FFh for each byte of the chip, and compares them with
+/// `rest`, their bytes before the restore. Returns error 14 with the first address that differs, or error 12 if the bus
+/// stopped.
 pub fn compare_rest<B: Progress>(
     bus: &mut B,
     journal: &Journal<'_>,

@@ -19,15 +19,13 @@ use nor_probe::{ChipName, Found};
 use nor_session::Refusal;
 use std::alloc::Global;
 
-/// Restores the chip from the bytes of a journal. Erases every saved sector without reading it before, and programs its
-/// saved bytes. With `--quick`, reads the saved sectors and writes only those that differ; a sector is then erased only
-/// if some bit has to go from 0 to 1. If `-c` is given, the chip must have that name.
+/// Restores the chip from the bytes of a journal: every saved sector without reading it before or, with `--quick`, only
+/// those that differ. If `-c` is given, the chip must have that name.
 ///
-/// Without `-N`, the sectors that the journal doesn't save are read before the restore, and after it if it succeeded or
-/// returned error 14. They must be the same. Returns a fault that occurred before the restore, or in this comparison;
-/// an error of the restore itself is in the `Outcome`. The faults before the restore are error 15 if the bytes are no
-/// journal, and the errors of the identification. Without `-N` they are also error 16 (a chip of another type), 18 (out
-/// of memory) and 12 (the bus stopped).
+/// Without `-N`, the other sectors are read before the restore, and after it if it succeeded or returned error 14. They
+/// must be the same. An error of the restore itself is in the `Outcome`. Other faults are error 15 if the bytes are no
+/// journal, the errors of the identification and, without `-N`, errors 16 (a chip of another type), 18 (out of memory),
+/// 12 (the bus stopped) and 14.
 pub fn restore_chip<'a, B: Progress>(
     bus: &mut B,
     terminal: Terminal<'_>,
@@ -42,7 +40,6 @@ pub fn restore_chip<'a, B: Progress>(
     restore_from(bus, terminal, operation, &journal, alloc)
 }
 
-// Restores the chip from a journal. Without `-N`, compares the sectors that the journal doesn't save.
 fn restore_from<'a, B: Progress>(
     bus: &mut B,
     terminal: Terminal<'_>,
@@ -62,7 +59,6 @@ fn restore_from<'a, B: Progress>(
     }
 }
 
-// Restores the chip, and compares the sectors that the journal doesn't save with their bytes before the restore.
 fn restore_compared<'a, B: Progress>(
     bus: &mut B,
     terminal: Terminal<'_>,
@@ -81,8 +77,6 @@ fn restore_compared<'a, B: Progress>(
     follow_restore(bus, outcome, journal, &rest, &mut again)
 }
 
-// Identifies the chip, and reads the sectors that the journal doesn't save into `rest`. Returns error 16 if the chip
-// doesn't have the journal's ID and size.
 fn read_before<'a, B: Progress>(
     bus: &mut B,
     operation: &Operation<'a>,
@@ -111,21 +105,16 @@ fn read_before<'a, B: Progress>(
     }
 }
 
-// Returns whether the chip that was found has the journal's ID and size.
 fn is_of_type(journal: &Journal<'_>, found: &Found) -> bool
     ensures { MatchBool result (IsOfTypeFound journal.now found.now) (¬ IsOfTypeFound journal.now found.now) }
 {
     journal.id() == found.id && journal.size() == found.size
 }
 
-// Returns the number of sectors that the journal doesn't save.
 fn unsaved(journal: &Journal<'_>) -> usize {
     (sectors_of(journal) as usize).saturating_sub(journal.count())
 }
 
-// After a restore that succeeded or returned error 14, reads the sectors that the journal doesn't save into `again`,
-// and compares them with `rest`. Returns the outcome of the restore; or, if the comparison fails, that outcome and the
-// error as the fault of the job.
 fn follow_restore<'a, B: Progress>(
     bus: &mut B,
     outcome: Outcome,
@@ -151,9 +140,6 @@ fn follow_restore<'a, B: Progress>(
     }
 }
 
-// Restores the saved sectors and the protection bits. Erases every saved sector and programs its saved bytes; or, if
-// the restore is `quick`, writes only the saved sectors that differ, and erases one only if some bit has to go from 0
-// to 1. If a name is given, checks first that the chip has this name.
 fn restore_saved<B: Progress>(
     bus: &mut B,
     terminal: Terminal<'_>,

@@ -7,13 +7,11 @@ use nor_args::{Operation, Task};
 use nor_console::{Fault, Named, apart, named_by, unprinted};
 use nor_files::Store;
 
-/// Checks that the device has no second role, that the output and the journal have none either, and that neither of
-/// them is a regular file to which the program prints. A layout and an image, which a job only reads, may be the same
-/// file.
+/// Checks that the device, the output and the journal have no second role, and that the program doesn't print to output
+/// or journal. A layout and an image, which a job only reads, may be the same file.
 ///
-/// If a check fails, returns file fault 5 with the name of the file to which the program prints, or with the name in
-/// that of the two roles which is later in this list: device, layout, image to write or compare, output, journal.
-/// Returns file fault 1 if a name can't be looked up.
+/// Returns file fault 5 with the name of that file, or of the later of two roles: device, layout, image to write or
+/// compare, output, journal. Returns file fault 1 if a name can't be looked up.
 pub fn have_one_role<'a, R: Store>(
     rt: &R,
     device: &'a str,
@@ -40,11 +38,8 @@ pub fn have_one_role<'a, R: Store>(
     unprinted(rt, journal)
 }
 
-/// Checks that the log, if `-o` names one, is neither the device nor a file of the job nor a regular file to which the
-/// program prints.
-///
-/// If a check fails, returns file fault 5 with the name of the log, or file fault 1 with the name that can't be looked
-/// up.
+/// Checks that the log is neither the device nor a file of the job nor a file to which the program prints. Returns file
+/// fault 5 with the name of the log, or file fault 1 with a name that can't be looked up.
 pub fn has_own_log<'a, R: Store>(
     rt: &R,
     device: &'a str,

@@ -9,15 +9,14 @@ ghost use Rattle.flashnor_serprog.specs.Setting.{is_serprog_setting, is_wrong, n
 
 use nor_args::{Flaw, is_alone, read_clock, read_number, setting_value, split_setting};
 
-/// The programmer that the value of `-p` describes. The value is `serprog:`, followed by `KEY=VALUE` pairs that are
-/// separated by commas, in any order, each key at most once. `dev=` is required.
+/// The value of `-p`: `serprog:` and `KEY=VALUE` pairs in any order, each key at most once. `dev=` is required.
 #[derive(Clone, Copy)]
 pub struct Setting<'a> {
     /// `dev=PATH`: the device of the programmer.
     pub device: &'a str,
     /// `spispeed=HZ`: the clock in hertz, from 1 to 4,294,967,295, in the form that `read_clock` accepts.
     pub hertz: Option<u32>,
-    /// `cs=N`: the chip select that the programmer uses, from 0 to 255. With `None` it is not set.
+    /// `cs=N`: the chip select that the programmer uses, from 0 to 255.
     pub chip_select: Option<u8>,
 }
 
@@ -30,7 +29,7 @@ pub enum WrongSetting<'a> {
     BaudRate { device: &'a str, rate: &'a str },
     /// The value doesn't begin with `serprog:`.
     NoPrefix,
-    /// The setting has this flaw. It is the first setting with a flaw.
+    /// The first setting with a flaw, and the flaw.
     Flawed { setting: &'a str, flaw: Flaw },
     /// No setting is wrong, but `dev=` is missing.
     NoDevice,
@@ -39,10 +38,9 @@ pub enum WrongSetting<'a> {
 impl<'a> Setting<'a> {
     /// Parses the value of `-p`. A `KEY=VALUE` pair ends at the next comma, and its key at the first `=`.
     ///
-    /// Returns `NoPrefix` if the text doesn't begin with `serprog:`. If a setting has a flaw, returns `Network` if the
-    /// key of the first such setting is `ip`, and otherwise `Flawed`. If no setting has a flaw, returns `NoDevice` if
-    /// `dev=` is missing, and `BaudRate` if the device ends with a colon and a decimal number (at most 20 digits, below
-    /// 2^64).
+    /// Returns `NoPrefix` without `serprog:`; for the first setting with a flaw `Network` (key `ip`) or `Flawed`;
+    /// `NoDevice` without `dev=`; or `BaudRate` if the device ends with a colon and a decimal number (at most 20
+    /// digits, below 2^64).
     pub fn read(text: &'a str) -> Result<Setting<'a>, WrongSetting<'a>>
         ensures { MatchResult result (IsSetting text.now) (IsWrongSetting text.now) }
     {
@@ -65,7 +63,6 @@ impl<'a> Setting<'a> {
 }
 
 impl<'a> WrongSetting<'a> {
-    // Returns the error for `setting`, which has a flaw.
     fn of(setting: &'a str) -> WrongSetting<'a>
         ensures { IsWrongBy setting.now result }
     {
@@ -80,7 +77,6 @@ impl<'a> WrongSetting<'a> {
     }
 }
 
-// Returns the first setting with a flaw: an unknown key, a wrong value, or a key that another setting has too.
 fn first_wrong(list: &str) -> Option<&str>
     ensures { option_map (λ setting. setting.now) result ≡ first_wrong (pieces_of list.now) }
 {
@@ -94,7 +90,6 @@ fn is_wrong(list: &str, setting: &str) -> bool
     !is_serprog_setting(setting) || !is_alone(list, setting)
 }
 
-// True if the setting has a known key with a correct value.
 fn is_serprog_setting(setting: &str) -> bool
     ensures { result ≡ is_serprog_setting setting.now }
 {
@@ -114,7 +109,7 @@ fn has_serprog_key(setting: &str) -> bool
     matches!(key, "dev" | "spispeed" | "cs")
 }
 
-// True if the key is `ip`, with or without a value. In flashrom, `ip=..` names a programmer in the network.
+// In flashrom, `ip=..` names a programmer in the network.
 fn names_network(setting: &str) -> bool
     ensures { result ≡ names_network setting.now }
 {
@@ -128,7 +123,7 @@ fn read_select(value: &str) -> Option<u8>
     u8::try_from(read_number(value)?).ok()
 }
 
-// Returns `BaudRate` if the device ends with a colon and a number: flashrom's syntax is `dev=DEVICE:BAUD`.
+// flashrom's syntax is `dev=DEVICE:BAUD`.
 fn refuse_rate(device: &str) -> Result<(), WrongSetting<'_>>
     ensures { MatchResult result (λ _. HasNoRate device.now) (EndsWithRate device.now) }
 {

@@ -16,12 +16,11 @@ use nor_files::Store;
 use nor_jobs::{Sources, journal_in, read_image};
 use nor_layout::Ranges;
 
-/// Returns a copy of the job's image if the job ends with a comparison of the chip with an image: `-v`, and `-w`
-/// without `-n` and `-N`. Returns `None` for any other job, or if memory runs out.
+/// Returns a copy of the image of `-v`, and of `-w` without `-n` and `-N`, or `None` for any other job or without
+/// memory.
 ///
-/// The bus reads data that equals this image only once. If a sector is misread as equal to the image, `-w` doesn't
-/// write it, but the comparison at the end detects this, unless it misreads the sector in the same way. Without the
-/// comparison the run would end with `Done`.
+/// The bus reads data that equals this image only once. If `-w` misreads a sector as equal and skips it, the comparison
+/// at the end detects this, unless it misreads the sector in the same way.
 pub fn image_of(sources: &Sources, operation: &Operation<'_>) -> Option<Vec<u8>>
     ensures { MayExpectImage operation.now sources.now.bytes.items (option_map (λ image. image.items) result) }
 {
@@ -32,7 +31,6 @@ pub fn image_of(sources: &Sources, operation: &Operation<'_>) -> Option<Vec<u8>>
     }
 }
 
-// True for a job that ends with a comparison of the chip with an image: `-v`, and `-w` without `-n` and `-N`.
 fn ends_with_image(operation: &Operation<'_>) -> bool
     ensures { result ≡ ends_with_image operation.now operation.now.task }
 {
@@ -45,9 +43,8 @@ fn ends_with_image(operation: &Operation<'_>) -> bool
     }
 }
 
-/// Reads the image or the journal of a task, checks it, and adapts it (`adapted`; `is_replaced` is true with
-/// `--replaced-chip`). In an image, the bytes of each of the `regions` are replaced by those of the region's file.
-/// `included` has the addresses of the regions. Each file is as it was.
+/// Reads the image or the journal of a task, checks it, adapts it (`adapted`), and replaces the bytes of `regions` in
+/// an image. `included` has the addresses of the regions, and `is_replaced` is true with `--replaced-chip`.
 ///
 /// Returns the faults of `read_file` and `read_journal`, error 15 for an invalid journal, file fault 4 if the journal
 /// of a change already exists, or a fault of `adapted` or `replace_regions`.
@@ -74,8 +71,7 @@ pub fn prepare_sources<'a, R: Store>(
     Ok(sources)
 }
 
-// Reads the image or the journal of a task. Returns no bytes for a task that needs neither. A comparison may have a
-// journal in place of an image, which is a little longer.
+// A comparison may have a journal in place of an image, which is a little longer.
 fn read_bytes<'a, R: Store>(rt: &mut R, task: &Task<'a>) -> Result<Vec<u8>, Fault<'a>>
     ensures same { AreUntouched (R.state rt.old) (R.state rt.new) }
     ensures ok { IfOk result (λ bytes. AreBytes (R.state rt.old).view task.now bytes.items) }
@@ -89,7 +85,6 @@ fn read_bytes<'a, R: Store>(rt: &mut R, task: &Task<'a>) -> Result<Vec<u8>, Faul
     }
 }
 
-// Checks that the journal of a change doesn't exist yet, and that the file of a restore is a valid journal.
 fn check<'a, R: Store>(rt: &R, task: &Task<'a>, bytes: &[u8]) -> Result<(), Fault<'a>>
     requires { AreBytes (R.state rt.now).view task.now bytes.now }
     ensures { IfErr result (FailsCheck (R.state rt.now).view task.now) }

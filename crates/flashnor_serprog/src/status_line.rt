@@ -1,11 +1,9 @@
-//! The lines for two replies that differ, for a chip that is lost, for a status write that was refused or that the chip
-//! did not store, and for a port that seems to change bytes.
+//! The lines for replies that differ, a lost chip, a status write that failed, and a port that changes bytes.
 
 use nor_buses::{ChangedByte, CheckFault, OtherChip};
 use std::fmt;
 
-/// The line after that of error 12 if a `CheckedStatus` stopped because two replies differ, the chip is lost, a status
-/// write was refused or not stored, or the port seems to change bytes.
+/// The line after that of error 12 if a `CheckedStatus` stopped the bus.
 #[derive(Clone, Copy, Drop)]
 pub struct StatusLine(pub CheckFault);
 
@@ -67,7 +65,6 @@ const REFUSED: &str =
     "Chip fault 2: a status write was not sent, because it would change status bits that this job must \
     keep. Some of these can never be cleared again. Please report this fault of the program.";
 
-// An ID as six hexadecimal digits.
 #[derive(Clone, Copy, Drop)]
 struct Hex([u8; 3]);
 
@@ -78,7 +75,6 @@ impl fmt::Display for Hex {
     }
 }
 
-// A status write of `sent` after which the chip's status bytes are `found`.
 #[derive(Clone, Copy, Drop)]
 struct NotStored {
     sent: [u8; 2],
@@ -132,8 +128,8 @@ pub fn keeps_srp0(sent: [u8; 2], found: [u8; 2]) -> bool {
     sent[0] & 0x80 == 0 && found[0] & 0x80 != 0
 }
 
-/// Returns whether status bytes may protect an address: if BP0 to BP2 and CMP are clear, they protect none (W25Q64FV
-/// datasheet, memory protection tables).
+/// Returns whether status bytes may protect an address: one of BP0 to BP2 or CMP is set (W25Q64FV datasheet, memory
+/// protection tables).
 pub fn protects(status: [u8; 2]) -> bool {
     status[0] & 0x1C != 0 || status[1] & 0x40 != 0
 }
@@ -143,13 +139,11 @@ pub fn are_equally_protected(one: [u8; 2], other: [u8; 2]) -> bool {
     (one[0] ^ other[0]) & 0x7C == 0 && (one[1] ^ other[1]) & 0x40 == 0
 }
 
-// Two bytes, the first for status 1 and the second for status 2, displayed as the names of the bits that are set in
-// them, each after a space. BUSY, WEL and SUS are left out.
+// The names of the bits that are set in status 1 and 2, each after a space.
 #[derive(Clone, Copy, Drop)]
 struct Differing([u8; 2]);
 
-// The bits of status 1 and of status 2 except BUSY, WEL and SUS, the highest first (W25Q64FV datasheet, status
-// registers).
+// All bits except BUSY, WEL and SUS, the highest first (W25Q64FV datasheet, status registers).
 const ONE: [(u8, &str); 6] = [
     (0x80, "SRP0"),
     (0x40, "SEC"),

@@ -20,20 +20,17 @@ pub struct LockChange {
     pub found: Found,
     /// Status 1 and status 2 before the change.
     pub before: [u8; 2],
-    /// Status 1 and status 2 after the change. `None` if SRP0 had the value already; nothing was then sent.
+    /// Status 1 and status 2 after the change, or `None` if SRP0 had the value already, and nothing was sent.
     pub after: Option<[u8; 2]>,
 }
 
-/// Sets SRP0 (bit 7 of status 1) if `srp0` is true, and clears it otherwise. While SRP0 is set and the WP# pin is low,
-/// a chip ignores status writes, so that its block protection can't be changed. (W25Q64FV datasheet, Status Register
-/// Protect.)
+/// Sets SRP0 (bit 7 of status 1) if `srp0` is true, and clears it otherwise. While SRP0 is set and WP# is low, a chip
+/// ignores status writes, so its protection stays. (W25Q64FV datasheet, Status Register Protect.)
 ///
-/// Identifies the chip and reads its status registers. If SRP0 has another value, sends one status write, which keeps
-/// every other bit that was read, and reads the registers back. No journal is written.
-///
-/// Returns an error of the identification; error 6 if the chip's block protection is unknown; error 9 if SRP1 is set,
-/// because the chip then ignores status writes at least until its power is off; or error 12 or 13. If the registers are
-/// read back with other bits than those sent, returns `NotStored`: the likely cause is that WP# is low.
+/// Identifies the chip, sends one status write if SRP0 has another value, and reads the registers back. No journal is
+/// written. Returns an error of the identification, error 6 for unknown block protection, error 9 if SRP1 is set (the
+/// chip then ignores status writes at least until its power is off), error 12 or 13, or `NotStored` if other bits are
+/// read back (WP# is probably low).
 pub fn set_srp0<'a, B: Bus>(
     bus: &mut B,
     named: Option<ChipName>,
@@ -66,8 +63,6 @@ pub fn set_srp0<'a, B: Bus>(
     })
 }
 
-// Reads the status registers. Returns error 6 if the chip's block protection is unknown, error 9 if SRP1 is set, or
-// error 12 or 13.
 fn read_open<B: Bus>(bus: &mut B, found: &Found) -> Result<[u8; 2], Refusal>
     ensures kept { KeepsSent (B.state bus.old) (B.state bus.new) }
     ensures known { OnOk result (found.now.scheme ≡ true) }
@@ -85,7 +80,6 @@ fn read_open<B: Bus>(bus: &mut B, found: &Found) -> Result<[u8; 2], Refusal>
     Ok(bytes)
 }
 
-// Waits until the chip is ready, and reads the status registers, status 1 first.
 fn read_status<B: Bus>(bus: &mut B) -> Result<[u8; 2], OperationError>
     ensures kept { KeepsSent (B.state bus.old) (B.state bus.new) }
     ensures ok { IfOk result (ReadsStatus (B.state bus.old) (B.state bus.new)) }
@@ -96,7 +90,6 @@ fn read_status<B: Bus>(bus: &mut B) -> Result<[u8; 2], OperationError>
     Ok([waited.status1, two])
 }
 
-// Writes SRP0 into the status registers, which were read as `before`, and reads them back.
 fn write_srp0<B: Bus>(bus: &mut B, before: [u8; 2], srp0: bool) -> Result<[u8; 2], OperationError>
     ensures within { SendsWithin (writing (sets_srp0 srp0 before) 1) (B.state bus.old) (B.state bus.new) }
     ensures ok { IfOk result (λ after. WritesSrp0 srp0 before after (B.state bus.old) (B.state bus.new)) }
@@ -107,14 +100,12 @@ fn write_srp0<B: Bus>(bus: &mut B, before: [u8; 2], srp0: bool) -> Result<[u8; 2
     read_status(bus)
 }
 
-// True if SRP0 is set in these status registers.
 fn shows_srp0(bytes: [u8; 2]) -> bool
     ensures { result ≡ shows_srp0 (slice_index bytes 0) }
 {
     bytes[0] / 128 == 1
 }
 
-// Returns the status registers with this value of SRP0, and with BUSY, WEL and SUS clear.
 fn bytes_with(srp0: bool, before: [u8; 2]) -> [u8; 2]
     ensures { result ≡ bytes_with srp0 before }
 {
@@ -122,7 +113,6 @@ fn bytes_with(srp0: bool, before: [u8; 2]) -> [u8; 2]
     [high + before[0] % 128 / 4 * 4, before[1] % 128]
 }
 
-// True if `after` has this value of SRP0, and every other non-volatile bit as in `before`.
 fn has_only_srp0(srp0: bool, before: [u8; 2], after: [u8; 2]) -> bool
     ensures yes { result ≡ true → HasOnlySrp0 srp0 before after }
     ensures no { HasOnlySrp0 srp0 before after → result ≡ true }

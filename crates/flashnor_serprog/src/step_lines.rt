@@ -1,5 +1,4 @@
-//! The lines of the steps if they are shown below each other, the numbers of transactions in them, and the line that
-//! says how long a change took.
+//! The lines of the steps that are shown below each other, and the line that says how long a change took.
 use crate::estimates::Minutes;
 use crate::steps::Step;
 use std::fmt;

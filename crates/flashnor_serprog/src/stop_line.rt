@@ -9,7 +9,7 @@ use nor_console::Escaped;
 use nor_serprog::Failure;
 use std::fmt;
 
-/// The line that follows the line of error 12. It has the reason why the bus stopped, advice, and what the job left.
+/// The line that follows the line of error 12.
 #[derive(Drop)]
 pub struct StopLine<'a> {
     /// The two unique IDs, if the chip was another one before the first modifying command.
@@ -31,15 +31,13 @@ pub enum Left<'a> {
     Reading,
     /// A session that sent no modifying command.
     Unchanged,
-    /// A session that may have sent a modifying command, or a restore: the chip may be changed, and can be restored
-    /// from this journal.
+    /// A session that may have sent a modifying command, or a restore: this journal can restore the chip.
     Changed {
         journal: Option<&'a str>,
-        /// True for a session with `--unlock` if the status of the chip may have protected an address. The session then
-        /// may have lifted the protection.
+        /// True for a session with `--unlock` that may have lifted the chip's protection.
         may_be_unprotected: bool,
     },
-    /// A session or a restore that was completed. Only the comparison after it failed, which another line says.
+    /// A session or a restore that was completed; only the comparison after it failed.
     Completed,
     /// A change of SRP0 that may have sent its status write: SRP0 may have either value.
     EitherLock,
@@ -77,7 +75,6 @@ impl fmt::Display for Left<'_> {
     }
 }
 
-// The name of a journal after `--restore`: as an argument to copy or, if it can't be copied, as a text.
 #[derive(Clone, Copy, Drop)]
 struct JournalName<'a>(&'a str);
 
@@ -114,7 +111,6 @@ impl fmt::Display for StopLine<'_> {
     }
 }
 
-// True if the chip ignored a status write that was to clear SRP0, so that SRP0 is known to be set.
 fn is_ignored(fault: CheckFault) -> bool {
     match fault {
         CheckFault::NotStored { sent, found } => keeps_srp0(sent, found),

@@ -1,6 +1,5 @@
-//! The file beside a session's journal that has the sums of the sectors before the session.
-//!
-//! Its name is that of the journal with `.sectors` after it. Its contents are the encoding in `nor_sums`.
+//! The file with the sums of the sectors before a session (in the encoding of `nor_sums`). Its name is that of the
+//! session's journal with `.sectors` after it.
 
 use crate::hints::print_hint;
 use crate::jobs::changes_bytes;
@@ -22,8 +21,7 @@ pub fn sums_name(alloc: Global, journal: &str) -> Result<String, AllocError> {
     Ok(name)
 }
 
-/// Returns the name of the journal of a write or an erase, which notes the sums of the sectors. Returns `None` for any
-/// other operation.
+/// Returns the name of the journal of a write or an erase, which notes the sums of the sectors, or `None`.
 pub fn noting_journal<'a>(operation: &Operation<'a>) -> Option<&'a str> {
     match &operation.task {
         Task::Change(
@@ -37,9 +35,8 @@ pub fn noting_journal<'a>(operation: &Operation<'a>) -> Option<&'a str> {
     }
 }
 
-/// Checks that there is no file with the sums beside the new journal of a write or an erase. If there is one, but no
-/// journal, prints file fault 4 with its name, and returns false. (If the journal is there, its own fault is printed
-/// later.) If memory runs out, returns true, and the file is never written.
+/// Checks that there is no file with the sums beside the new journal of a write or an erase. If there is, prints file
+/// fault 4, unless the journal exists, whose fault is printed later. Without memory the file is never written.
 pub fn is_new<R: Store, E: Write>(files: &R, operation: &Operation<'_>, errors: &mut E) -> bool {
     let Some(journal) = noting_journal(operation) else {
         return true;
@@ -56,8 +53,8 @@ pub fn is_new<R: Store, E: Write>(files: &R, operation: &Operation<'_>, errors: 
     false
 }
 
-/// Creates the file of this name, writes these bytes to it, and syncs it. Returns false if one of these steps fails:
-/// the file may then be missing or incomplete. Never overwrites a file.
+/// Creates the file of this name with these bytes, and syncs it. Returns false if one of these steps fails, after which
+/// the file may be missing or incomplete. Never overwrites a file.
 pub fn store<R: Store>(files: &mut R, name: &str, bytes: &[u8]) -> bool {
     let Ok(mut vault) = files.vault_in_new(name) else {
         return false;
@@ -72,8 +69,8 @@ pub fn store<R: Store>(files: &mut R, name: &str, bytes: &[u8]) -> bool {
 pub enum Before {
     /// No comparison is made: there is no restore, or it isn't compared (`-N`), or its journal saves all sectors.
     Unneeded,
-    /// The file is missing, and the journal saves no sector: a session of `--wp-range` reads no sector, so it writes no
-    /// such file. Even so, a disturbed status write may have reached a sector.
+    /// The file is missing, as after a session of `--wp-range`, which reads no sector and saves none. Even so, a
+    /// disturbed status write may have reached a sector.
     Unwritten,
     /// The file is missing.
     Missing,
@@ -101,7 +98,6 @@ pub fn read_before<R: Store>(files: &R, operation: &Operation<'_>, bytes: &[u8])
     }
 }
 
-// Reads the file beside the journal of this name.
 fn read_beside<R: Store>(files: &R, name: &str, journal: &Journal<'_>) -> Before {
     let Ok(name) = sums_name(files.alloc(), name) else {
         return Before::Damaged;
@@ -116,7 +112,6 @@ fn read_beside<R: Store>(files: &R, name: &str, journal: &Journal<'_>) -> Before
     }
 }
 
-// Returns the sums of the sectors that the journal doesn't save, if the sums are those of this journal.
 fn before_of(sheet: Sheet, journal: &Journal<'_>) -> Before {
     if !sheet.fits(journal) {
         return Before::Other;
@@ -129,8 +124,7 @@ fn before_of(sheet: Sheet, journal: &Journal<'_>) -> Before {
     Before::Known(sums)
 }
 
-/// The line of a restore that could not compare the sectors which its journal, in the file of this name, doesn't save
-/// with their sums before the session.
+/// The line of a restore that lacks the sums for its comparison. `journal` is the name of its journal.
 #[derive(Clone, Copy, Drop)]
 pub struct UnknownLine<'a> {
     pub journal: &'a str,

@@ -12,21 +12,18 @@ use std::os::unix::fs::FileTypeExt;
 use std::time::Instant;
 use std::{env, fmt, fs};
 
-// The greatest length of the line that is rewritten, for terminals with 40 or more columns. A line that is wrapped
-// can't be rewritten, also after the terminal got narrower, and std can't return the number of columns of the terminal.
-// The last column stays free, because some terminals wrap a line that fills it.
+// For terminals with 40 or more columns: a line that is wrapped can't be rewritten, and std can't return the number of
+// columns. The last column stays free, because some terminals wrap a line that fills it.
 const COLUMNS: usize = 39;
 
 // Erases from the cursor to the end of the line (ECMA-48, EL).
 const ERASE_TO_END: &str = "\x1b[K";
 
-// The line before the first exchange.
 const WAITING: &str =
     "Waiting for the programmer. No reply in 10 s? Ctrl-C; see flashnor-serprog(8).";
 
-/// What all copies of a `Terminal` know: whether the run waited for its programmer before, whether a line that may be
-/// rewritten is on the screen, what was announced, and how fast data was read. Also the log of the run, which they
-/// share.
+/// What all copies of a `Terminal` share: the row of the screen, what was announced, how fast data was read, and the
+/// log.
 #[derive(Drop)]
 pub struct Screen {
     known: Cell<Known>,
@@ -35,26 +32,22 @@ pub struct Screen {
 
 #[derive(Clone, Copy)]
 struct Known {
-    // whether `print_waiting` was called before
     has_waited: bool,
     row: Row,
-    // whether the run created the journal of a session
     has_journal: bool,
     announced: Option<Announcement>,
     read: Transfer,
 }
 
-// The row of the screen that the cursor is in.
 #[derive(Clone, Copy, PartialEq)]
 enum Row {
     Empty,
-    // the line that says that the run waits for its programmer, which disappears before the next output
+    // shows that the run waits for its programmer, until the next output
     Waiting,
-    // the progress line
     Progress,
 }
 
-/// A number of bytes, and the time in microseconds in which they were transferred.
+/// A number of bytes, and the microseconds in which they were transferred.
 #[derive(Clone, Copy, Default)]
 pub struct Transfer {
     pub bytes: u64,
@@ -95,27 +88,21 @@ pub enum Look {
     Minutes,
 }
 
-/// Standard error, with how the progress of a job is shown on it (`Look`), and the log of the run. The log receives
-/// each line of the progress and of `-V`, whether or not the line is shown on standard error.
+/// Standard error, with how the progress of a job is shown on it, and the log, which receives each line in any case.
 #[derive(Clone, Copy)]
 pub struct Terminal<'a> {
     rt: &'a HostRuntime,
     screen: &'a Screen,
     look: Look,
-    // the greatest length of the line that is rewritten
     columns: usize,
-    // true if the lines of `-V` are printed
     is_verbose: bool,
-    // when the terminal was made
     started: Option<Instant>,
 }
 
 impl<'a> Terminal<'a> {
-    /// Returns the terminal at standard error. With `Auto`, the progress is one line that is rewritten, if standard
-    /// error is a terminal; if it is another character device, there are lines below each other, and otherwise at most
-    /// one line a minute.
-    /// With `Plain` there are lines below each other in any case, and with `Hidden` nothing is shown. With
-    /// `is_verbose`, the lines of `-V` (log.rt) are printed in any case.
+    /// Returns the terminal at standard error. `Auto` chooses one line on a terminal, lines on another character
+    /// device, and otherwise at most one line a minute. `Plain` and `Hidden` apply in any case, and so do the lines of
+    /// `-V` (`is_verbose`).
     pub fn new(
         rt: &'a HostRuntime,
         screen: &'a Screen,
@@ -189,8 +176,7 @@ impl<'a> Terminal<'a> {
         self.screen.known.set(Known { read, ..known });
     }
 
-    /// Rewrites the line, with as much of this text as fits into a row. Shows nothing if memory runs out. The text must
-    /// be ASCII.
+    /// Rewrites the line with as much of this ASCII text as fits into a row. Shows nothing if memory runs out.
     pub fn draw<T: fmt::Display>(&self, text: &T) {
         let Ok(text) = format!(in self.rt.alloc(); "{text}") else {
             return;
@@ -206,7 +192,7 @@ impl<'a> Terminal<'a> {
         self.set_row(Row::Empty);
     }
 
-    /// Ends the line that may be rewritten, if there is one, so that the next output begins on a new line.
+    /// Ends the line that may be rewritten, if there is one.
     pub fn end_line(&self) {
         match self.screen.known.get().row {
             Row::Empty => {}
@@ -218,9 +204,8 @@ impl<'a> Terminal<'a> {
         }
     }
 
-    /// Logs a line for this transaction if it is a modifying one (`-V`, `-o`). The line is printed before the
-    /// transaction is passed to the programmer's bus. The bus may refuse the transaction, or send it only with the next
-    /// poll.
+    /// Logs a line for a modifying transaction (`-V`, `-o`), before the transaction is passed on. The programmer's bus
+    /// may refuse the transaction, or send it only with the next poll.
     pub fn log_command(&self, out: &[u8]) {
         if self.is_logging()
             && let Some(name) = command_name(out)
@@ -247,17 +232,14 @@ impl<'a> Terminal<'a> {
         }
     }
 
-    // Returns the number of microseconds since the terminal was made.
     fn elapsed(&self) -> u64 {
         micros_between(self.started, self.now())
     }
 
-    // Returns whether the lines of `-V` are printed, or written to the log.
     fn is_logging(&self) -> bool {
         self.is_verbose || self.log().is_open()
     }
 
-    // Writes a line to the log. With `-V`, also prints it, after the line that may be rewritten is cleared.
     fn log_line<T: fmt::Display>(&self, text: &T) {
         if self.is_verbose {
             self.clear_line();
@@ -266,7 +248,7 @@ impl<'a> Terminal<'a> {
         self.log().write_line(text);
     }
 
-    /// Clears the line that may be rewritten, if there is one, so that the next output takes its place.
+    /// Clears the line that may be rewritten, if there is one.
     pub fn clear_line(&self) {
         if self.screen.known.get().row != Row::Empty {
             let _ = eprint!(self.rt; "\r{ERASE_TO_END}");
@@ -279,7 +261,7 @@ impl<'a> Terminal<'a> {
         self.screen.known.set(Known { row, ..known });
     }
 
-    /// Writes a line to the log. If progress is shown, also prints it, after the line that may be rewritten is ended.
+    /// Writes a line to the log. If progress is shown, also prints it.
     pub fn print<T: fmt::Display>(&self, text: &T) {
         if matches!(self.look, Look::Plain | Look::Line) {
             self.end_line();
@@ -302,9 +284,8 @@ impl<'a> Terminal<'a> {
         self.log().write_line(text);
     }
 
-    /// Writes the line to the log that says that the run waits for its programmer. With `Look::Plain`, also prints it,
-    /// except in a second call in a run, since the programmer replied before. With `Look::Line`, shows it until the
-    /// next output. A read from a port that isn't set up waits without a limit, and std has no call that ends it.
+    /// Logs and shows that the run waits for its programmer: with `Look::Plain` once, with `Look::Line` until the next
+    /// output. A read from a port that isn't set up waits without a limit, and std has no call that ends it.
     pub fn print_waiting(&self) {
         self.log().write_line(&WAITING);
         let known = self.screen.known.get();
@@ -328,8 +309,7 @@ impl<'a> Terminal<'a> {
         }
     }
 
-    /// Writes a line to the log that says how long the change takes or took. With `Look::Line`, also prints it, after
-    /// the line that may be rewritten is ended.
+    /// Writes a line to the log that says how long the change takes or took. With `Look::Line`, also prints it.
     pub fn print_time<T: fmt::Display>(&self, text: &T) {
         if self.look == Look::Line {
             self.end_line();
@@ -338,21 +318,18 @@ impl<'a> Terminal<'a> {
         self.log().write_line(text);
     }
 
-    /// Prints what a session will change, and the length of its journal (`print`). If the session touches a sector, a
-    /// further line says about how long the change takes (`print_time`).
+    /// Prints what a session will change, the length of its journal, and about how long the change takes.
     pub fn print_session(&self, announcement: Announcement) {
         self.print(&SessionText(announcement));
         self.announce(announcement);
     }
 
-    /// Prints what a restore will change (`print`). If the restore touches a sector, a further line says about how long
-    /// the change takes (`print_time`).
+    /// Prints what a restore will change, and about how long that takes.
     pub fn print_restore(&self, announcement: Announcement) {
         self.print(&RestoreText(announcement));
         self.announce(announcement);
     }
 
-    // Records what will change. If a sector is touched, a line says about how long the change takes (`print_time`).
     fn announce(&self, announcement: Announcement) {
         let known = self.screen.known.get();
         self.screen.known.set(Known {
@@ -368,7 +345,6 @@ impl<'a> Terminal<'a> {
     }
 }
 
-// Returns the text, or as many of its first bytes as there are columns.
 fn fit(text: &str, columns: usize) -> &str {
     match text.get(..columns) {
         Some(head) => head,
@@ -376,8 +352,7 @@ fn fit(text: &str, columns: usize) -> &str {
     }
 }
 
-// Returns the greatest length of the line that is rewritten: `COLUMNS`, or less if the environment says that the
-// terminal has fewer columns.
+// `COLUMNS`, or less if the environment says so.
 fn columns_of(rt: &HostRuntime) -> usize {
     let Ok(columns) = env::var(rt, "COLUMNS") else {
         return COLUMNS;
@@ -388,7 +363,6 @@ fn columns_of(rt: &HostRuntime) -> usize {
     }
 }
 
-// Returns whether standard error is a character device.
 fn is_device(rt: &HostRuntime) -> bool {
     match fs::metadata(rt, "/proc/self/fd/2") {
         Ok(metadata) => metadata.file_type().is_char_device(),

@@ -15,7 +15,7 @@ use std::fmt;
 /// The reason why a run ends before its job begins.
 #[derive(Drop)]
 pub enum Trouble<'a> {
-    /// A fault that `flashnor` reports too, with the same numbered line; or a request for the help or the version.
+    /// A fault that `flashnor` reports too, or a request for the help or the version.
     Fault(Fault<'a>),
     /// The value of `-p` describes no programmer.
     Setting(WrongSetting<'a>),
@@ -23,7 +23,7 @@ pub enum Trouble<'a> {
     Region(RegionFault<'a>),
     /// The journal doesn't save the whole chip.
     NotWhole(NotWhole<'a>),
-    /// Layout fault 8: this name of `-i` is no region. `known` has the regions of the layout.
+    /// Layout fault 8: this name of `-i` is none of the `known` regions.
     NoRegion {
         name: &'a str,
         known: NamesLine<'a>,
@@ -33,8 +33,7 @@ pub enum Trouble<'a> {
         fault: ProgrammerFault,
         device: &'a str,
     },
-    /// The layout can't be read from the chip. The lines of the fault were printed already, because its cause is known
-    /// only as long as the bus is there.
+    /// The layout can't be read from the chip. The fault was printed while the bus was there, which knows its cause.
     Printed,
 }
 
@@ -125,11 +124,9 @@ impl fmt::Display for Trouble<'_> {
     }
 }
 
-// The line that is printed before the line of usage fault 7 if `-i` is given without a layout. In `flashnor` this line
-// names only `-l`.
+// The line before usage fault 7 if `-i` is given without a layout. In `flashnor` this line names only `-l`.
 const NO_LAYOUT: &str = "error: -i needs -l, --fmap, --fmap-file, --ifd or --ifd-file";
 
-// Prints the line that precedes the line of usage fault 3, and says what is wrong or what to give instead.
 impl fmt::Display for WrongSetting<'_> {
     fn fmt<W: fmt::Write>(&self, f: &mut fmt::Formatter<W>) -> fmt::Result {
         match self {
@@ -158,7 +155,6 @@ impl fmt::Display for WrongSetting<'_> {
     }
 }
 
-// Returns what may take the place of a setting of `-p` with this flaw, or no text.
 fn choices_for(setting: &str, flaw: Flaw) -> &'static str {
     let (key, _) = split_setting(setting);
     match flaw {
@@ -174,8 +170,7 @@ fn choices_for(setting: &str, flaw: Flaw) -> &'static str {
 /// The arguments with which `stty` sets up a serial port for this program.
 pub const MODES: &str = "raw -echo clocal -hupcl min 0 time 50";
 
-/// The reason why the programmer can't be used. It occurs before the job begins: at most the transaction that wakes the
-/// chip (ABh) was sent to the chip.
+/// The reason why the programmer can't be used. At most the transaction that wakes the chip (ABh) was sent to the chip.
 #[derive(Drop)]
 pub enum ProgrammerFault {
     /// 1: the device is missing, or the system can't open or lock it.
@@ -184,8 +179,7 @@ pub enum ProgrammerFault {
     NoDevice,
     /// 3: another process has locked the device.
     InUse,
-    /// 4 to 11: the port fails, or the programmer replies wrongly, refuses a command, speaks another version, or lacks
-    /// a command, SPI, or a length that is needed.
+    /// 4 to 11: the port fails, or the programmer replies wrongly, or lacks something that is needed.
     Handshake(HandshakeFault<PortFault>),
     /// 12: the port changes bytes that are sent.
     ChangesBytes,
@@ -194,7 +188,6 @@ pub enum ProgrammerFault {
 /// The advice that is printed for a programmer fault.
 #[derive(Clone, Copy)]
 enum Remedy {
-    /// This text.
     Do(&'static str),
     /// This text, and then the `stty` command that sets up the port.
     DoAndSetUp(&'static str),
@@ -212,8 +205,7 @@ impl ProgrammerFault {
         }
     }
 
-    // Returns the text that follows the device's name in the line of the fault. The text for `Handshake` is never
-    // printed, since these faults have texts of their own.
+    // The text for `Handshake` is never printed, since these faults have texts of their own.
     fn reason(&self) -> &'static str {
         match self {
             ProgrammerFault::NotOpened(SystemReason::Missing) => {
@@ -288,13 +280,11 @@ fn help_for(fault: &HandshakeFault<PortFault>) -> Remedy {
     }
 }
 
-// The advice for a reply that only wrong firmware should send. A programmer that received its own replies as commands,
-// because the port echoed them, or that still waits for the rest of a command, may send such replies, too.
+// A port that echoes, or a programmer that still waits for the rest of a command, may cause such replies, too.
 const AGAIN: &str =
     "Disconnect the programmer from power for a second, connect it again, set up the port, and repeat the run; \
     install other firmware only if the same line appears again. To set up the port:";
 
-// The advice for a fault of the programmer at this device, as printed.
 #[derive(Drop)]
 struct Advice<'a> {
     help: Remedy,

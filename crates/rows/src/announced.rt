@@ -1,5 +1,4 @@
-//! Tests of announcements. A session or restore must announce the right numbers, after the last read of its scan and
-//! before its first modifying command.
+//! Tests of announcements: the right numbers, after the last read of the scan and before the first modifying command.
 use crate::held::{assert_held, assert_that};
 use crate::row::{Row, Start};
 use crate::runs::AMPLE;
@@ -9,12 +8,8 @@ use nor_session::{Announcement, restore_announced, session_announced};
 use std::alloc::Global;
 use std::process::Abort;
 
-// Each row has:
-//
-// - the numbers of touched sectors and of erases of its session
-// - the same numbers of a restore after that session
-// - the number of transactions that a restore sends before its announcement: seven to identify a chip by its SFDP or
-//   four for a W25Q64FV, and one for each saved sector
+// Each row has the numbers of touched sectors and of erases, of its session and of a restore after it. A restore sends
+// seven transactions to identify a chip by its SFDP (four on a W25Q64FV) and one for each saved sector before that.
 const ROWS: [(Row, (u32, u32), (u32, u32), u64); 8] = [
     (Row::ABitFalls, (1, 0), (1, 1), 8),
     (Row::ABitRises, (1, 1), (1, 0), 8),
@@ -26,8 +21,7 @@ const ROWS: [(Row, (u32, u32), (u32, u32), u64); 8] = [
     (Row::AGuardedByteIsProgrammed, (1, 0), (1, 1), 5),
 ];
 
-// What is left of a row's session after it was run with a given allowance: its bus, its vault, and its announcement if
-// it made one.
+// What a session with a given allowance left, and its announcement.
 #[derive(Drop)]
 struct Announced {
     bus: SimBus,
@@ -52,8 +46,6 @@ impl Announced {
         Announced { bus, vault, seen }
     }
 
-    // Restores from the session's journal with the allowance `allowed`. Returns what the restore announced, if
-    // anything.
     fn restore(&mut self, rt: &impl Abort, allowed: u64) -> Option<Announcement> {
         let journal = Journal::read(self.vault.bytes()).expect(rt, "a journal");
         self.bus.allow(allowed);
@@ -65,7 +57,6 @@ impl Announced {
     }
 }
 
-// Returns the announcement with these numbers of touched sectors and of erases.
 fn announcement((touched, erases): (u32, u32)) -> Option<Announcement> {
     Some(Announcement { touched, erases })
 }

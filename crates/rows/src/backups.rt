@@ -1,5 +1,5 @@
-//! Backups of whole chips: stopped after each number of their transactions, with a vault that refuses a call, or of a
-//! chip that isn't the named one. Restores from a backup after sectors changed that no session touched.
+//! Backups of whole chips: interrupted, with a vault that refuses a call, or of another chip than the named one.
+//! Restores from a backup after sectors changed that no session touched.
 use crate::held::{assert_held, assert_that};
 use crate::row::{Row, Start};
 use crate::runs::{AMPLE, assert_untouched, keep};
@@ -11,17 +11,15 @@ use nor_session::{Refusal, backup, restore, rewrite};
 use std::alloc::Global;
 use std::process::Abort;
 
-// The row whose chip is saved: a TINY64 whose first 9 sectors are 00h, and whose other sectors are FFh.
+// A TINY64 whose first 9 sectors are 00h, and whose other sectors are FFh.
 const ROW: Row = Row::NineSectorsAreErased;
 
-// The transactions of a backup of a TINY64: seven identify the chip, and sixteen read its sectors.
+// A backup of a TINY64: seven transactions identify the chip, and sixteen read its sectors.
 const LENGTH: u64 = 23;
 
-// The number of records in a backup of a TINY64, one for each sector.
 const SECTORS: u32 = 16;
 
-// Saves the chip in a vault, and returns the vault. Asserts that the report counts only reads, and that each sector is
-// saved.
+// Saves the chip, and asserts that only reads are counted and each sector is saved.
 fn saved(rt: &impl Abort, alloc: Global, bus: &mut SimBus) -> MemVault {
     bus.allow(AMPLE);
     let mut vault = MemVault::new(alloc);
@@ -34,7 +32,7 @@ fn saved(rt: &impl Abort, alloc: Global, bus: &mut SimBus) -> MemVault {
     vault
 }
 
-// Erases sector 3 and programs a byte of sector 12, as commands that a chip receives with wrong addresses would.
+// As commands that a chip receives with wrong addresses would do.
 fn disturb(rt: &impl Abort, bus: &mut SimBus) {
     let sector = Erase {
         unit: EraseBlock::Sector,
@@ -87,8 +85,7 @@ fn each_stop_of_a_backup(rt: HostRuntime) {
     }
 }
 
-// Refuses each call of the vault in turn: one for the header, one for each of 16 sectors, two for the end mark and the
-// digest, and the seal.
+// One call for the header, one for each of 16 sectors, two for the end mark and the digest, and the seal.
 #[test]
 fn each_call_of_a_backup_is_refused(rt: HostRuntime) {
     let alloc = rt.alloc();

@@ -1,5 +1,4 @@
-//! No call sends more transactions than its bound: probes, readings, sessions and restores on faulty buses, and a
-//! session and its restore on the slowest chip.
+//! No call sends more transactions than its bound, on faulty buses and on the slowest chip.
 ghost use Rattle.std.specs.Prelude.{◌≡◌, false};
 
 use crate::held::{assert_held, assert_that};
@@ -13,7 +12,6 @@ use nor_read::{read_out, verify, wp_status};
 use std::alloc::Global;
 use std::process::Abort;
 
-// A call that only reads the chip.
 #[derive(Clone, Copy)]
 enum Reading {
     Probe,
@@ -30,8 +28,7 @@ const READINGS: [Reading; 4] = [
 ];
 
 impl Reading {
-    // Returns the bound of the call on a chip of `sectors` sectors: 65,540 transactions to identify the chip, and the
-    // reads after that.
+    // 65,540 transactions to identify the chip, and the reads after that.
     fn most(self, sectors: u32) -> u64 {
         match self {
             Reading::Probe => 65_540,
@@ -40,7 +37,7 @@ impl Reading {
         }
     }
 
-    // Makes the call, and returns whether it succeeded. The tests accept success and failure.
+    // The tests accept success and failure.
     fn ends(self, bus: &mut SpoiltBus<SimBus>, out: &mut MemVault, image: &[u8]) -> bool
         requires { (⟦<MemVault as Vault>⟧.state out.old).sealed ≡ false }
     {
@@ -52,8 +49,7 @@ impl Reading {
         }
     }
 
-    // Returns the number of transactions that the call sends to the row's chip, on a bus with the fault `spoil`.
-    // Asserts that the chip's bytes and status are as before, and that the write enable latch is clear.
+    // Asserts that the chip is as before, with a clear write enable latch. Returns the number of transactions.
     fn sent(self, rt: &impl Abort, alloc: Global, row: Row, spoil: Spoil) -> u64 {
         let mut bus = spoilt(row.bus(rt, alloc, Start::IDLE), spoil);
         let mut out = MemVault::new(alloc);
@@ -68,8 +64,7 @@ impl Reading {
     }
 }
 
-// Asserts that each reading call, on a bus with this fault, sends at least one transaction and at most its bound for a
-// chip of 16 sectors. Returns the number of calls.
+// Asserts that each call sends from one transaction to its bound. Returns the number of calls.
 fn read_each(rt: &impl Abort, alloc: Global, row: Row, spoil: Spoil) -> u64 {
     let mut runs: u64 = 0;
     for reading in READINGS {
@@ -93,8 +88,7 @@ fn readings_on_faulty_buses(rt: HostRuntime) {
     assert_that!(&rt; runs == 23 * 4 * 4);
 }
 
-// Runs the row's session on a bus with each of the faults `lies(n)` in turn. `Lied::session` asserts the bound. Returns
-// the number of runs.
+// `Lied::session` asserts the bound. Returns the number of runs.
 fn session_each(rt: &impl Abort, alloc: Global, row: Row, n: u8) -> u64 {
     let mut runs: u64 = 0;
     for spoil in lies(n) {
@@ -116,8 +110,7 @@ fn sessions_on_faulty_buses(rt: HostRuntime) {
     assert_that!(&rt; runs == 2 * 59 * 4);
 }
 
-// Runs the restore on a bus with each of the faults `lies(n)` in turn, after a session that was stopped after ten
-// transactions. `Lied::restore` asserts the bound. Returns the number of runs.
+// Restores after a session that was stopped after ten transactions. `Lied::restore` asserts the bound.
 fn restore_each(rt: &impl Abort, stopped: &Runs, n: u8) -> u64 {
     let mut runs: u64 = 0;
     for spoil in lies(n) {
@@ -139,18 +132,15 @@ fn restores_on_faulty_buses(rt: HostRuntime) {
     assert_that!(&rt; runs == 60 * 4);
 }
 
-// Asserts that the chip has the row's image.
 fn assert_written(rt: &impl Abort, alloc: Global, row: Row, bus: &SimBus) {
     let wanted = row.wanted(rt, alloc);
     assert_that!(rt; bus.bytes() == wanted.as_slice());
 }
 
-// The bound of the session and of its restore is `most(16)`, which allows 274 operations. The session sends 271
-// operations and the restore 241, each with 65,536 polls.
+// The bound `most(16)` allows 274 operations. The session sends 271 and the restore 241, each with 65,536 polls.
 //
-// The restore sends seven transactions to identify the chip, and reads sixteen sectors. It reads fifteen of them again
-// before it programs them, and all sixteen to verify them. It erases the last sector and programs the 240 pages of the
-// others.
+// The restore identifies the chip with seven transactions, and reads sixteen sectors, fifteen of them again before it
+// programs them, and all to verify them. It sends one erase and 240 page programs.
 #[test]
 fn the_slowest_session_and_its_restore(rt: HostRuntime) {
     let row = Row::EachPageIsProgrammed;

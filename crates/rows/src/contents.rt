@@ -3,8 +3,7 @@ use nor_chip::SECTOR_LEN;
 use std::alloc::Global;
 use std::process::Abort;
 
-/// The contents of a whole chip: FFh, except that `count` bytes from address `from` on have the value `byte`. The bytes
-/// of `run` replace these contents from address `at` on.
+/// The contents of a chip: FFh, except for `count` bytes `byte` from address `from` on, and then `run` from `at` on.
 #[derive(Clone, Copy)]
 pub struct Bytes {
     pub from: usize,
@@ -36,7 +35,7 @@ pub const ERASED: Bytes = Bytes {
     run: &[],
 };
 
-/// Returns contents whose first `count` bytes have the value `byte`. All other bytes are FFh.
+/// Returns `count` bytes of the value `byte`, and then FFh.
 pub const fn first(count: usize, byte: u8) -> Bytes {
     Bytes {
         count,
@@ -45,7 +44,7 @@ pub const fn first(count: usize, byte: u8) -> Bytes {
     }
 }
 
-/// Returns contents that have the bytes `run` from address `at` on, and FFh elsewhere.
+/// Returns the bytes `run` from address `at` on, and FFh elsewhere.
 pub const fn run(at: usize, run: &'static [u8]) -> Bytes {
     Bytes { at, run, ..ERASED }
 }

@@ -1,4 +1,4 @@
-//! A bus on which one transaction fails, or the polls of one wait, while all other transactions succeed.
+//! A bus on which one transaction fails, or the polls of one wait.
 ghost use Rattle.std.specs.Prelude.{false};
 ghost use Rattle.std.proofs.lemmas.Bool.{false≢true};
 ghost use Rattle.nor_model.specs.PolledReady.{polled_ready_in};
@@ -13,32 +13,29 @@ pub enum Fault {
     Stop,
     /// The bus inverts each bit of the reply.
     Spoil,
-    /// If the transaction is a poll, it shows BUSY, and so does each poll among the next 65,535 transactions. If the
-    /// poll begins a wait of the engine, all of these transactions are polls of this wait, so the wait times out.
+    /// From this poll on, all polls among 65,536 transactions show BUSY, so the engine's wait that it begins times out.
     Busy,
 }
 
-/// A bus on which at most one transaction fails, or the polls of one wait. All other transactions are carried out, up
-/// to an allowance that begins anew after each failed transaction.
+/// A bus on which at most one transaction fails, or the polls of one wait. The allowance begins anew after the failure.
 #[derive(Drop)]
 pub struct OnceBus {
     pub bus: SimBus,
     fault: Fault,
-    // The number of transactions before the one that fails, or `None` if none fails.
+    // The number of transactions before the one that fails, or `None`.
     after: Option<u64>,
     allowed: u64,
     /// The number of requested transactions, including those that failed.
     pub asked: u64,
-    /// The first four bytes that transaction `after`, counted from 0, sent. If it sent fewer than four, these are its
-    /// first byte and three zeros. Before that transaction all four are zeros. With `Busy` the bytes are recorded even
-    /// if the transaction isn't a poll; then nothing fails.
+    /// The first four bytes that transaction `after` sent, or its first byte and zeros if it sent fewer. Zeros before
+    /// it.
     pub met: [u8; 4],
     history: History,
 }
 
 impl OnceBus {
-    /// Returns a bus with the allowance `allowed`. The transaction that follows the first `after` transactions fails as
-    /// `fault` says. If `after` is `None`, no transaction fails.
+    /// Returns a bus with the allowance `allowed`. The transaction that follows the first `after` fails as `fault`
+    /// says.
     pub fn new(mut bus: SimBus, allowed: u64, fault: Fault, after: Option<u64>) -> OnceBus {
         bus.allow(allowed);
         OnceBus {
@@ -52,7 +49,6 @@ impl OnceBus {
         }
     }
 
-    // Returns the value of `met` after the next transaction, which sends `out`.
     fn met_at(&self, out: &[u8]) -> [u8; 4] {
         if self.after == Some(self.asked) {
             beginning(out)
@@ -61,7 +57,6 @@ impl OnceBus {
         }
     }
 
-    // True if the next transaction, which sends `out`, fails.
     fn fails_at(&self, out: &[u8]) -> bool {
         let Some(after) = self.after else {
             return false;
@@ -127,7 +122,6 @@ impl Meter for OnceBus {
     }
 }
 
-// Changes a reply as the fault does.
 fn spoil(fault: Fault, reply: &mut [u8]) {
     for byte in reply.iter_mut() {
         match fault {

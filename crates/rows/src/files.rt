@@ -1,5 +1,4 @@
-//! Vaults over a file on which one call fails and all other calls succeed. The vault must report the failure, and must
-//! not repeat the call.
+//! Vaults over a file on which one call fails: the vault must report the failure, and must not repeat the call.
 ghost use Rattle.std.specs.Prelude.{None};
 
 use crate::held::{assert_held, assert_that};
@@ -12,30 +11,24 @@ use std::alloc::Global;
 use std::io;
 use std::process::Abort;
 
-// The call that fails.
 #[derive(Clone, Copy, PartialEq, Eq)]
 enum Failure {
-    // After this number of writes, the next write returns an error.
     Write(usize),
-    // After this number of writes, the next write accepts no bytes.
+    // After this number of writes, the next one accepts no bytes.
     Nothing(usize),
-    // The first sync returns an error.
     Sync,
 }
 
-// A file in memory. Before each write it records its length in `writes`, even if the write fails. At each sync it
-// records its length in `syncs`, even if the sync fails.
+// A file in memory, which records its length before each write and at each sync, even at one that fails.
 #[derive(Drop)]
 struct OnceFile {
     failure: Option<Failure>,
-    // The most bytes that a write accepts.
     most: usize,
     bytes: Vec<u8>,
     writes: Vec<usize>,
     syncs: Syncs,
 }
 
-// The number of syncs, and the length of the file at the last one.
 #[derive(Clone, Copy, PartialEq, Eq)]
 struct Syncs {
     count: usize,
@@ -64,12 +57,10 @@ impl OnceFile {
         }
     }
 
-    // True if the file has recorded these writes and these syncs, and has these bytes.
     fn has(&self, writes: &[usize], syncs: Syncs, bytes: &[u8]) -> bool {
         self.writes.as_slice() == writes && self.syncs == syncs && self.bytes.as_slice() == bytes
     }
 
-    // True if the file received `writes` writes and then one sync, and contains a journal of `length` bytes.
     fn is_whole(&self, writes: usize, length: usize) -> bool {
         let lengths = (self.writes.len(), self.bytes.len());
         lengths == (writes, length)
@@ -77,8 +68,7 @@ impl OnceFile {
             && Journal::read(&self.bytes).is_ok()
     }
 
-    // True if the last call on the file was write number `n`, counted from 0, and if the file's earlier writes and its
-    // bytes are those that the file `right` had before this write.
+    // True if the last call was write `n`, from 0, and all before it is as in the file `right`.
     fn ends_before(&self, right: &OnceFile, n: usize) -> bool {
         let (Some(writes), Some(before)) = (
             right.writes.get(0..n.saturating_add(1)),
@@ -123,8 +113,7 @@ impl VaultFile for OnceFile {
     }
 }
 
-// Runs a row's session whose vault is in a file. The file accepts at most `most` bytes per write, and its call
-// `failure` fails. Asserts that the chip is unchanged if the session returns an error. Returns the error, and the file.
+// Runs a row's session with its vault in a file. Asserts that the chip is unchanged after an error.
 fn keep(
     rt: &impl Abort,
     alloc: Global,
@@ -142,17 +131,14 @@ fn keep(
     (refusal, vault.into_inner())
 }
 
-// Runs a row's session as `keep` does, with a write or a sync that fails. Asserts that the session returns error 11.
-// Returns the file.
+// Asserts error 11 of a session whose write or sync fails.
 fn fail(rt: &impl Abort, alloc: Global, row: Row, most: usize, failure: Failure) -> OnceFile {
     let (refusal, file) = keep(rt, alloc, row, most, Some(failure));
     assert_that!(rt; refusal == Some(Refusal::Vault));
     file
 }
 
-// Runs the session twice. In the first run write number `n`, counted from 0, returns an error; in the second run it
-// accepts no bytes. Asserts in both runs that this write was the last call on the file, and that the file contains the
-// bytes that `right` had before this write.
+// Write `n`, from 0, returns an error or accepts no bytes. Asserts that it is the last call on the file.
 fn fail_write(rt: &impl Abort, alloc: Global, row: Row, right: &OnceFile, n: usize) {
     for failure in [Failure::Write(n), Failure::Nothing(n)] {
         let file = fail(rt, alloc, row, right.most, failure);
@@ -160,9 +146,8 @@ fn fail_write(rt: &impl Abort, alloc: Global, row: Row, right: &OnceFile, n: usi
     }
 }
 
-// Runs the session on a file that doesn't fail, and asserts the number of writes and the length of the journal. Then
-// makes each write fail in turn, and at last the sync. Asserts that all bytes were written before the sync, and that
-// the failed sync isn't repeated.
+// Asserts the number of writes and the length of the journal, and lets each write and then the sync fail. Asserts that
+// the failed sync follows all writes and isn't repeated.
 fn fail_at_each(rt: &impl Abort, alloc: Global, row: Row, most: usize, counted: (usize, usize)) {
     let (writes, length) = counted;
     let (refusal, right) = keep(rt, alloc, row, most, None);
@@ -174,8 +159,8 @@ fn fail_at_each(rt: &impl Abort, alloc: Global, row: Row, most: usize, counted: 
     assert_that!(rt; file.has(&right.writes, right.syncs, &right.bytes));
 }
 
-// Each row has the most bytes that a write accepts, and the expected numbers of writes and of bytes. The header is one
-// piece of 25 bytes, each record is one piece of 4,100, and the end mark and the digest are pieces of 4 and 32 bytes.
+// Each row has the most bytes that a write accepts, and the numbers of writes and bytes. The pieces are the header (25
+// bytes), each record (4,100), the end mark (4) and the digest (32).
 const ROWS: [(Row, usize, (usize, usize)); 3] = [
     (Row::ABitRises, 5000, (1 + 1 + 2, 61 + 4100)),
     (Row::ABitRises, 1000, (1 + 5 + 2, 61 + 4100)),
@@ -193,8 +178,7 @@ fn a_file_that_fails_once_ends_the_session(rt: HostRuntime) {
     }
 }
 
-// Puts five bytes into a vault over a file that accepts two bytes per write, and whose second write fails. Asserts that
-// the error contains the number of bytes that were accepted before, and that the vault makes no further write or sync.
+// The second write of two bytes fails. Asserts that the error counts the accepted bytes, and that no call follows.
 fn put_half(rt: &impl Abort, alloc: Global, failure: Failure) {
     let mut vault = FileVault::new(OnceFile::new(alloc, 2, Some(failure)));
     let told = vault.put(b"piece");
@@ -203,8 +187,7 @@ fn put_half(rt: &impl Abort, alloc: Global, failure: Failure) {
     assert_that!(rt; file.has(&[0, 2], Syncs::NONE, b"pi"));
 }
 
-// Puts five bytes into a vault over a file whose sync fails, and seals the vault. Asserts that the seal fails with 0
-// bytes kept, and that the vault makes no further write or sync.
+// The sync fails. Asserts that the seal fails with 0 bytes kept, and that no call follows.
 fn put_all(rt: &impl Abort, alloc: Global) {
     let mut vault = FileVault::new(OnceFile::new(alloc, 5, Some(Failure::Sync)));
     let told = [vault.put(b"piece"), vault.seal()];

@@ -1,5 +1,5 @@
-//! nor_plan's comparisons of two slices that are equal or differ in one byte. The slices have the length of a page or a
-//! sector, or a length near 0 or near 32, because nor_plan compares 32 bytes at a time.
+//! nor_plan's comparisons of slices that are equal or differ in one byte, with lengths near 0, near 32 (it compares 32
+//! bytes at a time), and of a page or a sector.
 use crate::held::assert_held;
 use nor_plan::{PageSpan, bounds, differs, raises, spans};
 
@@ -9,7 +9,7 @@ const LONGEST: usize = 4096;
 
 const PAGE: usize = 256;
 
-// True if no comparison finds a difference between a slice of this length and itself.
+// True if no comparison finds a difference between a slice and itself.
 fn is_same_to_itself(length: usize) -> bool {
     let bytes = [0xA5u8; LONGEST];
     match bytes.get(..length) {
@@ -23,10 +23,8 @@ fn is_same_to_itself(length: usize) -> bool {
     }
 }
 
-// True if the comparisons find the only difference of two slices of this length: bit 1 of the byte at `place`, which is
-// clear in `lower` and set in `higher`. `differs` must return true, and `bounds` must return the position, whichever
-// slice is the old one. `raises` must return true if and only if the slice of `lower` is the old one. `spans` must
-// return only the span of that byte.
+// True if the comparisons find the only difference at `place`: bit 1, which is clear in `lower` and set in `higher`.
+// Only `raises` depends on which slice is the old one.
 fn differs_at(length: usize, place: usize) -> bool {
     let lower = [0xA5u8; LONGEST];
     let mut higher = [0xA5u8; LONGEST];

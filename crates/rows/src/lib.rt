@@ -1,56 +1,50 @@
 //! Tests of public calls across crates. In most of them a bus, a vault, a file or a serial port fails, or the input is
-//! malformed. The crate contains only tests.
+//! malformed.
 //!
 //! Code that several tests use:
 //!
 //! - `contents.rt`: contents of chips
-//! - `row.rt`: the sessions that are tested (the rows), each with its chip, its image and its request
-//! - `runs.rt`: runs a row's session and its restores, each of which may be stopped after a number of transactions
-//! - `spoilt.rt`: runs a row's session, or a restore, on a faulty bus
-//! - `failing.rt`: a bus on which one transaction fails, or the polls of one wait, while all others succeed
-//! - `stages.rt`: calls on the bus of `failing.rt`; each of their transactions or waits fails in turn
+//! - `row.rt`: the sessions that are tested (the rows)
+//! - `runs.rt`: runs a row's session and its restores
+//! - `spoilt.rt`: runs a session or a restore on a faulty bus
+//! - `failing.rt`: a bus on which one transaction fails, or the polls of one wait
+//! - `stages.rt`: calls on the bus of `failing.rt`
 //! - `held.rt`: assertions that are proved faster than `assert!`
 //! - `transact.rt`: transactions that must succeed
 //!
 //! Stops and power failures:
 //!
-//! - `cuts.rt`: sessions that are stopped between two transactions, and one restore after each stop that follows the
-//!   seal
-//! - `undone.rt`: sessions that are stopped, restores that are also stopped, and a second restore
-//! - `torn.rt`: sessions and restores that are stopped before, inside or after a transaction; the chip keeps or loses
-//!   its power
-//! - `rewritten.rt`: restores that rewrite every saved sector and are stopped anywhere, and then another rewrite or a
-//!   restore
-//! - `backups.rt`: backups of a chip, stopped anywhere, and restores from a backup after changes that no session made
-//! - `in_turn.rt`: two successive sessions, stopped or run to their end, and their restores in reverse order
-//! - `rehearsed.rt`: rehearsals with each stop of the session and of its first restore, and rehearsals on faulty buses
-//! - `once.rt`: after a stop or a timeout no call except a rehearsal sends anything more; a sector whose reply was
-//!   spoilt isn't read again
-//! - `readings.rt`: reading calls that lose a reply, or whose vault refuses a piece; the status that they report
+//! - `cuts.rt`: sessions that are stopped, and one restore
+//! - `undone.rt`: sessions and restores that are stopped, and a second restore
+//! - `torn.rt`: stops before, inside or after a transaction, with or without a loss of power
+//! - `rewritten.rt`: restores that rewrite every saved sector, stopped anywhere
+//! - `backups.rt`: backups, stopped anywhere, and restores from them
+//! - `in_turn.rt`: two successive sessions, and their restores in reverse order
+//! - `rehearsed.rt`: rehearsals, with stops or on faulty buses
+//! - `once.rt`: no call but a rehearsal sends anything after a stop or a timeout, or reads a spoilt sector again
+//! - `readings.rt`: reading calls that lose a reply, or whose vault refuses a piece
 //!
 //! Faulty buses, vaults and files:
 //!
-//! - `lies.rt`: the errors of sessions and restores on faulty buses, and restores after them on a well-behaved bus
-//! - `bounds.rt`: the bounds on the transactions of probes, readings, sessions and restores: on faulty buses, and on
-//!   the slowest chip
+//! - `lies.rt`: sessions and restores on faulty buses, and restores after them
+//! - `bounds.rt`: the bounds on the transactions of calls
 //! - `vaults.rt`: sessions whose vault refuses a call
 //! - `files.rt`: sessions whose journal is in a file that fails once
-//! - `sinks.rt`: vaults and files that accept everything, refuse a call, write short or can't be synced
+//! - `sinks.rt`: vaults and files that refuse a call, write short or can't be synced
 //! - `traced.rt`: a trace whose log refuses lines
 //! - `losses.rt`: the model of files: calls that fail, and host crashes
 //!
 //! serprog (nor_serprog), most of it over a port in memory:
 //!
 //! - `serprog_model.rt`: a port to a simulated programmer and chip
-//! - `serprog_frames.rt`: the frames of five commands, and a transaction that is too long for a frame
+//! - `serprog_frames.rt`: the frames of five commands
 //! - `serprog_handshakes.rt`: how a link is synchronized, and how a programmer is identified
-//! - `serprog_buses.rt`: transactions over the buses, batches of commands, and faults of the programmer and the port
-//! - `serprog_stops.rt`: sessions and restores over a well-behaved port (of serprog_session), which fails at each of
-//!   its calls in turn
-//! - `serprog_layers.rt`: sessions and restores over all layers of nor_buses, with each failure of the port
+//! - `serprog_buses.rt`: transactions, batches of commands, and faults of the programmer and the port
+//! - `serprog_stops.rt`: sessions and restores over a port that fails at each of its calls in turn
+//! - `serprog_layers.rt`: the same over all layers of nor_buses
 //! - `serprog_wrappers.rt`: paced polls, polls that differ, and reads that are made twice
 //! - `serprog_again.rt`: which sectors of a read are read again
-//! - `serprog_narrow.rt`: reads and programs that are split, because the programmer's limits are too small for them
+//! - `serprog_narrow.rt`: reads and programs that are split for a programmer with small limits
 //!
 //! Single calls:
 //!

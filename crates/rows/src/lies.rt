@@ -14,29 +14,23 @@ const TIMEOUT: Refusal = Refusal::Timeout { address: 0 };
 
 const MISMATCH: Refusal = Refusal::Mismatch { address: 0 };
 
-// Asserts that the call returned the error and sent the number of transactions in `told`. If the vault is sealed,
-// restores on a well-behaved bus, and asserts that afterwards the chip is as before the session.
+// Asserts the error and the number of transactions in `told`, and that a restore undoes the session if it was sealed.
 fn assert_lied(rt: &impl Abort, alloc: Global, row: Row, lied: Lied, told: (Refusal, u64)) {
     let (refusal, sent) = told;
     assert_that!(rt; lied.refusal == Some(refusal) && lied.sent == sent);
     lied.assert_undone(rt, alloc, row);
 }
 
-// Each row has the session, the fault, and the expected error and number of transactions. Transactions are counted from
-// 1. Transactions 1 to 7 identify a TINY64, and 8 to 23 scan it; 1 to 4 identify a W25Q64FV, and 5 to 2,052 scan it.
-// Then the sessions send:
+// Each row has the session, the fault, and the expected error and number of transactions, counted from 1. 1 to 7
+// identify a TINY64 and 8 to 23 scan it; 1 to 4 identify a W25Q64FV and 5 to 2,052 scan it. Then:
 //
-// - `ABitRises`: 24 enables the erase, 25 is the erase, 26 its poll; 27 enables the program, 28 is the program, 29 its
-//   poll; 30 reads the sector to verify it.
-// - `AByteIsProgrammed`: 24 reads the sector, 25 enables the program, 26 is the program, 27 its poll; 28 reads the
-//   sector to verify it.
-// - `NineSectorsAreErased`: 25 erases sectors 0 to 7, 28 erases sector 8; 30 to 38 read the sectors to verify them, up
-//   to the first difference.
-// - `AGuardedByteIsProgrammed`: 2,053 enables the status write that lifts the protection, 2,054 is this write, 2,055
-//   its poll. A timeout of a status write has the address 0.
+// - `ABitRises`: 24 to 26 erase (write enable, command, poll), 27 to 29 program, and 30 verifies.
+// - `AByteIsProgrammed`: 24 reads the sector, 25 to 27 program, and 28 verifies.
+// - `NineSectorsAreErased`: 25 erases sectors 0 to 7, 28 erases sector 8, and 30 to 38 verify.
+// - `AGuardedByteIsProgrammed`: 2,053 to 2,055 lift the protection. A timeout of a status write has the address 0.
 //
-// A wait gives up after 65,536 polls. An ID of zeros means that there is no chip. If bit 0 of each reply byte is
-// cleared, the ID of a TINY64 stays as it is, but the first letter of the SFDP signature changes.
+// A wait gives up after 65,536 polls. An ID of zeros means no chip. Without bit 0 in each reply, the ID of a TINY64
+// stays, but the SFDP signature changes.
 const SESSIONS: [(Row, Spoil, (Refusal, u64)); 10] = [
     (Row::ABitRises, Spoil::Fill(0xFF), (TIMEOUT, 65_536)),
     (Row::ABitRises, Spoil::Fill(0x00), (Refusal::NoChip, 2)),
@@ -78,14 +72,9 @@ fn a_session_that_changes(rt: HostRuntime) {
     }
 }
 
-// Each row has the fault, and the expected error and number of transactions of the restore. The session was stopped
-// after its erase. The restore's transactions are counted from 1:
-//
-// - 1 is a poll, 2 reads the ID, 3 to 5 read the SFDP in three parts, 6 reads status 2, and 7 the unique ID.
-// - 8 and 9 read the sector, 10 enables the program, 11 is the program, 12 its poll, and 13 reads the sector to verify
-//   it.
-//
-// A read that is dropped returns FFh in each byte.
+// Each row has the fault, and the expected error and number of transactions of the restore, after a session that was
+// stopped after its erase. Transactions 1 to 7 identify the chip, 8 and 9 read the sector, 10 to 12 program, and 13
+// verifies. A read that is dropped returns FFh in each byte.
 const RESTORES: [(Spoil, (Refusal, u64)); 12] = [
     (Spoil::Fill(0xFF), (TIMEOUT, 65_536)),
     (Spoil::Fill(0x00), (Refusal::NoChip, 2)),
@@ -123,9 +112,8 @@ fn a_restore_that_programs(rt: HostRuntime) {
     }
 }
 
-// Transactions 8 to 23 of `ABitRises` scan the chip. If one of them is dropped, all bytes of its sector are read as
-// FFh. Only sector 0 differs from the image, so only this sector is saved. Its first byte in the journal is 00h, except
-// if transaction 8 was dropped: then it is FFh.
+// Transactions 8 to 23 scan the chip; if one is dropped, its sector is read as FFh. Only sector 0 differs from the
+// image and is saved, with 00h as its first byte, or FFh if transaction 8 was dropped.
 #[test]
 fn a_lie_before_the_seal_leaves_a_journal(rt: HostRuntime) {
     for n in 8..=23 {
@@ -138,8 +126,7 @@ fn a_lie_before_the_seal_leaves_a_journal(rt: HostRuntime) {
     }
 }
 
-// True if the call succeeded, or if its error fits the fault: a mismatch after a dropped transaction, or a timeout if
-// polls show BUSY.
+// True for success, and for an error that fits: a mismatch after a dropped transaction, or a timeout with BUSY.
 fn is_fitting(spoil: Spoil, refusal: Option<Refusal>) -> bool {
     match refusal {
         None => true,
@@ -149,9 +136,8 @@ fn is_fitting(spoil: Spoil, refusal: Option<Refusal>) -> bool {
     }
 }
 
-// Drops each transaction after the seal of a row's session in turn, and in further runs shows BUSY from this
-// transaction on. Asserts that the session's error fits the fault, that the vault is sealed, and that a restore on a
-// well-behaved bus restores the chip. Returns the number of runs.
+// Drops each transaction after the seal in turn, or shows BUSY from it on, and asserts that a restore undoes the
+// session. Returns the number of runs.
 fn lie_past_the_seal(rt: &impl Abort, alloc: Global, row: Row) -> u64 {
     let mut runs: u64 = 0;
     for n in row.sealed_at(Start::IDLE)..row.ends_at(Start::IDLE) {
@@ -166,9 +152,8 @@ fn lie_past_the_seal(rt: &impl Abort, alloc: Global, row: Row) -> u64 {
     runs
 }
 
-// Each row has its number of runs. Each fault begins after the seal, so the saved sectors are correct. The session's
-// erases and programs address only these sectors, and its status writes change only protection bits, so one restore on
-// a well-behaved bus restores the chip.
+// Each row has its number of runs. The saved sectors are correct, since each fault begins after the seal, and only
+// these sectors and the protection bits can change. So one restore is enough.
 const PAST_THE_SEAL: [(Row, u64); 6] = [
     (Row::AByteIsProgrammed, 2 * 5),
     (Row::ABitRises, 2 * 7),
@@ -185,9 +170,8 @@ fn any_lie_past_the_seal_is_undone(rt: HostRuntime) {
     }
 }
 
-// Stops a row's session after `stop` transactions. Then drops each of the `length` transactions of the restore in turn,
-// and in further runs shows BUSY from this transaction on. Asserts that another restore, on a well-behaved bus,
-// restores the chip.
+// Drops each transaction of a restore in turn, or shows BUSY from it on, and asserts that another restore undoes the
+// session.
 fn lie_to_restores(rt: &impl Abort, alloc: Global, row: Row, stop: u64, length: u64) {
     let runs = Runs::new(rt, alloc, row, Start::IDLE);
     let sent = runs.cut(rt, stop).restore(rt, length);
@@ -200,9 +184,8 @@ fn lie_to_restores(rt: &impl Abort, alloc: Global, row: Row, stop: u64, length: 
     }
 }
 
-// Each row has the number of transactions after which the session is stopped, and the number of transactions of the
-// restore. In the first three rows the session is stopped after a sector is erased, a byte is programmed, and a sector
-// is erased. In the last two rows the protection bits were just cleared, or set again.
+// Each row has the stop of the session and the length of the restore: after an erase, a program and an erase, and after
+// the protection bits were cleared, or set again.
 const BEHIND: [(Row, u64, u64); 5] = [
     (Row::ABitRises, 25, 13),
     (Row::AByteIsProgrammed, 26, 12),

@@ -1,4 +1,4 @@
-//! Changes of files in memory (`Memory`) that are interrupted after each call, as by a killed process or a host crash.
+//! Changes of files in memory (`Memory`) that are interrupted, as by a killed process or a host crash.
 use crate::held::{assert_held, assert_that};
 use nor_files::{Loss, Memory, Store};
 use nor_journal::Vault;
@@ -6,8 +6,7 @@ use std::alloc::Global;
 use std::io;
 use std::process::Abort;
 
-// Saves the four bytes of the file `image` in a new journal, and closes the journal. If the journal is sealed,
-// overwrites `image` in place and syncs it.
+// Saves the bytes of the file `image` in a new journal. If it is sealed, overwrites `image` in place, and syncs it.
 fn change<S: Store>(files: &mut S) -> io::Result<()> {
     let mut journal = files.vault_in_new("journal")?;
     let _ = journal.put(b"abcd");
@@ -19,9 +18,8 @@ fn change<S: Store>(files: &mut S) -> io::Result<()> {
     Ok(())
 }
 
-// Makes the change with files on which at most `left` calls succeed, as `Memory` counts them. Returns the files that
-// remain after `loss`. If `is_torn` is true and the last of these calls is `write_over`, this call writes only the
-// first half of its bytes, and fails.
+// Makes the change while `left` calls succeed, and returns the files after `loss`. If `is_torn` is true, the last call
+// may write only half of its bytes.
 fn left_of(rt: &impl Abort, alloc: Global, left: u64, is_torn: bool, loss: Loss) -> Memory {
     let mut files = Memory::new(alloc, left);
     files.put("image", b"abcd").expect(rt, "memory");
@@ -73,8 +71,7 @@ fn a_torn_write_fails(rt: HostRuntime) {
     }
 }
 
-// The host crash of this test loses everything that wasn't synced. If the vault in an existing file was sealed, its
-// bytes remain. If it wasn't sealed, its bytes are lost, and the file has its old bytes.
+// The host crash loses everything that wasn't synced.
 #[test]
 fn a_sealed_vault_is_durable(rt: HostRuntime) {
     for is_sealed in [false, true] {
@@ -92,8 +89,6 @@ fn a_sealed_vault_is_durable(rt: HostRuntime) {
     }
 }
 
-// Creates the file `status`, makes its name durable, sets its length, writes two bytes and syncs them. Then opens the
-// log `trace`.
 fn fill<S: Store>(files: &mut S) -> io::Result<()> {
     files.make("status")?;
     files.sync_folder("status")?;

@@ -1,15 +1,14 @@
-//! Flash descriptors and FMAPs. The tests' bytes were written by hand, from the descriptions of the formats.
+//! Flash descriptors and FMAPs, written by hand from the descriptions of the formats.
 use crate::held::{assert_held, assert_that};
 use nor_layout::{Layout, RegionFault};
 use nor_maps::{MapFault, read_descriptor, read_fmap};
 
 const LEN: usize = 4096;
 
-// A piece of an image: the address of its first byte, and its bytes.
+// The address of the first byte of a piece of an image, and its bytes.
 type Piece = (usize, &'static [u8]);
 
-// A case: the pieces of an image, the size of the chip in bytes, and the expected regions (name, start and end of each)
-// or fault.
+// The pieces of an image, the size of the chip, and the expected regions (name, start and end of each) or fault.
 type Case = (
     &'static [Piece],
     u32,
@@ -17,7 +16,6 @@ type Case = (
     Option<MapFault>,
 );
 
-// Returns an erased image of 4 KiB into which the pieces of `first`, and then those of `second`, are written.
 fn image_of(first: &[Piece], second: &[Piece]) -> [u8; LEN] {
     let mut image = [0xFF; LEN];
     for (at, bytes) in first.iter().chain(second) {
@@ -45,20 +43,20 @@ fn is_of_case(read: Result<Layout, MapFault>, case: &Case) -> bool {
     }
 }
 
-// The first bytes of a descriptor: the signature 0FF0A55Ah, FLMAP0 with the region table at 40h, and FLMAP1 with the
-// masters' section at 60h (chipsets up to the 9 series) or 80h (from the 100 series on).
+// The signature 0FF0A55Ah, FLMAP0 with the region table at 40h, and FLMAP1 with the masters' section at 60h (chipsets
+// up to the 9 series) or 80h (from the 100 series on).
 const NR_2: &[u8] = &[0x5A, 0xA5, 0xF0, 0x0F, 3, 0, 4, 2, 6, 2, 0x10, 0x12];
 
 const NR_6: &[u8] = &[0x5A, 0xA5, 0xF0, 0x0F, 3, 0, 4, 6, 6, 2, 0x10, 0x15];
 
 const SERIES_100: &[u8] = &[0x5A, 0xA5, 0xF0, 0x0F, 3, 0, 4, 0, 8, 2, 0x10, 0x45];
 
-// A region table with five entries: base and limit of two bytes each, little-endian, in units of 4 KiB.
+// Five entries: base and limit of two bytes each, little-endian, in units of 4 KiB.
 const FIVE: &[u8] = &[
     0, 0, 0, 0, 0, 5, 0xFF, 7, 3, 0, 0xFF, 4, 1, 0, 2, 0, 0xFF, 0x1F, 0, 0,
 ];
 
-// A region table with sixteen entries, for regions of 4 KiB each: entry n has base n and limit n.
+// Sixteen entries: entry n has base n and limit n.
 const SIXTEEN: &[u8] = &[
     0, 0, 0, 0, 1, 0, 1, 0, 2, 0, 2, 0, 3, 0, 3, 0, 4, 0, 4, 0, 5, 0, 5, 0, 6, 0, 6, 0, 7, 0, 7, 0,
     8, 0, 8, 0, 9, 0, 9, 0, 10, 0, 10, 0, 11, 0, 11, 0, 12, 0, 12, 0, 13, 0, 13, 0, 14, 0, 14, 0,
@@ -66,7 +64,7 @@ const SIXTEEN: &[u8] = &[
 ];
 
 const DESCRIPTORS: &[Case] = &[
-    // The region of entry 3 is used, although the descriptor states only three regions.
+    // Entry 3 is used, although the descriptor states only three regions.
     (
         &[(0x10, NR_2), (0x40, FIVE)],
         0x80_0000,
@@ -78,8 +76,7 @@ const DESCRIPTORS: &[Case] = &[
         ],
         None,
     ),
-    // The region of entry 1 ends with the last 4 KiB of a chip of 8 MiB, so it doesn't fit a chip that is one byte
-    // smaller.
+    // The region of entry 1 ends with the last 4 KiB of a chip of 8 MiB, so it doesn't fit a smaller chip.
     (
         &[(0x10, NR_2), (0x40, FIVE)],
         0x7F_FFFF,
@@ -168,7 +165,7 @@ fn flash_descriptors(rt: HostRuntime) {
     assert_that!(&rt; read.err() == Some(MapFault::Short));
 }
 
-// The header of an FMAP: the signature, version 1.1, the base FFFFF000h in eight bytes, and the size 1000h.
+// The signature, version 1.1, the base FFFFF000h in eight bytes, and the size 1000h.
 const HEADER: &[u8] = b"__FMAP__\x01\x01\x00\xF0\xFF\xFF\0\0\0\0\x00\x10\0\0";
 
 // Fields of 32 bytes for names. The last one, `WHOLE`, contains no NUL.
@@ -182,8 +179,8 @@ const BLANK: &[u8] = b"GBB Area\0\0\0\0\0\0\0\0\0\0\0\0\0\0\0\0\0\0\0\0\0\0\0\0"
 
 const WHOLE: &[u8] = b"ABCDEFGHIJKLMNOPQRSTUVWXYZabcdef";
 
-// An FMAP with its header at 200h and three areas, each with the flags 2: `RO` at 0 with 800h bytes, `GBB` at 100h with
-// 300h bytes, and one with a name of 32 letters at 800h with 800h bytes.
+// The header at 200h and three areas with the flags 2: `RO` at 0 (800h bytes), `GBB` at 100h (300h), and one with a
+// name of 32 letters at 800h (800h).
 const AT_200: &[Piece] = &[
     (0x200, HEADER),
     (0x216, FLASH),
@@ -197,14 +194,12 @@ const AT_200: &[Piece] = &[
     (0x2B4, &[2, 0]),
 ];
 
-// The regions of `AT_200`.
 const ALL: &[(&[u8], u32, u32)] = &[
     (b"RO", 0, 0x7FF),
     (b"GBB", 0x100, 0x3FF),
     (WHOLE, 0x800, 0xFFF),
 ];
 
-// The faults that area 2 may have.
 const WRONG_NAME: Option<MapFault> = Some(MapFault::Region {
     record: 2,
     fault: RegionFault::Name,
@@ -215,7 +210,7 @@ const NAMED_TWICE: Option<MapFault> = Some(MapFault::Region {
     fault: RegionFault::Twice,
 });
 
-// Each case has pieces that are written over those of `AT_200`, and the result of reading that image.
+// Each case has pieces that are written over those of `AT_200`.
 const FMAPS: &[Case] = &[
     (&[], 0x1000, ALL, None),
     (&[], 0xFFF, &[], Some(MapFault::Outside { record: 3 })),
@@ -231,7 +226,7 @@ const FMAPS: &[Case] = &[
         ALL,
         None,
     ),
-    // The FMAP itself has B6h bytes, so its size field can be B6h but not B5h.
+    // The FMAP has B6h bytes, so its size field can't be B5h.
     (&[(0x212, &[0xB6, 0])], 0x1000, ALL, None),
     (&[(0x212, &[0xB5, 0])], 0x1000, &[], Some(MapFault::Missing)),
     (&[(0x207, b".")], 0x1000, &[], Some(MapFault::Missing)),
@@ -250,7 +245,7 @@ const FMAPS: &[Case] = &[
         &[],
         Some(MapFault::Outside { record: 2 }),
     ),
-    // Area 2 has size 0, so it is skipped, and it is no fault that its name contains a blank.
+    // Area 2 has size 0, so it is skipped, even with a blank in its name.
     (
         &[(0x266, &[0, 0, 0, 0, b' '])],
         0x1000,
@@ -275,8 +270,7 @@ fn fmaps(rt: HostRuntime) {
     }
 }
 
-// An FMAP can be read from bytes that contain only the FMAP. If the last of these bytes is missing, the result is
-// `Short`. If the first one is missing, the result is `Missing`.
+// Bytes that contain only the FMAP are enough, but not without the first one (`Missing`) or the last one (`Short`).
 #[test]
 fn an_fmap_without_an_image(rt: HostRuntime) {
     let alloc = rt.alloc();

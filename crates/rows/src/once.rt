@@ -1,7 +1,6 @@
-//! After a stop or a timeout, a call other than a rehearsal must end and send nothing more. To detect a call that goes
-//! on, the bus of these tests would carry out further transactions, and further polls would show that the chip is
-//! ready. After a stop, a rehearsal goes on only if a stop was given for the call that stopped. No call may read a
-//! sector again because a reply was spoilt.
+//! After a stop or a timeout, a call other than a rehearsal must send nothing more, although the bus would carry it
+//! out. A rehearsal goes on only if a stop was given for the call that stopped. No call may read a sector again because
+//! a reply was spoilt.
 use crate::failing::{Fault, OnceBus};
 use crate::held::assert_held;
 use crate::row::{Row, Start, erased};
@@ -17,7 +16,6 @@ use nor_session::{Refusal, Rehearsal, rehearse};
 use std::alloc::Global;
 use std::process::Abort;
 
-// A function of nor_driver that sends transactions.
 #[derive(Clone, Copy)]
 enum Command {
     Poll,
@@ -33,7 +31,7 @@ enum Command {
 }
 
 impl Command {
-    // Calls the function, and returns whether it returned that the bus stopped, and left its buffer as it was.
+    // True if the function returned the stop, and left its buffer as it was.
     fn is_stopped(self, bus: &mut OnceBus) -> bool {
         match self {
             Command::Poll => poll(bus) == Err(Stopped),
@@ -60,9 +58,8 @@ impl Command {
         }
     }
 
-    // Calls the function on a chip with these delays, with a stop at each of its `length` transactions in turn, and at
-    // last without a stop. Asserts that the function returns the stop, leaves its buffer as it was, and sends nothing
-    // after the stop.
+    // Stops the function at each of its `length` transactions in turn, and at last not at all. Asserts that it returns
+    // the stop and sends nothing after it.
     fn stop_at_each(self, rt: &impl Abort, alloc: Global, delays: Delays, length: u64) {
         for n in 0..=length {
             let bus = erased(rt, alloc, Config::tiny64(), [0x00, 0x00], delays);
@@ -74,8 +71,7 @@ impl Command {
     }
 }
 
-// Each row has a function and the number of its transactions. The chip shows BUSY in two polls: after an erase, a
-// program or a status write, and for the other functions at first. A wait therefore has three polls, and an erase, a
+// Each row has a function and the number of its transactions. A wait has three polls, two with BUSY, so an erase, a
 // program or a status write has five transactions.
 const COMMANDS: [(Command, u64); 13] = [
     (Command::Poll, 1),
@@ -101,22 +97,16 @@ fn a_stop_ends_each_command(rt: HostRuntime) {
     }
 }
 
-// Each row has a call and the number of its transactions. The chip shows BUSY in one poll at first, and in one after
-// each operation, so an operation has four transactions. A session or restore identifies the chip with eight
-// transactions if the chip is known by its SFDP, and with five if the chip is in the table. Two of these (the reads of
-// status 2 and of the unique ID) aren't part of a probe. `wp_status` sends a probe and a read of status 2.
+// Each row has a call and the number of its transactions. The first wait has two polls, and an operation four
+// transactions. A session or restore identifies a chip with eight transactions by its SFDP, or five by its ID; a probe
+// lacks two of these, and `wp_status` one.
 //
-// On the two blocks:
+// On the two blocks, the session scans 32 sectors, sends two erases and two programs, reads two sectors before it
+// programs them, and verifies 19. The restore scans 19 sectors, sends two erases and 17 programs, reads 17 sectors
+// before it programs them, and verifies 19.
 //
-// - The session scans 32 sectors, sends two erases and two programs, reads two sectors before it programs them, and
-//   reads 19 to verify them.
-// - The restore scans 19 sectors, sends two erases and 17 programs, reads 17 sectors before it programs them, and reads
-//   19 to verify them.
-//
-// On the W25Q64FV, session and restore each scan two sectors, and read them again at the end to verify them:
-//
-// - The session sends two status writes, an erase and two programs, and reads one sector before it programs it.
-// - The restore sends two status writes, two erases and a program.
+// On the W25Q64FV, both scan two sectors and verify them. The session sends two status writes, an erase and two
+// programs, and reads one sector before it programs it; the restore sends two status writes, two erases and a program.
 const ON_TWO_BLOCKS: [(Call, u64); 6] = [
     (Call::Probe, 6),
     (Call::Protection, 6 + 1),
@@ -135,8 +125,7 @@ const ON_W25Q64FV: [(Call, u64); 6] = [
     (Call::Restore, 5 + 2 + 4 * 5 + 2),
 ];
 
-// Asserts the number of transactions of each call of the job, and that a stop at any of these transactions ends the
-// call.
+// Asserts the number of transactions of each call, and that a stop at any of them ends the call.
 fn stop_each_call(rt: &impl Abort, alloc: Global, job: Job, lengths: [(Call, u64); 6]) {
     let stage = Stage::new(rt, alloc, job, Delays { now: 1, each: 1 });
     for (call, length) in lengths {
@@ -150,8 +139,7 @@ fn a_stop_ends_each_call(rt: HostRuntime) {
     stop_each_call(&rt, rt.alloc(), Job::OnW25q64fv, ON_W25Q64FV);
 }
 
-// Each row has a call and the number of its waits: one for the identification, and one after each erase, program and
-// status write.
+// Each row has a call and the number of its waits: one for the identification, and one after each operation.
 const WAITS_ON_TWO_BLOCKS: [(Call, u64); 6] = [
     (Call::Probe, 1),
     (Call::Protection, 1),
@@ -170,7 +158,6 @@ const WAITS_ON_W25Q64FV: [(Call, u64); 6] = [
     (Call::Restore, 1 + 2 + 2 + 1),
 ];
 
-// Asserts the number of waits of each call of the job, and that a timeout of any of these waits ends the call.
 fn time_out_each_call(rt: &impl Abort, alloc: Global, job: Job, waits: [(Call, u64); 6]) {
     let stage = Stage::new(rt, alloc, job, Start::IDLE.delays);
     for (call, count) in waits {
@@ -184,10 +171,9 @@ fn a_timeout_ends_each_call(rt: HostRuntime) {
     time_out_each_call(&rt, rt.alloc(), Job::OnW25q64fv, WAITS_ON_W25Q64FV);
 }
 
-// Each row has a call and the number of replies that are checked. On an idle chip a spoilt reply to a poll shows BUSY,
-// so the chip is polled once more, and nothing else changes. A sector whose reply is spoilt isn't read again: a
-// comparison returns a mismatch at the sector's first address, and `read_out` returns no error. The identification and
-// each operation have one poll.
+// Each row has a call and the number of replies that are checked. A spoilt poll shows BUSY, so one more poll follows. A
+// sector whose reply is spoilt isn't read again: a comparison returns a mismatch at its first address, and `read_out`
+// no error.
 const REPLIES: [(Call, u64); 4] = [
     (Call::ReadOut, 1 + 2),
     (Call::Verify, 1 + 2),
@@ -203,9 +189,8 @@ fn a_spoilt_reply_is_taken_as_it_is(rt: HostRuntime) {
     }
 }
 
-// Returns the number of transactions of the next restore of a rehearsal in which the session, or the session and a
-// restore, sent `sent` transactions in all. Before the seal there is no restore. A restore needs 8 transactions if the
-// sector is as saved, and 13 if it programs one byte.
+// Returns the length of the next restore of a rehearsal that sent `sent` transactions, or `None` before the seal. A
+// restore needs 8 transactions if the sector is as saved, and 13 if it programs one byte.
 fn restore_after(sent: u64) -> Option<u64> {
     match sent {
         0..=22 => None,
@@ -217,9 +202,8 @@ fn restore_after(sent: u64) -> Option<u64> {
 // The result of a rehearsal, and the number of all requested transactions.
 type Rehearsed = (Result<Rehearsal, Refusal>, u64);
 
-// Returns the expected result of a rehearsal with the given number of stops, on a bus that stops once, after `after`
-// transactions. If no stop was given for the call in which the bus stops, the rehearsal returns `Stopped`. Otherwise a
-// restore follows, provided that the vault is sealed.
+// The expected result on a bus that stops once, after `after` transactions: `Stopped` if no stop was given for this
+// call, otherwise a restore follows a sealed vault.
 fn rehearsed(after: u64, stops: usize) -> Rehearsed {
     let asked = after.saturating_add(1);
     let ended = after >= 30;
@@ -235,8 +219,7 @@ fn rehearsed(after: u64, stops: usize) -> Rehearsed {
     (Ok(told), asked.saturating_add(needed.unwrap_or(0)))
 }
 
-// Rehearses with the given number of stops, each of which is greater than the number of transactions of any call. The
-// bus stops once, after `after` transactions. Returns the result, and the number of requested transactions.
+// The given stops never take effect; the bus stops once, after `after` transactions.
 fn rehearse_after(rt: &impl Abort, alloc: Global, after: u64, stops: usize) -> Rehearsed {
     let row = Row::ABitRises;
     let mut bus = OnceBus::new(row.bus(rt, alloc, Start::IDLE), 0, Fault::Stop, Some(after));
@@ -249,8 +232,7 @@ fn rehearse_after(rt: &impl Abort, alloc: Global, after: u64, stops: usize) -> R
     (told, bus.asked)
 }
 
-// The session sends 30 transactions, and the restore after it 13. The restore programs the byte in its eleventh
-// transaction.
+// The session sends 30 transactions, and the restore 13, of which the eleventh programs the byte.
 #[test]
 fn a_stop_in_a_rehearsal(rt: HostRuntime) {
     for n in 0..30 + 13 {

@@ -6,7 +6,6 @@ use nor_probe::{ChipName, Found, ProbeFault, Probed, SfdpFault, probe_counted};
 use std::alloc::Global;
 use std::process::Abort;
 
-// The results of probes of the emulated chips, with BP0 set in status 1.
 const TINY64: Found = Found {
     name: ChipName::Sfdp,
     id: [0xFE, 0x10, 0x10],
@@ -34,7 +33,6 @@ const W25Q128FV: Found = Found {
     status1: 0x04,
 };
 
-// The result of `probe_counted`: a chip and the number of transactions, or a fault.
 type Answer = Result<Probed, ProbeFault>;
 
 const SMALL: Answer = Ok(Probed {
@@ -52,12 +50,10 @@ const BY_SFDP: Answer = Ok(Probed {
     transactions: 5,
 });
 
-// Returns the configuration of a chip of 64 KiB with this ID and these SFDP bytes.
 fn chip(rt: &impl Abort, id: [u8; 3], sfdp: &[u8]) -> Config {
     Config::new(id, 65_536, true, true, false, sfdp).expect(rt, "a size")
 }
 
-// Returns a bus to an erased chip with BP0 set. The bus carries out `allowed` transactions.
 fn bus_to(rt: &impl Abort, alloc: Global, config: Config, delays: Delays, allowed: u64) -> SimBus {
     let mut bus = erased(rt, alloc, config, [0x04, 0x00], delays);
     bus.allow(allowed);
@@ -67,8 +63,7 @@ fn bus_to(rt: &impl Abort, alloc: Global, config: Config, delays: Delays, allowe
 const TINY64_SENT: &str = "05 > 04\n9f > fe1010\n\
     5a00000000 > 8 bytes\n5a00000800 > 8 bytes\n5a00001000 > 36 bytes\n";
 
-// The transactions with a chip that has no SFDP bytes. It replies to 5Ah with FFh, so the probe reads the parameter
-// table at FFFFFFh.
+// The chip has no SFDP bytes and replies FFh to 5Ah, so the probe reads the parameter table at FFFFFFh.
 const SILENT_SENT: &str = "05 > 04\n9f > aa1122\n\
     5a00000000 > 8 bytes\n5a00000800 > 8 bytes\n5affffff00 > 36 bytes\n";
 
@@ -76,7 +71,6 @@ const W25Q64FV_SENT: &str = "05 > 04\n9f > ef4017\n";
 
 const W25Q128FV_SENT: &str = "05 > 04\n9f > ef4018\n";
 
-// The chip that is probed. The IDs of `Ones` and `Zeros` mean that there is no chip.
 #[derive(Clone, Copy)]
 enum Sample {
     Small,
@@ -110,8 +104,7 @@ const NONE: Answer = Err(ProbeFault::NoChip);
 
 const UNKNOWN: Answer = Err(ProbeFault::UnknownChip(SfdpFault::Signature));
 
-// Probes the chip with this configuration, with or without a name. Returns the result, and whether the transactions are
-// exactly those of the trace `sent`.
+// Probes the chip. Returns the result, and whether the transactions are exactly those of the trace `sent`.
 fn probed(
     rt: &impl Abort,
     alloc: Global,
@@ -125,9 +118,8 @@ fn probed(
     (told, log.as_slice() == sent.as_bytes())
 }
 
-// Each row has the chip, the name, the result, and the trace of the transactions. The probe finds a chip by an ID of
-// the table even if the chip's SFDP bytes contradict it. Names are compared byte by byte. An ID of three bytes 00h or
-// three bytes FFh means that no chip drives the bus.
+// Each row has the chip, the name, the result, and the trace. An ID of the table counts even if the SFDP contradicts
+// it. An ID of three bytes 00h or FFh means that no chip drives the bus.
 const PROBES: &[(Sample, Option<&str>, Answer, &str)] = &[
     (Sample::Small, None, SMALL, W25Q64FV_SENT),
     (Sample::Small, Some("W25Q64FV"), SMALL, W25Q64FV_SENT),
@@ -180,9 +172,8 @@ const WAITED_LONG: Answer = Ok(Probed {
 
 const STOPPED: Answer = Err(ProbeFault::Stopped);
 
-// Each row has the number of polls that show BUSY at first, the fault of the bus, the allowance, and the result.
-// `HONEST` is a fault that never occurs, and with `STUCK` each poll shows BUSY. No clause of `probe_counted` states how
-// many polls precede a timeout on a faulty bus, so this test checks that there are 65,536.
+// Each row has the polls that show BUSY at first, the fault of the bus (`HONEST` never occurs, `STUCK` shows BUSY
+// always), the allowance, and the result. No clause states that a timeout follows 65,536 polls, so this test does.
 const WAITS: [(u16, Spoil, u64, Answer); 6] = [
     (3, HONEST, 8, WAITED),
     (3, HONEST, 7, STOPPED),

@@ -1,4 +1,4 @@
-//! Reading calls whose vault refuses a piece, or for which a reply is lost, and the status that reading calls report.
+//! Reading calls whose vault refuses a piece, or which lose a reply, and the status that they report.
 use crate::held::{assert_held, assert_that};
 use crate::row::{Row, Start};
 use crate::runs::AMPLE;
@@ -9,9 +9,8 @@ use nor_read::{read_out, verify};
 use nor_session::{Refusal, Report};
 use std::alloc::Global;
 
-// Each row has the number of the vault's call that is refused, and the most bytes that the vault keeps of this call's
-// piece. Then it has the expected error, and the expected number of bytes in the vault at the end. All sixteen sectors
-// of the chip are one piece, so there is no second call.
+// Each row has the refused call of the vault, the bytes that it keeps of this call, the expected error, and the bytes
+// in the vault. All sixteen sectors are one piece, so there is no second call.
 const CASES: [(u64, usize, Option<Refusal>, usize); 4] = [
     (1, 0, Some(Refusal::Output { written: 0 }), 0),
     (1, 5000, Some(Refusal::Output { written: 5000 }), 5000),
@@ -35,15 +34,12 @@ fn a_vault_that_refuses_ends_the_reading(rt: HostRuntime) {
 
 type Sent = Result<u64, Refusal>;
 
-// Returns the number of transactions of a reading call, or its error.
 fn sent(answer: Result<Report, Refusal>) -> Sent {
     Ok(answer?.transactions)
 }
 
-// Each row has the number of the transaction whose reply is lost (0 for none), and the result of the verification.
-// Transactions 1 to 5 identify a TINY64, and 6 to 21 read its sixteen sectors. All bytes of the chip and of the image
-// are 00h, but those of a lost reply are FFh. The verification therefore reports the first byte of the sector whose
-// reply was lost.
+// Each row has the transaction whose reply is lost (0 for none), and the result. Transactions 1 to 5 identify a TINY64,
+// and 6 to 21 read its sectors. Chip and image are 00h, and a lost reply is FFh.
 const LOST_REPLIES: [(u64, Sent); 4] = [
     (0, Ok(21)),
     (6, Err(Refusal::Mismatch { address: 0 })),
@@ -67,8 +63,7 @@ fn a_reply_that_differs_is_a_mismatch(rt: HostRuntime) {
     }
 }
 
-// The write enable latch (bit 1 of status 1) is set at the start, and no command of a reading call clears it. The
-// reports must show that the latch is set.
+// The write enable latch (bit 1 of status 1) is set at the start, and stays set.
 #[test]
 fn a_reading_reports_the_status_that_it_found(rt: HostRuntime) {
     let alloc = rt.alloc();

@@ -1,5 +1,4 @@
-//! The results of rehearsals. The session and the restore after it are stopped after each number of transactions, or
-//! the bus is faulty.
+//! The results of rehearsals with stops, or on a faulty bus.
 ghost use Rattle.std.specs.Prelude.{◌≤◌, length};
 
 use crate::held::{assert_held, assert_that};
@@ -12,8 +11,7 @@ use nor_session::{Refusal, Rehearsal, rehearse};
 use std::alloc::Global;
 use std::process::Abort;
 
-// Rehearses the row's session on an idle chip with these stops, at most 64. Asserts that afterwards the chip is as
-// before. Returns the result, and whether the vault is sealed.
+// Asserts that the chip is as before. Returns the result, and whether the vault is sealed.
 fn rehearsed(
     rt: &impl Abort,
     alloc: Global,
@@ -31,9 +29,8 @@ fn rehearsed(
     (told, vault.is_sealed())
 }
 
-// Returns the number of transactions that the restore of `ABitRises` sends if the session was stopped after `stop`
-// transactions. Before the seal there is no restore. A restore sends 8 transactions if the sector is as saved, and 13
-// if it programs one byte.
+// The length of the restore after a session that was stopped, or `None` before the seal: 8 transactions if the sector
+// is as saved, and 13 if one byte is programmed.
 fn restore_after(stop: u64) -> Option<u64> {
     match stop {
         0..=22 => None,
@@ -42,7 +39,7 @@ fn restore_after(stop: u64) -> Option<u64> {
     }
 }
 
-// The session sends 30 transactions. If the first restore is stopped, the rehearsal runs a second one without a stop.
+// If the first restore is stopped, the rehearsal runs a second one without a stop. The session sends 30 transactions.
 #[test]
 fn each_pair_of_stops_is_reported(rt: HostRuntime) {
     let row = Row::ABitRises;
@@ -64,15 +61,14 @@ fn each_pair_of_stops_is_reported(rt: HostRuntime) {
     }
 }
 
-// Returns the number of transactions that the second restore sends, if the first restore needs `needed` transactions
-// and was stopped after `sent`. In a restore of 13 transactions the eleventh is the program, after which the sector is
-// as saved.
+// The length of the second restore. In a restore of 13 transactions the eleventh is the program, after which the sector
+// is as saved.
 fn restore_again(needed: u64, sent: u64) -> u64 {
     if sent < 11 { needed } else { 8 }
 }
 
-// Returns the number of restores that follow a session. The first restore needs `needed` transactions, and is stopped
-// after `first` transactions; the second is stopped after `second`. The third isn't stopped.
+// The number of restores, of which the first needs `needed` transactions. The first two are stopped after `first` and
+// `second`.
 fn restores_under(needed: u64, first: u64, second: u64) -> u32 {
     if first >= needed {
         1
@@ -83,8 +79,7 @@ fn restores_under(needed: u64, first: u64, second: u64) -> u32 {
     }
 }
 
-// The session is stopped after its seal, after its erase, after its program, or not at all. The third stop must limit
-// the second restore.
+// The session is stopped after its seal, erase or program, or not at all. The third stop must limit the second restore.
 #[test]
 fn a_third_stop_is_the_second_restores(rt: HostRuntime) {
     let row = Row::ABitRises;
@@ -104,20 +99,15 @@ fn a_third_stop_is_the_second_restores(rt: HostRuntime) {
     }
 }
 
-// The result of a rehearsal on a faulty bus, and the state that it leaves.
 #[derive(Clone, Copy, PartialEq, Eq)]
 struct Told {
     result: Result<Rehearsal, Refusal>,
-    // whether the vault is sealed
     sealed: bool,
-    // whether the chip has its original contents
     as_before: bool,
-    // the number of transactions sent
     sent: u64,
 }
 
-// Rehearses on a bus with this fault, with the given number of stops. Each stop is greater than the number of
-// transactions of any call, so that it never takes effect.
+// Each stop is greater than the number of transactions of any call, so it never takes effect.
 fn rehearsed_lied(rt: &impl Abort, alloc: Global, row: Row, spoil: Spoil, stops: usize) -> Told {
     let bus = row.bus(rt, alloc, Start::IDLE);
     let mut bus = SpoiltBus::new(bus, spoil);
@@ -153,8 +143,7 @@ const TIMEOUT: Refusal = Refusal::Timeout { address: 0 };
 
 const MISMATCH: Refusal = Refusal::Mismatch { address: 0 };
 
-// Returns the expected result if this error occurs after `sent` transactions, with an unsealed vault and an unchanged
-// chip.
+// The vault is unsealed, and the chip unchanged.
 fn early(refusal: Refusal, sent: u64) -> Told {
     Told {
         result: Err(refusal),
@@ -164,7 +153,7 @@ fn early(refusal: Refusal, sent: u64) -> Told {
     }
 }
 
-// Returns the expected result if this error occurs after `sent` transactions, with a sealed vault and a changed chip.
+// The vault is sealed, and the chip changed.
 fn changed(refusal: Refusal, sent: u64) -> Told {
     Told {
         result: Err(refusal),
@@ -176,19 +165,12 @@ fn changed(refusal: Refusal, sent: u64) -> Told {
 
 // Transactions are counted from 1, over the session and its restore. A wait gives up after 65,536 polls.
 //
-// In `ABitRises` the session sends 30 transactions, and its restore 13:
+// `ABitRises` has 30 and 13 transactions. 1 is a poll; 24 enables the erase, without which the program doesn't raise
+// the bit; 26 is the poll after the erase, and 30 verifies. 31 is the restore's first poll, 40 enables its program, and
+// 43 verifies.
 //
-// - 1 is a poll of the session.
-// - 24 enables the erase. If it is dropped, the chip ignores the erase, and the program doesn't raise the bit.
-// - 26 is the poll after the erase, and 30 reads the sector to verify it.
-// - 31 is the restore's first poll, 40 enables its program, and 43 reads the sector to verify it.
-//
-// In `AByteIsProgrammed` a byte of the second page is programmed. The session sends 28 transactions, and its restore
-// 12:
-//
-// - 27 is the poll after the program.
-// - 29 to 35 identify the chip for the restore, and 36 reads the sector.
-// - 37 enables the erase, 38 is the erase, and 39 the poll after it. 40 reads the sector to verify it.
+// `AByteIsProgrammed` has 28 and 12 transactions, and programs a byte of the second page. 27 is the poll after the
+// program. 29 to 35 identify the chip for the restore, 36 reads the sector, 37 to 39 erase it, and 40 verifies.
 fn lies() -> [(Row, Spoil, Told); 8] {
     let unmoved = Told {
         result: Err(MISMATCH),

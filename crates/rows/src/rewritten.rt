@@ -1,6 +1,5 @@
-//! Rewrites. A rewrite erases every saved sector, and programs each of its pages whose saved bytes aren't all FFh, even
-//! if the chip already has the saved bytes. Each rewrite is stopped after each number of its transactions, and then the
-//! chip is rewritten again, or restored.
+//! Rewrites, which erase every saved sector and program each page that isn't all FFh, even if the chip already has the
+//! saved bytes. Each rewrite is stopped anywhere, and then the chip is rewritten again, or restored.
 use crate::held::{assert_held, assert_that};
 use crate::row::{Row, Start};
 use crate::runs::{AMPLE, Cut, Runs};
@@ -9,19 +8,15 @@ use nor_journal::Journal;
 use nor_session::{Announcement, Refusal, Report, restore, rewrite, rewrite_announced};
 use std::process::Abort;
 
-// A row, and the expected numbers of a rewrite after its session.
 #[derive(Clone, Copy)]
 struct Rewritten {
     row: Row,
-    // The number of saved sectors.
     touched: u32,
-    // The number of erases, which cover exactly the saved sectors.
     erases: u32,
-    // The number of page programs, one for each page of these sectors that was not all FFh before the session.
+    // One for each page of these sectors that was not all FFh before the session.
     programs: u32,
-    // The number of status writes.
     writes: u32,
-    // The number of transactions of the identification: seven on a TINY64 and four on a W25Q64FV.
+    // Seven on a TINY64 and four on a W25Q64FV.
     identified: u32,
 }
 
@@ -37,8 +32,7 @@ impl Rewritten {
         }
     }
 
-    // Returns the number of transactions of a rewrite. Each operation takes a write enable, a command and a poll. A
-    // rewrite doesn't read a sector before it changes it, but reads each sector afterwards.
+    // An operation takes a write enable, a command and a poll. Sectors are read only to verify them.
     fn length(&self) -> u64 {
         let operations = u64::from(self.erases)
             .saturating_add(u64::from(self.programs))
@@ -64,15 +58,12 @@ fn rows() -> [Rewritten; 6] {
     ]
 }
 
-// Rewrites the chip with the allowance `allowed`. Returns the result.
 fn run_rewrite(rt: &impl Abort, cut: &mut Cut, allowed: u64) -> Result<Report, Refusal> {
     let journal = Journal::read(cut.vault.bytes()).expect(rt, "a journal");
     cut.bus.allow(allowed);
     rewrite(&mut cut.bus, &journal)
 }
 
-// After a rewrite that was stopped, restores the chip, by another rewrite if `by_rewrite` is true, otherwise by a
-// restore.
 fn undone(rt: &impl Abort, cut: &mut Cut, by_rewrite: bool) {
     let journal = Journal::read(cut.vault.bytes()).expect(rt, "a journal");
     cut.bus.allow(AMPLE);
@@ -84,9 +75,8 @@ fn undone(rt: &impl Abort, cut: &mut Cut, by_rewrite: bool) {
     assert_that!(rt; answer.is_ok());
 }
 
-// Rewrites the chip after the row's session, with the allowance `allowed`. If the rewrite was stopped, rewrites or
-// restores the chip afterwards. Asserts that the chip is then as before the session. Asserts that the rewrite was
-// stopped if and only if the allowance is less than its number of transactions.
+// If the rewrite was stopped, rewrites or restores the chip. Asserts that the chip is then as before the session, and
+// that the rewrite was stopped if and only if the allowance is below its length.
 fn stop_a_rewrite(rt: &impl Abort, runs: &Runs, each: &Rewritten, allowed: u64, by_rewrite: bool) {
     let mut cut = runs.cut(rt, each.row.ends_at(Start::IDLE));
     let answer = run_rewrite(rt, &mut cut, allowed);
@@ -99,7 +89,6 @@ fn stop_a_rewrite(rt: &impl Abort, runs: &Runs, each: &Rewritten, allowed: u64, 
     runs.assert_as_before(rt, &cut.bus);
 }
 
-// Returns whether the rewrite succeeded and reports the row's numbers.
 fn is_reported(each: &Rewritten, answer: Result<Report, Refusal>) -> bool {
     match answer {
         Ok(report) => {
@@ -123,8 +112,7 @@ fn each_stop_of_a_rewrite(rt: HostRuntime) {
     }
 }
 
-// Before the second rewrite the chip already has the saved bytes. A restore would then change nothing, but a rewrite
-// sends the same operations as before.
+// A restore would change nothing before the second rewrite, but a rewrite sends the same operations again.
 #[test]
 fn a_rewrite_writes_what_reads_right(rt: HostRuntime) {
     for each in &rows() {

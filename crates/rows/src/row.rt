@@ -1,4 +1,4 @@
-//! The rows, which are the tested sessions. Each has a chip, an image and a request.
+//! The rows, which are the tested sessions.
 use crate::contents::{Bytes, ERASED, first, run};
 use nor_chip::{Config, Delays, SimBus, TINY64_SFDP};
 use nor_layout::{Layout, Ranges};
@@ -6,23 +6,23 @@ use nor_session::{Request, What};
 use std::alloc::Global;
 use std::process::Abort;
 
-/// The state of the chip at the start of a session, and what a stop does to the bus and to the chip.
+/// The state of the chip at the start of a session, and what a stop does.
 #[derive(Clone, Copy)]
 pub struct Start {
     /// The numbers of polls that show BUSY at first and after each operation.
     pub delays: Delays,
     /// True if the write enable latch is set, as after a write enable.
     pub latch: bool,
-    /// If this is `Some`, a stop cuts the chip's power, and this byte determines what is left of an interrupted
-    /// operation (`SimBus::lose`). If it is `None`, the chip keeps its power.
+    /// With `Some`, a stop cuts the chip's power, and this byte determines what an interrupted operation leaves
+    /// (`SimBus::lose`).
     pub fill: Option<u8>,
-    /// The number of bytes of the next transaction that the bus still sends when it stops. With `None` it sends none.
+    /// The number of bytes of the next transaction that a stop still sends, or none.
     pub torn: Option<u32>,
 }
 
 impl Start {
-    /// An idle chip with a clear write enable latch that never shows BUSY. A stop of the bus sends no byte, and the
-    /// chip keeps its power.
+    /// An idle chip that never shows BUSY, with a clear write enable latch. A stop sends no byte and keeps the chip's
+    /// power.
     pub const IDLE: Start = Start {
         delays: Delays { now: 0, each: 0 },
         latch: false,
@@ -36,7 +36,7 @@ impl Start {
         ..Start::IDLE
     };
 
-    /// A chip that shows BUSY in 65,535 polls, the most that `Delays` can hold, at first and after each operation.
+    /// A chip that shows BUSY in 65,535 polls (the most of `Delays`) at first and after each operation.
     pub const SLOWEST: Start = Start {
         delays: Delays {
             now: 65_535,
@@ -53,15 +53,13 @@ impl Start {
         }
     }
 
-    // Returns the status bytes of a chip with the non-volatile status bits `kept`, and with the write enable latch of
-    // this start.
     fn status(self, kept: [u8; 2]) -> [u8; 2] {
         let [one, two] = kept;
         if self.latch { [one | 0x02, two] } else { kept }
     }
 
-    /// Returns the start of an idle chip that shows BUSY in two polls after each operation. A stop cuts its power, with
-    /// the fill byte `fill`.
+    /// Returns the start of an idle chip that shows BUSY in two polls after each operation, and loses its power at a
+    /// stop.
     pub const fn losing(fill: u8) -> Start {
         Start {
             delays: Delays { now: 0, each: 2 },
@@ -71,8 +69,7 @@ impl Start {
         }
     }
 
-    /// Returns this start, except that the bus, when it stops, still sends the first `count` bytes of the next
-    /// transaction.
+    /// Returns this start with a stop that still sends the first `count` bytes of the next transaction.
     pub const fn torn(self, count: u32) -> Start {
         Start {
             torn: Some(count),
@@ -81,7 +78,7 @@ impl Start {
     }
 }
 
-/// A session that is tested. Each run of the session gets a new chip.
+/// A session that is tested, on a new chip for each run.
 #[derive(Clone, Copy)]
 pub enum Row {
     /// Programs one byte of an erased chip.
@@ -96,28 +93,23 @@ pub enum Row {
     NineSectorsAreErased,
     /// Erases the whole chip, with one command.
     TheChipIsErased,
-    /// Changes the only included page from 00h to FFh, in a sector whose bytes are all 00h. The session erases the
-    /// sector, and programs the sector's other fifteen pages again.
+    /// Changes the only included page from 00h to FFh, in a sector of 00h: an erase, and 15 programs of the other
+    /// pages.
     TheRestOfASectorStays,
     /// Programs the last byte before the protected range.
     AByteBelowTheGuardIsProgrammed,
-    /// Programs the first byte of the protected range. The session clears the protection bits first, and sets them
-    /// again at the end.
+    /// Programs the first byte of the protected range. The protection bits are cleared first, and set again at the end.
     AGuardedByteIsProgrammed,
-    /// Changes every byte of a TINY64 that has no erase types of 32 and 64 KiB. The session erases fifteen sectors, and
-    /// programs each page of all sixteen sectors.
+    /// Changes every byte of a TINY64 without the erase types of 32 and 64 KiB: 15 erases, and programs of all pages.
     EachPageIsProgrammed,
     /// Erases sectors 8 to 39 of a chip of 256 KiB, with three erases of 32, 64 and 32 KiB.
     ThirtyTwoSectorsAreErased,
 }
 
-// A chip on which rows are run.
 #[derive(Clone, Copy)]
 enum Chip {
     Tiny64,
-    // A TINY64 that has no erase types of 32 and 64 KiB.
     SectorsAlone,
-    // A chip of 256 KiB that is known by its SFDP.
     Large,
     W25q64fv,
 }
@@ -148,8 +140,8 @@ fn sectors_alone(rt: &impl Abort) -> Config {
     Config::new([0xFE, 0x10, 0x10], 65_536, false, false, false, &sfdp).expect(rt, "a size")
 }
 
-/// Returns the configuration of a chip of 256 KiB that is known by its SFDP. It has the erase type of 32 KiB if `k32`
-/// is true, and that of 64 KiB if `k64` is true.
+/// Returns the configuration of a chip of 256 KiB that is known by its SFDP, with the erase types of 32 and 64 KiB if
+/// `k32` and `k64` are true.
 pub fn large(rt: &impl Abort, k32: bool, k64: bool) -> Config {
     let mut sfdp = TINY64_SFDP;
     sfdp[0x16] = 0x1F;
@@ -162,23 +154,20 @@ pub fn large(rt: &impl Abort, k32: bool, k64: bool) -> Config {
     Config::new([0xAA, 0x11, 0x22], 262_144, k32, k64, false, &sfdp).expect(rt, "a size")
 }
 
-// The chip, the contents and the request of a row's session, and the numbers of its transactions if the bus doesn't
-// stop.
 #[derive(Clone, Copy)]
 struct Written {
     chip: Chip,
-    // the non-volatile status bits
     status: [u8; 2],
     old: Bytes,
     image: Bytes,
-    // The line of a layout whose region `part` is included, or `None` if the whole chip is included.
+    // The line of a layout whose region `part` is included, if not the whole chip.
     part: Option<&'static [u8]>,
     unlock: bool,
-    // The number of transactions that the session sends before the seal, on a chip without delays.
+    // The number of transactions before the seal, on a chip without delays.
     sealed: u32,
-    // The number of transactions that the session sends in all, on a chip without delays.
+    // The number of all transactions, on a chip without delays.
     length: u32,
-    // The number of erases, page programs and status writes. The session waits after each of them.
+    // Erases, page programs and status writes, after each of which the session waits.
     operations: u32,
 }
 
@@ -205,8 +194,7 @@ impl Row {
         }
     }
 
-    /// Returns a bus to the row's chip in the state `start`. The bus carries out no transaction until `allow` is
-    /// called.
+    /// Returns a bus to the row's chip, which carries out no transaction until `allow` is called.
     pub fn bus(self, rt: &impl Abort, alloc: Global, start: Start) -> SimBus {
         let bytes = self.before(rt, alloc);
         let config = self.written().chip.config(rt);
@@ -230,12 +218,12 @@ impl Row {
         self.written().chip.sectors()
     }
 
-    /// Returns the smallest allowance with which the session seals its vault, on a chip in the state `start`.
+    /// Returns the smallest allowance with which the session seals its vault.
     pub fn sealed_at(self, start: Start) -> u64 {
         u64::from(self.written().sealed) + u64::from(start.delays.now)
     }
 
-    /// Returns the smallest allowance with which the session succeeds, on a chip in the state `start`.
+    /// Returns the smallest allowance with which the session succeeds.
     pub fn ends_at(self, start: Start) -> u64 {
         let Written {
             length,
@@ -269,8 +257,7 @@ impl Row {
     }
 }
 
-/// Returns a bus to an erased chip with this configuration, these status bytes and these delays. The bus carries out no
-/// transaction until `allow` is called.
+/// Returns a bus to an erased chip, which carries out no transaction until `allow` is called.
 pub fn erased(
     rt: &impl Abort,
     alloc: Global,
@@ -288,8 +275,7 @@ pub fn included(rt: &impl Abort, alloc: Global, layout: Option<&[u8]>) -> Option
     Some(layout.include("part").expect(rt, "a region"))
 }
 
-// Returns a write to a TINY64 that includes the whole chip. The session sends 7 transactions to identify the chip and
-// 16 to scan it, so it seals the vault after 23.
+// 7 transactions identify the chip and 16 scan it, so the vault is sealed after 23.
 fn on_tiny64(old: Bytes, image: Bytes, length: u32, operations: u32) -> Written {
     Written {
         chip: Chip::Tiny64,
@@ -304,8 +290,7 @@ fn on_tiny64(old: Bytes, image: Bytes, length: u32, operations: u32) -> Written 
     }
 }
 
-// Returns the session of `TheRestOfASectorStays`. Its scan sends only one transaction, because only one sector contains
-// included addresses.
+// The scan sends only one transaction, for the only sector with included addresses.
 fn the_rest_of_a_sector_stays() -> Written {
     Written {
         part: Some(b"0x800:0x8ff part"),
@@ -314,8 +299,8 @@ fn the_rest_of_a_sector_stays() -> Written {
     }
 }
 
-// Returns a write to an erased W25Q64FV whose last 128 KiB are protected. The session sends 4 transactions to identify
-// the chip and 2,048 to scan it, so it seals the vault after 2,052.
+// The last 128 KiB are protected. 4 transactions identify the chip and 2,048 scan it, so the vault is sealed after
+// 2,052.
 fn on_w25q64fv(image: Bytes, unlock: bool, length: u32, operations: u32) -> Written {
     Written {
         chip: Chip::W25q64fv,
@@ -331,9 +316,8 @@ fn on_w25q64fv(image: Bytes, unlock: bool, length: u32, operations: u32) -> Writ
 }
 
 fn each_page_is_programmed() -> Written {
-    // The identification and the scan take 23 transactions. Then 15 sectors are erased, and the 16 pages of each of 16
-    // sectors are programmed. Each of these operations takes three transactions. The last sector needs no erase, so the
-    // session reads it once before it programs it. At the end, the session reads all 16 sectors to verify them.
+    // 23 transactions for identification and scan, and three for each operation: 15 erases, and 16 programs for each of
+    // 16 sectors. The last sector is read before it is programmed, and all 16 are verified.
     let operations = 15 + 16 * 16;
     let length = 23 + 3 * operations + 1 + 16;
     let old = first(61_440, 0x00);
@@ -344,8 +328,7 @@ fn each_page_is_programmed() -> Written {
     }
 }
 
-// Returns the session of `ThirtyTwoSectorsAreErased`. It sends 64 transactions to scan the chip, and 32 to verify the
-// erased sectors.
+// The scan sends 64 transactions, and the verification 32.
 fn thirty_two_sectors_are_erased() -> Written {
     let old = Bytes {
         from: 0x8000,

@@ -1,4 +1,4 @@
-//! Runs of a row: its session, which may be stopped after a given number of transactions, and the restores after it.
+//! Runs of a row: its session, which may be stopped, and the restores after it.
 ghost use Rattle.nor_journal.specs.Vault.{IsFresh};
 
 use crate::held::{assert_held, assert_that};
@@ -9,7 +9,7 @@ use nor_session::{Refusal, Report, restore, session};
 use std::alloc::Global;
 use std::process::Abort;
 
-/// A number of transactions that is enough for a restore of any row, except with `Start::SLOWEST`.
+/// Enough transactions for a restore of any row, except with `Start::SLOWEST`.
 pub const AMPLE: u64 = 10_000;
 
 /// Runs a row's session on a bus to its chip, with a fresh vault (empty and unsealed). Returns the session's result.
@@ -35,9 +35,8 @@ pub struct Cut {
 }
 
 impl Cut {
-    /// Restores from the vault's journal with the allowance `allowed`. Returns the number of transactions sent if the
-    /// restore ends, and `None` if it was stopped. If the restore ends, asserts that the chip is idle, and that its
-    /// write enable latch is set only if it was set before the restore.
+    /// Restores with the allowance `allowed`. Returns the number of transactions if the restore ends, and `None` if it
+    /// was stopped. At the end the chip must be idle, and its write enable latch no more set than before.
     pub fn restore(&mut self, rt: &impl Abort, allowed: u64) -> Option<u64> {
         let journal = Journal::read(self.vault.bytes()).expect(rt, "a journal");
         self.bus.allow(allowed);
@@ -53,8 +52,7 @@ impl Cut {
     }
 }
 
-// Returns the number of transactions of a call that succeeded, or `None` if it was stopped. Asserts that no other error
-// occurred.
+// Asserts that no error except a stop occurred.
 fn ended(rt: &impl Abort, answer: Result<Report, Refusal>) -> Option<u64> {
     match answer {
         Ok(report) => Some(report.transactions),
@@ -72,14 +70,12 @@ pub struct Runs {
     row: Row,
     start: Start,
     before: Vec<u8>,
-    // The number of bytes of the next transaction that the bus still sends at a stop of a restore. With `None` it sends
-    // none.
+    // The number of bytes of the next transaction that a stop of a restore still sends.
     torn: Option<u32>,
 }
 
 impl Runs {
-    /// Returns the runs of this row's session with this start. At a stop of a restore, the bus sends as many bytes of
-    /// the next transaction as at a stop of the session.
+    /// Returns the runs of this row's session. A stop of a restore sends as many bytes as one of the session.
     pub fn new(rt: &impl Abort, alloc: Global, row: Row, start: Start) -> Runs {
         Runs {
             alloc,
@@ -90,8 +86,7 @@ impl Runs {
         }
     }
 
-    /// Returns these runs, except that at a stop of a restore the bus sends the first `count` bytes of the next
-    /// transaction.
+    /// Returns these runs with stops of restores that still send the first `count` bytes.
     pub fn with_restores_torn(self, count: u32) -> Runs {
         Runs {
             torn: Some(count),
@@ -99,12 +94,10 @@ impl Runs {
         }
     }
 
-    /// Runs the session on a new chip, with the allowance `allowed`. Asserts that the session ends if and only if the
-    /// allowance is at least `ends_at`, and that it then sent `ends_at` transactions. Asserts that the vault is sealed
-    /// if and only if the allowance is at least `sealed_at`.
+    /// Runs the session on a new chip, with the allowance `allowed`. Asserts that the session ends if and only if this
+    /// is at least `ends_at`, and that the vault is sealed if and only if it is at least `sealed_at`.
     ///
-    /// If the session ends, asserts that the chip is idle and its write enable latch is clear: each row's session ends
-    /// with an operation or with a read after one, and operations clear the latch.
+    /// If the session ends, the chip must be idle with a clear write enable latch, which operations clear.
     pub fn cut(&self, rt: &impl Abort, allowed: u64) -> Cut {
         let mut bus = self.row.bus(rt, self.alloc, self.start);
         bus.allow(allowed);
@@ -116,8 +109,6 @@ impl Runs {
         Cut { bus, vault }
     }
 
-    // Returns what is expected of the session with the allowance `allowed`: the number of its transactions if it ends,
-    // and whether its vault is sealed.
     fn expected_at(&self, allowed: u64) -> (Option<u64>, bool) {
         let length = self.row.ends_at(self.start);
         let sealed = allowed >= self.row.sealed_at(self.start);
@@ -136,8 +127,8 @@ impl Runs {
         assert_that!(rt; [one & 0xFC, two & 0x7F] == self.row.status());
     }
 
-    /// Runs the session with each allowance from `first` up to its length, and then restores if its vault is sealed.
-    /// Asserts that each run leaves the chip as before. Returns the number of runs.
+    /// Runs the session with each allowance from `first` on, and restores if its vault is sealed. Asserts that each run
+    /// leaves the chip as before. Returns the number of runs.
     pub fn stop_at_each(&self, rt: &impl Abort, first: u64) -> u64 {
         let mut runs: u64 = 0;
         for n in first..=self.row.ends_at(self.start) {
@@ -151,9 +142,8 @@ impl Runs {
         runs
     }
 
-    /// Runs the session with each allowance from `first` up to its length. If its vault is sealed, stops the restore
-    /// after each number of its transactions, and then restores again. Asserts that each run leaves the chip as before.
-    /// Returns the number of runs; a session that leaves its vault unsealed is one run.
+    /// Like `stop_at_each`, but also stops each restore after each number of its transactions, and then restores again.
+    /// A session that leaves its vault unsealed is one run.
     pub fn stop_restores_at_each(&self, rt: &impl Abort, first: u64) -> u64 {
         let mut runs: u64 = 0;
         for n in first..=self.row.ends_at(self.start) {
@@ -162,9 +152,8 @@ impl Runs {
         runs
     }
 
-    /// Stops the session after each number of transactions from `first` up to one less than its length. If its vault is
-    /// sealed, restores afterwards; otherwise asserts that the write enable latch is clear. Asserts that each run
-    /// leaves the chip as before. Returns the number of stopped sessions.
+    /// Stops the session from `first` transactions on, and restores if its vault is sealed; otherwise the write enable
+    /// latch must be clear. Asserts that each run leaves the chip as before. Returns the number of stopped sessions.
     pub fn stop_sessions(&self, rt: &impl Abort, first: u64) -> u64 {
         let mut stops: u64 = 0;
         for n in first..self.row.ends_at(self.start) {
@@ -180,16 +169,13 @@ impl Runs {
         stops
     }
 
-    /// Stops the session after `n` transactions. If its vault is sealed, stops the restore after each number of
-    /// transactions that isn't enough for it, and then restores again. Asserts that each run leaves the chip as before.
-    /// Returns the number of stopped restores.
+    /// Stops the session after `n` transactions and, if its vault is sealed, its restore anywhere, and then restores
+    /// again. Asserts that each run leaves the chip as before. Returns the number of stopped restores.
     pub fn stop_restores(&self, rt: &impl Abort, n: u64) -> u64 {
         self.stop_restores_after(rt, n).saturating_sub(1)
     }
 
-    // Stops the session after `n` transactions. If its vault is sealed, restores with the allowances 0, 1, .. until a
-    // restore ends; after each stopped restore another one follows. Asserts that each run leaves the chip as before.
-    // Returns the number of runs, which is 1 if the vault isn't sealed.
+    // Like `stop_restores`, but counts the restore that ends, too, and 1 if the vault isn't sealed.
     fn stop_restores_after(&self, rt: &impl Abort, n: u64) -> u64 {
         for m in 0..AMPLE {
             let mut cut = self.cut(rt, n);
@@ -204,9 +190,7 @@ impl Runs {
     }
 }
 
-// Restores with the allowance `allowed`, and again with `AMPLE` if this restore was stopped. Returns whether the first
-// restore ended, and asserts that it then sent exactly `allowed` transactions. If the vault isn't sealed, returns true
-// and restores nothing.
+// If the restore is stopped, another one follows. Returns whether it ended, or true if the vault isn't sealed.
 fn ends_within(rt: &impl Abort, cut: &mut Cut, allowed: u64) -> bool {
     if !cut.vault.is_sealed() {
         return true;
@@ -220,8 +204,7 @@ fn ends_within(rt: &impl Abort, cut: &mut Cut, allowed: u64) -> bool {
     true
 }
 
-/// Asserts that the chip is as before the row's session. Asserts that it is idle and its write enable latch is clear,
-/// as after a session that sent no write enable.
+/// Asserts that the chip is as before the row's session, idle, and with a clear write enable latch.
 pub fn assert_untouched(rt: &impl Abort, alloc: Global, row: Row, bus: &SimBus) {
     Runs::new(rt, alloc, row, Start::IDLE).assert_as_before(rt, bus);
     assert_that!(rt; bus.status() == row.status());

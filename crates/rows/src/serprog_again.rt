@@ -6,9 +6,8 @@ use nor_chip::{Bus, Config, Delays, Meter, SimBus, Spoil, SpoiltBus, TraceBus};
 use std::alloc::Global;
 use std::process::Abort;
 
-// A read over `ReadTwice`: the bytes sent and the length of the reply, the addresses at which the image differs from
-// the chip, the expected trace of the bus below, and whether the read succeeds. The bus below drops the transaction
-// `spoilt`, so that each byte of its reply is FFh.
+// A read over `ReadTwice`: the bytes sent, the length of the reply, where the image differs from the chip, the expected
+// trace of the bus below, and whether the read succeeds. Transaction `spoilt` of that bus replies FFh.
 #[derive(Clone, Copy)]
 struct Reading {
     out: [u8; 4],
@@ -19,8 +18,7 @@ struct Reading {
     succeeds: bool,
 }
 
-// Returns a successful read of 20,480 bytes, the five sectors from address 0 on. The image differs from the chip at the
-// addresses `differing`, and `lines` is the expected trace.
+// A successful read of the five sectors from address 0 on.
 const fn five_sectors(differing: &'static [usize], lines: &'static [u8]) -> Reading {
     Reading {
         out: [0x03, 0x00, 0x00, 0x00],
@@ -32,7 +30,7 @@ const fn five_sectors(differing: &'static [usize], lines: &'static [u8]) -> Read
     }
 }
 
-// Returns the bytes of a chip of 64 KiB. No byte is FFh, and no two sectors are equal.
+// No byte is FFh, and no two sectors are equal.
 fn contents(rt: &impl Abort, alloc: Global) -> Vec<u8> {
     let mut bytes = vec![in alloc; 0; 65536].expect(rt, "memory");
     for (address, byte) in bytes.iter_mut().enumerate() {
@@ -41,7 +39,6 @@ fn contents(rt: &impl Abort, alloc: Global) -> Vec<u8> {
     bytes
 }
 
-// Returns a bus to a chip with the bytes of `contents`. The bus carries out `u64::MAX` transactions.
 fn chip(rt: &impl Abort, alloc: Global) -> SimBus {
     let idle = Delays { now: 0, each: 0 };
     let bytes = contents(rt, alloc);
@@ -51,7 +48,6 @@ fn chip(rt: &impl Abort, alloc: Global) -> SimBus {
     chip
 }
 
-// Carries out a transaction over a `ReadTwice` that expects `image`, and traces the transactions of the bus below.
 // Returns whether the transaction succeeded, and whether two reads differed.
 fn transact(
     inside: SpoiltBus<SimBus>,
@@ -65,7 +61,6 @@ fn transact(
     (succeeds, bus.differed())
 }
 
-// Carries out a read, and asserts its result, its reply, and the trace of the bus below.
 fn check(rt: &impl Abort, alloc: Global, reading: Reading) {
     let mut image = contents(rt, alloc);
     for address in reading.differing {
@@ -86,7 +81,7 @@ fn check(rt: &impl Abort, alloc: Global, reading: Reading) {
     assert_that!(rt; lines.as_slice() == reading.lines);
 }
 
-// Only sectors in which a byte differs from the image are read again. Neighbouring sectors are read together.
+// Neighbouring sectors are read together.
 #[test]
 fn only_differing_sectors_are_read_again(rt: HostRuntime) {
     for reading in [
@@ -113,8 +108,7 @@ fn only_differing_sectors_are_read_again(rt: HostRuntime) {
     }
 }
 
-// The read begins and ends inside a sector. For its first and for its last sector, only the bytes that the read covers
-// are compared with the image, and read again if one of them differs.
+// For its first and last sector, only the bytes that the read covers are compared, and read again.
 #[test]
 fn parts_of_sectors_are_read_again(rt: HostRuntime) {
     let cases: [(&'static [usize], &'static [u8]); 3] = [
@@ -135,10 +129,8 @@ fn parts_of_sectors_are_read_again(rt: HostRuntime) {
     }
 }
 
-// If a second read differs from the first one, the bus stops, and nothing is sent after it. In the first two cases two
-// sectors of the chip differ from the image: the second read of the first one is spoilt in the first case, and that of
-// the second one in the second case. In the third case the read covers only the first byte of its last sector, and the
-// second read of this byte is spoilt.
+// If a second read differs from the first, the bus stops. The spoilt second reads are: that of the first of two
+// differing sectors, that of the second, and that of the only byte that a read covers in its last sector.
 #[test]
 fn a_sector_that_differs_stops_the_bus(rt: HostRuntime) {
     let cases: [(u64, usize, &'static [usize], &'static [u8]); 3] = [
@@ -172,7 +164,7 @@ fn a_sector_that_differs_stops_the_bus(rt: HostRuntime) {
     }
 }
 
-// A read of the ID is repeated as a whole. A read of a sector is, too, if the image ends inside this sector.
+// A read of the ID is repeated as a whole, and so is a read of a sector inside which the image ends.
 #[test]
 fn other_reads_are_repeated(rt: HostRuntime) {
     let alloc = rt.alloc();

@@ -43,7 +43,6 @@ fn a_chip_is_read_and_programmed(rt: HostRuntime) {
     assert_that!(&rt; bus.cause().is_none());
 }
 
-// Returns the text of the failure that the bus recorded, or an empty text if there is none.
 fn cause(rt: &impl Abort, alloc: Global, bus: &SerprogBus<Model>) -> String {
     match bus.cause() {
         Some(cause) => format!(in alloc; "{cause}").expect(rt, "memory"),
@@ -51,8 +50,7 @@ fn cause(rt: &impl Abort, alloc: Global, bus: &SerprogBus<Model>) -> String {
     }
 }
 
-// Each of these faults stops the bus, and the bus records the cause. Further transactions send nothing until
-// `synchronize` succeeds. After that the bus works again.
+// The bus records the cause. Further transactions send nothing until `synchronize` succeeds.
 #[test]
 fn each_fault_stops_the_bus(rt: HostRuntime) {
     let alloc = rt.alloc();
@@ -81,8 +79,7 @@ fn each_fault_stops_the_bus(rt: HostRuntime) {
     }
 }
 
-// If the port fails inside a frame, the bus sends nothing more, not even to synchronize, because the programmer would
-// take the bytes for the rest of the frame.
+// If the port fails inside a frame, the bus sends nothing more, because the programmer would take it for the rest.
 #[test]
 fn a_cut_frame_is_never_completed(rt: HostRuntime) {
     let mut model = Model::new(&rt, rt.alloc());
@@ -105,8 +102,7 @@ fn a_transaction_that_is_too_long_is_not_sent(rt: HostRuntime) {
     assert_that!(&rt; bus.port().received == received);
 }
 
-// Returns the number of O_SPIOP commands that were sent after a transaction over a `BatchingBus`, and the number after
-// the following `flush`. The transaction reads one byte if `has_reply` is true, otherwise none.
+// Returns the number of O_SPIOP commands after a transaction over a `BatchingBus`, and after the `flush` that follows.
 fn operations(rt: &impl Abort, alloc: Global, out: &[u8], has_reply: bool) -> (u32, u32) {
     let mut bus = open_batching(rt, alloc, None);
     let mut byte = [0];
@@ -134,7 +130,6 @@ fn only_a_write_enable_without_a_reply_waits(rt: HostRuntime) {
     }
 }
 
-// Asserts that a `BatchingBus` refuses a command and a poll, and that these and `flush` send nothing to the programmer.
 fn assert_silent(rt: &impl Abort, bus: &mut BatchingBus<Model>) {
     let received = bus.port().received;
     let command = bus.transfer(&[0x06], &mut []);
@@ -144,8 +139,7 @@ fn assert_silent(rt: &impl Abort, bus: &mut BatchingBus<Model>) {
     assert_that!(rt; command.is_err() && flushed.is_ok() && poll.is_err());
 }
 
-// The write enable waits for the poll, and the fault occurs at its frame, which is sent first. After the fault
-// no command is left to be sent.
+// The write enable waits for the poll, and the fault occurs at its frame, which is sent first.
 #[test]
 fn a_batch_is_sent_only_in_step(rt: HostRuntime) {
     for fault in [Fault::Nak, Fault::Silent, Fault::Strange, Fault::Cut] {

@@ -1,5 +1,4 @@
-//! The handshake before the first transaction: the synchronization of the link, and the identification of a serprog
-//! programmer.
+//! The handshake before the first transaction: synchronization and identification.
 
 use crate::held::assert_that;
 use crate::serprog_model::Model;
@@ -18,7 +17,7 @@ fn a_programmer_is_identified(rt: HostRuntime) {
     assert_that!(&rt; programmer.frequency() == Some(12_000_000));
 }
 
-// Identifies a programmer. Returns the text of the error, or `identified` if there is none.
+// Returns the text of the error, or `identified`.
 fn refusal(rt: &impl Abort, alloc: Global, model: Model) -> String {
     let mut link = Link::new(model);
     let text = match Programmer::identify(&mut link, Some(1_000_000)) {
@@ -104,8 +103,7 @@ fn a_limit_that_is_too_small_is_an_error(rt: HostRuntime) {
     assert_refused(&rt, alloc, model, "identified");
 }
 
-// The handshake skips reply bytes that an earlier run left unread, even if the last of these bytes look like the reply
-// to SYNCNOP.
+// Bytes that an earlier run left unread are skipped, even if the last look like the reply to SYNCNOP.
 #[test]
 fn stale_bytes_are_skipped(rt: HostRuntime) {
     let stale: [&[u8]; 4] = [

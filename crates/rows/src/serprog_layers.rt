@@ -1,5 +1,5 @@
 //! Sessions and restores over all layers of nor_buses around a serprog bus, as `flashnor-serprog` uses them. The port
-//! is well-behaved, and fails at each of its calls in turn.
+//! fails at each of its calls in turn.
 
 use crate::held::{assert_held, assert_that};
 use crate::row::{Row, Start};
@@ -15,17 +15,15 @@ use std::alloc::Global;
 use std::cell::Cell;
 use std::process::Abort;
 
-// The limits of the programmer, in bytes of one transaction.
 const LONGEST_WRITE: u32 = 260;
 
 const LONGEST_READ: u32 = 4096;
 
-// More calls than a handshake and any session or restore of these tests take.
+// More calls than a handshake and any session or restore takes.
 const AMPLE: u64 = 100_000;
 
 type Bench<'a> = Layered<SerprogBus<SimPort>, Timer<'a>>;
 
-// Carries out the handshake over this port, and returns all layers around a bus over it.
 fn open<'a>(rt: &impl Abort, now: &'a Cell<u64>, port: SimPort) -> Bench<'a> {
     let mut link = Link::new(port);
     let programmer = Programmer::identify(&mut link, None)
@@ -40,13 +38,11 @@ fn open<'a>(rt: &impl Abort, now: &'a Cell<u64>, port: SimPort) -> Bench<'a> {
     ReadAhead::new(checked, LONGEST_READ)
 }
 
-// Returns the chip at the programmer.
 fn chip_of<'a>(bus: &'a Bench<'_>) -> &'a SimBus {
     let splitting = bus.inner().inner().inner().inner();
     splitting.inner().inner().port().chip()
 }
 
-// Returns the number of calls of the port that the handshake takes.
 fn handshake(rt: &impl Abort, alloc: Global) -> u64 {
     let now = Cell::new(0);
     let chip = Row::AByteIsProgrammed.bus(rt, alloc, Start::IDLE);
@@ -55,20 +51,17 @@ fn handshake(rt: &impl Abort, alloc: Global) -> u64 {
     AMPLE.saturating_sub(port.left())
 }
 
-// Returns a port to this chip. After the handshake, `calls` calls succeed. If the call that fails then sends a frame,
-// the chip receives the first `cut` bytes of the frame's transaction.
+// After the handshake, `calls` calls succeed. Of a frame that fails the chip receives the first `cut` bytes.
 fn port_to(mut chip: SimBus, handshake: u64, calls: u64, cut: u32) -> SimPort {
     chip.tear(Some(cut));
     SimPort::new(chip, calls.saturating_add(handshake))
 }
 
-// Returns a chip with the contents and the status of this idle one.
 fn copy_of(rt: &impl Abort, alloc: Global, chip: &SimBus) -> SimBus {
     let bytes = Vec::from_slice(alloc, chip.bytes()).expect(rt, "memory");
     SimBus::new(Config::tiny64(), bytes, chip.status(), Start::IDLE.delays).expect(rt, "a size")
 }
 
-// What a session or a restore left.
 #[derive(Drop)]
 struct Left {
     chip: SimBus,
@@ -76,8 +69,7 @@ struct Left {
     ended: bool,
 }
 
-// Runs a row's session over a port that fails after `calls` calls. Asserts that a session that doesn't end returns
-// error 12 (stopped).
+// Asserts that a session that doesn't end returns error 12 (stopped).
 fn stop_session(
     rt: &impl Abort,
     alloc: Global,
@@ -98,8 +90,7 @@ fn stop_session(
     }
 }
 
-// Restores from the journal of `left` over a port that fails after `calls` calls. Asserts that a restore that doesn't
-// end returns error 12 (stopped).
+// Asserts that a restore that doesn't end returns error 12 (stopped).
 fn stop_restore(
     rt: &impl Abort,
     alloc: Global,
@@ -124,8 +115,6 @@ fn stop_restore(
     }
 }
 
-// If the vault is sealed, restores over a port that doesn't fail. Asserts that the chip is then as before the row's
-// session.
 fn assert_restored(rt: &impl Abort, alloc: Global, row: Row, left: Left, handshake: u64) {
     let left = if left.vault.is_sealed() {
         stop_restore(rt, alloc, left, handshake, (AMPLE, 0))
@@ -135,12 +124,10 @@ fn assert_restored(rt: &impl Abort, alloc: Global, row: Row, left: Left, handsha
     Runs::new(rt, alloc, row, Start::IDLE).assert_as_before(rt, &left.chip);
 }
 
-// How many bytes of a transaction the chip receives if the port fails while it sends the frame: none, the opcode and
-// the address, or all bytes.
+// How many bytes of a transaction the chip receives at a cut: none, the opcode and the address, or all.
 const CUTS: [u32; 3] = [0, 4, u32::MAX];
 
-// Returns one of `CUTS` for a port that fails after `calls` calls. A transaction takes three calls, so the value is the
-// same for the calls of one transaction, and another one for those of the next.
+// A transaction takes three calls, which get the same value.
 fn cut_at(calls: u64) -> u32 {
     match calls / 3 % 3 {
         0 => CUTS[0],
@@ -149,7 +136,7 @@ fn cut_at(calls: u64) -> u32 {
     }
 }
 
-// More calls than a session or a restore of these tests takes.
+// More calls than a session or a restore takes.
 const MOST_CALLS: u64 = 2000;
 
 #[test]

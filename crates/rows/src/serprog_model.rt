@@ -11,14 +11,13 @@ use std::alloc::Global;
 use std::process::Abort;
 use std::{fmt, mem};
 
-// The capacities of the model's buffers: for the bytes of an incomplete frame (`MOST_BEGUN`), and for the replies that
-// weren't received yet (`MOST_PENDING`). The second has room for the reply to a read of a sector, and for stale bytes
-// before it.
+// For the bytes of an incomplete frame, and for replies that weren't received yet: the read of a sector after stale
+// bytes.
 const MOST_BEGUN: usize = 300;
 
 const MOST_PENDING: usize = 5000;
 
-/// A fault of the model at one O_SPIOP command: what the model does instead of sending the correct reply.
+/// A fault of the model at one O_SPIOP command.
 #[derive(Clone, Copy, PartialEq, Eq)]
 pub enum Fault {
     /// Replies NAK, and doesn't carry out the command.
@@ -35,8 +34,7 @@ pub enum Fault {
     Cut,
 }
 
-/// The reason why the port failed. `Silent`: fewer reply bytes had arrived than were asked for. `Cut`: the model has
-/// the fault `Fault::Cut`.
+/// Why the port failed: not enough reply bytes had arrived (`Silent`), or the fault `Fault::Cut` occurred.
 #[derive(Clone, Copy, PartialEq, Eq)]
 pub enum Cause {
     Silent,
@@ -52,9 +50,8 @@ impl fmt::Display for Cause {
     }
 }
 
-/// A programmer that follows flashrom's Documentation/serprog-protocol.txt. The fields from `version` to `buffer`
-/// contain the replies to queries. `operations` is the number of complete O_SPIOP commands so far. `begun` contains the
-/// bytes of an incomplete frame, and `pending` the replies that weren't received yet.
+/// A programmer that follows flashrom's Documentation/serprog-protocol.txt. The fields from `version` to `buffer` are
+/// replies to queries; `operations` counts complete O_SPIOP commands.
 #[derive(Drop)]
 pub struct Model {
     pub chip: SimBus,
@@ -103,7 +100,6 @@ impl Model {
         }
     }
 
-    // Takes the bytes of a call, and carries out each command that they complete.
     fn take(&mut self, bytes: &[u8]) -> Result<(), Cause> {
         let cut = self.fault == Some(Fault::Cut) && self.operations == self.fault_at;
         for byte in bytes {
@@ -124,7 +120,6 @@ impl Model {
         let _ = self.pending.try_extend_from_slice(bytes);
     }
 
-    // Carries out the complete command in `begun`.
     fn carry_out(&mut self) {
         let frame = mem::replace(&mut self.begun, ArrayVec::new());
         match frame.as_slice() {
@@ -167,8 +162,7 @@ impl Model {
         self.reply(&answer);
     }
 
-    // Carries out one O_SPIOP command: a transaction with the chip, and its reply. At the command number `fault_at` the
-    // reply has the fault. There is no transaction with `Nak`, or if the command exceeds a limit of the programmer.
+    // No transaction takes place with `Nak`, or if the command exceeds a limit of the programmer.
     fn operate(&mut self, out: &[u8], replies: u16) {
         let fault = if self.operations == self.fault_at {
             self.fault
@@ -205,8 +199,7 @@ impl Model {
     }
 }
 
-// Returns whether the number of bytes `len` exceeds `limit`, three little-endian bytes. A limit of 0 means that there
-// is no limit.
+// A limit of 0 means that there is no limit.
 fn exceeds(len: usize, limit: [u8; 3]) -> bool {
     let [low, middle, high] = limit;
     let limit = u32::from_le_bytes([low, middle, high, 0]) as usize;

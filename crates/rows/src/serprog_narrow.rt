@@ -9,8 +9,7 @@ use nor_serprog::{AnyProgrammer, BatchingBus, Link};
 use std::alloc::Global;
 use std::process::Abort;
 
-// Returns a programmer whose transactions send at most `limit` bytes and read at most `limit` bytes. Its chip contains
-// `bytes`, and shows BUSY in two polls after each operation.
+// The chip shows BUSY in two polls after each operation.
 fn narrow(rt: &impl Abort, alloc: Global, bytes: Vec<u8>, limit: u16) -> Model {
     let delays = Delays { now: 0, each: 2 };
     let mut model = Model::new(rt, alloc);
@@ -32,7 +31,7 @@ fn open(rt: &impl Abort, model: Model) -> SplittingBus<BatchingBus<Model>> {
     SplittingBus::new(BatchingBus::over(link, programmer), writes, reads)
 }
 
-// Returns the transaction that programs 256 different bytes at address 001100h.
+// The 256 bytes are different.
 fn page_program() -> [u8; 260] {
     let mut program = [0; 260];
     for (index, byte) in program.iter_mut().enumerate() {
@@ -45,14 +44,12 @@ fn page_program() -> [u8; 260] {
     program
 }
 
-// Returns whether `bytes` is given and all its bytes are FFh.
 fn are_erased(bytes: Option<&[u8]>) -> bool {
     bytes.is_some_and(|bytes| bytes.iter().all(|byte| *byte == 0xFF))
 }
 
-// A part of a program has at most `limit - 4` data bytes, so a page of 256 bytes needs 256, 5 or 2 parts. Before each
-// part except the first, the bus sends three polls and a write enable. The caller sends the first write enable, and
-// three polls after the last part, so there are five operations for each part.
+// A part has at most `limit - 4` data bytes, so a page needs 256, 5 or 2 parts. There are five operations for each
+// part: a write enable, the part, and three polls.
 #[test]
 fn a_page_is_programmed_in_parts(rt: HostRuntime) {
     for (limit, reads, operations) in [
@@ -82,7 +79,7 @@ fn a_page_is_programmed_in_parts(rt: HostRuntime) {
     }
 }
 
-// Returns the bytes of a chip in which each byte differs from its neighbours.
+// Each byte differs from its neighbours.
 fn pattern(rt: &impl Abort, alloc: Global) -> Vec<u8> {
     let mut bytes = vec![in alloc; 0; 65536].expect(rt, "memory");
     for (address, byte) in bytes.iter_mut().enumerate() {
@@ -91,12 +88,10 @@ fn pattern(rt: &impl Abort, alloc: Global) -> Vec<u8> {
     bytes
 }
 
-// Returns a bus to a chip with the bytes of `pattern`, over a programmer with this limit.
 fn over_pattern(rt: &impl Abort, alloc: Global, limit: u16) -> SplittingBus<BatchingBus<Model>> {
     open(rt, narrow(rt, alloc, pattern(rt, alloc), limit))
 }
 
-// Reads of data and of SFDP bytes are split into reads of at most `limit` bytes.
 #[test]
 fn reads_are_split(rt: HostRuntime) {
     let alloc = rt.alloc();
@@ -145,8 +140,7 @@ fn polls_are_split(rt: HostRuntime) {
     assert_that!(&rt; bus.inner().port().operations == 3);
 }
 
-// If the programmer refuses a poll between two parts, the bus stops, and later parts are not programmed. The first part
-// has 60 data bytes. The operations before the refused poll are a write enable and this part.
+// If the programmer refuses the poll after the first part of 60 data bytes, the bus stops.
 #[test]
 fn a_program_stops_between_its_parts(rt: HostRuntime) {
     let erased = vec![in rt.alloc(); 0xFF; 65536].expect(&rt, "memory");
@@ -162,7 +156,7 @@ fn a_program_stops_between_its_parts(rt: HostRuntime) {
     assert_that!(&rt; are_erased(bytes.get(0x113C..)));
 }
 
-// Identifies a programmer. Returns its limit for parts of a program as a text, or the text of the error.
+// Returns the limit for parts of a program, or the text of the error.
 fn limit_or_fault(rt: &impl Abort, alloc: Global, model: Model) -> String {
     let mut link = Link::new(model);
     let text = match AnyProgrammer::identify(&mut link, None) {
@@ -177,8 +171,8 @@ fn assert_limit(rt: &impl Abort, alloc: Global, model: Model, wanted: &str) {
     assert_that!(rt; limit.as_str() == wanted);
 }
 
-// A programmer must be able to send five bytes in a transaction: an opcode, an address and one data byte. A programmer
-// without Q_WRNMAXLEN is limited by its serial buffer, which also has to hold the 7 other bytes of the frame.
+// A transaction must be able to send five bytes: opcode, address and one data byte. Without Q_WRNMAXLEN the limit is
+// the serial buffer, which also has to hold the 7 other bytes of the frame.
 #[test]
 fn a_programmer_with_small_limits_is_identified(rt: HostRuntime) {
     let alloc = rt.alloc();

@@ -1,6 +1,5 @@
-//! Sessions and restores over a well-behaved serprog port that fails at each of its calls in turn. A transaction takes
-//! three calls: the first sends its frame, the second receives ACK, and the third receives the rest of the reply. If
-//! the second or third call fails, the chip has carried out the transaction, but the reply is lost.
+//! Sessions and restores over a serprog port that fails at each of its calls in turn. A transaction takes three calls:
+//! send the frame, receive ACK, receive the rest. If the second or third fails, only the reply is lost.
 ghost use Rattle.nor_journal.specs.Vault.{IsFresh};
 
 use crate::held::{assert_held, assert_that};
@@ -16,14 +15,12 @@ use std::process::Abort;
 
 const CALLS: u64 = 3;
 
-// More calls than a handshake and any restore of these tests take.
+// More calls than a handshake and any restore takes.
 const AMPLE: u64 = 100_000;
 
-// How many bytes of a transaction the chip receives if the port fails while it sends the frame: none, the opcode and
-// the address, one byte of data in addition, or all bytes.
+// How many bytes of a transaction the chip receives at a cut: none, opcode and address, one byte of data more, or all.
 const CUTS: [u32; 4] = [0, 4, 5, u32::MAX];
 
-// Carries out the handshake over this port, and returns a bus over it.
 fn open(rt: &impl Abort, port: SimPort) -> SerprogBus<SimPort> {
     let mut link = Link::new(port);
     let programmer = Programmer::identify(&mut link, None)
@@ -34,8 +31,7 @@ fn open(rt: &impl Abort, port: SimPort) -> SerprogBus<SimPort> {
     SerprogBus::new(link, programmer)
 }
 
-// Returns a bus to this chip. After the handshake, `calls` calls of the port succeed, and the next one fails. If the
-// call that fails sends a frame, the chip receives only the first `cut` bytes of the frame's transaction.
+// After the handshake, `calls` calls succeed. Of a frame that fails the chip receives the first `cut` bytes.
 fn bus_to(
     rt: &impl Abort,
     alloc: Global,
@@ -48,7 +44,6 @@ fn bus_to(
     open(rt, SimPort::new(chip, calls))
 }
 
-// Runs a row's session on a bus to its chip.
 fn change<V: Vault>(
     rt: &impl Abort,
     alloc: Global,
@@ -63,35 +58,29 @@ fn change<V: Vault>(
     session_over(bus, vault, &mut image, &request)
 }
 
-// Returns the number of calls of the port that the handshake takes.
 fn handshake(rt: &impl Abort, alloc: Global) -> u64 {
     let chip = Row::AByteIsProgrammed.bus(rt, alloc, Start::IDLE);
     let bus = open(rt, SimPort::new(chip, AMPLE));
     AMPLE.saturating_sub(bus.port().left())
 }
 
-// A port that fails after `calls` calls has the same effect as a stop of the simulated bus that still sends some bytes.
-// Returns the number of these bytes: `cut` if the port fails while it sends a frame, and all bytes if the reply is
-// lost.
+// The number of bytes that the corresponding stop of the simulated bus sends: `cut` in a frame, or all for a lost
+// reply.
 fn torn(calls: u64, cut: u32) -> u32 {
     if calls % CALLS == 0 { cut } else { u32::MAX }
 }
 
-// Returns the values of `cut` to try with a port that fails after `calls` calls. If the reply is lost, all bytes were
-// sent before, so one value is enough.
+// If the reply is lost, all bytes were sent before, so one value is enough.
 fn cuts(calls: u64) -> &'static [u32] {
     if calls % CALLS == 0 { &CUTS } else { &[0] }
 }
 
-// Asserts that two chips have the same contents and status.
 fn assert_same(rt: &impl Abort, chip: &SimBus, other: &SimBus, calls: u64) {
     let same = chip.bytes() == other.bytes() && chip.status() == other.status();
     assert_held(rt, same, calls);
 }
 
-// Runs a row's session over a port that fails after `calls` calls. Asserts that the session returns error 12 (stopped),
-// and leaves chip and vault as the corresponding stop of the simulated bus does. Returns the chip and the vault after
-// the stop of the simulated bus.
+// Asserts error 12 (stopped), and that chip and vault are as after the corresponding stop of the simulated bus.
 fn stop_session(
     rt: &impl Abort,
     alloc: Global,
@@ -111,9 +100,7 @@ fn stop_session(
     left
 }
 
-// Restores over a port that fails after `calls` calls. Asserts that the restore returns error 12 (stopped), and leaves
-// the chip as the corresponding stop of the simulated bus does. `left` and `same` are two copies of what the session
-// left. Returns what the stop of the simulated bus left.
+// Like `stop_session`, for a restore. `left` and `same` are two copies of what the session left.
 fn stop_restore(
     rt: &impl Abort,
     alloc: Global,
@@ -133,8 +120,6 @@ fn stop_restore(
     same
 }
 
-// If the vault is sealed, restores over a port that doesn't fail. Asserts that the chip is then as before the row's
-// session.
 fn assert_restored(rt: &impl Abort, alloc: Global, row: Row, left: Cut) {
     let Cut { bus, vault } = left;
     let mut bus = bus_to(rt, alloc, bus, AMPLE, 0);
@@ -145,7 +130,7 @@ fn assert_restored(rt: &impl Abort, alloc: Global, row: Row, left: Cut) {
     Runs::new(rt, alloc, row, Start::IDLE).assert_as_before(rt, bus.port().chip());
 }
 
-// Each entry has a row, its start, and the number of transactions of the row's session.
+// A row, its start, and the number of transactions of its session.
 const SESSIONS: [(Row, Start, u64); 3] = [
     (Row::AByteIsProgrammed, Start::IDLE, 28),
     (Row::AByteIsProgrammed, Start::SLOW, 28 + 3 + 2),
@@ -164,9 +149,8 @@ fn each_call_of_the_port_fails_in_a_session(rt: HostRuntime) {
     }
 }
 
-// Each row has the start, the number of transactions after which the session is stopped, and the number of transactions
-// of its restore. The session is stopped after its erase, so on an idle chip the restore sends 13 transactions. On the
-// slow chip two more polls show BUSY in the restore's first wait, and two more after its operation.
+// The start, the stop of the session after its erase, and the length of the restore: 13, and on the slow chip four more
+// polls that show BUSY.
 const RESTORES: [(Start, u64, u64); 2] = [(Start::IDLE, 25, 13), (Start::SLOW, 28, 17)];
 
 #[test]
@@ -185,7 +169,7 @@ fn each_call_of_the_port_fails_in_a_restore(rt: HostRuntime) {
     }
 }
 
-// If the port allows exactly the calls that the session's transactions take, the session ends.
+// With exactly the calls of the session's transactions, the session ends.
 #[test]
 fn a_session_ends_with_its_last_call(rt: HostRuntime) {
     let alloc = rt.alloc();
@@ -200,8 +184,7 @@ fn a_session_ends_with_its_last_call(rt: HostRuntime) {
     }
 }
 
-// A backup saves each of the chip's 16 sectors. After a session, a rewrite from the backup writes all of them, and the
-// chip is as before.
+// A rewrite from a backup writes each of the chip's 16 sectors.
 #[test]
 fn a_rewrite_restores_a_backup(rt: HostRuntime) {
     let alloc = rt.alloc();
@@ -218,8 +201,6 @@ fn a_rewrite_restores_a_backup(rt: HostRuntime) {
     Runs::new(&rt, alloc, row, Start::IDLE).assert_as_before(&rt, bus.port().chip());
 }
 
-// A session that is refused seals nothing. Neither this session nor a restore from another chip's journal changes the
-// chip.
 #[test]
 fn refusals_change_nothing(rt: HostRuntime) {
     let alloc = rt.alloc();
@@ -240,8 +221,7 @@ fn refusals_change_nothing(rt: HostRuntime) {
     assert_same(&rt, bus.port().chip(), &before, 1);
 }
 
-// The chip loses its power if the port fails while it sends a frame: after the opcode and the address of the
-// transaction, or after all of it. Each byte that an interrupted page program or erase works on becomes 00h or FFh.
+// The power fails at a cut after opcode and address, or after all of a frame. Interrupted bytes become 00h or FFh.
 #[test]
 fn each_cut_of_the_port_may_cost_the_power(rt: HostRuntime) {
     for (row, start, length) in SESSIONS {
@@ -258,8 +238,7 @@ fn each_cut_of_the_port_may_cost_the_power(rt: HostRuntime) {
     }
 }
 
-// If nothing was sent, there is no reply to receive, and the port fails. After a failure no call succeeds, even if the
-// port was allowed more calls.
+// Without a pending reply the port fails, and after a failure no call succeeds.
 #[test]
 fn more_is_requested_than_is_pending(rt: HostRuntime) {
     let chip = Row::AByteIsProgrammed.bus(&rt, rt.alloc(), Start::IDLE);

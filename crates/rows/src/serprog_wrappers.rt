@@ -1,5 +1,4 @@
-//! `Paced`, which waits between polls that show BUSY, `ReadTwice`, which stops if two reads of the same bytes differ,
-//! and `CheckedStatus`, which stops if two polls differ or the chip is lost.
+//! `Paced`, which waits between polls that show BUSY, `ReadTwice`, and `CheckedStatus`.
 
 use crate::held::assert_that;
 use crate::serprog_model::{Fault, Model};
@@ -13,8 +12,7 @@ use std::io;
 use std::process::Abort;
 use std::time::{Clock, Duration};
 
-/// A clock whose time, in microseconds, advances only if the clock is asked to sleep or a test sets it. If `fails` is
-/// true, the clock can't be read.
+/// A clock that advances only by sleeps and by the test, or can't be read (`fails`).
 #[derive(Drop)]
 pub struct Timer<'a> {
     pub now: &'a Cell<u64>,
@@ -47,7 +45,6 @@ fn tiny64(rt: &impl Abort, alloc: Global, delays: Delays) -> SimBus {
     chip
 }
 
-// Returns a paced bus on which each transaction succeeds, and each poll shows BUSY.
 fn always_busy<'a>(
     rt: &impl Abort,
     alloc: Global,
@@ -61,9 +58,8 @@ fn always_busy<'a>(
     )
 }
 
-// Each row has a command, the time that `Paced` expects of the operation that it begins, and the pause before the third
-// poll after the command, both in microseconds. The expected time is the typical one, but the erase of a whole chip
-// (C7h) counts as one of 64 KiB. The last command begins no operation.
+// A command, the time that `Paced` expects of it, and the pause before the third poll after it, in microseconds. A chip
+// erase (C7h) counts as an erase of 64 KiB, and the last command begins no operation.
 const COMMANDS: [(&[u8], u64, u64); 7] = [
     (&[0x02, 0, 0, 0, 0], 700, 100),
     (&[0x01, 0, 0], 10_000, 625),
@@ -74,9 +70,8 @@ const COMMANDS: [(&[u8], u64, u64); 7] = [
     (&[0x06], 0, 100),
 ];
 
-// The chip shows BUSY in 600 polls, and no command was sent before. The bus sends 2 polls without a pause, and polls 3
-// to 16 after pauses of 0.1 ms. Then come 16 polls with each of the pauses 0.2, 0.4, 0.8, 1.6 and 3.2 ms, and polls 97
-// to 601 with pauses of 6.25 ms. Poll 601 shows that the chip is ready, so the poll after it is sent without a pause.
+// The chip shows BUSY in 600 polls. 2 polls have no pause, and polls 3 to 16 pauses of 0.1 ms; then come 16 polls with
+// each of the pauses 0.2, 0.4, 0.8, 1.6 and 3.2 ms, and polls 97 to 601 with 6.25 ms. The poll after that has no pause.
 #[test]
 fn polls_of_a_busy_chip_are_paced(rt: HostRuntime) {
     let now = Cell::new(0);
@@ -99,10 +94,8 @@ fn polls_of_a_busy_chip_are_paced(rt: HostRuntime) {
     assert_that!(&rt; now.get() == 14 * 100 + 16 * 6200 + 505 * 6250);
 }
 
-// The chip shows BUSY in each poll. The pause before the second poll after a command is the expected time of the
-// operation, less the time since the command; there is no pause if more time has passed. If the clock fails, the pause
-// is the whole expected time. The first poll after a page program waits in the same way; after other commands it is
-// sent without a pause. A reply to a poll has one or two bytes.
+// The pause before the second poll is the expected time, less the time since the command; with a failing clock, all of
+// it. The first poll waits in the same way after a page program only. A poll has one or two reply bytes.
 #[test]
 fn the_second_poll_comes_after_the_typical_time(rt: HostRuntime) {
     for (command, typical, third) in COMMANDS {
@@ -129,8 +122,7 @@ fn the_second_poll_comes_after_the_typical_time(rt: HostRuntime) {
     }
 }
 
-// After each of the commands: if all 65,536 polls of a wait show BUSY, the pauses add up to at least 400 s and at most
-// 410 s.
+// If all 65,536 polls of a wait show BUSY, the pauses add up to 400 to 410 s.
 #[test]
 fn a_wait_without_end_takes_400_seconds(rt: HostRuntime) {
     for (command, _, _) in COMMANDS {
@@ -167,10 +159,8 @@ fn readings_that_differ_stop_the_bus(rt: HostRuntime) {
     }
 }
 
-// A poll is transactions 2 to 5 of the bus inside: a poll, the ID, a poll and the ID again. In the second row the chip
-// is lost at the first of these IDs. In the third row it begins an operation after this ID: the second poll shows BUSY,
-// and the chip would ignore a read of its ID after that. The cause then is that the polls differ, not that the chip is
-// lost.
+// A poll is four transactions of the bus inside: a poll, the ID, a poll and the ID. In the second row the chip is lost
+// at the first ID. In the third row it begins an operation there, so the polls differ, and the chip isn't lost.
 #[test]
 fn a_busy_chip_is_not_lost(rt: HostRuntime) {
     let id = [0xFE, 0x10, 0x10];

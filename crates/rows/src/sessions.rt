@@ -7,8 +7,7 @@ use nor_session::{Report, session};
 use std::alloc::Global;
 use std::process::Abort;
 
-// Runs a session that writes FFh to every address. Before the session the chip's bytes are FFh, except that `cleared`
-// bytes from address 8000h on are 00h. Returns the report.
+// The chip is FFh, except for `cleared` bytes 00h from address 8000h on.
 fn blank(
     rt: &impl Abort,
     alloc: Global,
@@ -29,12 +28,8 @@ fn blank(
     session(&mut bus, &mut vault, &mut image, &request).expect(rt, "the session ends")
 }
 
-// Each row has:
-//
-// - whether the chip has erases of 32 KiB, and of 64 KiB
-// - the number of erases that a session needs for sectors 8 to 39
-// - the session's number of transactions: three for each erase, seven to identify the chip, 64 to scan it, and 32 to
-//   verify the sectors
+// Each row says whether the chip has erases of 32 and 64 KiB, and has the numbers of erases for sectors 8 to 39 and of
+// transactions: three for each erase, seven to identify the chip, 64 to scan it, and 32 to verify the sectors.
 const UNITS: [(bool, bool, u32, u64); 4] = [
     (false, true, 17, 154),
     (true, false, 4, 115),
@@ -54,8 +49,7 @@ fn sectors_are_erased_by_the_largest_units(rt: HostRuntime) {
     }
 }
 
-// A session on an idle TINY64 that has nothing to change sends 23 transactions. In this test it also sends 65,535 polls
-// that show BUSY. The write enable latch is set at first, and is cleared when the chip's operation ends.
+// 23 transactions, and 65,535 polls that show BUSY. The chip's operation clears the write enable latch at its end.
 #[test]
 fn a_busy_chip_is_waited_for(rt: HostRuntime) {
     let busy = Delays {

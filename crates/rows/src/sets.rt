@@ -1,10 +1,8 @@
-//! Sets of addresses that are made from spans. The spans are in any order, adjacent or overlapping, are too many, or
-//! end before they start.
+//! Sets of addresses from spans in any order: adjacent, overlapping, backwards, or too many.
 use crate::held::{assert_held, assert_that};
 use nor_layout::{Ranges, Span};
 
-// Each row has a list of spans (first and last address of each), and the spans of the resulting set, or `None` if
-// `Ranges::of` rejects the list.
+// A list of spans (first and last address), and the spans of the set, or `None` if `Ranges::of` rejects the list.
 const SETS: &[(&[(u32, u32)], Option<&[(u32, u32)]>)] = &[
     (&[], Some(&[])),
     (&[(7, 7)], Some(&[(7, 7)])),
@@ -25,8 +23,7 @@ const SETS: &[(&[(u32, u32)], Option<&[(u32, u32)]>)] = &[
     (&[(1, u32::MAX), (0, 0)], Some(&[(0, u32::MAX)])),
 ];
 
-// Returns the set of the spans with these first and last addresses. Returns `None` if `Ranges::of` rejects the spans,
-// or if there are more than eight.
+// `None` also for more than eight spans in the result.
 fn set_of(ends: &[(u32, u32)]) -> Option<Ranges> {
     let mut spans = [Span::default(); 8];
     for (slot, (first, last)) in spans.iter_mut().zip(ends) {
@@ -54,8 +51,7 @@ fn spans_make_their_set(rt: HostRuntime) {
     }
 }
 
-// Makes a set from the span `more` and the single addresses 2, 4, .., 2 * `addresses`, in falling order; `addresses` is
-// at most 65. Returns the number of spans of this set, or `None` if `Ranges::of` rejects the spans.
+// Makes a set from `more` and the addresses 2, 4, .., 2 * `addresses` (at most 65), in falling order.
 fn count_of(addresses: u32, more: Span) -> Option<usize> {
     let mut spans = [more; 66];
     for (slot, above) in spans.iter_mut().zip(0..addresses) {

@@ -14,8 +14,7 @@ use std::io;
 use std::io::Write;
 use std::process::Abort;
 
-/// A journal of a TINY64 whose unique ID is zeros. The journal saves no sector. Its digest was computed with
-/// `sha256sum`.
+/// A journal of a TINY64 with unique ID 0 that saves no sector. Its digest was computed with `sha256sum`.
 const EMPTY: [u8; 61] = [
     0x4E, 0x4F, 0x52, 0x55, 0x4E, 0x44, 0x4F, 0x32, 0xFE, 0x10, 0x10, 0x00, 0x00, 0x00, 0x00, 0x00,
     0x00, 0x00, 0x00, 0x00, 0x00, 0x00, 0x00, 0x01, 0x00, 0xFF, 0xFF, 0xFF, 0xFF, 0x5E, 0x7F, 0x67,
@@ -23,15 +22,13 @@ const EMPTY: [u8; 61] = [
     0x49, 0x14, 0x8D, 0x80, 0x5E, 0xBA, 0x45, 0xE9, 0x65, 0x9B, 0xB9, 0xB3, 0xB8,
 ];
 
-/// The digest of the journal that `save` writes for a TINY64, computed with `sha256sum`. The journal saves sector 0,
-/// whose bytes are all FFh, and the unique ID is zeros.
+/// The digest of the journal that `save` writes for a TINY64, computed with `sha256sum`.
 const DIGEST: [u8; 32] = [
     0xD3, 0xCE, 0x40, 0xC1, 0xB1, 0xE6, 0x74, 0x4A, 0x9B, 0xAC, 0x95, 0x55, 0x42, 0xB9, 0xCC, 0xC9,
     0x83, 0xD5, 0xFA, 0x75, 0xB9, 0xC2, 0x79, 0x2D, 0x91, 0x66, 0x46, 0xFB, 0x18, 0x8C, 0x93, 0x13,
 ];
 
-/// Writes a journal with the ID, the status and the size of the journal `chip`, and the unique ID zero, into a fresh
-/// vault. The journal saves sector 0, whose bytes are all FFh. Returns the vault's error, if any.
+/// Writes a journal like `chip` with unique ID 0, which saves sector 0 with bytes FFh, into a fresh vault.
 fn save<V: Vault>(vault: &mut V, chip: &Journal<'_>) -> Result<(), VaultFault>
     requires { IsFresh (V.state vault.old) }
 {
@@ -40,12 +37,11 @@ fn save<V: Vault>(vault: &mut V, chip: &Journal<'_>) -> Result<(), VaultFault>
     writer.end()
 }
 
-/// True if the bytes are a journal with the length and the digest of the journal that `save` writes for a TINY64.
 fn is_whole(bytes: &[u8]) -> bool {
     bytes.len() == 4161 && bytes.ends_with(&DIGEST) && Journal::read(bytes).is_ok()
 }
 
-/// With enough memory, a vault in memory refuses no call. An implementation that always refuses would fail this test.
+/// An implementation that always refuses would fail this test.
 #[test]
 fn mem_vault_refuses(rt: HostRuntime) {
     let mut vault = MemVault::new(rt.alloc());
@@ -61,8 +57,8 @@ fn mem_vault_refuses(rt: HostRuntime) {
     assert_that!(&rt; vault.bytes() == b"journal".as_slice());
 }
 
-// The five calls of the vault that write the journal: the header, the record, the end mark, the digest, and the seal.
-// Each row has the call's number, the number of bytes that precede the call's piece, and the length of this piece.
+// The calls for the header, the record, the end mark, the digest and the seal: number, position and length of the
+// piece.
 const CALLS: [(u64, usize, usize); 5] = [
     (1, 0, 25),
     (2, 25, 4100),
@@ -71,9 +67,8 @@ const CALLS: [(u64, usize, usize); 5] = [
     (5, 4161, 0),
 ];
 
-// Writes the journal of `save` into a vault that refuses one call. `broken` has the number of this call, and the number
-// of bytes of its piece that the vault keeps. `told` has what is asserted: the result, the number of refusals, and
-// whether the vault is sealed. Asserts, too, that the vault holds the bytes `beginning`.
+// `broken` has the refused call and the bytes that the vault keeps of it; `told` the result, the number of refusals,
+// and whether the vault is sealed.
 fn assert_broken(
     rt: &impl Abort,
     alloc: Global,
@@ -91,9 +86,7 @@ fn assert_broken(
     assert_held(rt, holds, nth);
 }
 
-// Writes the journal into vaults that refuse each call in turn, and keep the first `kept` bytes of the refused piece,
-// or all if it has fewer. Asserts that the error contains the number of bytes that were kept, and that the vault holds
-// the prefix of the journal `right` that ends with these bytes.
+// Asserts that the vault keeps a prefix of each refused piece, and that the error has the length of this prefix.
 fn refuse_each(rt: &impl Abort, alloc: Global, right: &[u8], kept: usize) {
     for (nth, before, piece) in CALLS {
         let put = piece.min(kept);
@@ -103,9 +96,7 @@ fn refuse_each(rt: &impl Abort, alloc: Global, right: &[u8], kept: usize) {
     }
 }
 
-// A vault keeps a prefix of a refused piece, and the error contains the length of this prefix, so the vault holds a
-// prefix of the journal. The calls are numbered from 1 to 5, so a vault that would refuse call 0 or call 6 accepts the
-// whole journal.
+// A vault that would refuse call 0 or call 6 accepts the whole journal, which takes five calls.
 #[test]
 fn each_call_of_a_writer_is_refused(rt: HostRuntime) {
     let alloc = rt.alloc();
@@ -122,9 +113,8 @@ fn each_call_of_a_writer_is_refused(rt: HostRuntime) {
     assert_broken(&rt, alloc, (6, 0), told, Some(right));
 }
 
-/// A file in memory that accepts at most `most` bytes per write. The next `writes` writes succeed, and each later write
-/// fails. If `syncs` is true, `sync_all` succeeds and `sync_data` fails, otherwise the reverse. `resized` is true if
-/// `set_len` was called.
+/// A file in memory that accepts at most `most` bytes per write and `writes` writes. If `syncs` is true, `sync_all`
+/// succeeds and `sync_data` fails, otherwise the reverse. `resized`: `set_len` was called.
 #[derive(Drop)]
 struct SmallFile {
     bytes: Vec<u8>,
@@ -189,26 +179,25 @@ impl OpenFile for SmallFile {
     }
 }
 
-// Each row has the most bytes that a write accepts, the number of writes that succeed, and whether `sync_all` succeeds.
-// Then it has the expected result, and the expected number of bytes in the file.
+// The most bytes of a write, the number of writes that succeed, whether `sync_all` does, the result, and the file's
+// length.
 const FILES: [(usize, u32, bool, Result<(), VaultFault>, usize); 9] = [
     (1, u32::MAX, true, Ok(()), 4161),
     (4096, u32::MAX, true, Ok(()), 4161),
     (usize::MAX, 4, true, Ok(()), 4161),
-    // In the first of these rows no write succeeds, and in the second each write accepts no bytes.
+    // No write succeeds; each write accepts no bytes.
     (2, 0, true, Err(VaultFault { kept: 0 }), 0),
     (0, u32::MAX, true, Err(VaultFault { kept: 0 }), 0),
     // The second write of the first piece fails.
     (2, 1, true, Err(VaultFault { kept: 2 }), 2),
-    // The first write is the header, the second is half of the record, and the third fails.
+    // The third write fails, inside the record.
     (2050, 2, true, Err(VaultFault { kept: 2050 }), 2075),
-    // In the first of these rows the write of the digest fails, and in the second the sync.
+    // The write of the digest fails; the sync fails.
     (usize::MAX, 3, true, Err(VaultFault { kept: 0 }), 4129),
     (usize::MAX, 4, false, Err(VaultFault { kept: 0 }), 4161),
 ];
 
-// Writes the journal of `save` into a vault over `file`. Returns the result of `save`. Then returns for the file its
-// length, whether it contains the whole journal, and whether `set_len` was called.
+// Returns the result of `save`, the file's length, whether it has the whole journal, and whether `set_len` was called.
 fn saved(chip: &Journal<'_>, file: SmallFile) -> (Result<(), VaultFault>, usize, bool, bool) {
     let mut vault = FileVault::new(file);
     let told = save(&mut vault, chip);
@@ -221,8 +210,7 @@ fn saved(chip: &Journal<'_>, file: SmallFile) -> (Result<(), VaultFault>, usize,
     )
 }
 
-// A vault in a file returns an error if a write fails, and also if a write accepts no bytes. After a failed sync the
-// error states that 0 bytes were kept.
+// A write that accepts no bytes is an error, too. After a failed sync 0 bytes count as kept.
 #[test]
 fn files_that_refuse(rt: HostRuntime) {
     let chip = Journal::read(&EMPTY).expect(&rt, "a journal");
@@ -234,7 +222,6 @@ fn files_that_refuse(rt: HostRuntime) {
     }
 }
 
-/// A file in memory that records its length at the last sync.
 #[derive(Drop)]
 struct KnownFile {
     bytes: Vec<u8>,
@@ -263,8 +250,7 @@ impl VaultFile for KnownFile {
     }
 }
 
-// Asserts that a vault in memory and a vault in a file accept a piece of this length, and that the file is synced after
-// all its bytes were written.
+// Asserts that both vaults accept a piece of this length, and that the file is synced after all bytes.
 fn assert_taken(rt: &impl Abort, alloc: Global, length: usize) {
     let piece = vec![in alloc; 0x5A; length].expect(rt, "memory");
     let mut memory = MemVault::new(alloc);

@@ -8,20 +8,15 @@ use nor_session::{Refusal, restore};
 use std::alloc::Global;
 use std::process::Abort;
 
-/// Returns a bound on the number of transactions of a session on a chip of `sectors` sectors, or of a restore of this
-/// number of saved sectors. It is the sum of:
-///
-/// - 65,542 transactions to identify the chip
-/// - three reads of each sector
-/// - for each sector an erase and sixteen programs, and in addition two status writes; each of these operations is a
-///   write enable, the command and at most 65,536 polls
+/// Returns a bound on the transactions of a session on `sectors` sectors, or of a restore of so many saved sectors:
+/// 65,542 to identify the chip, three reads of each sector, and for each an erase and sixteen programs, and two status
+/// writes. Each operation is a write enable, the command and at most 65,536 polls.
 pub fn most(sectors: u32) -> u64 {
     let sectors = u64::from(sectors);
     65_542 + 3 * sectors + 65_538 * (17 * sectors + 2)
 }
 
-/// Returns one fault of each variant of `Spoil`. `n` is the byte (`Fill`), the number of the transaction (`BusyFrom`
-/// and `Drop`), or the number of the bit (`Low`).
+/// Returns one fault of each variant of `Spoil`, with `n` as its byte, transaction or bit.
 pub fn lies(n: u8) -> [Spoil; 4] {
     let first = u64::from(n);
     [
@@ -32,13 +27,13 @@ pub fn lies(n: u8) -> [Spoil; 4] {
     ]
 }
 
-/// Allows `bus` to carry out `u64::MAX` transactions, and returns a faulty bus over it.
+/// Returns a faulty bus over `bus`, without a limit of transactions.
 pub fn spoilt(mut bus: SimBus, spoil: Spoil) -> SpoiltBus<SimBus> {
     bus.allow(u64::MAX);
     SpoiltBus::new(bus, spoil)
 }
 
-/// The error of a call on a faulty bus, the number of transactions that it sent, and the chip and vault that it left.
+/// The error of a call on a faulty bus, the number of its transactions, and what it left.
 #[derive(Drop)]
 pub struct Lied {
     pub refusal: Option<Refusal>,
@@ -47,8 +42,7 @@ pub struct Lied {
 }
 
 impl Lied {
-    /// Runs the row's session on a bus with this fault. Asserts that the session sends at least one transaction and at
-    /// most its bound, and that its vault, if sealed, holds a journal.
+    /// Runs the row's session on a bus with this fault. Asserts its bound, and that a sealed vault holds a journal.
     pub fn session(rt: &impl Abort, alloc: Global, row: Row, spoil: Spoil) -> Lied {
         let mut bus = spoilt(row.bus(rt, alloc, Start::IDLE), spoil);
         let mut vault = MemVault::new(alloc);
@@ -62,8 +56,7 @@ impl Lied {
         Lied { refusal, sent, cut }
     }
 
-    /// Runs a restore on a bus with this fault, after a session on the well-behaved bus that left `cut`. The vault of
-    /// `cut` must contain a journal. Asserts that the restore sends at least one transaction and at most its bound.
+    /// Runs a restore on a bus with this fault, from the journal of `cut`. Asserts its bound.
     pub fn restore(rt: &impl Abort, cut: Cut, spoil: Spoil) -> Lied {
         let Cut { bus, vault } = cut;
         let mut bus = spoilt(bus, spoil);
@@ -77,8 +70,7 @@ impl Lied {
         Lied { refusal, sent, cut }
     }
 
-    /// If the vault is sealed, restores on the bus without the fault. Asserts that afterwards the chip is as before the
-    /// session.
+    /// If the vault is sealed, asserts that a restore without the fault leaves the chip as before the session.
     pub fn assert_undone(self, rt: &impl Abort, alloc: Global, row: Row) {
         let Lied { mut cut, .. } = self;
         if cut.vault.is_sealed() {

@@ -1,5 +1,4 @@
-//! Calls on a bus on which one transaction fails, or the polls of one wait. Each transaction or wait of the call fails
-//! in turn.
+//! Calls on a bus on which each transaction, or the polls of each wait, fails in turn.
 ghost use Rattle.nor_journal.specs.Vault.{IsFresh};
 
 use crate::contents::{put, put_run};
@@ -15,15 +14,15 @@ use nor_session::{Refusal, Report, Request, What, restore, session};
 use std::alloc::Global;
 use std::process::Abort;
 
-/// A session with its chip and its image. The chip is erased, except that one byte in each of some sectors is 00h. The
-/// image is FFh, except for four bytes.
+/// A session on a chip that is erased, except for a byte 00h in each of some sectors. The image is FFh, except for four
+/// bytes.
 #[derive(Clone, Copy)]
 pub enum Job {
-    /// A chip that consists of two blocks of 64 KiB. The session erases the last sector of the first block, and the
-    /// whole second block. It writes the four bytes into the two sectors before the erased sector.
+    /// Two blocks of 64 KiB. The session erases the last sector of the first block and the second block, and writes the
+    /// four bytes into the two sectors before.
     OnTwoBlocks,
-    /// A W25Q64FV whose last 128 KiB are protected. The session lifts the protection and sets it again. Two of the four
-    /// bytes lie in the first sector of the protected range, and two in the second, which the session erases.
+    /// A W25Q64FV whose last 128 KiB are protected. The session lifts the protection, and writes two bytes each into
+    /// the first two protected sectors, of which it erases the second.
     OnW25q64fv,
 }
 
@@ -49,7 +48,6 @@ impl Job {
         }
     }
 
-    // Returns the non-volatile status bits.
     fn status(self) -> [u8; 2] {
         match self {
             Job::OnTwoBlocks => [0x00, 0x00],
@@ -57,8 +55,7 @@ impl Job {
         }
     }
 
-    // Returns the address of the first byte that is 00h, and the number of successive sectors in which the byte at the
-    // same offset is 00h.
+    // The address of the first byte 00h, and the number of successive sectors that have one.
     fn cleared(self) -> (usize, usize) {
         match self {
             Job::OnTwoBlocks => (0xF010, 17),
@@ -66,7 +63,6 @@ impl Job {
         }
     }
 
-    // Returns the address of the first of the four bytes.
     fn written(self) -> usize {
         match self {
             Job::OnTwoBlocks => 0xDFFE,
@@ -74,7 +70,7 @@ impl Job {
         }
     }
 
-    // Returns the line of a layout whose region `part` is included, or `None` if the whole chip is included.
+    // The line of a layout whose region `part` is included, if not the whole chip.
     fn part(self) -> Option<&'static [u8]> {
         match self {
             Job::OnTwoBlocks => None,
@@ -137,7 +133,7 @@ pub struct Stage {
 }
 
 impl Stage {
-    /// Returns a stage for the job on a chip with these delays. Runs the session once to obtain its journal.
+    /// Returns a stage for the job on a chip with these delays. Runs the session once for its journal.
     pub fn new(rt: &impl Abort, alloc: Global, job: Job, delays: Delays) -> Stage {
         let mut stage = Stage {
             alloc,
@@ -152,8 +148,7 @@ impl Stage {
         stage
     }
 
-    // Runs the session on a bus that doesn't fail, and asserts that afterwards the chip has the image's bytes. Returns
-    // the session's journal.
+    // Asserts that a session without a fault leaves the image on the chip. Returns its journal.
     fn kept(&self, rt: &impl Abort) -> Vec<u8> {
         let mut bus = self.bus(rt, Call::Session, Fault::Stop, None);
         let mut vault = MemVault::new(self.alloc);
@@ -162,8 +157,7 @@ impl Stage {
         vault.bytes().to_vec(self.alloc).expect(rt, "memory")
     }
 
-    // Returns a bus to the original chip, or for a restore to the chip that the session left. The allowance of the bus
-    // is the bound of a session. The transaction that follows the first `after` transactions fails as `fault` says.
+    // For a restore the chip is as the session left it. The allowance is the bound of a session.
     fn bus(&self, rt: &impl Abort, call: Call, fault: Fault, after: Option<u64>) -> OnceBus {
         let bytes = if call == Call::Restore {
             &self.image
@@ -191,7 +185,7 @@ impl Stage {
         session(bus, vault, &mut image, &self.request)
     }
 
-    // Makes a call, and returns its error, if any. `verify` compares the chip with its original contents.
+    // `verify` compares the chip with its original contents.
     fn refusal(&self, rt: &impl Abort, call: Call, bus: &mut OnceBus) -> Option<Refusal> {
         let included = self.request.included.as_ref();
         let mut vault = MemVault::new(self.alloc);
@@ -208,15 +202,14 @@ impl Stage {
         }
     }
 
-    // Returns the error of a call on a bus that doesn't fail, if any, and the number of the call's transactions.
     fn right(&self, rt: &impl Abort, call: Call) -> (Option<Refusal>, u64) {
         let mut bus = self.bus(rt, call, Fault::Stop, None);
         let refusal = self.refusal(rt, call, &mut bus);
         (refusal, bus.asked)
     }
 
-    /// Runs a call with a stop at each of its transactions in turn, and then without a stop. Asserts that after a stop
-    /// the call returns `Stopped` and sends nothing more. Returns the call's number of transactions.
+    /// Stops a call at each of its transactions in turn, and then not at all. Asserts that it returns `Stopped` and
+    /// sends nothing more. Returns its number of transactions.
     pub fn stop_at_each(&self, rt: &impl Abort, call: Call) -> u64 {
         let (right, length) = self.right(rt, call);
         for n in 0..=length {
@@ -233,9 +226,8 @@ impl Stage {
         length
     }
 
-    /// In each wait of a call in turn, shows BUSY in all 65,536 polls of this wait, and never afterwards. The stage
-    /// must have no delays, so that without a fault each wait has one poll. Asserts that the call then returns a
-    /// timeout and sends nothing more. Returns the number of waits.
+    /// Shows BUSY in all 65,536 polls of each wait of a call in turn. Asserts that the call returns a timeout and sends
+    /// nothing more. The stage must have no delays. Returns the number of waits.
     pub fn time_out_each(&self, rt: &impl Abort, call: Call) -> u64 {
         let (_, length) = self.right(rt, call);
         let mut waits: u64 = 0;
@@ -252,9 +244,9 @@ impl Stage {
         waits
     }
 
-    /// Spoils each reply of a call in turn. Checks the result only if the reply is that of a poll, or of a read of a
-    /// sector that is verified or written to the output. `touched` is the number of sectors that a session or restore
-    /// verifies. The stage must have no delays. Returns the number of replies for which the result was checked.
+    /// Spoils each reply of a call in turn, and checks the result for a poll, or for a sector that is verified or read
+    /// out. A session or restore verifies `touched` sectors. The stage must have no delays. Returns the number of
+    /// checks.
     pub fn spoil_each(&self, rt: &impl Abort, call: Call, touched: u64) -> u64 {
         let right = self.right(rt, call);
         let mut spoilt: u64 = 0;
@@ -270,12 +262,8 @@ impl Stage {
     }
 }
 
-// Returns the expected error and number of transactions of a call on an idle chip if the reply of transaction `n`,
-// counted from 0, is spoilt. `right` has both for a bus without a fault. `touched` is the number of sectors that a
-// session or restore verifies at its end. `met` has the first bytes that transaction `n` sent.
-//
-// Returns `None` unless the reply is that of a poll, or of a read of a sector that is verified or written to the
-// output.
+// The expected error and number of transactions of a call if the reply of transaction `n`, from 0, is spoilt, or `None`
+// if it isn't checked (`spoil_each`). `right` has both without a fault, and `met` what transaction `n` sent.
 fn expected_of_spoilt(
     call: Call,
     touched: u64,

@@ -9,7 +9,7 @@ use std::process::Abort;
 
 const LONG: usize = 1_000_000;
 
-// Returns the bytes `before`, then a million bytes with the value `byte`, then the bytes `after`.
+// A million bytes `byte` between `before` and `after`.
 fn long(rt: &impl Abort, alloc: Global, before: &[u8], byte: u8, after: &[u8]) -> Vec<u8> {
     let run = [byte; 1000];
     let mut text = before.to_vec(alloc).expect(rt, "memory");
@@ -24,15 +24,12 @@ const fn in_line(line: usize, fault: LineFault) -> Option<LayoutFault> {
     Some(LayoutFault::InLine { line, fault })
 }
 
-// Returns the layout fault with the given line number and line fault, or `None` if none is given.
 fn fault_of(told: Option<(usize, LineFault)>) -> Option<LayoutFault> {
     let (line, fault) = told?;
     in_line(line, fault)
 }
 
-// Each row has the bytes before a million equal bytes, the repeated byte, the bytes after them, and the fault with its
-// line, or `None` if the layout is correct. The layout is a single line, or a million empty lines with or without
-// another line after them.
+// The bytes before a million equal bytes, the repeated byte, the bytes after them, and the fault with its line.
 const LAYOUTS: &[(&[u8], u8, &[u8], Option<(usize, LineFault)>)] = &[
     (b"", b':', b"", Some((1, LineFault::Line))),
     (b"", b' ', b"", Some((1, LineFault::Line))),
@@ -56,9 +53,8 @@ fn layouts_of_a_million_bytes(rt: HostRuntime) {
     }
 }
 
-// Tries each byte as a name, and as the start address of a line. A name of one byte may be any byte from 21h to 7Eh,
-// except comma and colon. A line feed ends the line, so that the name is empty. An address of one byte must be a
-// hexadecimal digit. If it is a line feed, line 1 is empty, and line 2 has no start address.
+// A name of one byte may be any byte from 21h to 7Eh, except comma and colon; an address must be a hexadecimal digit.
+// With a line feed, the name is empty, or line 2 has no start address.
 #[test]
 fn a_name_and_an_address_of_each_byte(rt: HostRuntime) {
     for byte in 0..=255 {
@@ -80,14 +76,12 @@ fn a_name_and_an_address_of_each_byte(rt: HostRuntime) {
     }
 }
 
-// True if a name may have this byte.
 const fn is_of_name(byte: u8) -> bool {
     matches!(byte, 0x21..=0x7E) && byte != b',' && byte != b':'
 }
 
-// By its contract, `Layout::read` may return out of memory for any text in which a line adds a region and the lines
-// before it have no fault. The contract therefore allows an implementation that always does so for some names. This
-// test detects such an implementation if one of these names has two bytes.
+// The contract of `Layout::read` allows an implementation that returns out of memory for some names. This test detects
+// one that does so for a name of two bytes.
 #[test]
 fn each_name_of_two_bytes(rt: HostRuntime) {
     for first in 0x21..=0x7E {
@@ -104,14 +98,10 @@ fn each_name_of_two_bytes(rt: HostRuntime) {
     }
 }
 
-// The header of a format 2 journal of a TINY64.
 const HEAD: &[u8; 25] = b"NORUNDO2\xFE\x10\x10\0\0\0\0\0\0\0\0\0\0\0\0\x01\0";
 
-// Each row has a prefix, the byte that follows the prefix a million times, and the fault. After a header:
-//
-// - Bytes 00h are a record of sector 0, and then a second record of sector 0.
-// - Four bytes FFh are the end mark. After it there are more bytes than a digest has.
-// - Four bytes 10h are not the number of a sector of this chip.
+// A prefix, a byte that follows it a million times, and the fault. After a header, 00h makes two records of sector 0,
+// FFh an end mark with more bytes than a digest, and 10h a sector that the chip lacks.
 const JOURNALS: &[(&[u8], u8, JournalFault)] = &[
     (b"", 0x00, JournalFault::Magic),
     (b"", b'N', JournalFault::Magic),
@@ -132,11 +122,8 @@ fn journals_of_a_million_bytes(rt: HostRuntime) {
     }
 }
 
-// Returns the 4,161 bytes of the journal of a session that saves one sector. Its parts begin at these positions:
-//
-// - 0: the magic, 8: the ID, 11: the unique ID, 19: the status, 21: the size
-// - 25: the number of the sector, 29: its bytes
-// - 4125: the end mark, 4129: the digest
+// A journal of 4,161 bytes that saves one sector: 0 magic, 8 ID, 11 unique ID, 19 status, 21 size, 25 number of the
+// sector, 29 its bytes, 4125 end mark, 4129 digest.
 fn journal_of_a_sector(rt: &impl Abort, alloc: Global) -> Vec<u8> {
     let row = Row::ABitRises;
     let cut = Runs::new(rt, alloc, row, Start::IDLE).cut(rt, 23);
@@ -144,9 +131,8 @@ fn journal_of_a_sector(rt: &impl Abort, alloc: Global) -> Vec<u8> {
     cut.vault.bytes().to_vec(alloc).expect(rt, "memory")
 }
 
-// Returns the fault of the journal of `journal_of_a_sector` if the lowest bit of the byte at `place` is inverted. At
-// position 25 the sector's number changes from 0 to 1, which only the digest detects. At another byte of this number,
-// or in the end mark, the result is a number that no sector of the chip has.
+// The fault after the lowest bit of a byte is inverted. At 25 sector 0 becomes sector 1, which only the digest detects;
+// elsewhere in this number, or in the end mark, the chip lacks the sector.
 const fn fault_of_change(place: usize) -> JournalFault {
     match place {
         0..=7 => JournalFault::Magic,
@@ -156,7 +142,6 @@ const fn fault_of_change(place: usize) -> JournalFault {
     }
 }
 
-// Inverts the lowest bit of the byte at position `place`.
 fn flip(bytes: &mut [u8], place: usize) {
     if let Some(byte) = bytes.get_mut(place) {
         *byte ^= 1;

@@ -1,5 +1,5 @@
-//! When does `TraceBus` report a line of its trace as lost? In these tests the log refuses writes or flushes. A
-//! transaction succeeds even if its line is lost.
+//! When `TraceBus` reports a line of its trace as lost, because the log refuses writes or flushes. The transaction
+//! succeeds.
 use crate::held::{assert_held, assert_that};
 use crate::row::{Start, erased};
 use nor_chip::{Bus, Config, Meter, SimBus, TraceBus};
@@ -7,8 +7,7 @@ use std::alloc::Global;
 use std::io::{self, BufWriter, ErrorKind, Write};
 use std::process::Abort;
 
-// A log that accepts `good` writes, and then alternately refuses a write and accepts one. It accepts flushes if
-// `flushes` is true.
+// Accepts `good` writes, and then alternately refuses and accepts one. Accepts flushes if `flushes` is true.
 #[derive(Drop)]
 struct Failing<'a> {
     lines: &'a mut Vec<u8>,
@@ -35,7 +34,6 @@ impl Write for Failing<'_> {
     }
 }
 
-// Returns a bus to an erased TINY64 that carries out one transaction.
 fn bus(rt: &impl Abort, alloc: Global) -> SimBus {
     let idle = Start::IDLE.delays;
     let mut bus = erased(rt, alloc, Config::tiny64(), [0x00, 0x00], idle);
@@ -43,7 +41,6 @@ fn bus(rt: &impl Abort, alloc: Global) -> SimBus {
     bus
 }
 
-// A transaction (`out`), its reply, and its line in the trace.
 #[derive(Clone, Copy)]
 struct Form {
     out: &'static [u8],
@@ -69,8 +66,7 @@ const FORMS: [Form; 3] = [
     },
 ];
 
-// Sends a transaction over a traced bus whose log accepts `good` writes before it refuses one. Returns whether the bus
-// reports the transaction's line as lost.
+// Returns whether the line is reported as lost by a log that accepts `good` writes before it refuses one.
 fn loses(
     rt: &impl Abort,
     alloc: Global,
@@ -90,8 +86,7 @@ fn loses(
     bus.lost()
 }
 
-// Sends a transaction of this form, and asserts its reply. Returns whether its line is reported as lost, and whether
-// the log contains exactly this line.
+// Returns whether the line is reported as lost, and whether the log contains exactly this line.
 fn sent(rt: &impl Abort, alloc: Global, form: Form, good: u8) -> (bool, bool) {
     let mut lines = Vec::new(alloc);
     let mut reply = vec![in alloc; 0xAA; form.reply.len()].expect(rt, "memory");
@@ -100,8 +95,7 @@ fn sent(rt: &impl Abort, alloc: Global, form: Form, good: u8) -> (bool, bool) {
     (is_lost, lines.as_slice() == form.line)
 }
 
-// A line is reported as lost if and only if the log doesn't contain all of it. A line is lost if the log refuses its
-// first or second write, and isn't lost if the log accepts seven writes. The reply is the same in either case.
+// A line is lost if the log refuses its first or second write, and isn't if the log accepts seven writes.
 #[test]
 fn a_line_is_lost_exactly_where_it_is_not_whole(rt: HostRuntime) {
     for form in FORMS {
@@ -113,9 +107,8 @@ fn a_line_is_lost_exactly_where_it_is_not_whole(rt: HostRuntime) {
     }
 }
 
-// Sends a transaction over a traced bus with a buffered log. The sink below the buffer accepts `good` writes before it
-// refuses one, and accepts flushes if `flushes` is true. Returns whether a line is reported as lost before the bus is
-// flushed, and afterwards.
+// The sink below the log's buffer accepts `good` writes, and flushes if `flushes` is true. Returns whether the line is
+// reported as lost before the bus is flushed, and afterwards.
 fn flushed(
     rt: &impl Abort,
     alloc: Global,
@@ -136,9 +129,7 @@ fn flushed(
     (before, bus.lost())
 }
 
-// A line that is still in the log's buffer is reported as lost if a flush of the bus fails. The flush fails if the sink
-// refuses to write the line, and also if the sink accepts the line and refuses to flush it. If the flush succeeds, the
-// line isn't lost.
+// The flush fails if the sink refuses to write the line, and also if the sink accepts it and refuses to flush it.
 #[test]
 fn what_the_sink_refuses_is_lost_at_the_latest_by_a_flush(rt: HostRuntime) {
     let alloc = rt.alloc();

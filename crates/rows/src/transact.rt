@@ -3,19 +3,19 @@ use crate::held::assert_that;
 use nor_chip::Bus;
 use std::process::Abort;
 
-/// Carries out a transaction that sends `out` and reads nothing. Asserts that it succeeds.
+/// Carries out a transaction without a reply, and asserts that it succeeds.
 pub fn send(rt: &impl Abort, bus: &mut impl Bus, out: &[u8]) {
     assert_that!(rt; bus.transfer(out, &mut []).is_ok());
 }
 
-/// Carries out a transaction that sends `out` and reads `N` bytes. Asserts that it succeeds. Returns the bytes read.
+/// Carries out a transaction with `N` reply bytes, and asserts that it succeeds.
 pub fn read<const N: usize>(rt: &impl Abort, bus: &mut impl Bus, out: &[u8]) -> [u8; N] {
     let mut reply = [0; N];
     assert_that!(rt; bus.transfer(out, &mut reply).is_ok());
     reply
 }
 
-/// Carries out a poll (05h) that reads one byte, and asserts that it succeeds. Returns status 1.
+/// Carries out a poll (05h) with one reply byte, and asserts that it succeeds.
 pub fn poll(rt: &impl Abort, bus: &mut impl Bus) -> u8 {
     let [status1]: [u8; 1] = read(rt, bus, &[0x05]);
     status1

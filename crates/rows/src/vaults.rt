@@ -8,9 +8,8 @@ use nor_session::Refusal;
 use std::alloc::Global;
 use std::process::Abort;
 
-// Runs a row's session with a vault that refuses call `nth`, and keeps the first `kept` bytes of this call's piece.
-// Asserts that the chip is unchanged if the session returns an error, and has the image otherwise. Returns the error,
-// the number of refusals, whether the vault is sealed, and whether it holds a journal.
+// The vault refuses call `nth`, and keeps `kept` bytes of its piece. Asserts that the chip is unchanged after an error,
+// and has the image otherwise.
 fn refuse(
     rt: &impl Abort,
     alloc: Global,
@@ -32,10 +31,8 @@ fn refuse(
     (refusal, vault.failures(), held.is_sealed(), holds_journal)
 }
 
-// Refuses each of the session's `calls` calls of the vault in turn. Asserts that the session returns error 11 after one
-// refusal, and that the vault isn't sealed. Asserts that the vault holds a whole journal if and only if the number of
-// the refused call is at least `whole_from`. Then refuses the call after the last one, which the session doesn't make,
-// and asserts that the session succeeds.
+// Asserts error 11 after one refusal for each of the session's `calls` calls, with an unsealed vault that holds a whole
+// journal only from call `whole_from` on. A refusal of a later call changes nothing.
 fn refuse_each(rt: &impl Abort, alloc: Global, row: Row, calls: u64, kept: usize, whole_from: u64) {
     for nth in 1..=calls {
         let left = refuse(rt, alloc, row, nth, kept);
@@ -46,9 +43,8 @@ fn refuse_each(rt: &impl Abort, alloc: Global, row: Row, calls: u64, kept: usize
     assert_that!(rt; left == (None, 0, true, true));
 }
 
-// Each row has the number of calls: one for the header, one for each record, two for the end mark and the digest, and
-// the seal. A digest has 32 bytes, so a vault that may keep 4,095 bytes of a refused piece keeps the whole digest. If
-// such a vault refuses the call for the digest, it holds a whole journal.
+// The calls are the header, each record, the end mark, the digest and the seal. A vault that keeps 4,095 bytes of a
+// refused piece keeps the whole digest, and then holds a whole journal.
 const ROWS: [(Row, u64); 2] = [
     (Row::ABitRises, 1 + 1 + 2 + 1),
     (Row::NineSectorsAreErased, 1 + 9 + 2 + 1),

@@ -4,7 +4,6 @@ use nor_args::request_of;
 use std::alloc::Global;
 use std::process::Abort;
 
-// The arguments of a write.
 const WRITE: [&str; 6] = [
     "-p",
     "dummy:emulate=TINY64,image=chip",
@@ -14,8 +13,7 @@ const WRITE: [&str; 6] = [
     "j",
 ];
 
-// Groups of arguments that may be added to those of a write. The added groups have 0 to 8 arguments in all, and each of
-// these numbers occurs.
+// Groups of arguments that may be added, 0 to 8 arguments in all.
 const MORE: [&[&str]; 4] = [
     &["-n"],
     &["--unlock"],
@@ -23,7 +21,6 @@ const MORE: [&[&str]; 4] = [
     &["-l", "map", "-i", "part"],
 ];
 
-// Command lines of other operations, of 1 to 5 arguments.
 const OTHERS: [&[&str]; 6] = [
     &["-L"],
     &["-pdummy:emulate=TINY64", "-rcopy"],
@@ -40,14 +37,13 @@ fn push_all(rt: &impl Abort, alloc: Global, words: &mut Vec<String>, more: &[&st
     }
 }
 
-// True if the arguments ask for a job.
 fn is_job(rt: &impl Abort, alloc: Global, words: &[&str]) -> bool {
     let mut all = Vec::new(alloc);
     push_all(rt, alloc, &mut all, words);
     request_of(alloc, all.as_slice()).is_ok()
 }
 
-// Returns the arguments of a write and those of some groups: group i is added if bit i of `choice` is set.
+// Group i is added if bit i of `choice` is set.
 fn write_with(rt: &impl Abort, alloc: Global, choice: u32) -> Vec<String> {
     let mut words = Vec::new(alloc);
     push_all(rt, alloc, &mut words, &WRITE);
@@ -61,9 +57,8 @@ fn write_with(rt: &impl Abort, alloc: Global, choice: u32) -> Vec<String> {
     words
 }
 
-// By its contract, `request_of` may return out of memory for any arguments. The contract therefore allows an
-// implementation that always does so, or that does so for some number of arguments. These tests detect both, for 1 to
-// 14 arguments.
+// The contract of `request_of` allows an implementation that returns out of memory for some number of arguments. These
+// tests detect it, for 1 to 14 arguments.
 #[test]
 fn words_memory(rt: HostRuntime) {
     for words in OTHERS {

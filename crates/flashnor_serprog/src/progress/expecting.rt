@@ -9,12 +9,12 @@ impl<B: Bus + Drop> Progress for Shown<'_, ReadAhead<B>> {
     fn expect_reads(&mut self, sectors: usize) {
         let known = self.expected.unwrap_or(0);
         if known > 0 && self.counts.scan >= known as u64 && sectors > known {
-            // The reads that were recorded before are done. The further ones are a scan of their own.
+            // The reads that were recorded before are done; the further ones are a scan of their own.
             self.expected = Some(sectors - known);
             self.counts.scan = 0;
             self.gauge.restart_scan();
         } else {
-            // A job may record the same reads again after it did some of them, or only those that are left.
+            // A job may record the same reads again, or only those that are left.
             self.expected = Some(sectors.max(known));
         }
     }

@@ -10,7 +10,6 @@ use std::fmt;
 const MINUTE: u64 = 60_000_000;
 
 impl<B> Shown<'_, B> {
-    // With `Look::Minutes`, prints this line if nothing was printed for a minute.
     pub(super) fn print_each_minute<T: fmt::Display>(&mut self, line: &T)
         ensures { self.new.bus ≡ self.old.bus }
     {

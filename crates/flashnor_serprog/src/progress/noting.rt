@@ -12,7 +12,7 @@ impl<B> Shown<'_, B> {
         self.notes = Some(notes);
     }
 
-    /// Returns the notes, if the job made any. Nothing is noted from now on.
+    /// Returns the notes, if the job made any, and ends them.
     pub fn end_notes(&mut self) -> Option<Notes>
         ensures { self.new.bus ≡ self.old.bus }
     {
@@ -26,7 +26,7 @@ impl<B> Shown<'_, B> {
         self.notes.as_ref()
     }
 
-    // Notes a transaction that was carried out. Must be called before the phase changes.
+    // Must be called before the phase changes.
     pub(super) fn note(&mut self, out: &[u8], reply: &[u8])
         ensures { self.new.bus ≡ self.old.bus }
     {
@@ -35,8 +35,7 @@ impl<B> Shown<'_, B> {
         }
     }
 
-    // Writes the notes to their file, and prints a line if that fails. Must be called before the first modifying
-    // command.
+    // Must be called before the first modifying command. A line says if writing the notes fails.
     pub(super) fn write_notes(&mut self)
         ensures { self.new.bus ≡ self.old.bus }
     {

@@ -3,7 +3,6 @@ use Rattle.nor_layout.specs.Ranges.{contains}
 use Rattle.nor_layout.specs.Sectors.{merged_byte}
 use Rattle.flashnor_serprog.proofs.following.fill_rest.Given as goal
 
--- The bytes of `target` below `address` have their final values, and those from `address` on are as at the start.
 abbrev pub invariant-loop-address : goal.invariant-loop-address
 invariant-loop-address l = record {
   long : length l.target ≡ length l.chip;

@@ -3,6 +3,5 @@ use Rattle.std.specs.List.{count_by}
 use Rattle.flashnor_serprog.specs.Journals.{is_blank}
 use Rattle.flashnor_serprog.proofs.journals.count_blank.Given as goal
 
--- `blank` is the number of blank sectors among the first `i` saved sectors.
 abbrev pub invariant-loop-i : goal.invariant-loop-i
 invariant-loop-i l = l.blank ≡ count_by is_blank (take l.i l.fn.journal.saved)

@@ -3,7 +3,6 @@ use Rattle.nor_files.specs.Files.{KeepsFile, is_lawful}
 use Rattle.flashnor_serprog.specs.RegionCopies.{IsCopied}
 use Rattle.flashnor_serprog.proofs.region_copies.copy_regions.Given as goal
 
--- The file of the read is as at the start, and the files of the regions so far have their bytes.
 abbrev pub invariant-loop-index : goal.invariant-loop-index
 invariant-loop-index g l = record {
   nature : (g.R.Store.state l.rt).view.nature ≡ (g.R.Store.state l.initial.rt).view.nature;

@@ -3,7 +3,6 @@ use Rattle.std.specs.Prelude.{filter_map}
 use Rattle.flashnor_serprog.specs.Regions.{IsSpanOf, named_file, pair_in}
 use Rattle.flashnor_serprog.proofs.region_files.find_files_in.Given as goal
 
--- The entries so far that have a file were pushed, in order, each with the addresses of its region.
 abbrev pub invariant-loop-entry : goal.invariant-loop-entry
 invariant-loop-entry g l = record {
   entries : map named_file l.files.items

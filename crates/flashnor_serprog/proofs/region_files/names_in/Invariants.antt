@@ -2,7 +2,6 @@ use Rattle.std.proofs.Common.{◌≡◌, map, take}
 use Rattle.flashnor_serprog.specs.Regions.{name_in}
 use Rattle.flashnor_serprog.proofs.region_files.names_in.Given as goal
 
--- The names of the entries so far were pushed, in order.
 abbrev pub invariant-loop-entry : goal.invariant-loop-entry
 invariant-loop-entry l =
     map (λ name. name.now) l.names.items ≡ map name_in (map (λ entry. entry.now) (take l.entry-index l.entry-items))

@@ -3,6 +3,5 @@ use Rattle.std.specs.List.{AllPairs}
 use Rattle.flashnor_serprog.specs.RegionRoles.{AreTwoFiles}
 use Rattle.flashnor_serprog.proofs.region_roles.are_distinct.Given as goal
 
--- The files of the regions so far are apart from each other.
 abbrev pub invariant-loop-index : goal.invariant-loop-index
 invariant-loop-index g l = AllPairs (AreTwoFiles (g.R.Store.state l.rt).view.nature) (take l.index l.files)

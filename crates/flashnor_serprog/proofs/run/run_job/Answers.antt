@@ -28,7 +28,6 @@ returns-in-Ok g c =
       copied = λ zero. c.end_with_files-printed.ensures.copied (c.end_run.ensures.failed zero);
     }
 
--- If the states `mid` and `old` are the same, a job that began at `mid` began at `old`.
 ends_from : (operation : Operation) (ranges : Option (List Span)) (bytes : List ℕ) (before : View) (after : FilesState)
     (mid old ended : BusState) (outcome : Result Answer JobFault) → mid ≡ old
     → EndsJob operation ranges bytes before after mid ended outcome

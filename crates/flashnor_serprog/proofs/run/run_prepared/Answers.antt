@@ -8,7 +8,6 @@ use Rattle.flashnor_serprog.specs.declared.region_files.RegionFile.{RegionFile}
 use Rattle.flashnor_serprog.specs.Run.{HasRun, HasRunBy}
 use Rattle.flashnor_serprog.proofs.run.run_prepared.Goals as goal
 
--- Without a value for SRP0, a run of the operation is a run of any other job.
 other_job : {operation : Operation} {files : List RegionFile} {ranges : Option (List Span)} {bytes : List ℕ}
     {before : View} {after : FilesState} {old new : BusState} {out out' : Option (List ℕ)} {status : ℕ}
     (srp0 : Option Bool) → srp0 ≡ None → HasRun operation files ranges bytes before after old new out out' status
