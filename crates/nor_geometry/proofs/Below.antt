@@ -8,20 +8,17 @@ use Rattle.std.proofs.lemmas.List.FromFn.{length-range_with_len, get_or-range_wi
 use Rattle.std.proofs.lemmas.List.Sums.{sum-map, count_by-le-length}
 use Rattle.nor_geometry.specs.Below.{any_below, count_below}
 
--- if each of the truth values `p` and `q` implies the other one, they are equal
 pub same_tests : (p q : Bool) → (p ≡ true → q ≡ true) → (q ≡ true → p ≡ true) → p ≡ q
 same_tests true q to from = sym (to refl)
 same_tests false true to from = from refl
 same_tests false false to from = refl
 
--- if `k` is below `n` and passes `test`, `any_below n test` is true
 pub any_below-some : (n k : ℕ) (test : ℕ → Bool) → k < n → test k ≡ true → any_below n test ≡ true
 unfolding any_below
 any_below-some n k test below passes =
     let here : get_or (range_with_len 0 n) k 0 ≡ k = omega (arith, get_or-range_with_len 0 n k 0 below) in
     list_any_at test (range_with_len 0 n) k 0 (omega (arith, length-range_with_len 0 n)) (ap test here ∙ passes)
 
--- if `any_below n test` is true, some number `k` below `n` passes `test`
 pub any_below-found : (n : ℕ) (test : ℕ → Bool) → any_below n test ≡ true → (k : ℕ) × (k < n) × (test k ≡ true)
 unfolding any_below
 any_below-found n test some =
@@ -38,7 +35,6 @@ any_below-cases n test =
           false_from_ne_true _ (λ passes. both_ways _ none (any_below-some n k test below passes)))
     ]
 
--- `count_below` is 0 for the bound 0. For the bound `n + 1` it is the count for `n`, plus 1 if `n` passes `test`.
 pub count_below-zero : (test : ℕ → Bool) → count_below 0 test ≡ 0
 unfolding count_below
 count_below-zero test = refl

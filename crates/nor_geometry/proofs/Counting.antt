@@ -6,8 +6,6 @@ use Rattle.nor_geometry.specs.Below.{any_below, count_below}
 use Rattle.nor_geometry.proofs.Below.{any_below-found, same_tests, count_below-suc}
 pub use Rattle.nor_geometry.proofs.Below.{any_below-some, count_below-zero, count_below-more, count_below-most}
 
--- if `n` passes `test`, the count below `n + 1` is the count below `n` plus 1 (`-with`); if `n` fails, the counts are
--- equal (`-without`)
 pub count_below-with : (n : ℕ) (test : ℕ → Bool) → test n ≡ true → count_below (n + 1) test ≡ count_below n test + 1
 count_below-with n test passes = count_below-more n test ∙ rw passes
 
@@ -16,17 +14,14 @@ count_below-without n test fails =
     let step : count_below (n + 1) test ≡ count_below n test + 0 = count_below-more n test ∙ rw fails in
     omega arith
 
--- if `any_below n test` is false, each number below `n` fails `test`
 pub any_below-false : (n : ℕ) (test : ℕ → Bool) → any_below n test ≡ false → (k : ℕ) → k < n → test k ≡ false
 any_below-false n test none k below =
     false_from_ne_true _ (λ passes. both_ways _ none (any_below-some n k test below passes))
 
--- if each number below `n` fails `test`, `any_below n test` is false
 pub any_below-all : (n : ℕ) (test : ℕ → Bool) → ((k : ℕ) → k < n → test k ≡ false) → any_below n test ≡ false
 any_below-all n test each = false_from_ne_true _ (λ some.
     let found = any_below-found n test some in both_ways _ (each found.0 found.1) found.2)
 
--- if the tests `p` and `q` agree below `n`, `any_below` is the same for both, and so is `count_below`
 pub any_below-same : (n : ℕ) (p q : ℕ → Bool) → ((k : ℕ) → k < n → p k ≡ q k) → any_below n p ≡ any_below n q
 any_below-same n p q same =
     same_tests _ _

@@ -14,9 +14,6 @@ use Rattle.std.proofs.lemmas.Bool.{cases_lt, eqb-true, eq-eqb}
 use Rattle.nor_geometry.specs.Size.{is_chip_size}
 use Rattle.nor_geometry.proofs.Below.{same_tests}
 
--- ---- a number is a power of two if and only if exactly one of its bits is set
-
--- the number of bits that are set in `n` is the number of those in `n / 2`, plus 1 if the lowest bit of `n` is set
 ones_by_half : (n : ℕ) → count_ones n ≡ count_ones (n / 2) + count_ones (n % 2)
 ones_by_half n =
     let whole : n ≡ n / 2 * 2 ^ 1 + n % 2 = omega arith in
@@ -43,8 +40,6 @@ single_one (suc k) n below one =
           (suc half.0, omega (arith, half.1, pow-suc 2 half.0))
     ]
 
--- ---- the sizes of chips are the nine powers of two from 2 ^ 16 to 2 ^ 24
-
 power_of : (size : ℕ) → is_chip_size size ≡ true → (k : ℕ) × (16 ≤ k) × (k < 25) × (size ≡ 2 ^ k)
 power_of size holds =
     let found = Any-from_list_any (λ k. size == 2 ^ k) (range_with_len 16 9) holds in
@@ -59,10 +54,7 @@ is_power size k from before power =
     list_any_at (λ j. size == 2 ^ j) (range_with_len 16 9) (k - 16) 0 (simp length-range_with_len (omega arith))
     (rw at (eq-eqb size (2 ^ k) power))
 
--- ---- what the sizes of chips have in common, and how code tests them
-
--- Holds if `size` is from 64 KiB to 16 MiB and is a multiple of 64 KiB, and therefore of 4,096. Every size that a chip
--- may have satisfies this.
+-- Holds for every size that a chip may have.
 pub record IsInBlocks (size : ℕ) : Type 0 where
   pub large : 65536 ≤ size
   pub small : size ≤ 16777216
@@ -81,7 +73,6 @@ is_chip_size-in_blocks size holds =
     let power : size ≡ 2 ^ found.0 = found.3 in
     record { large = omega arith; small = omega arith; blocks = omega arith; sectors = omega arith }
 
--- a power of two from 64 KiB to 16 MiB is a size that a chip may have
 pub is_chip_size-from : (size : ℕ) → is_power_of_two size ≡ true → 65536 ≤ size → size ≤ 16777216
     → is_chip_size size ≡ true
 is_chip_size-from size power least most =
@@ -91,13 +82,11 @@ is_chip_size-from size power least most =
     let high : ¬ (24 < found.0) = λ above. omega (arith, pow_below 24 found.0 above) in
     is_power size found.0 (omega arith) (omega arith) same
 
--- every size that a chip may have is a power of two
 pub is_chip_size-power_of_two : (size : ℕ) → is_chip_size size ≡ true → is_power_of_two size ≡ true
 is_chip_size-power_of_two size holds =
     let found = power_of size holds in
     eq-eqb (count_ones size) 1 (ap count_ones found.3 ∙ count_ones-pow found.0)
 
--- for a `size` from 64 KiB to 16 MiB, `is_power_of_two` and `is_chip_size` return the same value
 pub is_power_of_two-size : (size : ℕ) → 65536 ≤ size → size ≤ 16777216 → is_power_of_two size ≡ is_chip_size size
 is_power_of_two-size size least most =
     same_tests _ _ (λ power. is_chip_size-from size power least most) (is_chip_size-power_of_two size)

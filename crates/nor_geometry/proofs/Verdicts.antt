@@ -1,4 +1,4 @@
--- Two lemmas: when a truth value is equal to `any_below n test`, and how `count_below` grows if one more number passes.
+-- Lemmas about a truth value that decides `any_below`, and about one more number that passes the test of `count_below`.
 use Rattle.std.proofs.Common.{◌≡◌, ◌<◌, ◌+◌, ◌||◌, ◌∙◌, ℕ, zero, suc, Bool, true, false, ap, sym, arith, inl, inr}
 use Rattle.std.specs.Prelude.{MatchBool, ◌==◌}
 use Rattle.std.proofs.lemmas.Bool.{cases_eq, or_left, ne_eqb, eq-eqb}
@@ -6,15 +6,12 @@ use Rattle.nor_geometry.specs.Below.{any_below, count_below}
 use Rattle.nor_geometry.proofs.Below.{any_below-some, count_below-suc}
 use Rattle.nor_geometry.proofs.Counting.{any_below-all, count_below-same}
 
--- Suppose that a true `verdict` implies that some number below `n` passes `test`, and a false `verdict` implies that
--- all numbers below `n` fail it. Then `verdict` is equal to `any_below n test`.
+-- Suppose that `verdict` implies that a number below `n` passes `test`, and its negation that none does.
 pub any_below-decided : (n : ℕ) (verdict : Bool) (test : ℕ → Bool) (P Q : ℕ → Type 0) → ((k : ℕ) → P k → test k ≡ true) → ((k : ℕ) → Q k → test k ≡ false)
     → MatchBool verdict ((k : ℕ) × (k < n) × P k) ((k : ℕ) → k < n → Q k) → verdict ≡ any_below n test
 any_below-decided n true test P Q passes fails some = sym (any_below-some n some.0 test some.1 (passes some.0 some.2))
 any_below-decided n false test P Q passes fails none = sym (any_below-all n test (λ k below. fails k (none k below)))
 
--- Suppose that `k` is below `n` and fails the test `p`, and that a number passes the test `q` if and only if it is `k`
--- or passes `p`. Then, among the numbers below `n`, one more passes `q` than `p`.
 pub count_below-insert : (n k : ℕ) (p q : ℕ → Bool) → k < n → p k ≡ false → ((s : ℕ) → q s ≡ ((s == k) || p s)) → count_below n q ≡ count_below n p + 1
 count_below-insert zero k p q below fails inserted = absurd (omega arith)
 count_below-insert (suc n) k p q below fails inserted =

@@ -2,7 +2,6 @@
 use Rattle.std.specs.Prelude.{ℕ, Bool, ◌==◌, ◌^◌}
 use Rattle.std.specs.List.{list_any, range_with_len}
 
--- True if `n` is a power of two from 2 ^ 16 to 2 ^ 24, which is from 64 KiB to 16 MiB. Three address bytes reach at
--- most 16 MiB.
+-- True if `n` is a power of two from 64 KiB to 16 MiB, the most that three address bytes reach.
 abbrev pub is_chip_size : ℕ → Bool
 is_chip_size n = list_any (λ k. n == 2 ^ k) (range_with_len 16 9)

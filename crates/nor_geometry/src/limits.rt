@@ -2,10 +2,10 @@
 ghost use Rattle.std.specs.Prelude.{◌≡◌};
 ghost use Rattle.nor_geometry.specs.Size.{is_chip_size};
 
-/// The length of a sector in bytes. A sector is the smallest erase block.
+/// The length of a sector, the smallest erase block, in bytes.
 pub const SECTOR_LEN: u32 = 4096;
 
-/// The greatest number of sectors that a chip may have. Three address bytes reach 16 MiB, which is 4,096 sectors.
+/// The greatest number of sectors of a chip. Three address bytes reach 16 MiB.
 pub const MOST_SECTORS: u32 = 4096;
 
 /// The length of a page in bytes. One program command writes within one page.
