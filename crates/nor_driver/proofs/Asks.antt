@@ -1,5 +1,4 @@
--- If a chip receives only the first bytes of an operation's command, it decodes them as the whole command or as
--- `Ignored`.
+-- Lemmas about the first bytes of an operation's command: a chip decodes them as the whole command or as `Ignored`.
 use Rattle.std.proofs.Common.{◌≡◌, ◌<◌, ◌≤◌, ◌∙◌, ◌⊎◌, ℕ, zero, suc, true, false, List, length, [], ◌∷◌, take, refl, sym, arith, inl, inr}
 use Rattle.std.proofs.Math.Seq.{take-nil}
 use Rattle.std.proofs.lemmas.Bool.Decides.{nat_tests}
@@ -12,13 +11,9 @@ use Rattle.nor_driver.specs.declared.units.EraseBlock.TheVariants as Units
 use Rattle.nor_driver.specs.Operations.{is_operation_or_none, IsCommandAt, AsksForOperation}
 use Rattle.nor_driver.proofs.Erasing.{erase_bytes}
 
--- Holds if a chip decodes the first `count` bytes of `out`, with `replies` reply bytes, as `Ignored` or as the command
--- of all bytes of `out` without reply bytes.
 abbrev AsksAlike : Config → List ℕ → (count replies : ℕ) → Type 0
 AsksAlike config out count replies = (command_of config (take count out) replies ≡ Ignored)
     ⊎ (command_of config (take count out) replies ≡ command_of config out 0)
-
--- ---- the command of a page program
 
 programs : (config : Config) (x y z byte : ℕ) (rest : List ℕ)
     → command_of config (2 ∷ x ∷ y ∷ z ∷ byte ∷ rest) 0 ≡ Program (address_of config x y z)
@@ -61,8 +56,6 @@ asks_program at sent command some few sends = rw sends.4 record {
   short = omega (arith, few);
 }
 
--- ---- the command of an erase
-
 erase_whole : (unit : EraseBlock) (config : Config) (x y z : ℕ)
     → is_operation_or_none (command_of config (erase_bytes unit x y z) 0) ≡ true
 erase_whole Units.Chip config x y z = refl
@@ -98,8 +91,6 @@ asks_erase unit x y z command is = rw is record {
   begun = λ config count replies. erase_begun unit config x y z count replies;
   short = erase_short unit x y z;
 }
-
--- ---- the command of a status write
 
 status_begun : (config : Config) (one two count replies : ℕ) → AsksAlike config (1 ∷ one ∷ two ∷ []) count replies
 status_begun config one two zero replies = inl refl

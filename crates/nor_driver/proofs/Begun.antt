@@ -15,8 +15,7 @@ use Rattle.nor_driver.specs.Waits.{HasWaited, latch_when_idle}
 use Rattle.nor_driver.specs.Operations.{operation_of, AsksForOperation, MayOperate, HasOperated}
 use Rattle.nor_driver.proofs.Readings.{Wore, no_operation}
 
--- The effect of a write enable on a well-behaved bus. The latch of an idle chip is now set, and the latch of a busy
--- chip is as before. Nothing else of the chip changed, and one transaction fewer is left.
+-- The effect of a write enable on a well-behaved bus: it sets the latch of an idle chip, and changes nothing else.
 pub record IsEnabled (old new : BusState) : Type 0 where
   pub unchanged : Unchanged old new
   pub busy : new.chip.busy ≡ old.chip.busy
@@ -30,8 +29,6 @@ enabled old new [] none carries =
     grind (arith, nothing, carries.step, carries.worn)
 enabled old new (byte ∷ rest) none carries = absurd (omega arith)
 
--- If `out` satisfies `AsksForOperation`, then after a write enable the chip carries out for `out` the command that
--- `operation_of` returns.
 pub then_done : (out : List ℕ) (old ready : BusState) → AsksForOperation out → IsEnabled old ready
     → done_of ready.chip out 0 ≡ operation_of old.chip out
 then_done out old ready asks enabling = elim (eqb_tells old.chip.busy 0) [
@@ -39,8 +36,6 @@ then_done out old ready asks enabling = elim (eqb_tells old.chip.busy 0) [
   | inr busy ↦ grind (arith, asks.whole old.chip.config)
 ]
 
--- Suppose that `out` satisfies `AsksForOperation`, and that the chip receives only a prefix of `out` after a write
--- enable. Then the chip carries out the same command as for all of `out`, or nothing.
 pub part_done : (out : List ℕ) (old ready : BusState) (count replies : ℕ) → AsksForOperation out
     → IsEnabled old ready → (done_of ready.chip (take count out) replies ≡ Ignored)
     ⊎ (done_of ready.chip (take count out) replies ≡ operation_of old.chip out)
@@ -51,20 +46,16 @@ part_done out old ready count replies asks enabling =
       | inr same ↦ inr (ap does same ∙ then_done out old ready asks enabling)
     ]
 
--- if `out` satisfies `AsksForOperation`, the command `operation_of chip out` is an operation or `Ignored`
 pub operation-ignored : (chip : Chip) (out : List ℕ) → AsksForOperation out
     → is_operation (operation_of chip out) ≡ false → operation_of chip out ≡ Ignored
 operation-ignored chip out asks none = grind (arith, asks.whole chip.config)
 
--- If `out` satisfies `AsksForOperation`, and `operation_of chip out` is an operation, then `chip` is idle, because a
--- busy chip carries out no operation.
 pub idle-takes : (chip : Chip) (out : List ℕ) → AsksForOperation out → is_operation (operation_of chip out) ≡ true
     → chip.busy ≡ 0
 idle-takes chip out asks is = grind (arith, asks.whole chip.config, nat_tests)
 
--- The effect of a command that begins an operation. Bytes, non-volatile bits and the record of erased sectors are
--- already as after `command`, and the operation is in progress. The chip will show BUSY for any number of polls, or not
--- at all.
+-- The effect of a command that begins an operation. Bytes and bits are already as after `command`, and the chip will
+-- show BUSY for any number of polls, or not at all.
 pub record HasBegun (command : Command) (sent : List ℕ) (old new : BusState) : Type 0 where
   pub config : new.chip.config ≡ old.chip.config
   pub bytes : (a : ℕ) → new.chip.bytes a ≡ byte_after old.chip command sent a
@@ -78,26 +69,20 @@ pub operation-begins : (command : Command) (sent answer : List ℕ) (old ready n
     → Wore command ready new → HasBegun command sent old new
 operation-begins command sent answer old ready new is same does wore = grind (arith, same.same.bytes, same.worn, wore)
 
--- the bytes on which an operation doesn't work are as they were
 outside-work : (chip : Chip) (command : Command) (sent : List ℕ) (a : ℕ)
     → is_in_work (running_after chip command) a ≡ false → is_operation command ≡ true
     → byte_after chip command sent a ≡ chip.bytes a
 outside-work chip command sent a out is = grind arith
 
--- After an operation that began and may have been interrupted, the non-volatile bits `new` are those from before it or
--- those that it sets.
 kept-cut : (command : Command) (old : Chip) (begun new : KeptBits) → is_operation command ≡ true
     → begun ≡ kept_after old command → KeptCut (running_after old command) begun new
     → (new ≡ old.kept) ⊎ (new ≡ kept_after old command)
 kept-cut command old begun new is kept cut = grind arith
 
--- If `old.chip` is idle, a call that satisfies `KeepsChip` also satisfies `MayOperate`, for each command.
 pub may-before : (command : Command) (sent : List ℕ) (old new : BusState) → old.chip.busy ≡ 0 → KeepsChip old new
     → MayOperate command sent old new
 may-before command sent old new idle stays = grind (arith, stays.steady_or_idle (inr idle))
 
--- If an operation began between `old` and `begun`, and `KeepsChip` holds from `begun` to `new`, `MayOperate` holds from
--- `old` to `new`. The bus must be steady at `begun` if and only if it was steady at `old`.
 pub may-after : (command : Command) (sent : List ℕ) (old begun new : BusState) → is_operation command ≡ true
     → begun.steady ≡ old.steady → HasBegun command sent old begun → KeepsChip begun new → MayOperate command sent old new
 may-after command sent old begun new is steady has stays =
@@ -105,8 +90,6 @@ may-after command sent old begun new is steady has stays =
     let kept = kept-cut command old.chip begun.chip.kept new.chip.kept is has.kept in
     grind (arith, stays.steady_or_idle, has.bytes, stays.bytes, outside, stays.worn, has.worn, or-false, kept)
 
--- On a bus that isn't steady, `MayOperate` for some data `part` implies `MayOperate` for any data `sent`. The reason is
--- that each byte on which the command works may then have any value.
 pub may-unsteady : (command : Command) (sent part : List ℕ) (old new : BusState) → old.steady ≡ false
     → MayOperate command part old new → MayOperate command sent old new
 may-unsteady command sent part old new unsteady may = grind (arith, may.bytes, may.worn)
@@ -115,8 +98,6 @@ pub operated : (command : Command) (sent : List ℕ) (old begun new : BusState) 
     → HasBegun command sent old begun → HasWaited begun new waited → HasOperated command sent old new
 operated command sent old begun new waited has waits = grind (arith, nat_tests)
 
--- After an operation that the chip ignored and a wait, the write enable latch is set if and only if the chip was idle
--- before the operation.
 pub latch-kept : (old ready begun : BusState) → IsEnabled old ready → begun.chip.latch ≡ ready.chip.latch
     → begun.chip.busy ≡ ready.chip.busy → latch_when_idle begun.chip ≡ is_idle old.chip
 latch-kept old ready begun enabling latch busy = grind (arith, nat_tests)

@@ -6,11 +6,9 @@ use Rattle.nor_model.specs.Power.{KeptCut}
 use Rattle.nor_model.specs.Bus.{BusState}
 use Rattle.nor_driver.specs.OnlyReads.{Unchanged, KeepsChip}
 
--- non-volatile bits that stay as they were satisfy `KeptCut`
 pub kept_cut-stay : (running : Running) (old new : KeptBits) → new ≡ old → KeptCut running old new
 kept_cut-stay running old new stay = grind arith
 
--- if the same operation is interrupted twice, `KeptCut` holds from before the first interruption to after the second
 cut_again : (running : Running) (old mid new : KeptBits) → KeptCut running old mid → KeptCut running mid new
     → KeptCut running old new
 cut_again running old mid new first second = grind arith
@@ -30,8 +28,6 @@ unchanged_stays old new unchanged =
     let kept = kept_cut-stay old.chip.running old.chip.kept new.chip.kept same.kept in
     search same.bytes
 
--- If two successive calls satisfy `KeepsChip`, and the first one didn't change whether the bus is steady, the two calls
--- together satisfy `KeepsChip`.
 pub stays_then : (old mid new : BusState) → mid.steady ≡ old.steady → KeepsChip old mid → KeepsChip mid new → KeepsChip old new
 stays_then old mid new steady first second =
     let cut = cut_again old.chip.running old.chip.kept mid.chip.kept new.chip.kept first.kept in

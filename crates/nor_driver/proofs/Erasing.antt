@@ -23,8 +23,7 @@ use Rattle.nor_driver.specs.Erases.{sectors_of, block_length, IsOnChip, takes_er
 use Rattle.nor_driver.proofs.Programming.{same_address}
 use Rattle.nor_driver.proofs.Taken.{IsFor, asked_at, leaves_as, does_as}
 
--- The bytes that are sent to erase a block: the opcode of the block, followed by the three address bytes `x`, `y` and
--- `z`. The erase of the whole chip has no address bytes.
+-- The bytes that erase a block: the opcode and three address bytes, or only C7h for the whole chip.
 abbrev pub erase_bytes : EraseBlock → ℕ → ℕ → ℕ → List ℕ
 erase_bytes Units.Chip x y z = 0xC7 ∷ []
 erase_bytes unit x y z = opcode_of unit ∷ x ∷ y ∷ z ∷ []
@@ -33,7 +32,6 @@ plain : (unit : EraseBlock) (x y z : ℕ) → drop 4 (erase_bytes unit x y z) �
 plain Units.Chip x y z = refl
 plain _ x y z = refl
 
--- The bytes of an erase command begin with the opcode of an erase, and not with that of a page program or status write.
 one_erase : (unit : EraseBlock) (x y z : ℕ)
     → (begins_erase (erase_bytes unit x y z) ≡ true) × (begins_program (erase_bytes unit x y z) ≡ false)
     × (begins_status_write (erase_bytes unit x y z) ≡ false)
@@ -54,8 +52,6 @@ pub other_bytes : (unit : EraseBlock) (opcode x y z : ℕ) → opcode ≡ opcode
     → opcode ∷ x ∷ y ∷ z ∷ [] ≡ erase_bytes unit x y z
 other_bytes unit opcode x y z same other = grind arith
 
--- If the address bytes of an erase command are those of a sector below 4,096, the command targets only sectors of the
--- block that the erase addresses.
 named : (unit : EraseBlock) (sector x y z : ℕ) → 65536 * x + 256 * y + z ≡ 4096 * sector → sector < 4096
     → (s : ℕ) → targets (erase_bytes unit x y z) s ≡ true
     → is_sector_named (record { unit = unit; sector = sector }) s ≡ true
@@ -64,8 +60,6 @@ named unit sector x y z names below s is =
     let first : 0 ≡ sector / 4096 * 4096 = omega (arith, below) in
     grind (arith, nat_tests)
 
--- If the address bytes of an erase command are those of a sector below 4,096, the command targets each sector of the
--- block that the erase addresses.
 targeted : (unit : EraseBlock) (sector x y z : ℕ) → 65536 * x + 256 * y + z ≡ 4096 * sector → sector < 4096
     → (s : ℕ) → is_sector_named (record { unit = unit; sector = sector }) s ≡ true
     → targets (erase_bytes unit x y z) s ≡ true
@@ -80,24 +74,18 @@ loud Units.Sector x y z = refl
 loud Units.Block32 x y z = refl
 loud Units.Block64 x y z = refl
 
--- After a write enable, a chip carries out an erase if it is idle, has the erase type (`has`), and `is_block_protected`
--- is false for the block. Otherwise the chip ignores the erase.
 erased_where : (chip : Chip) (has : Bool) (start start' len len' : ℕ) → start ≡ start' → len ≡ len'
     → (let command = cond has (Commands.Erase start len) Commands.Ignored in
     cond (is_carried_out (record chip { latch = true }) command) command Commands.Ignored)
     ≡ cond (is_idle chip && has && not (is_block_protected chip start' len')) (Commands.Erase start' len') Commands.Ignored
 erased_where chip has start start' len len' same long = grind (arith, and-false)
 
--- Suppose that `4096 * sector` is on the chip and is a multiple of `len`. Then this address stays the same if it is
--- taken modulo the chip's size and rounded down to a multiple of `len`.
 unit_start : (config : Config) (x y z sector len : ℕ) → 65536 * x + 256 * y + z ≡ 4096 * sector
     → 4096 * sector < config.size → 4096 * sector / len * len ≡ 4096 * sector
     → address_of config x y z / len * len ≡ 4096 * sector
 unit_start config x y z sector len names below aligned =
     rw (same_address config x y z (4096 * sector) names below) aligned
 
--- After a write enable, an erase command with the first address of a block that lies on the chip erases this block if
--- `takes_erase` is true. Otherwise the chip ignores the command.
 erase_command : (chip : Chip) (unit : EraseBlock) (sector x y z : ℕ) → 65536 * x + 256 * y + z ≡ 4096 * sector
     → (let erase : Erase = record { unit = unit; sector = sector } in IsOnChip erase chip
     → operation_of chip (erase_bytes unit x y z)
@@ -111,19 +99,14 @@ erase_command chip unit sector x y z names on =
     erased_where chip (has_block chip.config unit) _ (4096 * sector) len len
     (unit_start chip.config x y z sector len names (omega arith) (omega (arith, eqb-true))) refl
 
--- The address `a` is in the range of `n` sectors from `sector` on if and only if the number of the sector that contains
--- `a` is in that range.
 in_unit : (sector n a : ℕ) → (nat_le (4096 * sector) a && nat_lt a (4096 * sector + 4096 * n))
     ≡ (nat_le sector (a / 4096) && nat_lt (a / 4096) (sector + n))
 in_unit sector n a = grind (arith, nat_tests)
 
 module _ (erase : Erase) (old new : BusState) where
-  -- the command that the chip carries out for `erase`, unless it ignores the erase
   abbrev does : Command
   does = Commands.Erase (4096 * erase.sector) (block_length old.chip erase)
 
-  -- The addresses that the command erases are those of the erase block (`place`), and the sectors that it erases are
-  -- those of the block (`sector`).
   place : (a : ℕ) → (nat_le (4096 * erase.sector) a && nat_lt a (4096 * erase.sector + block_length old.chip erase))
       ≡ is_address_in_block erase old.chip a
   place a = in_unit erase.sector (sectors_in (sectors_of old.chip) erase.unit) a

@@ -1,5 +1,4 @@
--- The effect of an operation at each of its exits: the bus stops at the write enable or at the command, the wait fails,
--- or the operation succeeds.
+-- The effect of an operation at each of its exits: a stop at the write enable or command, a failed wait, or success.
 use Rattle.std.proofs.Common.{◌≡◌, ◌+◌, ◌∙◌, ◌⊎◌, ℕ, true, false, List, [], ◌∷◌, length, drop, take, ap, refl, sym, subst, arith, inl, inr}
 use Rattle.std.proofs.Math.Bool.{or-true}
 use Rattle.nor_model.specs.declared.command.Command.{Command}
@@ -24,8 +23,7 @@ use Rattle.nor_driver.proofs.Polled.{replied_then}
 use Rattle.nor_driver.proofs.Readings.{carried_ignored}
 use Rattle.nor_driver.proofs.Begun.{IsEnabled, enabled, then_done, part_done, operation-ignored, idle-takes, HasBegun, operation-begins, may-before, may-after, may-unsteady, operated, latch-kept}
 
--- Holds at an exit of an operation, on every bus. `KeepsNature` holds, and what was sent is within `limits`
--- (`SendsWithin`). A transaction that begins with a modifying opcode was sent, in this call or before it.
+-- Holds at every exit of an operation, on every bus.
 record Stirs (limits : Limits) (old new : BusState) : Type 0 where
   pub nature : KeepsNature old new
   pub stirred : is_stirred new.sent ≡ true
@@ -39,8 +37,6 @@ module _ (out : List ℕ) (asks : AsksForOperation out) (old : BusState) where
       → LeavesOperation (command_operation out) old new
   leaves_by stirs falls reached ignored = assumption
 
-  -- If the chip carried out no operation for the command (`KeepsChip`), then `Stirs` and the bound on the number of
-  -- transactions (`Falls`) imply `LeavesOperation`.
   not_begun : (new : BusState) → Stirs (limits_of out) old new
       → (old.honest ≡ true → Falls most_operation old new) → (old.honest ≡ true → KeepsChip old new)
       → LeavesOperation (command_operation out) old new
@@ -50,7 +46,6 @@ module _ (out : List ℕ) (asks : AsksForOperation out) (old : BusState) where
       may-before (operation_of old.chip out) (drop 4 out) old new (idle-takes old.chip out asks is) (stays honest))
       (λ honest none. stays honest)
 
-  -- every well-behaved bus accepts the write enable (`enable_fits`) and the command (`command_fits`)
   enable_fits : (bus : BusState) → bus.honest ≡ true → IsHonestFor (6 ∷ []) 0 bus
   enable_fits bus honest = record { honest = honest; fits = inr (omega arith, omega arith) }
 
@@ -60,7 +55,6 @@ module _ (out : List ℕ) (asks : AsksForOperation out) (old : BusState) where
   enabled_stirs : (new : BusState) → Sends (6 ∷ []) old new → is_stirred new.sent ≡ true
   enabled_stirs new sends = sends.sent.stirred ∙ or-true (is_stirred old.sent)
 
-  -- if the bus stops at the write enable, `LeavesOperation` holds
   pub leaves-at_enable : (new : BusState) → Sends (6 ∷ []) old new
       → (IsHonestFor (6 ∷ []) 0 old → Stops (6 ∷ []) old new)
       → LeavesOperation (command_operation out) old new
@@ -81,8 +75,6 @@ module _ (out : List ℕ) (asks : AsksForOperation out) (old : BusState) where
     punctual-ready : old.punctual ≡ true → ready.punctual ≡ true
     punctual-ready punctual = sends.nature.punctual ∙ punctual
 
-    -- If the write enable succeeded and the bus was then asked to send the command, `Stirs` holds with the limits of
-    -- the command.
     stirs-by : (new : BusState) → Sends out ready new → Stirs (limits_of out) old new
     stirs-by new sends' =
         let nature = nature_then old ready new sends'.nature sends.nature in
@@ -92,8 +84,6 @@ module _ (out : List ℕ) (asks : AsksForOperation out) (old : BusState) where
           sends = command_sends out old ready new asks.known sends sends';
         }
 
-    -- The effect on the chip of a stop at the command. For the bytes that were sent before the stop, the chip carried
-    -- out the same operation as for the whole command, or none.
     module _ (honest : old.honest ≡ true) (new : BusState) where
       stays-before : KeepsChip ready new → KeepsChip old new
       stays-before stays = stays_after old ready new sends.nature.steady (enabling honest).unchanged stays
@@ -197,7 +187,6 @@ module _ (out : List ℕ) (asks : AsksForOperation out) (old : BusState) where
           may-after _ _ old begun new is stirs.nature.steady (has-begun honest is) (honest_reads honest).stays)
           (λ honest is. stays_after old begun new stirs.nature.steady (unchanged honest is) (honest_reads honest).stays)
 
-      -- After the wait, the history has exactly the transactions of the operation.
       sends-operation : (new : BusState) (waited : Waited) → new.sent ≡ begun.sent → Waits begun new waited
           → ready.history ≡ replied (6 ∷ []) first ∷ old.history → begun.history ≡ replied out second ∷ ready.history
           → SendsOperation old new (waited.polls + 2)

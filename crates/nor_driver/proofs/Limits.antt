@@ -28,8 +28,7 @@ pub record AreParts (first second all : Limits) : Type 0 where
   pub programs : first.programs + second.programs ≤ all.programs
   pub status_writes : first.status_writes + second.status_writes ≤ all.status_writes
 
--- Holds if `all` allows all that `first` allows followed by all that `second` allows, and the numbers of `all` are
--- exactly the sums of those of `first` and `second`.
+-- Holds if `AreParts` holds, and the numbers of `all` are exactly the sums of those of `first` and `second`.
 pub record IsSum (first second all : Limits) : Type 0 where
   pub sectors : (s : ℕ) → first.sectors s ≡ true → all.sectors s ≡ true
   pub sectors' : (s : ℕ) → second.sectors s ≡ true → all.sectors s ≡ true
@@ -54,13 +53,9 @@ pub sends_then : (first second all : Limits) (old mid new : BusState) → ArePar
 sends_then first second all old mid new parts before after =
     grind (arith, before.targeted, after.targeted, before.written, after.written, parts.sectors, parts.sectors', parts.status, parts.status')
 
--- if `SendsWithin` holds from `old` to `mid`, and no transaction that may modify a chip is sent from `mid` to `new`,
--- then `SendsWithin` also holds from `old` to `new`
 pub sends_same : (limits : Limits) (old mid new : BusState) → new.sent ≡ mid.sent → SendsWithin limits old mid
     → SendsWithin limits old new
 sends_same limits old mid new same sends = grind (arith, sends.targeted, sends.written)
-
--- ---- the exact numbers of erases, page programs and status writes
 
 pub exactly_none : (old new : BusState) → new.sent ≡ old.sent → SendsExactly 0 0 0 old new
 exactly_none old new same =
@@ -94,14 +89,10 @@ exactly_then {old = old} erases programs status before after = record {
   wrote_status = omega (arith, before.wrote_status, after.wrote_status);
 }
 
--- If `SendsWithin` and `SendsExactly` hold for a call, `SendsWithin` still holds after the numbers in the limits are
--- replaced by the exact numbers.
 pub sends_exactly : {limits : Limits} {e p w : ℕ} {old new : BusState} → SendsWithin limits old new
     → SendsExactly e p w old new
     → SendsWithin (record limits { erases = e; programs = p; status_writes = w }) old new
 sends_exactly sends exactly = search arith
-
--- ---- the limits that one transaction needs
 
 counts_most : (is : Bool) (before after : ℕ) → after ≡ counted_once is before → after ≤ before + cond is 1 0
 counts_most true before after same = grind arith
@@ -123,8 +114,7 @@ sends_one out old new known sends = record {
   unknown = grind (arith, or-false, sends.sent.unknown);
 }
 
--- The list that a transaction with the bytes `out` adds to the list `sent`. The added list contains `out`, or nothing
--- if `out` is empty or begins with a quiet opcode (of a read, or 04h).
+-- What sending `out` adds to the list `sent`: nothing if `out` is empty or begins with the opcode of a read or 04h.
 added_by : (out : List ℕ) → Sent
 added_by out = if begins_quiet out then [] else out ∷ []
 
@@ -142,8 +132,6 @@ exactly_one out old new sends = record {
   wrote_status = counts_up (begins_status_write out) (status_writes_of old.sent) (status_writes_of new.sent)
       sends.sent.status_writes;
 }
-
--- ---- an operation: a write enable, which targets no sector, and then a command
 
 pub in_none : (s : ℕ) → is_in_targeted none_targeted s ≡ true → ⊥
 in_none s is = grind (arith, nat_tests)
@@ -169,8 +157,6 @@ command_exactly out old ready new enables sends =
     exactly_then (omega arith) (omega arith) (omega arith) (exactly_one (6 ∷ []) old ready enables)
     (exactly_one out ready new sends)
 
--- if some transaction sent before `out` begins with a modifying opcode, this is still recorded after `out`
--- (`is_stirred`)
 pub still_stirred : (out : List ℕ) (old new : BusState) → is_stirred old.sent ≡ true → Sends out old new
     → is_stirred new.sent ≡ true
 still_stirred out old new is sends = grind (arith, sends.sent.stirred)

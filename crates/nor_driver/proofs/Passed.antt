@@ -2,7 +2,6 @@
 use Rattle.std.proofs.Common.{◌≡◌, ap}
 use Rattle.std.specs.Prelude.{Result, Ok, Err, IsErrAnd}
 
--- if `?` passed on `error`, the outcome is `Err error`
 pub is_err : {T E : Type 0} (outcome : Result T E) (error : E) → IsErrAnd outcome (λ passed. passed ≡ error)
     → outcome ≡ Err error
 is_err (Ok value) error is = absurd is

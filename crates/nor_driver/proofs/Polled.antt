@@ -43,7 +43,6 @@ module _ {first : List Exchange} {old new : BusState} {polls status : ℕ} (poll
     is = rw same (once.history ∙ ap (λ (earlier : List Exchange). poll_of status ∷ earlier) polled.is);
   }
 
--- If two transactions were added to the history `old`, and both received no reply byte, their replies are `[]`.
 pub replied_then : (out before : List ℕ) {first second : List ℕ} {old mid : List Exchange} → length first ≡ 0
     → length second ≡ 0 → mid ≡ replied before first ∷ old
     → replied out second ∷ mid ≡ replied out [] ∷ replied before [] ∷ old
@@ -56,13 +55,10 @@ replied_then out before {first} {second} {old} {mid} none none' by =
     empty [] none = refl
     empty (byte ∷ rest) none = absurd (omega (arith, none))
 
--- ---- the number of polls in a history that showed BUSY
-
 count_one : (exchange : Exchange) (earlier : List Exchange)
     → busy_polls (exchange ∷ earlier) ≡ cond (is_busy_poll exchange) 1 0 + busy_polls earlier
 count_one exchange earlier = sum_by-cons (λ (x : Exchange). cond (is_busy_poll x) 1 0) exchange earlier
 
--- each of these polls, all of which showed BUSY, increases the number by 1
 count_busy : (statuses : List ℕ) (earlier : List Exchange) → All (λ status. status % 2 ≡ 1) statuses
     → busy_polls (map poll_of statuses ++ earlier) ≡ length statuses + busy_polls earlier
 count_busy [] earlier each = sym (zero-add _)
@@ -71,23 +67,18 @@ count_busy (status ∷ rest) earlier each =
     let more = count_busy rest earlier (All-tail (λ (s : ℕ). s % 2 ≡ 1) status rest each) in
     count_one (poll_of status) (map poll_of rest ++ earlier) ∙ rw head (omega (arith, more))
 
--- a poll that showed that the chip is ready keeps the number
 count_ready : (status : ℕ) (earlier : List Exchange) → status % 2 ≡ 0
     → busy_polls (poll_of status ∷ earlier) ≡ busy_polls earlier
 count_ready status earlier ready = count_one (poll_of status) earlier ∙ rw ready (zero-add _)
 
--- a transaction that received no reply byte keeps the number
 count_empty : (out : List ℕ) (earlier : List Exchange)
     → busy_polls (replied out [] ∷ earlier) ≡ busy_polls earlier
 count_empty out earlier = count_one (replied out []) earlier ∙ rw (and-false (is_poll out)) (zero-add _)
 
--- the number doesn't decrease
 pub busy_continues : {old new : List Exchange} → Continues old new → busy_polls old ≤ busy_polls new
 busy_continues {old} {new} continues =
     let sum = sum_by-append (λ (x : Exchange). cond (is_busy_poll x) 1 0) continues.later old in
     omega (arith, sum, ap busy_polls continues.is)
-
--- ---- the number of transactions that were added to a history (`AddsTransactions`)
 
 pub adds_none : (history : List Exchange) → AddsTransactions 0 0 history history
 adds_none history = record { all = omega arith; few_others = omega arith }
@@ -105,7 +96,6 @@ adds_then first second = record {
   few_others = omega (arith, first.few_others, second.few_others);
 }
 
--- an operation sends three transactions, and polls that showed BUSY
 pub operation_adds : {old new : BusState} {sent : ℕ} → SendsOperation old new sent
     → AddsTransactions sent 3 old.history new.history
 operation_adds {old} {new} sends =

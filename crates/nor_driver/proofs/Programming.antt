@@ -13,13 +13,10 @@ use Rattle.nor_driver.specs.Operations.{operation_of, IsCommandAt, MayOperate, H
 use Rattle.nor_driver.specs.Programs.{takes_program, MayProgram, HasProgrammed, page_program}
 use Rattle.nor_driver.proofs.Taken.{IsFor, asked_at, leaves_as, does_as}
 
--- an address below the chip's size stays the same if it is taken modulo that size
 pub same_address : (config : Config) (x y z at : ℕ) → 65536 * x + 256 * y + z ≡ at → at < config.size
     → address_of config x y z ≡ at
 same_address config x y z at names below = rw names (mod-eq_of_lt below)
 
--- After a write enable, 02h with an address on the chip and at least one data byte programs from this address on if
--- `takes_program` is true. Otherwise the chip ignores the command.
 program_command : (chip : Chip) (x y z at : ℕ) (sent : List ℕ) → 65536 * x + 256 * y + z ≡ at → at < chip.config.size
     → 0 < length sent → operation_of chip (0x02 ∷ x ∷ y ∷ z ∷ sent) ≡ cond (takes_program chip at) (Program at) Ignored
 program_command chip x y z at [] names below some = absurd (omega arith)
@@ -39,7 +36,6 @@ module _ (at : ℕ) (sent : List ℕ) (fits : at % 256 + length sent ≤ 256) (o
       let byte = λ (a : ℕ). byte_after-program old.chip at sent a fits in
       grind (arith, byte, or-false)
 
--- derives the contract of `program_page` from the contract of `operation`
 module _ (at : ℕ) (sent command : List ℕ) (sends : IsCommandAt 0x02 at sent command) (some : 0 < length sent)
     (fits : at % 256 + length sent ≤ 256) (old new : BusState) where
   asked : at < old.chip.config.size

@@ -9,7 +9,6 @@ use Rattle.nor_model.specs.Exchange.{Exchange}
 use Rattle.nor_model.specs.History.{Continues, Answered, names, replied, last_reply, bytes_or_none}
 use Rattle.nor_driver.specs.ReadBack.{sector_read, IsSectorRead, AddsSectorReads, HaveBeenRead}
 
--- if `out` has the opcode `opcode` and the address `at`, it doesn't have this opcode and another address `other`
 pub names_other : (opcode at other : ℕ) → at ≢ other → (out : List ℕ) → names opcode at out ≡ true
     → names opcode other out ≡ false
 names_other opcode at other differs [] is = refl
@@ -21,8 +20,6 @@ names_other opcode at other differs (first ∷ x ∷ y ∷ z ∷ rest) is = grin
 pub adds_none : (history : List Exchange) → AddsSectorReads history history
 adds_none history = record { later = []; is = refl; each = All-nil IsSectorRead }
 
--- Sector `n` is read with the reply `bytes`, after the history `earlier`. If `a` lies in sector `n`, the last reply to
--- a read of the sector of `a` is `bytes`. Otherwise that reply is the same as in `earlier`.
 module _ {n : ℕ} (out bytes : List ℕ) (reads : names 0x03 (4096 * n) out ≡ true)
     (earlier : List Exchange) (a : ℕ) where
   pub read_other : a / 4096 ≢ n → sector_read (replied out bytes ∷ earlier) a ≡ sector_read earlier a
@@ -34,16 +31,12 @@ module _ {n : ℕ} (out bytes : List ℕ) (reads : names 0x03 (4096 * n) out ≡
       let test : names 0x03 (4096 * (a / 4096)) out ≡ true = rw here reads in
       ap (λ (b : Bool). if b then bytes else sector_read earlier a) test
 
--- ---- the addresses whose sectors were read (`HaveBeenRead`)
-
 by_test : (passes : Bool) (reply : Option (List ℕ)) (rest more : List ℕ)
     → length (if passes then bytes_or_none reply else rest) ≡ 4096 → (length rest ≡ 4096 → more ≡ rest)
     → (if passes then bytes_or_none reply else more) ≡ (if passes then bytes_or_none reply else rest)
 by_test true reply rest more long same = refl
 by_test false reply rest more long same = same long
 
--- `front` lists the transactions after those of `old`. If the last reply in `front` to a transaction that satisfies
--- `is` has 4,096 bytes, that reply is also the last one in the whole history `front ++ old`.
 last_in_front : (is : List ℕ → Bool) (front old : List Exchange) → length (last_reply is front) ≡ 4096
     → last_reply is (front ++ old) ≡ last_reply is front
 last_in_front is [] old long = absurd (omega arith)
@@ -68,8 +61,6 @@ read_since {old = old} first read = record {
       ∙ read.whole a is;
 }
 
--- Suppose that the sectors of all addresses in `Before` were read, and after them sector `n`. If each address in
--- `After` lies in sector `n` or is in `Before`, the sectors of all addresses in `After` were read.
 pub more_read : {Before After : ℕ → Type 0} {n : ℕ} {bytes : List ℕ} {old mid new : List Exchange}
     → HaveBeenRead Before old mid → Answered (names 0x03 (4096 * n)) mid new bytes → length bytes ≡ 4096
     → ((a : ℕ) → After a → a / 4096 ≢ n → Before a) → HaveBeenRead After old new

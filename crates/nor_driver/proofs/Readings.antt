@@ -18,7 +18,6 @@ use Rattle.nor_driver.proofs.Cuts.{stays_then, unchanged_none, unchanged_then, u
 pub use Rattle.nor_driver.proofs.Torn.{Wore, no_operation}
 use Rattle.nor_driver.proofs.Torn.{honest_reads_at_stop}
 
--- a command that changes nothing is no operation, and leaves `busy` and the write enable latch as they were
 nothing_done : (command : Command) (sent answer : List ℕ) (old new : Chip) → changes_nothing command ≡ true
     → Does command sent old answer new
     → (is_operation command ≡ false) × (new.busy ≡ old.busy) × (new.latch ≡ old.latch)
@@ -36,20 +35,14 @@ carried_reading : (out answer : List ℕ) (old new : BusState) → IsReading out
 carried_reading out answer old new is carries =
     carried_by out answer old new (grind (arith, is.reading old.chip.config (length answer))) carries
 
--- a transaction that the chip ignores has the effect of a read (`HasRead`)
 pub carried_ignored : (out answer : List ℕ) (old new : BusState) → done_of old.chip out (length answer) ≡ Ignored
     → Carries out answer old new → HasRead old new
 carried_ignored out answer old new ignored carries = carried_by out answer old new (ap changes_nothing ignored) carries
 
--- if `Rested` holds after reads that succeeded, and `most` transactions were carried out, `OnlyReadsHonest` holds with
--- the bound `most`
 pub honest_reads_by : (old new : BusState) (most : ℕ) → Rested old new → Spent most old new
     → OnlyReadsHonest most old new
 honest_reads_by old new most rested count = search (arith, unchanged_stays old new rested.unchanged)
 
--- Suppose that two successive calls satisfy `OnlyReadsHonest` with the bounds `m` and `n`, and that the first one
--- didn't change whether the bus is steady or punctual. Then the two calls together satisfy `OnlyReadsHonest` with the
--- bound `m + n`.
 pub honest_reads_then : (m n : ℕ) (old mid new : BusState) → mid.steady ≡ old.steady → mid.punctual ≡ old.punctual
     → OnlyReadsHonest m old mid → OnlyReadsHonest n mid new → OnlyReadsHonest (m + n) old new
 honest_reads_then m n old mid new steady punctual first second =
@@ -71,16 +64,13 @@ honest_reads_once (Ok done) out answer old new is stops carries =
     honest_reads_by old new 1 read.rested read.count
 honest_reads_once (Err stopped) out answer old new is stops carries = honest_reads_at_stop out old new 1 is.quiet stops
 
--- every well-behaved bus accepts a poll with one reply byte
 pub poll_fits : (bus : BusState) → bus.honest ≡ true → IsHonestFor (5 ∷ []) 1 bus
 poll_fits bus honest = record { honest = honest; fits = inr (omega arith, omega arith) }
 
--- every well-behaved bus accepts a transaction that only reads (`IsReading`) and receives at most 4,096 bytes
 pub read_fits : (out asked : List ℕ) (bus : BusState) → IsReading out → length asked ≤ 4096 → bus.honest ≡ true
     → IsHonestFor out (length asked) bus
 read_fits out asked bus is short honest = record { honest = honest; fits = inr (is.short, short) }
 
--- One transaction that only reads satisfies `OnlyReads` with a bound of 1, whether it succeeds or the bus stops at it.
 pub read_leaves : {T E : Type 0} (outcome : Result T E) (out answer : List ℕ) (old new : BusState) → IsReading out
     → Sends out old new → (old.honest ≡ true → OnErr outcome (Stops out old new))
     → (old.honest ≡ true → OnOk outcome (Carries out answer old new)) → OnlyReads 1 old new
@@ -96,8 +86,6 @@ pub read_does : {T E : Type 0} (outcome : Result T E) (out answer : List ℕ) (o
 read_does outcome out answer old new is history carries =
     grind (arith, history, carries, carried_reading out answer old new is)
 
--- If the bus stopped at a transaction, `HasStopped` holds: this transaction is the last one in the history, and a
--- well-behaved bus had no transaction left.
 pub read_fails : (outcome : Result Unit Stopped) (out answer : List ℕ) (old new : BusState)
     → Records out answer outcome old new → (old.honest ≡ true → OnErr outcome (Stops out old new))
     → OnErr outcome (HasStopped 1 old new)
@@ -110,7 +98,6 @@ read_fails (Err stop) out answer old new records stops = record {
   };
 }
 
--- a transaction that satisfies `IsReading` isn't a poll
 no_poll : (config : Config) (out : List ℕ) → IsReading out → is_poll out ≡ false
 no_poll config (opcode ∷ []) is = elim (eqb_tells opcode 5) [
   | inl five ↦ absurd (let off = is.reading config 0 in cc)
@@ -118,7 +105,6 @@ no_poll config (opcode ∷ []) is = elim (eqb_tells opcode 5) [
 ]
 no_poll config _ is = refl
 
--- A transaction that satisfies `IsReading` leaves `polled_ready` as it was, because it isn't a poll.
 pub read_keeps_polled_ready : (outcome : Result Unit Stopped) (out answer : List ℕ) (old new : BusState) → IsReading out
     → Records out answer outcome old new → new.polled_ready ≡ old.polled_ready
 read_keeps_polled_ready outcome out answer old new is records =

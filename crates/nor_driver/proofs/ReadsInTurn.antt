@@ -7,24 +7,18 @@ use Rattle.nor_driver.proofs.Readings.{honest_reads_then, honest_reads_more}
 pub use Rattle.nor_driver.proofs.Cuts.{same_then}
 use Rattle.nor_driver.proofs.Cuts.{unchanged_none, unchanged_stays}
 
--- if two successive calls satisfy `OnlyReads` with the bounds `m` and `n`, both together satisfy `OnlyReads` with the
--- bound `m + n`
 pub only_reads_then : (m n : ℕ) (old mid new : BusState) → OnlyReads m old mid → OnlyReads n mid new → OnlyReads (m + n) old new
 only_reads_then m n old mid new first second =
     let nature = nature_then old mid new second.nature first.nature in
     let honest_reads = honest_reads_then m n old mid new first.nature.steady first.nature.punctual in
     grind (arith, nature, honest_reads, first.honest_reads, second.honest_reads)
 
--- a state that did not change satisfies `OnlyReads` with a bound of 0 transactions
 pub only_reads_none : (state : BusState) → OnlyReads 0 state state
 only_reads_none state = search (nature_refl state, unchanged_stays state state (unchanged_none state), arith)
 
--- if a call satisfies `OnlyReads` with the bound `m`, it also satisfies `OnlyReads` with each greater bound `n`
 pub only_reads_more : (m n : ℕ) (old new : BusState) → m ≤ n → OnlyReads m old new → OnlyReads n old new
 only_reads_more m n old new fits only_reads = search (honest_reads_more old new m n fits, only_reads.honest_reads)
 
--- if two successive calls satisfy `OnlyReads` with the bounds `m` and `n`, both together satisfy `OnlyReads` with each
--- bound of at least `m + n`
 pub only_reads_within : {m n : ℕ} (most : ℕ) {old mid new : BusState} → m + n ≤ most → OnlyReads m old mid → OnlyReads n mid new
     → OnlyReads most old new
 only_reads_within {m} {n} most {old} {mid} {new} fits first second =

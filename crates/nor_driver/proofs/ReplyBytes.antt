@@ -11,8 +11,6 @@ use Rattle.nor_model.specs.Chip.{sfdp_byte}
 use Rattle.nor_model.specs.Bus.{BusState}
 use Rattle.nor_driver.specs.Reads.{Replies, unique_of, shown, ReadsUnique, ReadsSfdp, ReadsSector}
 
--- If `bytes` has `len` bytes, and these are the SFDP bytes from the address `at % config.size` on, then `bytes` is
--- `shown config at len`.
 reply_shown : (config : Config) (at len : ℕ) (bytes : List ℕ) → length bytes ≡ len
     → ((i : ℕ) → i < length bytes → slice_index bytes i ≡ sfdp_byte config (at % config.size + i))
     → bytes ≡ shown config at len
@@ -32,8 +30,7 @@ reads_sfdp old new x y z at len answer named long replies = record {
       (λ i below. replies.replied honest i below ∙ rw (idle, named) refl);
 }
 
--- The chip takes addresses modulo its size. If a sector that lies on the chip is read from its start, byte `i` of the
--- reply is still that of the address `4096 * sector + i`.
+-- The chip takes addresses modulo its size, which changes nothing for a sector that lies on it.
 address_in_sector : (size at sector i : ℕ) → at ≡ 4096 * sector → 4096 * (sector + 1) ≤ size → i < 4096
     → (at % size + i) % size ≡ 4096 * sector + i
 address_in_sector size at sector i names inside small =

@@ -8,9 +8,7 @@ use Rattle.nor_model.specs.Bus.{BusState, SameNature, KeepsNature, Records}
 use Rattle.nor_model.proofs.Nature.{nature_by}
 use Rattle.nor_model.proofs.RecordedSent.{records_sent}
 
--- The effect of one transaction on every bus. The transaction satisfies `KeepsNature`, and the list `sent` changed as
--- `RecordsSent` says: `out` was added to this list, unless `out` is empty or begins with a quiet opcode (of a read, or
--- 04h).
+-- The effect of one transaction on every bus. `RecordsSent` says what was added to the list `sent`.
 pub record Sends (out : List ℕ) (old new : BusState) : Type 0 where
   pub nature : KeepsNature old new
   pub sent : RecordsSent out old.sent new.sent
@@ -24,13 +22,11 @@ sends_by same records = record {
   added = records.sent;
 }
 
--- if a transaction succeeded, the new history is the old one with this transaction and its reply added
 pub answered_by : (outcome : Result Unit Stopped) (out answer : List ℕ) (old new : BusState)
     → Records out answer outcome old new → OnOk outcome (new.history ≡ replied out answer ∷ old.history)
 answered_by (Ok done) out answer old new records = records.history
 answered_by (Err stop) out answer old new records = tt
 
--- if a transaction returned `Stopped`, it is the last one in the history, which records that the bus stopped at it
 pub stopped_by : (outcome : Result Unit Stopped) (out answer : List ℕ) (old new : BusState)
     → Records out answer outcome old new → OnErr outcome (EndsStopped new.history)
 stopped_by (Ok done) out answer old new records = tt

@@ -20,25 +20,20 @@ use Rattle.nor_driver.specs.StatusWrites.{fixed_of, with_code, is_status_with_co
 use Rattle.nor_driver.proofs.Limits.{in_none}
 use Rattle.nor_driver.proofs.Taken.{IsFor, asked_at, leaves_as, does_as}
 
--- The non-volatile bits of status 2 after a status write. `kept` has these bits before the write, and `sent` is the
--- second byte that the write sends.
+-- The non-volatile bits of status 2 after a status write that sends `sent` as its second byte.
 abbrev written : ℕ → ℕ → ℕ
 written kept sent = bit_or (bit_and sent 0b1000011) (bit_or (bit_and kept 0b0111100) (bit_and sent 0b0111000))
 
--- if the low six bits of `kept` and `sent` agree, so do bits 2 to 5
 held_as : (kept sent : ℕ) → kept % 64 ≡ sent % 64 → bit_and kept 60 ≡ bit_and sent 60
 held_as kept sent same =
     sym (and_assoc 60 kept 63) ∙ rw (and_mask kept 6, same, ← and_mask sent 6) (and_assoc 60 sent 63)
 
--- if `test` is true for all numbers below `n`, and `i` is below `n`, `test i` is true
 every : (test : ℕ → Bool) (n i : ℕ) → list_all test (range_with_len 0 n) ≡ true → i < n → test i ≡ true
 every test n i all small =
     let at = get_or-range_with_len 0 n i 0 small in
     let below : i < length (range_with_len 0 n) = omega (arith, length-range_with_len 0 n) in
     ap test (omega (arith, at)) ∙ AllPass-from_list_all test (range_with_len 0 n) all i 0 below
 
--- If the low six bits of `kept` and `sent` agree, and bit 7 of `sent` is clear, the non-volatile bits of status 2 after
--- the write are `sent`. The proof checks all 128 values of `sent`.
 written_as : (kept sent : ℕ) → sent < 128 → kept % 64 ≡ sent % 64 → written kept sent ≡ sent
 written_as kept sent small same =
     rw (held_as kept sent same)
@@ -51,8 +46,6 @@ module _ (status : Status) (code : ℕ) (below : code < 64) where
   abbrev two : ℕ
   two = status.two.0 % 64 + 64 * (code / 32)
 
-  -- After a write enable, 01h with the bytes `one` and `two` writes them if `takes_status` is true. Otherwise the chip
-  -- ignores the command.
   asked : (chip : Chip)
       → operation_of chip (1 ∷ one ∷ two ∷ []) ≡ cond (takes_status chip) (WriteStatus one two) Ignored
   asked chip = rw (and-true (is_idle chip)) refl
@@ -62,8 +55,6 @@ module _ (status : Status) (code : ℕ) (below : code < 64) where
 
   module _ (old new : BusState) where
     module _ (fixed : fixed_of old.chip.kept ≡ fixed_of (kept_in (bytes_of status))) where
-      -- If the chip's bits that flashnor never changes are those of `status`, the status write changes only the
-      -- protection bits, to `code`.
       code_there : new.chip.kept ≡ record { one = one / 4; two = written old.chip.kept.two two }
           → new.chip.kept ≡ with_code code old.chip.kept
       code_there kept =

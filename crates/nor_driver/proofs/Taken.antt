@@ -1,5 +1,4 @@
--- The effect of an operation in two cases: the chip carries the operation out, or ignores it. The lemmas derive this
--- effect from the effect of the command that the operation sends.
+-- The effect of an operation that the chip carries out or ignores, derived from the effect of its command.
 use Rattle.std.proofs.Common.{◌≡◌, ◌∙◌, ℕ, Bool, true, cond, List, drop, ap, subst, arith}
 use Rattle.nor_model.specs.declared.command.Command.{Command}
 use Rattle.nor_model.specs.declared.command.Command.TheVariants.{Ignored}
@@ -11,8 +10,7 @@ use Rattle.nor_driver.specs.Operations.{operation_of, MayOperate, HasOperated, C
 use Rattle.nor_driver.proofs.Limits.{sends_more}
 
 -- Holds if `out`, which ends with the data `sent`, is the command of `operation`. After a write enable, the chip
--- carries out `command` if the operation's condition `can` holds for the chip, and nothing if `ignores` holds. The
--- limits of `out` are within those of the operation, with equal numbers of erases, page programs and status writes.
+-- carries out `command` if `operation.can` holds, and nothing if `operation.ignores` holds.
 pub record IsFor (out sent : List ℕ) (command : Command) (operation : ChipOperation) (chip : Chip) : Type 0 where
   pub sectors : (s : ℕ) → (limits_of out).sectors s ≡ true → operation.limits.sectors s ≡ true
   pub status : (one two : ℕ) → (limits_of out).status one two ≡ true → operation.limits.status one two ≡ true
@@ -24,8 +22,6 @@ pub record IsFor (out sent : List ℕ) (command : Command) (operation : ChipOper
   pub takes : operation.can chip → operation_of chip out ≡ command
   pub refuses : operation.ignores chip → operation_of chip out ≡ Ignored
 
--- if `asked` is `command` when `test` is true and otherwise `Ignored`, and `test` equals `value`, `test` can be
--- replaced by `value`
 pub asked_at : (test value : Bool) (command : Command) {asked : Command} → asked ≡ cond test command Ignored
     → test ≡ value → asked ≡ cond value command Ignored
 asked_at test value command asks is = asks ∙ ap (λ (b : Bool). cond b command Ignored) is

@@ -18,18 +18,14 @@ use Rattle.nor_driver.proofs.Cuts.{kept_cut-stay, stays_after}
 abbrev pub Wore : Command → BusState → BusState → Type 0
 Wore command old new = (s : ℕ) → new.worn s ≡ (old.worn s || wears command s)
 
--- a command that is no operation leaves the chip as it was, except for the write enable latch and `busy`
 pub no_operation : (command : Command) (sent answer : List ℕ) (old new : BusState) → is_operation command ≡ false
     → Does command sent old.chip answer new.chip → Wore command old new → Unchanged old new
 no_operation command sent answer old new is does wore = grind (arith, wore, or-false)
-
--- ---- a stop that left the chip as it was, and a stop on a bus that isn't steady
 
 pub record IsAsBefore (old new : BusState) : Type 0 where
   pub chip : new.chip ≡ old.chip
   pub worn : (s : ℕ) → new.worn s ≡ old.worn s
 
--- After a stop, the chip and the record of erased sectors are as they were, or the bus isn't steady.
 pub still_or_torn : (out : List ℕ) (old new : BusState) → AtStop out old new
     → IsAsBefore old new ⊎ ((old.steady ≡ false) × AtStop out old new)
 still_or_torn out old new stop = elim (cases_Bool old.steady) [
@@ -47,10 +43,7 @@ lost_stays : (old new : BusState) → old.steady ≡ false → PowerLost old.chi
     → ((s : ℕ) → new.worn s ≡ old.worn s) → KeepsChip old new
 lost_stays old new unsteady lost worn = grind (arith, lost.bytes, worn)
 
--- ---- a stop at which some bytes of the transaction may have been sent
-
--- The state `old`, but with the chip as it is after the bytes that were sent before the stop, and before a possible
--- power failure. The record of erased sectors is that of `new`.
+-- The state `old`, but with the chip as the bytes sent before the stop left it, before a possible power failure.
 abbrev pub reached : (out : List ℕ) (old new : BusState) → AtStop out old new → BusState
 reached out old new cut = record old { chip = cut.reached; worn = new.worn }
 
@@ -61,16 +54,12 @@ reached_stays out old new unsteady cut = elim cut.chip [
   | inr lost ↦ lost_stays (reached out old new cut) new unsteady lost (λ s. refl)
 ]
 
--- On a bus that isn't steady, a stop satisfies `KeepsChip` if the chip carries out no operation for the bytes that were
--- sent.
 pub none_begun : (out : List ℕ) (old new : BusState) → old.steady ≡ false → (cut : AtStop out old new)
     → is_operation (done_of old.chip (take cut.count out) (length cut.read)) ≡ false → KeepsChip old new
 none_begun out old new unsteady cut none =
     stays_after old (reached out old new cut) new refl
     (no_operation _ _ cut.read old (reached out old new cut) none cut.step cut.worn)
     (reached_stays out old new unsteady cut)
-
--- ---- a stop at a write enable
 
 enable_part : (chip : Chip) (count replies : ℕ) → is_operation (done_of chip (take count (6 ∷ [])) replies) ≡ false
 enable_part chip zero replies = refl
@@ -81,8 +70,6 @@ enable_stays old new stops = elim (still_or_torn _ old new stops.at_stop) [
   | inl still ↦ still_stays old new still
   | inr cut ↦ none_begun (6 ∷ []) old new cut.0 cut.1 (enable_part old.chip cut.1.count (length cut.1.read))
 ]
-
--- ---- a stop at a transaction that begins with a quiet opcode (of a read, or 04h)
 
 -- true if the command begins no operation and does not set the write enable latch
 abbrev pub is_quiet : Command → Bool
@@ -112,8 +99,6 @@ quiet_done : (chip : Chip) (count : ℕ) (out : List ℕ) (replies : ℕ) → be
     → is_quiet (done_of chip (take count out) replies) ≡ true
 quiet_done chip count out replies quiet = grind (arith, quiet_part chip.config count out replies quiet)
 
--- a command that satisfies `is_quiet` is no operation (`quiet_is_none`), and does not set the write enable latch
--- (`quiet_latch`)
 quiet_is_none : (command : Command) → is_quiet command ≡ true → is_operation command ≡ false
 quiet_is_none command quiet = grind arith
 

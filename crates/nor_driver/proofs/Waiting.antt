@@ -10,29 +10,23 @@ use Rattle.nor_driver.specs.Waits.{Polls}
 use Rattle.nor_driver.proofs.Readings.{honest_reads_by}
 use Rattle.nor_driver.proofs.ReadsInTurn.{only_reads_then, only_reads_more}
 
--- a list `bytes` of length 1 is `slice_index bytes 0 ∷ []`
 pub one_byte : (bytes : List ℕ) → length bytes ≡ 1 → bytes ≡ slice_index bytes 0 ∷ []
 one_byte bytes one = ext_get_or 0 bytes (slice_index bytes 0 ∷ []) one
     (λ i below. let first : i ≡ 0 = omega (arith, one, below) in rw first refl)
 
--- If the last transaction of `new` received the reply `answer`, which has one byte, this reply is `slice_index answer 0
--- ∷ []`.
 pub replied_byte : (out answer : List ℕ) (old new : List Exchange) → length answer ≡ 1
     → new ≡ replied out answer ∷ old → new ≡ replied out (slice_index answer 0 ∷ []) ∷ old
 replied_byte out answer old new one is =
     subst (λ (bytes : List ℕ). new ≡ replied out bytes ∷ old) (one_byte answer one) is
 
--- a poll that succeeded satisfies `Answered` for polls, with its status byte as the reply
 pub poll_answered : {old new : BusState} {status : ℕ} → Polls old new status
     → Answered is_poll old.history new.history (status ∷ [])
 poll_answered polls = record { out = 0x05 ∷ []; asks = refl; history = polls.history }
 
--- after a poll that showed BUSY, the history ends with that poll (`EndsBusy`)
 pub ends_busy : {old new : BusState} {status : ℕ} → Polls old new status → status % 2 ≡ 1 → EndsBusy new.history
 ends_busy {old} {new} {status} polls busy =
     record { status = status; earlier = old.history; is = polls.history; busy = busy }
 
--- If `polls` polls succeeded, and one more poll follows and may fail, `OnlyReads` holds with each bound above `polls`.
 pub polled_leaves : (polls most : ℕ) (old mid new : BusState) → polls < most → KeepsNature old mid
     → mid.sent ≡ old.sent → (old.honest ≡ true → Rested old mid) → (old.honest ≡ true → Spent polls old mid)
     → OnlyReads 1 mid new → OnlyReads most old new

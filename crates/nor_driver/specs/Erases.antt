@@ -11,7 +11,6 @@ use Rattle.nor_driver.specs.Units.{sectors_in, has_block, is_aligned, erases_sec
 use Rattle.nor_driver.specs.Limits.{erasing}
 use Rattle.nor_driver.specs.Operations.{ChangesOnly, HasEnded, ChipOperation}
 
--- the number of sectors of `chip`, of 4 KiB each
 abbrev pub sectors_of : Chip → ℕ
 sectors_of chip = chip.config.size / 4096
 
@@ -19,43 +18,35 @@ sectors_of chip = chip.config.size / 4096
 abbrev pub block_length : Chip → Erase → ℕ
 block_length chip erase = 4096 * sectors_in (sectors_of chip) erase.unit
 
--- Holds if the block of `erase` is aligned and lies on `chip`.
 pub record IsOnChip (erase : Erase) (chip : Chip) : Type 0 where
   pub aligned : is_aligned erase.unit erase.sector ≡ true
   pub within : erase.sector + sectors_in (sectors_of chip) erase.unit ≤ sectors_of chip
 
--- Holds if `chip` is idle and can carry out `erase` after a write enable. For this, the block must be aligned and lie
--- on the chip, and the chip must have the erase type and protect no address of the block.
+-- Holds if `chip` is idle and can carry out `erase` after a write enable.
 pub record CanErase (erase : Erase) (chip : Chip) : Type 0 where
   pub on_chip : IsOnChip erase chip
   pub idle : chip.busy ≡ 0
   pub offered : has_block chip.config erase.unit ≡ true
   pub free : is_block_protected chip (4096 * erase.sector) (block_length chip erase) ≡ false
 
--- True if `chip` carries out `erase` after a write enable, provided that the block is aligned and lies on the chip. The
--- chip must be idle, have the erase type, and protect no address of the block.
+-- True if `chip` carries out `erase` after a write enable. The block must be aligned and lie on the chip.
 abbrev pub takes_erase : Chip → Erase → Bool
 takes_erase chip erase =
     is_idle chip && has_block chip.config erase.unit
     && not (is_block_protected chip (4096 * erase.sector) (block_length chip erase))
 
--- true if the sector `s` is in the block that `erase` erases on `chip`
 abbrev pub is_sector_in_block : Erase → Chip → ℕ → Bool
 is_sector_in_block erase chip s = erases_sector (sectors_of chip) s erase
 
--- true if the address `a` is in the block that `erase` erases on `chip`
 abbrev pub is_address_in_block : Erase → Chip → ℕ → Bool
 is_address_in_block erase chip a = is_sector_in_block erase chip (a / 4096)
 
--- True if the sector `s` is in the aligned block that the command of `erase` addresses. For C7h, which has no address,
--- all sectors below 4,096 count as addressed, because the largest chip has 4,096 sectors.
+-- True if the command of `erase` addresses a block with the sector `s`. C7h, without an address, addresses every block.
 abbrev pub is_sector_named : Erase → ℕ → Bool
 is_sector_named erase s = is_in_targeted (block_targeted (sectors_in 4096 erase.unit) erase.sector) s
 
--- The effect, on a well-behaved bus and at every exit, of an erase that the chip can carry out. Bytes outside the erase
--- block and the non-volatile bits are as they were, and no sector outside the block is newly recorded as erased. On a
--- steady bus each byte in the block is as it was or FFh; on any other bus it may have any value. A chip that is still
--- busy executes this erase.
+-- The effect, on a well-behaved bus and at every exit, of an erase that the chip can carry out. On a steady bus each
+-- byte of the block is as it was or FFh; on any other bus it may have any value.
 pub record MayErase (erase : Erase) (old new : BusState) : Type 0 where
   pub config : new.chip.config ≡ old.chip.config
   pub bytes : ChangesOnly old.steady (is_address_in_block erase old.chip) (λ _. 255) old.chip.bytes new.chip.bytes
@@ -63,16 +54,13 @@ pub record MayErase (erase : Erase) (old new : BusState) : Type 0 where
   pub runs : new.chip.busy ≢ 0 → new.chip.running ≡ Runs.Erase (4096 * erase.sector) (block_length old.chip erase)
   pub worn : (s : ℕ) → is_sector_in_block erase old.chip s ≡ false → new.worn s ≡ old.worn s
 
--- The effect, on a well-behaved bus, of an erase that the chip carried out and that has ended. The bytes of the block
--- are FFh, its sectors are recorded as erased, and the write enable latch is clear. All other bytes, the non-volatile
--- bits and the record of other erased sectors are as they were.
+-- The effect, on a well-behaved bus, of an erase that the chip carried out and that has ended.
 abbrev pub HasErased : Erase → (old new : BusState) → Type 0
 HasErased erase old =
     HasEnded (λ a. if is_address_in_block erase old.chip a then 255 else old.chip.bytes a) old.chip.kept
     (λ s. old.worn s || is_sector_in_block erase old.chip s) old
 
--- The operation that performs `erase`. A chip on which the aligned block lies ignores the operation if `takes_erase` is
--- false.
+-- The operation that performs `erase`. A chip on which the block lies ignores it if `takes_erase` is false.
 abbrev pub block_erase : Erase → ChipOperation
 block_erase erase = record {
   limits = erasing (is_sector_named erase) 1;
@@ -82,8 +70,7 @@ block_erase erase = record {
   has = HasErased erase;
 }
 
--- Holds if, since `old`, the bus was asked to send a write enable and then an erase command, and nothing else that may
--- modify a chip. The erase command targets each sector of the block that `erase` addresses (`is_sector_named`).
+-- Holds if a write enable and this erase are the only transactions since `old` that may modify a chip.
 pub record SendsErase (erase : Erase) (old new : BusState) : Type 0 where
   pub out : List ℕ
   pub added : new.sent ≡ out ∷ (0x06 ∷ []) ∷ old.sent

@@ -5,9 +5,8 @@ use Rattle.nor_model.specs.Sent.{Sent, targets, begins_erase, begins_program, be
 use Rattle.nor_model.specs.Bus.{BusState, KeepsNature}
 use Rattle.nor_driver.specs.OnlyReads.{Falls}
 
--- Limits on modifying commands. They limit the sectors that erases and page programs may target, and the two bytes that
--- a status write may send. They also limit the numbers of erases, page programs and status writes. Write enables are
--- not limited.
+-- Limits on modifying commands: the sectors that erases and page programs may target, the two bytes that a status write
+-- may send, and the numbers of these commands. Write enables are not limited.
 pub record Limits : Type 0 where
   pub sectors : ℕ → Bool
   pub status : (one two : ℕ) → Bool
@@ -15,23 +14,18 @@ pub record Limits : Type 0 where
   pub programs : ℕ
   pub status_writes : ℕ
 
--- the empty set of sectors
 abbrev pub no_sector : ℕ → Bool
 no_sector s = false
 
--- the empty set of pairs of status bytes
 abbrev pub no_status : (one two : ℕ) → Bool
 no_status one two = false
 
--- the limits that allow at most `n` erases, each of them only within `sectors`
 abbrev pub erasing : (sectors : ℕ → Bool) → (n : ℕ) → Limits
 erasing sectors n = record { sectors = sectors; status = no_status; erases = n; programs = 0; status_writes = 0 }
 
--- the limits that allow at most `n` page programs, each of them only within `sectors`
 abbrev pub programming : (sectors : ℕ → Bool) → (n : ℕ) → Limits
 programming sectors n = record { sectors = sectors; status = no_status; erases = 0; programs = n; status_writes = 0 }
 
--- the limits that allow at most `n` status writes, each of them only with a pair of bytes for which `status` is true
 abbrev pub writing : (status : (one two : ℕ) → Bool) → (n : ℕ) → Limits
 writing status n = record { sectors = no_sector; status = status; erases = 0; programs = 0; status_writes = n }
 
@@ -45,11 +39,8 @@ limits_of out = record {
   status_writes = if begins_status_write out then 1 else 0;
 }
 
--- Holds if what was sent from the state `old` to the state `new` is within `limits`. A sector outside `limits.sectors`
--- was targeted by an erase or program only if it had been targeted before `old` too. A pair of bytes outside
--- `limits.status` was sent by a status write only if it had been sent before `old` too. The numbers of erases, page
--- programs and status writes grew by at most those of `limits`. A transaction that the model doesn't know was sent only
--- if one had been sent before `old` too.
+-- Holds if what was sent from `old` to `new` is within `limits`. A transaction that the model doesn't know was sent
+-- only if one had been sent before `old` too.
 pub record SendsWithin (limits : Limits) (old new : BusState) : Type 0 where
   pub targeted : (s : ℕ) → (is_targeted new.sent s ≡ is_targeted old.sent s) ⊎ (limits.sectors s ≡ true)
   pub written : (one two : ℕ)
@@ -59,9 +50,8 @@ pub record SendsWithin (limits : Limits) (old new : BusState) : Type 0 where
   pub status_writes : status_writes_of new.sent ≤ status_writes_of old.sent + limits.status_writes
   pub unknown : has_unknown new.sent ≡ has_unknown old.sent
 
--- Holds if, since the state `old`, the bus was asked to send exactly the given numbers of erases, page programs and
--- status writes. They are counted by their opcodes. `later` lists all transactions that were sent since `old` and may
--- modify a chip, the last one first.
+-- Holds if, since `old`, the bus was asked to send exactly these numbers of erases, page programs and status writes,
+-- counted by their opcodes.
 pub record SendsExactly (erases programs status_writes : ℕ) (old new : BusState) : Type 0 where
   pub later : Sent
   pub added : new.sent ≡ later ++ old.sent
@@ -69,16 +59,13 @@ pub record SendsExactly (erases programs status_writes : ℕ) (old new : BusStat
   pub programmed : programs_of new.sent ≡ programs_of old.sent + programs
   pub wrote_status : status_writes_of new.sent ≡ status_writes_of old.sent + status_writes
 
--- Holds at every exit of a call that needs at most `most` transactions. On every bus `KeepsNature` holds: the history
--- continues the earlier one, and no allowance was set. On a well-behaved bus, at most `most` transactions were carried
--- out.
+-- Holds at every exit of a call that needs at most `most` transactions on a well-behaved bus.
 pub record Spends (most : ℕ) (old new : BusState) : Type 0 where
   pub nature : KeepsNature old new
   pub falls : old.honest ≡ true → Falls most old new
 
--- Holds at every exit of a call. On every bus, `KeepsNature` holds and the modifying commands that were sent are within
--- `limits`. On a well-behaved bus, at most `most` transactions were carried out. If the bus is well-behaved and `Can`
--- held for the chip before the call, `May` holds for the states before and after the call.
+-- Holds at every exit of a call: its modifying commands are within `limits`. A well-behaved bus carried out at most
+-- `most` transactions and, if `Can` held for its chip before the call, `May` relates the states before and after it.
 pub record Leaves (most : ℕ) (limits : Limits) (Can : Chip → Type 0) (May : BusState → BusState → Type 0)
     (old new : BusState) : Type 0 where
   pub spends : Spends most old new

@@ -28,7 +28,6 @@ abbrev pub IsCommandAt : (opcode at : ℕ) → (sent command : List ℕ) → Typ
 IsCommandAt opcode at sent command =
     (x : ℕ) × (y : ℕ) × (z : ℕ) × (65536 * x + 256 * y + z ≡ at) × (command ≡ opcode ∷ x ∷ y ∷ z ∷ sent)
 
--- true if the command is an operation or `Ignored`
 abbrev pub is_operation_or_none : Command → Bool
 is_operation_or_none (WriteStatus one two) = true
 is_operation_or_none (Program at) = true
@@ -36,9 +35,8 @@ is_operation_or_none (Erase start len) = true
 is_operation_or_none Ignored = true
 is_operation_or_none _ = false
 
--- Holds if the bytes `out` ask every chip for an operation or for nothing, when no reply byte is read. Each prefix of
--- `out` asks for the same operation or for nothing, for any number of reply bytes. The model knows the transaction, and
--- every well-behaved bus accepts its length.
+-- Holds if the bytes `out` ask every chip for an operation or for nothing, and each prefix of `out` for the same
+-- operation or for nothing.
 pub record AsksForOperation (out : List ℕ) : Type 0 where
   pub known : is_unknown_to_model out ≡ false
   pub whole : (config : Config) → is_operation_or_none (command_of config out 0) ≡ true
@@ -46,23 +44,20 @@ pub record AsksForOperation (out : List ℕ) : Type 0 where
       ⊎ (command_of config (take count out) replies ≡ command_of config out 0)
   pub short : length out ≤ 260
 
--- Holds if each byte is as it was, except at addresses for which `addresses` is true. At such an address the byte may
--- have changed: on a steady bus to the byte of `wanted`, on any other bus to any value.
+-- Holds if only bytes at `addresses` may have changed: on a steady bus to the byte of `wanted`, otherwise to any value.
 abbrev pub ChangesOnly : Bool → (ℕ → Bool) → (wanted old new : ℕ → ℕ) → Type 0
 ChangesOnly steady addresses wanted old new =
     (a : ℕ) → (new a ≡ old a) ⊎ ((addresses a ≡ true) × (steady ≡ true → new a ≡ wanted a))
 
--- The effect, on a well-behaved bus, of an operation that the chip ignored and whose wait succeeded. Configuration,
--- bytes, non-volatile bits and the record of erased sectors are as they were. The write enable latch is set if the chip
+-- The effect, on a well-behaved bus, of an operation that the chip ignored. The write enable latch is set if the chip
 -- was idle before the operation, and clear if the chip was busy.
 pub record HasIgnored (old new : BusState) : Type 0 where
   pub same : IsSame old.chip new.chip
   pub worn : (s : ℕ) → new.worn s ≡ old.worn s
   pub latch : new.chip.latch ≡ is_idle old.chip
 
--- Holds if exactly the `sent` transactions of an operation were sent, and each received a reply: a write enable, the
--- command, and the polls of a wait. The last poll showed that the chip is ready, and all polls before it showed BUSY
--- (`PollsUntilReady`). No reply byte was read for the write enable and the command.
+-- Holds if exactly the `sent` transactions of an operation were sent: a write enable, the command, and polls. Only the
+-- last poll showed that the chip is ready.
 pub record SendsOperation (old new : BusState) (sent : ℕ) : Type 0 where
   pub command : List ℕ
   pub waited : Waited
@@ -70,9 +65,8 @@ pub record SendsOperation (old new : BusState) (sent : ℕ) : Type 0 where
   pub history : PollsUntilReady (replied command [] ∷ replied (0x06 ∷ []) [] ∷ old.history) new.history waited
   pub count : sent ≡ waited.polls + 2
 
--- Holds if an operation succeeded with `sent` transactions. On every bus exactly these transactions were sent
--- (`SendsOperation`), from 3 to 65,538. The operation ended with the first poll that showed that the chip is ready. On
--- a well-behaved bus `sent` fewer transactions are left, and the chip is idle.
+-- Holds if an operation succeeded with `sent` transactions, from 3 to 65,538. On a well-behaved bus the chip is then
+-- idle.
 pub record EndsWaiting (old new : BusState) (sent : ℕ) : Type 0 where
   pub sends : SendsOperation old new sent
   pub least : 3 ≤ sent
@@ -81,16 +75,13 @@ pub record EndsWaiting (old new : BusState) (sent : ℕ) : Type 0 where
   pub count : old.honest ≡ true → Spent sent old new
   pub idle : old.honest ≡ true → new.chip.busy ≡ 0
 
--- The command that `chip` carries out if it receives `out` after a write enable, or `Ignored` if it carries out none.
--- The write enable sets the latch of an idle chip.
+-- The command that `chip` carries out if it receives `out` after a write enable, or `Ignored` for none.
 abbrev pub operation_of : Chip → List ℕ → Command
 operation_of chip out = done_of (record chip { latch = true }) out 0
 
--- The effect, on a well-behaved bus and at every exit, of an operation that an idle chip can carry out. Bytes on which
--- the operation doesn't work are as they were. On a steady bus each other byte is as before or as after the operation;
--- on any other bus it may have any value. The non-volatile bits are those from before or those from after the
--- operation. A chip that is still busy executes this operation. Only sectors that the operation erases may be newly
--- recorded as erased.
+-- The effect, on a well-behaved bus and at every exit, of an operation that an idle chip can carry out. On a steady bus
+-- each byte on which the operation works is as before or after it; on any other bus it may have any value. The
+-- non-volatile bits are those from before or those from after the operation.
 pub record MayOperate (command : Command) (sent : List ℕ) (old new : BusState) : Type 0 where
   pub config : new.chip.config ≡ old.chip.config
   pub bytes : ChangesOnly old.steady (is_in_work (running_after old.chip command))
@@ -99,9 +90,7 @@ pub record MayOperate (command : Command) (sent : List ℕ) (old new : BusState)
   pub runs : new.chip.busy ≢ 0 → new.chip.running ≡ running_after old.chip command
   pub worn : (s : ℕ) → wears command s ≡ false → new.worn s ≡ old.worn s
 
--- Holds if, on a well-behaved bus, an operation has ended with these results. The chip has the bytes `content` and the
--- non-volatile bits `bits`, and exactly the sectors of `erased` are recorded as erased. The configuration is as it was,
--- and the write enable latch is clear.
+-- Holds if an operation on a well-behaved bus has ended with these bytes, non-volatile bits and erased sectors.
 pub record HasEnded (content : ℕ → ℕ) (bits : KeptBits) (erased : ℕ → Bool) (old new : BusState) : Type 0 where
   pub config : new.chip.config ≡ old.chip.config
   pub bytes : (a : ℕ) → new.chip.bytes a ≡ content a
@@ -109,15 +98,14 @@ pub record HasEnded (content : ℕ → ℕ) (bits : KeptBits) (erased : ℕ → 
   pub worn : (s : ℕ) → new.worn s ≡ erased s
   pub latch : new.chip.latch ≡ false
 
--- The effect, on a well-behaved bus, of an operation that an idle chip carried out and that has ended. Bytes,
--- non-volatile bits and the record of erased sectors are as after `command`, and the write enable latch is clear.
+-- The effect, on a well-behaved bus, of an operation that an idle chip carried out and that has ended.
 abbrev pub HasOperated : Command → (sent : List ℕ) → (old new : BusState) → Type 0
 HasOperated command sent old =
     HasEnded (byte_after old.chip command sent) (kept_after old.chip command) (λ s. old.worn s || wears command s) old
 
--- An operation. A chip carries it out if `can` holds for the chip, and ignores it if `ignores` holds. The modifying
--- commands of the operation are within `limits`. On a well-behaved bus whose chip satisfies `can`, `may` relates the
--- states before and after the operation at every exit, and `has` relates them after success.
+-- An operation. A chip carries it out if `can` holds for the chip, and ignores it if `ignores` holds. If `can` held on
+-- a well-behaved bus, `may` relates the states before the operation and at every exit, `has` those before and after
+-- success.
 pub record ChipOperation : Type 1 where
   pub limits : Limits
   pub can : Chip → Type 0
@@ -125,19 +113,15 @@ pub record ChipOperation : Type 1 where
   pub may : (old new : BusState) → Type 0
   pub has : (old new : BusState) → Type 0
 
--- The effect of `operation` at every exit. `Leaves` holds: what was sent is within the operation's limits, and on a
--- well-behaved bus at most 65,538 transactions were carried out. The bus has been asked to send at least one
--- transaction that begins with a modifying opcode, in this call or before it. On a well-behaved bus whose chip ignores
--- the operation, `KeepsChip` holds.
+-- The effect of `operation` at every exit. The bus has been asked to send a modifying command, in this call or before
+-- it. On a well-behaved bus whose chip ignores the operation, `KeepsChip` holds.
 pub record LeavesOperation (operation : ChipOperation) (old new : BusState) : Type 0 where
   pub leaves : Leaves most_operation operation.limits operation.can operation.may old new
   pub stirred : is_stirred new.sent ≡ true
   pub ignored : old.honest ≡ true → operation.ignores old.chip → KeepsChip old new
 
--- The effect of `operation` if it succeeded with `sent` transactions. On every bus the last poll showed that the chip
--- is ready (`EndsWaiting`). The numbers of erases, page programs and status writes that were sent are exactly those of
--- the operation's limits (`SendsExactly`). On a well-behaved bus `has` holds if the chip can carry the operation out,
--- and `HasIgnored` holds if the chip ignores it.
+-- The effect of `operation` if it succeeded with `sent` transactions. The numbers of erases, page programs and status
+-- writes that were sent are exactly those of its limits.
 pub record Operates (operation : ChipOperation) (old new : BusState) (sent : ℕ) : Type 0 where
   pub ends : EndsWaiting old new sent
   pub sends : SendsExactly operation.limits.erases operation.limits.programs operation.limits.status_writes old new

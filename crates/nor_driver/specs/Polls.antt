@@ -10,16 +10,14 @@ use Rattle.nor_driver.specs.declared.waits.Waited.{Waited}
 abbrev pub is_busy_poll : Exchange → Bool
 is_busy_poll exchange = is_poll exchange.out && not (shows_ready (bytes_or_none exchange.reply))
 
--- the number of polls in the history that showed BUSY
 abbrev pub busy_polls : List Exchange → ℕ
 busy_polls history = count_by is_busy_poll history
 
--- a poll that received the one byte `status`
 abbrev pub poll_of : (status : ℕ) → Exchange
 poll_of status = replied (0x05 ∷ []) (status ∷ [])
 
--- Holds if exactly the polls of `waited` were added to the history `old`, and nothing else. Each poll received one
--- byte. The last poll received `waited.status1`, which shows that the chip is ready. All polls before it showed BUSY.
+-- Holds if exactly the polls of `waited` were added to the history `old`. Only the last one showed that the chip is
+-- ready.
 pub record PollsUntilReady (old new : List Exchange) (waited : Waited) : Type 0 where
   -- The bytes that the polls before the last one received, the latest first.
   pub busy : List ℕ
@@ -28,8 +26,7 @@ pub record PollsUntilReady (old new : List Exchange) (waited : Waited) : Type 0 
   pub ready : waited.status1 % 2 ≡ 0
   pub is : new ≡ poll_of waited.status1 ∷ (map poll_of busy ++ old)
 
--- Holds if `new` has exactly `sent` transactions more than `old`, and at most `others` of these aren't polls that
--- showed BUSY. (`KeepsNature` says that `new` continues `old`.)
+-- Holds if `new` has `sent` transactions more than `old`, and at most `others` of these aren't polls that showed BUSY.
 pub record AddsTransactions (sent others : ℕ) (old new : List Exchange) : Type 0 where
   pub all : length new ≡ length old + sent
   pub few_others : sent + busy_polls old ≤ others + busy_polls new

@@ -9,35 +9,30 @@ use Rattle.nor_model.specs.Bus.{BusState}
 use Rattle.nor_driver.specs.Limits.{programming}
 use Rattle.nor_driver.specs.Operations.{ChangesOnly, HasEnded, ChipOperation}
 
--- Holds if `chip` can carry out a program of `len` bytes at the address `at`: it is idle, the range lies on it, and the
--- address `at` isn't protected.
+-- Holds if `chip` can carry out a program of `len` bytes at the address `at`.
 pub record CanProgram (at len : ℕ) (chip : Chip) : Type 0 where
   pub idle : chip.busy ≡ 0
   pub inside : at + len ≤ chip.config.size
   pub free : is_protected chip at ≡ false
 
--- True if `chip` carries out a program at the address `at`, which must lie on the chip, after a write enable. The chip
--- must be idle and must not protect `at`.
+-- True if `chip` carries out a program at the address `at`, which must lie on the chip, after a write enable.
 abbrev pub takes_program : Chip → ℕ → Bool
 takes_program chip at = is_idle chip && not (is_protected chip at)
 
--- The byte at the address `a` after `sent` was programmed from the address `at` on, within one page. If `sent` has a
--- byte for `a`, the result is the old byte ANDed with that byte; otherwise the result is the old byte.
+-- The byte at the address `a` after `sent` was programmed within one page from the address `at` on: the old byte ANDed
+-- with the byte of `sent` for `a`, if there is one.
 abbrev pub programmed : ℕ → List ℕ → (ℕ → ℕ) → ℕ → ℕ
 programmed at sent old a =
     if nat_le at a && nat_lt a (at + length sent) then bit_and (old a) (slice_index sent (a - at)) else old a
 
--- true if the address `at` lies in the sector `s`
 abbrev pub is_sector_of : (at s : ℕ) → Bool
 is_sector_of at s = is_in_targeted (block_targeted 1 (at / 4096)) s
 
--- true if the address `a` lies in the same page as `at`
 abbrev pub is_in_page : (at a : ℕ) → Bool
 is_in_page at a = a / 256 == at / 256
 
--- The effect, on a well-behaved bus and at every exit, of a program that the chip can carry out. Bytes outside the
--- page, non-volatile bits and the record of erased sectors are as they were. On a steady bus each byte in the page is
--- as it was or as programmed; on any other bus it may have any value. A chip that is still busy executes this program.
+-- The effect, on a well-behaved bus and at every exit, of a program that the chip can carry out. On a steady bus each
+-- byte in the page is as it was or as programmed; on any other bus it may have any value.
 pub record MayProgram (at : ℕ) (sent : List ℕ) (old new : BusState) : Type 0 where
   pub config : new.chip.config ≡ old.chip.config
   pub bytes : ChangesOnly old.steady (is_in_page at) (programmed at sent old.chip.bytes) old.chip.bytes new.chip.bytes
@@ -45,14 +40,11 @@ pub record MayProgram (at : ℕ) (sent : List ℕ) (old new : BusState) : Type 0
   pub runs : new.chip.busy ≢ 0 → new.chip.running ≡ Runs.Program (at / 256)
   pub worn : (s : ℕ) → new.worn s ≡ old.worn s
 
--- The effect, on a well-behaved bus, of a program that the chip carried out and that has ended. The bytes are as
--- programmed, and the write enable latch is clear. All other bytes, the non-volatile bits and the record of erased
--- sectors are as they were.
+-- The effect, on a well-behaved bus, of a program that the chip carried out and that has ended.
 abbrev pub HasProgrammed : (at : ℕ) → (sent : List ℕ) → (old new : BusState) → Type 0
 HasProgrammed at sent old = HasEnded (programmed at sent old.chip.bytes) old.chip.kept old.worn old
 
--- The operation that programs `sent` from the address `at` on. A chip on which `at` lies ignores the operation if
--- `takes_program` is false.
+-- The operation that programs `sent` from the address `at` on. A chip ignores it if `takes_program` is false.
 abbrev pub page_program : (at : ℕ) → (sent : List ℕ) → ChipOperation
 page_program at sent = record {
   limits = programming (is_sector_of at) 1;

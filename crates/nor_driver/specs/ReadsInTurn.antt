@@ -4,10 +4,8 @@ use Rattle.nor_model.specs.Bus.{BusState, KeepsNature}
 use Rattle.nor_driver.specs.OnlyReads.{Rested, Spent}
 use Rattle.nor_driver.specs.Ready.{StaysReady}
 
--- Holds after `reads` successive reads that succeeded, if none of them was a poll that showed BUSY. On every bus, no
--- transaction that may modify a chip was sent, no allowance was set (`KeepsNature`), and `polled_ready` is still true
--- if it was true before (`StaysReady`). On a well-behaved bus, the reads changed nothing of the chip except `busy` and
--- the write enable latch (`Rested`), and exactly `reads` fewer transactions are left.
+-- Holds after `reads` successive reads that succeeded, if none of them was a poll that showed BUSY. On a well-behaved
+-- bus, they changed nothing of the chip except `busy` and the write enable latch.
 pub record HasOnlyRead (reads : ℕ) (old new : BusState) : Type 0 where
   pub nature : KeepsNature old new
   pub same_sent : new.sent ≡ old.sent

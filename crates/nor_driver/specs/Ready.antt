@@ -2,6 +2,5 @@
 use Rattle.std.specs.Prelude.{◌≡◌, true}
 use Rattle.nor_model.specs.Bus.{BusState}
 
--- if `polled_ready` was true before the call, it is true after the call
 abbrev pub StaysReady : (old new : BusState) → Type 0
 StaysReady old new = old.polled_ready ≡ true → new.polled_ready ≡ true

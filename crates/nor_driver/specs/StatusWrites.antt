@@ -1,5 +1,4 @@
--- The effect of a status write. The write sends the protection bits `code`, and takes the bits that flashnor never
--- changes from `status`.
+-- The effect of a status write, which sends the protection bits `code` and all other bits as in `status`.
 use Rattle.std.specs.Prelude.{◌≡◌, ◌≢◌, ◌+◌, ◌*◌, ◌/◌, ◌%◌, ◌==◌, ◌&&◌, ◌⊎◌, ℕ, Bool, false, not}
 use Rattle.nor_model.specs.declared.running.Running.TheVariants as Runs
 use Rattle.nor_model.specs.declared.status.Status.{Status}
@@ -14,11 +13,9 @@ use Rattle.nor_driver.specs.Operations.{HasEnded, ChipOperation}
 abbrev pub fixed_of : KeptBits → ℕ × ℕ
 fixed_of kept = (srp0_bit kept, lb3_to_srp1 kept)
 
--- the bit CMP of the protection bits `code`, which are below 64: 1 if it is set, otherwise 0
 abbrev pub cmp_of : (code : ℕ) → ℕ
 cmp_of code = code / 32
 
--- SEC, TB, BP2, BP1 and BP0 of the protection bits `code`, as a number below 32
 abbrev pub sec_to_bp0_of : (code : ℕ) → ℕ
 sec_to_bp0_of code = code % 32
 
@@ -29,13 +26,11 @@ with_code code kept = record {
   two = 64 * cmp_of code + lb3_to_srp1 kept;
 }
 
--- True if a status write with the bytes `one` and `two` sends `status` with its protection bits replaced by `code`. The
--- bits that flashnor never changes are as in `status`. BUSY, WEL and (for a code below 64) SUS are clear.
+-- True if the bytes `one` and `two` of a status write are `status` with its protection bits replaced by `code`.
 abbrev pub is_status_with_code : Status → (code one two : ℕ) → Bool
 is_status_with_code status code one two =
     one == 128 * (status.one.0 / 128) + 4 * (code % 32) && two == status.two.0 % 64 + 64 * (code / 32)
 
--- Holds if `chip` is idle, its status isn't locked, and its bits that flashnor never changes are those of `status`.
 pub record CanWriteStatus (status : Status) (chip : Chip) : Type 0 where
   pub idle : chip.busy ≡ 0
   pub open_to : is_locked chip.kept ≡ false
@@ -45,9 +40,8 @@ pub record CanWriteStatus (status : Status) (chip : Chip) : Type 0 where
 abbrev pub takes_status : Chip → Bool
 takes_status chip = is_idle chip && not (is_locked chip.kept)
 
--- The effect, on a well-behaved bus and at every exit, of a status write that the chip can carry out. Bytes and the
--- record of erased sectors are as they were. Either all non-volatile bits are as they were, or only the protection bits
--- changed, to `code`. A chip that is still busy executes this status write.
+-- The effect, on a well-behaved bus and at every exit, of a status write that the chip can carry out. Only the
+-- protection bits may have changed, to `code`.
 pub record MayWriteStatus (code : ℕ) (old new : BusState) : Type 0 where
   pub config : new.chip.config ≡ old.chip.config
   pub bytes : (a : ℕ) → new.chip.bytes a ≡ old.chip.bytes a
@@ -55,14 +49,11 @@ pub record MayWriteStatus (code : ℕ) (old new : BusState) : Type 0 where
   pub runs : new.chip.busy ≢ 0 → new.chip.running ≡ Runs.StatusWrite old.chip.kept.one old.chip.kept.two
   pub worn : (s : ℕ) → new.worn s ≡ old.worn s
 
--- The effect, on a well-behaved bus, of a status write that the chip carried out and that has ended. The protection
--- bits are those of `code`, and the write enable latch is clear. The other non-volatile bits, the bytes and the record
--- of erased sectors are as they were.
+-- The effect, on a well-behaved bus, of a status write that the chip carried out and that has ended.
 abbrev pub HasWrittenStatus : (code : ℕ) → (old new : BusState) → Type 0
 HasWrittenStatus code old = HasEnded old.chip.bytes (with_code code old.chip.kept) old.worn old
 
--- The operation that writes the protection bits `code`, and all other non-volatile bits as in `status`. A chip ignores
--- the operation if `takes_status` is false.
+-- The operation that writes `code` and all other bits as in `status`. A chip ignores it if `takes_status` is false.
 abbrev pub status_write : Status → (code : ℕ) → ChipOperation
 status_write status code = record {
   limits = writing (is_status_with_code status code) 1;

@@ -12,22 +12,19 @@ opcode_of Block32 = 0x52
 opcode_of Block64 = 0xD8
 opcode_of Chip = 0xC7
 
--- the number of sectors in the block, on a chip with `total` sectors
 abbrev pub sectors_in : (total : ℕ) → EraseBlock → ℕ
 sectors_in total Sector = 1
 sectors_in total Block32 = 8
 sectors_in total Block64 = 16
 sectors_in total Chip = total
 
--- true if a chip with this configuration has this erase type
 abbrev pub has_block : Config → EraseBlock → Bool
 has_block config Sector = true
 has_block config Block32 = config.kinds.k32
 has_block config Block64 = config.kinds.k64
 has_block config Chip = true
 
--- True if the block may begin at the sector with the number `sector`. A 4 KiB block may begin at any sector, a 32 or 64
--- KiB block at a multiple of its size, and the whole chip only at sector 0.
+-- True if a block of this kind may begin at `sector`: at a multiple of its size, and the whole chip only at 0.
 abbrev pub is_aligned : EraseBlock → (sector : ℕ) → Bool
 is_aligned Sector sector = true
 is_aligned Block32 sector = sector % 8 == 0

@@ -11,8 +11,8 @@ use Rattle.nor_driver.specs.declared.waits.Waited.{Waited}
 use Rattle.nor_driver.specs.OnlyReads.{Rested, Spent, RanOut}
 use Rattle.nor_driver.specs.Polls.{PollsUntilReady}
 
--- The effect, on a well-behaved bus, of one poll: `status` is status 1 as it was before the poll. A chip that was busy
--- will show BUSY in one poll fewer, and the poll that shows the last BUSY clears the write enable latch.
+-- The effect, on a well-behaved bus, of one poll: `status` is status 1 before it. A busy chip will show BUSY in one
+-- poll fewer, and the poll that shows the last BUSY clears the write enable latch.
 pub record HasPolled (old new : BusState) (status : ℕ) : Type 0 where
   pub rested : Rested old new
   pub status1 : status ≡ status1_of old.chip
@@ -20,18 +20,16 @@ pub record HasPolled (old new : BusState) (status : ℕ) : Type 0 where
   pub latch : new.chip.latch ≡ (if old.chip.busy == 1 then false else old.chip.latch)
   pub count : Spent 1 old new
 
--- Holds if a poll succeeded and received `status`. On a well-behaved bus, `HasPolled` states the effect of the poll.
+-- Holds if a poll succeeded and received `status`.
 pub record Polls (old new : BusState) (status : ℕ) : Type 0 where
   pub history : new.history ≡ replied (0x05 ∷ []) (status ∷ []) ∷ old.history
   pub done : old.honest ≡ true → HasPolled old new status
 
--- the write enable latch of `chip` after a wait: as before if the chip was idle, otherwise clear, because the operation
--- in progress has ended
+-- The write enable latch of `chip` after a wait. The end of an operation in progress clears it.
 abbrev pub latch_when_idle : Chip → Bool
 latch_when_idle chip = if chip.busy == 0 then chip.latch else false
 
--- The effect, on a well-behaved bus, of a wait that succeeded. The wait made `old.chip.busy + 1` polls: each of them
--- showed BUSY, except the last one. `status1` is status 1 of the chip after the wait.
+-- The effect, on a well-behaved bus, of a wait that succeeded with `old.chip.busy + 1` polls.
 pub record HasWaited (old new : BusState) (waited : Waited) : Type 0 where
   pub rested : Rested old new
   pub idle : new.chip.busy ≡ 0
@@ -40,10 +38,8 @@ pub record HasWaited (old new : BusState) (waited : Waited) : Type 0 where
   pub polls : waited.polls ≡ old.chip.busy + 1
   pub count : Spent waited.polls old new
 
--- Holds if a wait succeeded. On every bus the wait made from 1 to 65,536 polls, and sent nothing else. It ended with
--- the first poll that showed that the chip is ready (`PollsUntilReady`), and this poll received `status1`. For each
--- test that is false for every poll, the last reply to a transaction that passes the test is as before
--- (`keeps_other_replies`). On a well-behaved bus, `HasWaited` states the effect of the wait.
+-- Holds if a wait succeeded, with 1 to 65,536 polls. `keeps_other_replies`: for each test that is false for every poll,
+-- the last reply to a transaction that passes the test is as before.
 pub record Waits (old new : BusState) (waited : Waited) : Type 0 where
   pub history : PollsUntilReady old.history new.history waited
   pub keeps_other_replies : KeepsReplies is_poll old.history new.history
@@ -59,22 +55,19 @@ abbrev pub NamesTimeout : ℕ → OperationError → Type 0
 NamesTimeout at Stopped = ⊤
 NamesTimeout at (Timeout address) = address ≡ at
 
--- Holds if the last transaction in `history` is the one that caused the error. `Stopped`: the bus stopped at this
--- transaction. `Timeout`: this transaction was a poll that showed BUSY.
+-- Holds if the last transaction in `history` caused the error: for `Timeout`, a poll that showed BUSY.
 abbrev pub EndsAt : OperationError → List Exchange → Type 0
 EndsAt Stopped history = EndsStopped history
 EndsAt (Timeout address) history = EndsBusy history
 
--- Holds if a call that waits returned `error`. On every bus nothing was sent after the transaction that caused the
--- error (`EndsAt`). On a well-behaved bus the error is `Stopped`: fewer than `needed` transactions were left, and all
--- of these were carried out.
+-- Holds if a call that waits returned `error`. Nothing was sent after the transaction that caused it. On a well-behaved
+-- bus the error is `Stopped`; a punctual bus had fewer than `needed` transactions left.
 pub record OperationFails (needed : ℕ) (old new : BusState) (error : OperationError) : Type 0 where
   pub last : EndsAt error new.history
   pub stopped : old.honest ≡ true → error ≡ Stopped
   pub ran_out : old.honest ≡ true → RanOut needed old new
 
--- Holds if a wait returned `error`. On every bus, if the error is a timeout, it contains the address `at`. On a
--- well-behaved bus the error is `Stopped`: the wait needed `busy + 1` transactions, and fewer were left.
+-- Holds if a wait returned `error`. A timeout contains the address `at`. On a well-behaved bus the error is `Stopped`.
 pub record WaitFails (at : ℕ) (old new : BusState) (error : OperationError) : Type 0 where
   pub names : NamesTimeout at error
   pub fails : OperationFails 65536 old new error

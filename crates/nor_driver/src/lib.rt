@@ -19,10 +19,6 @@
 //! assert_eq!(rt; sector[0x100], 0xA5);
 //! ```
 //!
-//! `specs/OnlyReads.antt` defines the effect of functions that only read. `specs/Waits.antt` and `specs/Reads.antt`
-//! define what these functions return. `specs/Programs.antt`, `specs/Erases.antt` and `specs/StatusWrites.antt` define
-//! the effect of operations.
-//!
 //! - `waits.rt`: polls, and waits until the chip is ready
 //! - `reads.rt`: reads the ID, status 2, the unique ID, SFDP bytes and sectors
 //! - `operations.rt`: programs, erases and status writes

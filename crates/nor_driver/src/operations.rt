@@ -1,5 +1,4 @@
-//! Operations. Each one sends a write enable and a command that modifies the chip, and then waits until the chip is
-//! ready.
+//! Operations: each sends a write enable and a modifying command, and then waits until the chip is ready.
 
 ghost use Rattle.std.specs.Prelude.{◌≡◌, ◌<◌, ◌≤◌, ◌+◌, ◌*◌, ◌%◌, ◌^◌, true, [], ◌∷◌, length, IfOk, IfErr, OnOk};
 ghost use Rattle.nor_model.specs.Sent.{with_sent};
@@ -14,21 +13,18 @@ use crate::{Erase, EraseBlock, OperationError, wait};
 use arrayvec::ArrayVec;
 use nor_model::{Bus, Status};
 
-// The opcodes of modifying commands. The opcodes of erases are in `units.rt`.
 const WRITE_STATUS: u8 = 0x01;
 
 const PAGE_PROGRAM: u8 = 0x02;
 
 const WRITE_ENABLE: u8 = 0x06;
 
-/// Programs `bytes` from `address` on (02h), and waits until the chip is ready. Returns the number of transactions.
+/// Programs `bytes` from `address` on (02h; W25Q64FV datasheet, Page Program), and waits until the chip is ready.
+/// `bytes` must not be empty and must lie in one page of 256 bytes. Returns the number of transactions, even if a busy
+/// chip or one that protects `address` ignores the program.
 ///
-/// `bytes` must not be empty and must lie in one page of 256 bytes, and `address` must fit in three bytes. On a
-/// well-behaved bus whose chip has the address, the chip ignores the program if it is busy or protects `address`. Even
-/// then the function succeeds, unless the bus stops.
-///
-/// Returns `Stopped` if the bus stopped, and `Timeout` with `address` after 65,536 polls that showed BUSY. On a
-/// well-behaved bus there is no timeout. (W25Q64FV datasheet, Page Program.)
+/// Returns `Stopped` if the bus stopped, and `Timeout` with `address` after 65,536 polls that showed BUSY, which
+/// doesn't occur on a well-behaved bus.
 pub fn program_page<B: Bus>(bus: &mut B, address: u32, bytes: &[u8]) -> Result<u32, OperationError>
     requires reachable { address < 2 ^ 24 }
     requires some { 0 < length bytes.now }
@@ -42,14 +38,12 @@ pub fn program_page<B: Bus>(bus: &mut B, address: u32, bytes: &[u8]) -> Result<u
     operation(bus, &command, address)
 }
 
-/// Erases an erase block (20h, 52h, D8h or C7h), and waits until the chip is ready. Returns the number of transactions.
-///
-/// `erase.sector` must be below 4,096, and the block must be aligned (`Erase::is_aligned`). On a well-behaved bus whose
-/// chip contains the block, the chip ignores the erase if it is busy, lacks this erase type or protects an address of
-/// the block. Even then the function succeeds, unless the bus stops.
+/// Erases an erase block (20h, 52h, D8h or C7h; W25Q64FV datasheet, erase instructions), and waits until the chip is
+/// ready. The block must be aligned (`Erase::is_aligned`). Returns the number of transactions, even if the chip ignores
+/// the erase because it is busy, lacks the erase type or protects an address of the block.
 ///
 /// Returns `Stopped` if the bus stopped, and `Timeout` with the block's first address after 65,536 polls that showed
-/// BUSY. On a well-behaved bus there is no timeout. (W25Q64FV datasheet, erase instructions.)
+/// BUSY, which doesn't occur on a well-behaved bus.
 pub fn erase<B: Bus>(bus: &mut B, erase: Erase) -> Result<u32, OperationError>
     requires reachable { erase.sector < 4096 }
     requires aligned { is_aligned erase.unit erase.sector ≡ true }
@@ -68,15 +62,12 @@ pub fn erase<B: Bus>(bus: &mut B, erase: Erase) -> Result<u32, OperationError>
     }
 }
 
-/// Writes the status registers (01h), and waits until the chip is ready. Returns the number of transactions. The
-/// protection bits sent are those of `code`, which must be below 64. All other non-volatile bits are sent as in
-/// `status`, and BUSY, WEL and SUS are sent as 0.
+/// Writes the status registers (01h; W25Q64FV datasheet, Write Status Register), and waits until the chip is ready.
+/// Sends the protection bits `code`, all other non-volatile bits as in `status`, and BUSY, WEL and SUS as 0. Returns
+/// the number of transactions, even if the chip ignores the write because it is busy or has SRP0 or SRP1 set.
 ///
-/// On a well-behaved bus, a chip that is busy or has SRP0 or SRP1 set ignores the status write. Even then the function
-/// succeeds, unless the bus stops.
-///
-/// Returns `Stopped` if the bus stopped, and `Timeout` with address 0 after 65,536 polls that showed BUSY. On a
-/// well-behaved bus there is no timeout. (W25Q64FV datasheet, Write Status Register.)
+/// Returns `Stopped` if the bus stopped, and `Timeout` with address 0 after 65,536 polls that showed BUSY, which
+/// doesn't occur on a well-behaved bus.
 pub fn write_status<B: Bus>(bus: &mut B, status: Status, code: u8) -> Result<u32, OperationError>
     requires { code < 64 }
     ensures leaves { LeavesOperation (status_write status code) (B.state bus.old) (B.state bus.new) }
@@ -88,9 +79,7 @@ pub fn write_status<B: Bus>(bus: &mut B, status: Status, code: u8) -> Result<u32
     operation(bus, &[WRITE_STATUS, one, two], 0)
 }
 
-// Sends a write enable and then `command`, and waits until the chip is ready. `command` must ask for an operation or
-// for nothing (`AsksForOperation`). Returns the number of transactions. If the wait times out, the error contains
-// `address`.
+// Performs an operation: a write enable, `command` and a wait, whose timeout contains `address`.
 fn operation<B: Bus>(bus: &mut B, command: &[u8], address: u32) -> Result<u32, OperationError>
     requires { AsksForOperation command.now }
     ensures leaves { LeavesOperation (command_operation command.now) (B.state bus.old) (B.state bus.new) }
@@ -106,7 +95,7 @@ fn operation<B: Bus>(bus: &mut B, command: &[u8], address: u32) -> Result<u32, O
     Ok(waited.polls + 2)
 }
 
-// Returns the three bytes of `address`, high byte first. The address must fit in three bytes.
+// Returns the three bytes of `address`, high byte first.
 pub(crate) fn address_bytes(address: u32) -> [u8; 3]
     requires { address < 2 ^ 24 }
     ensures { BytesNameAddress address result }
@@ -115,8 +104,6 @@ pub(crate) fn address_bytes(address: u32) -> [u8; 3]
     [high, middle, low]
 }
 
-// Returns the bytes of a page program: the opcode, the three bytes of `address`, and the data `bytes`, which must have
-// at most 256 bytes.
 fn program_command(address: u32, bytes: &[u8]) -> ArrayVec<u8, 260>
     requires reachable { address < 2 ^ 24 }
     requires short { length bytes.now ≤ 256 }

@@ -8,7 +8,6 @@ use crate::operations::address_bytes;
 use nor_geometry::SECTOR_LEN;
 use nor_model::{Bus, Stopped};
 
-// The opcodes of the commands that read, except for polls.
 const READ_DATA: u8 = 0x03;
 
 const READ_STATUS2: u8 = 0x35;
@@ -58,11 +57,9 @@ pub fn read_unique<B: Bus>(bus: &mut B) -> Result<[u8; 8], Stopped>
     Ok(unique)
 }
 
-/// Fills `bytes` with the SFDP bytes from `address` on (5Ah; JESD216). The length of `bytes` must be at most 4,096, and
-/// `address` must fit in three bytes. On a well-behaved bus `bytes` receives the chip's SFDP bytes if the chip is idle.
-/// The chip takes `address` modulo its size.
-///
-/// Returns `Stopped` if the bus stopped. A well-behaved and punctual bus then leaves `bytes` as they were.
+/// Fills `bytes` (at most 4,096) with the SFDP bytes from `address` on (5Ah; JESD216), which the chip takes modulo its
+/// size. On a well-behaved bus they are the chip's if the chip is idle. Returns `Stopped` if the bus stopped; a
+/// punctual bus then leaves `bytes` as they were.
 pub fn read_parameters<B: Bus>(bus: &mut B, address: u32, bytes: &mut [u8]) -> Result<(), Stopped>
     requires reachable { address < 2 ^ 24 }
     requires short { length bytes.old ≤ 4096 }
@@ -77,11 +74,9 @@ pub fn read_parameters<B: Bus>(bus: &mut B, address: u32, bytes: &mut [u8]) -> R
     read(bus, &[READ_SFDP, high, middle, low, 0], bytes)
 }
 
-/// Reads the 4,096 bytes of the sector with the number `sector` into `bytes` (03h; W25Q64FV datasheet, Read Data).
-/// `sector` must be below 4,096, and `bytes` must have a length of 4,096. On a well-behaved bus `bytes` receives the
-/// chip's bytes if the chip is idle and the sector lies on it.
-///
-/// Returns `Stopped` if the bus stopped. A well-behaved and punctual bus then leaves `bytes` as they were.
+/// Reads the 4,096 bytes of the given sector into `bytes` (03h; W25Q64FV datasheet, Read Data). On a well-behaved bus
+/// they are the chip's if the chip is idle and has the sector. Returns `Stopped` if the bus stopped; a punctual bus
+/// then leaves `bytes` as they were.
 pub fn read_sector<B: Bus>(bus: &mut B, sector: u32, bytes: &mut [u8]) -> Result<(), Stopped>
     requires reachable { sector < 4096 }
     requires whole { length bytes.old ≡ 4096 }
@@ -96,8 +91,6 @@ pub fn read_sector<B: Bus>(bus: &mut B, sector: u32, bytes: &mut [u8]) -> Result
     read(bus, &[READ_DATA, high, middle, low], bytes)
 }
 
-// Performs one transaction that sends `out` and fills `reply`. `out` must ask only for a read other than a poll
-// (`IsReading`), and `reply` must have at most 4,096 bytes.
 fn read<B: Bus>(bus: &mut B, out: &[u8], reply: &mut [u8]) -> Result<(), Stopped>
     requires reading { IsReading out.now }
     requires short { length reply.old ≤ 4096 }

@@ -19,7 +19,6 @@ pub enum EraseBlock {
 }
 
 impl EraseBlock {
-    // Returns the opcode of the command that erases a block of this kind.
     pub(crate) fn opcode(self) -> u8
         ensures { result ≡ opcode_of self }
     {

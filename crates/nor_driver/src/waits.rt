@@ -9,10 +9,8 @@ use bitflags::Flags;
 use nor_model::{Bus, Status1, Stopped};
 use thiserror::Error;
 
-// The opcode of a poll.
 const READ_STATUS1: u8 = 0x05;
 
-// The greatest number of polls of one wait.
 const MOST_POLLS: u32 = 65536;
 
 /// Reads status 1 with one poll (05h; W25Q64FV datasheet, Read Status Register-1). Returns `Stopped` if the bus
@@ -57,10 +55,9 @@ pub struct Waited {
     pub polls: u32,
 }
 
-/// Polls until a reply shows that the chip is ready, at most 65,536 times.
-///
-/// Returns `Stopped` if the bus stopped, and `Timeout` with `address` if all 65,536 polls showed BUSY. Pass as
-/// `address` the address of the command that the wait follows, or 0. On a well-behaved bus there is no timeout.
+/// Polls until a reply shows that the chip is ready. Returns `Stopped` if the bus stopped, and `Timeout` with `address`
+/// if 65,536 polls showed BUSY, which doesn't occur on a well-behaved bus. Pass as `address` the address of the command
+/// that the wait follows, or 0.
 pub fn wait<B: Bus>(bus: &mut B, address: u32) -> Result<Waited, OperationError>
     ensures leaves { OnlyReads 65536 (B.state bus.old) (B.state bus.new) }
     ensures does { IfOk result (Waits (B.state bus.old) (B.state bus.new)) }

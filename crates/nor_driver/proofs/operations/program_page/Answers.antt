@@ -6,7 +6,6 @@ use Rattle.nor_driver.proofs.Programming.{leaves_program, does_program}
 use Rattle.nor_driver.proofs.operations.program_page.Goals as goal
 use Rattle.nor_driver.proofs.operations.program_page.Goals.{After-operation}
 
--- the bytes that `program_page` passes to `operation` are a program command with its address and data
 sent : (g : _) (c : After-operation g) → IsCommandAt 0x02 c.args.address c.args.bytes.now c.deref.result.now
 sent g c = rw c.deref.ensures.0 c.program_command-command.ensures
 
