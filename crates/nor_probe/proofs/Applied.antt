@@ -18,14 +18,11 @@ module _ (holds : Part → Bool) (of_id : List ℕ) (part : Part) (all : list_al
   either_has (Some row) listed is = found_has (λ p. bytes_eq p.id of_id) holds chips part all (listed ∙ is)
   either_has None listed is = found_has (λ p. bytes_eq p.id of_id) holds further_chips part more is
 
-  -- If all rows of the table and all further rows have the property `holds`, the row that applies to the ID `of_id` has
-  -- this ID and this property.
   applied_has : (further : Bool) → part_for further of_id ≡ Some part
       → (bytes_eq part.id of_id ≡ true) × (holds part ≡ true)
   applied_has false is = found_has (λ p. bytes_eq p.id of_id) holds chips part all is
   applied_has true is = either_has (part_with_id of_id) refl is
 
--- If a row applies to an ID that isn't read when nothing drives the bus, the chip is identified (`IsIdentified`).
 pub row_identified : (further : Bool) (of_id : List ℕ) (part : Part) → is_no_chip of_id ≡ false
     → part_for further of_id ≡ Some part → IsIdentified further of_id part
 row_identified further of_id part driven is =

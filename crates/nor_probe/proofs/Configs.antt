@@ -1,5 +1,4 @@
--- If a genuine chip shows a chip type (`shown_as`), that type has the ID, size, erase types and block protection of the
--- chip's configuration.
+-- If a genuine chip shows a chip type (`shown_as`), that type has the properties of the chip's configuration.
 use Rattle.std.proofs.Common.{◌≡◌, ℕ, Bool, true, false, List, [], ◌∷◌, refl, arith}
 use Rattle.std.specs.Prelude.{Option, None, Some, Result, Ok, Err, find, bytes_eq, if◌then◌else◌}
 use Rattle.std.specs.List.{list_all}
@@ -17,7 +16,6 @@ use Rattle.nor_probe.specs.Known.{is_no_chip, chip_says, sfdp_part, part_by_sfdp
 use Rattle.nor_probe.specs.Known.{IsGenuine, IsKnown}
 use Rattle.nor_probe.specs.Found.{part_in, IsConfigOf}
 
--- If all rows of a list have the property `holds`, the row that `find` returns passes the test, and has this property.
 pub found_has : (test holds : Part → Bool) (parts : List Part) (part : Part) → list_all holds parts ≡ true
     → find test parts ≡ Some part → (test part ≡ true) × (holds part ≡ true)
 found_has test holds [] part all is = absurd (cc)
@@ -25,12 +23,11 @@ found_has test holds (first ∷ parts) part all is =
     let rest = found_has test holds parts part in
     (grind (arith, common_steps, rest), grind (arith, common_steps, rest))
 
--- If all rows of the table have the property `holds`, the row with the ID `of_id` has it.
 pub row_has : (holds : Part → Bool) (of_id : List ℕ) (part : Part) → list_all holds chips ≡ true
     → part_with_id of_id ≡ Some part → holds part ≡ true
 row_has holds of_id part all is = (found_has (λ p. bytes_eq p.id of_id) holds chips part all is).1
 
--- Holds if the chip type has the ID, the size, the erase types and the block protection of the configuration.
+-- Holds if the type has the ID, size, erase types and block protection of the configuration.
 record IsPartOf (config : Config) (part : Part) : Type 0 where
   id : part.id ≡ id_of config
   size : part.size ≡ config.size
@@ -54,8 +51,6 @@ shown_part config false None (Ok geometry) part genuine listed errors is =
     grind arith
 shown_part config false None (Err fault) part genuine listed errors is = absurd (cc)
 
--- If a genuine chip shows the type of the chip that was found (`shown_as`), it is known, and `found` has the ID, size,
--- erase types and block protection of its configuration.
 pub shown_config : (config : Config) (found : Found) → IsGenuine config → shown_as config ≡ Ok (part_in found)
     → IsConfigOf config found
 shown_config config found genuine is =

@@ -15,8 +15,6 @@ use Rattle.nor_probe.specs.Known.{is_no_chip, chip_says, shown_as, IsKnown, IsEm
 use Rattle.nor_probe.proofs.Configs.{row_has}
 use Rattle.nor_probe.proofs.Rows.{not_true}
 
--- ---- TINY64
-
 abbrev tiny64_geometry : Geometry
 tiny64_geometry = record { size = 65536; kinds = all_kinds }
 
@@ -40,10 +38,7 @@ tiny64_known config tiny = record {
   shown = rw (tiny64_shown config tiny) refl;
 }
 
--- ---- the chips of the table
-
--- Let the ID of a chip have a row in the table, and not be one that is read if nothing drives the bus (`is_no_chip`).
--- If the chip has the size, erase types and block protection of the row, it is known. Its SFDP may be any.
+-- A chip with a row in the table is known whatever its SFDP says.
 listed_known : (config : Config) (part : Part)
     → part_with_id (id_of config) ≡ Some part → is_no_chip (id_of config) ≡ false
     → config.size ≡ part.size → config.kinds ≡ part.kinds → config.scheme ≡ part.scheme → IsKnown config
@@ -58,7 +53,6 @@ listed_known config part listed driven size kinds scheme = record {
   shown = rw (driven, listed) refl;
 }
 
--- the first three bytes of an ID, as 9Fh reads them, with FFh for each byte that the ID doesn't have
 abbrev read_as : List ℕ → List ℕ
 read_as id = slice_index_or id 0 255 ∷ slice_index_or id 1 255 ∷ slice_index_or id 2 255 ∷ []
 
@@ -82,8 +76,6 @@ module _ (part : Part) (config : Config) (listed : part_with_id part.id ≡ Some
   row_shown : shown_as config ≡ Ok part
   row_shown = rw (driven, row_found) refl
 
--- ---- any emulated chip
-
 sized_by : (part : Part) (tiny : Bool) → cond tiny (Some tiny64) (part_with_id part.id) ≡ Some part
     → is_chip_size part.size ≡ true
 sized_by part true is = let same : tiny64 ≡ part = cc in rw (← same) refl
@@ -104,11 +96,9 @@ module _ (part : Part) (config : Config) where
       tiny64_shown config (subst (λ (p : Part). IsMadeOf p config) same made) ∙ ap Ok (sym same)
   shown_by false is made = row_shown part config is made
 
--- The type of an emulated chip has a size that a chip may have.
 pub emulated_sized : (part : Part) → IsEmulatedPart part → is_chip_size part.size ≡ true
 emulated_sized part is = sized_by part (bytes_eq part.id tiny64.id) is
 
--- An emulated chip of the type `part` shows this type (`shown_as`).
 pub emulated_shown : (part : Part) (config : Config) → IsEmulatedPart part → IsMadeOf part config
     → shown_as config ≡ Ok part
 emulated_shown part config is made = shown_by part config (bytes_eq part.id tiny64.id) is made
@@ -116,15 +106,11 @@ emulated_shown part config is made = shown_by part config (bytes_eq part.id tiny
 pub emulated_known : (config : Config) → IsEmulated config → IsKnown config
 emulated_known config (part, is, made) = known_by part config (bytes_eq part.id tiny64.id) is made
 
--- The chips of `Config::tiny64`, `Config::w25q64fv` and `Config::w25q128fv` are emulated chips.
 pub makers_emulated : (config : Config) → IsTiny64 config ⊎ IsW25q64fv config ⊎ IsW25q128fv config → IsEmulated config
 makers_emulated config (inl tiny) = (tiny64, refl, tiny)
 makers_emulated config (inr (inl small)) = (_, refl, small)
 makers_emulated config (inr (inr large)) = (_, refl, large)
 
--- ---- another unique ID
-
--- A known chip stays known if its unique ID is replaced.
 pub renumbered_known : (config : Config) (unique : List ℕ) → IsKnown config → IsKnown (record config { unique = unique })
 unfolding chip_says shown
 renumbered_known config unique is = record {
@@ -139,7 +125,6 @@ renumbered_known config unique is = record {
   shown = is.shown;
 }
 
--- A chip shows the same type, or the same fault, if its unique ID is replaced.
 pub renumbered_shown : (config : Config) (unique : List ℕ) → shown_as (record config { unique = unique }) ≡ shown_as config
 unfolding chip_says shown
 renumbered_shown config unique = refl

@@ -14,8 +14,6 @@ use Rattle.nor_probe.specs.declared.table.Part.{Part}
 use Rattle.nor_probe.specs.Found.{IsWanted, BlamesName, ProbeErrors, HasProbed, reads_by, reads_of, needed}
 use Rattle.nor_probe.specs.Steps.{SpentAfterId, IdentityErrors, IsIdentityFault}
 
--- If the chip doesn't have the requested name (`IsWanted` doesn't hold), a name was requested, so the fault `OtherName`
--- is possible.
 pub blames_other : (named : Option ChipName) (name : ChipName) (wanted : Bool) → (IsTrue wanted ↔ IsWanted named name)
     → wanted ≡ false → BlamesName named OtherName
 blames_other None name wanted same other = absurd (true≢false (sym (same.1 tt) ∙ other))
@@ -32,8 +30,7 @@ reads_few_if false n few = few
 reads_few : (of_id : List ℕ) → reads_of of_id ≤ 4
 reads_few of_id = reads_few_if (is_no_chip of_id) _ (reads_by_few (part_with_id of_id))
 
--- A fault occurred after the ID was read. `old` is the state before the probe, and `mid` the state after its polls and
--- the read of the ID.
+-- A fault after the ID was read. `old` is the state before the probe, `mid` that after the read of the ID.
 module _ (named : Option ChipName) (old mid : BusState) (rested : Rested old mid)
     (punctual : mid.punctual ≡ old.punctual) (count : Spent (old.chip.busy + 2) old mid)
     (busy : old.chip.busy < 65536) where

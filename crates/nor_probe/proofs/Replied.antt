@@ -12,7 +12,6 @@ use Rattle.nor_probe.specs.Sfdp.{sfdp_says}
 use Rattle.nor_probe.specs.Table.{part_for}
 use Rattle.nor_probe.specs.Replied.{RepliedSfdp, IsTypeBySfdp, IsFoundBy}
 
--- If the bytes `out` begin with the opcode and this address, they begin with the opcode.
 pub names_begins : (opcode address : ℕ) (out : List ℕ) → names opcode address out ≡ true → begins_with opcode out ≡ true
 names_begins opcode address [] is = is
 names_begins opcode address (first ∷ []) is = absurd (true≢false (sym is))
@@ -24,8 +23,6 @@ pub sfdp_keeps : (address : ℕ) {old new : List Exchange} {reply : List ℕ} �
     → KeepsReplies (begins_with 0x5A) old new
 sfdp_keeps address answered = keeps_replies_less (answered_keeps answered) (names_begins 0x5A address)
 
--- If the last three transactions read SFDP bytes that are accepted, `IsTypeBySfdp` holds for the type that they
--- describe.
 pub type_by_sfdp : {history : List Exchange} {header first table : List ℕ} {geometry : Geometry}
     → RepliedSfdp history header first table → sfdp_says header first table ≡ Ok geometry
     → (with_id : List ℕ) → IsTypeBySfdp history (sfdp_part with_id geometry)
@@ -41,7 +38,6 @@ type_by_sfdp {history} replied says with_id = record {
   is = refl;
 }
 
--- If the bytes `out` begin with an opcode, they don't begin with a different opcode.
 pub other_opcode : (opcode other : ℕ) → (opcode == other) ≡ false → (out : List ℕ) → begins_with opcode out ≡ true
     → begins_with other out ≡ false
 other_opcode opcode other differs [] is = refl
@@ -52,10 +48,6 @@ no_poll opcode differs [] is = refl
 no_poll opcode differs (first ∷ []) is = rw (eqb-true first opcode is) differs
 no_poll opcode differs (first ∷ x ∷ rest) is = refl
 
--- Let `polled`, `read` and `new` be the histories after the polls of a probe, after its read of the ID, and after its
--- reads of the SFDP, if any. Suppose that `found` has the status 1 of the last poll and the ID that was read. If a row
--- applies to the ID, or the SFDP replies describe the type of `found`, then `found` is what the bus replied
--- (`IsFoundBy`).
 pub found_by : {further : Bool} {polled read new : List Exchange} (found : Found)
     → last_reply is_poll polled ≡ found.status1 ∷ []
     → Answered (begins_with 0x9F) polled read found.id → KeepsReplies (begins_with 0x5A) read new
@@ -67,8 +59,6 @@ found_by found status answered keeps by_sfdp = record {
   by_sfdp = by_sfdp;
 }
 
--- If a chip found is what the bus replied (`IsFoundBy`), this stays so after later transactions that leave the last
--- replies to 9Fh and to polls as they were.
 pub found_later : {further : Bool} {old new : List Exchange} {found : Found} → Continues old new
     → last_reply (begins_with 0x9F) new ≡ last_reply (begins_with 0x9F) old → last_reply is_poll new ≡ last_reply is_poll old
     → IsFoundBy further old found → IsFoundBy further new found

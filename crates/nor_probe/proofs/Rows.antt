@@ -33,7 +33,6 @@ found_next test first parts part false apart more is =
     let other = (found_has test (λ p. not (bytes_eq first.id p.id)) parts part apart is).1 in
     rw (not_true _ other) (more is)
 
--- If no two rows have the same ID, a row that any test finds is also the row that is found by its ID.
 found_by_id : (test : Part → Bool) (parts : List Part) (part : Part) → have_own_ids parts ≡ true
     → find test parts ≡ Some part → find (λ p. bytes_eq p.id part.id) parts ≡ Some part
 found_by_id test [] part own is = absurd (cc)
@@ -41,7 +40,6 @@ found_by_id test (first ∷ parts) part own is =
     let (apart, more) = and_true _ _ own in
     found_next test first parts part (test first) apart (found_by_id test parts part more) is
 
--- If a chip of the table has this name, its type is the type of an emulated chip.
 pub named_emulated : (text : List ℕ) (part : Part) → part_with_name text ≡ Some part → IsEmulatedPart part
 named_emulated text part is =
     let by_name = λ (p : Part). bytes_eq (name_text p.name) text in

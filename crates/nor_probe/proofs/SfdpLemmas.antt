@@ -10,17 +10,14 @@ use Rattle.nor_model.specs.Size.{is_chip_size}
 use Rattle.nor_model.proofs.Sizes.{alike, is_chip_size-from, is_chip_size-in_blocks, is_chip_size-power_of_two}
 use Rattle.nor_probe.specs.Sfdp.{is_chip_size_in_bits}
 
--- If k is above 27, 2 ^ k is above 2 ^ 27, the greatest size in bits.
 pub large_exponent : (k : ℕ) → 27 < k → leb (2 ^ k) (2 ^ 27) ≡ false
 large_exponent k h = let above : 2 ^ 27 < 2 ^ k = pow_below 27 k h in grind (arith, nat_tests)
 
--- The number of one bits in `bits` is the number in `bits / 8` plus the number in `bits % 8`.
 ones_of_bytes : (bits : ℕ) → count_ones bits ≡ count_ones (bits / 8) + count_ones (bits % 8)
 ones_of_bytes bits =
     let whole : bits ≡ bits / 8 * 2 ^ 3 + bits % 8 = omega arith in
     ap count_ones whole ∙ ones_cat 3 (bits / 8) (bits % 8) (omega arith)
 
--- If `bits` is a power of two from 2 ^ 19 to 2 ^ 27, it is the size in bits of a chip.
 pub size_of_power : (bits : ℕ) → is_power_of_two bits ≡ true → 2 ^ 19 ≤ bits → bits ≤ 2 ^ 27
     → is_chip_size_in_bits bits ≡ true
 unfolding is_chip_size_in_bits
@@ -35,13 +32,11 @@ size_of_power bits power least most =
       | inr none ↦ let small : bits / 8 ≡ 0 = zero_from_ones (bits / 8) (omega arith) in absurd (omega arith)
     ]
 
--- If `bits` is a power of two from 2 ^ 19 to 2 ^ 27, an eighth of it is the size in bytes of a chip.
 pub chip_size : (bits : ℕ) → is_power_of_two bits ≡ true → 2 ^ 19 ≤ bits → bits ≤ 2 ^ 27
     → is_chip_size (bits / 8) ≡ true
 unfolding is_chip_size_in_bits
 chip_size bits power least most = (and_parts (bits % 8 == 0) _ (size_of_power bits power least most)).1
 
--- If `bits` is a size in bits that a chip may have, it is a power of two from 2 ^ 19 to 2 ^ 27.
 bits_of_size : (bits : ℕ) → is_chip_size_in_bits bits ≡ true
     → (is_power_of_two bits && nat_le (2 ^ 19) bits && nat_le bits (2 ^ 27)) ≡ true
 unfolding is_chip_size_in_bits
@@ -57,7 +52,6 @@ bits_of_size bits is =
     let single : count_ones bits ≡ 1 = omega arith in
     grind (arith, nat_tests)
 
--- `bits` is a size in bits that a chip may have if and only if it is a power of two from 2 ^ 19 to 2 ^ 27.
 pub in_bits : (bits : ℕ)
     → is_chip_size_in_bits bits ≡ (is_power_of_two bits && nat_le (2 ^ 19) bits && nat_le bits (2 ^ 27))
 in_bits bits = alike _ _ (bits_of_size bits) (λ is. let power = size_of_power bits in grind (arith, nat_tests))

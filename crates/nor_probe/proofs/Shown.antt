@@ -6,8 +6,6 @@ use Rattle.nor_probe.specs.Sfdp.{sfdp_says}
 use Rattle.nor_probe.specs.Known.{chip_says}
 use Rattle.nor_probe.specs.Steps.{AreParameters}
 
--- If `parameters` has the parts of the chip's SFDP (`AreParameters`), these bytes describe the geometry that the chip's
--- SFDP describes, or are refused for the same fault.
 pub parameters_say : (config : Config) (parameters : Parameters) → AreParameters config parameters
     → chip_says config ≡ sfdp_says parameters.header parameters.first parameters.table
 unfolding chip_says

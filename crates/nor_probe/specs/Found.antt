@@ -23,41 +23,35 @@ use Rattle.nor_probe.specs.Replied.{IsFoundBy, ProbeEndsAt}
 abbrev pub most_probe : ℕ
 most_probe = 65540
 
--- Holds if no name is requested, or the chip has the requested name.
 abbrev pub IsWanted : (named : Option ChipName) → ChipName → Type 0
 IsWanted None name = ⊤
 IsWanted (Some wanted) name = wanted ≡ name
 
--- Holds if a probe with the requested name `named` may return this fault. Without a requested name, `OtherName` isn't
--- possible.
+-- Holds if a probe with the requested name `named` may return this fault. `OtherName` needs a requested name.
 abbrev pub BlamesName : Option ChipName → ProbeFault → Type 0
 BlamesName None OtherName = ⊥
 BlamesName named fault = ⊤
 
--- the number of reads that identify a chip: one of its ID (9Fh), and three more of its SFDP (5Ah) if the ID has no row
--- in the table
+-- the number of reads that identify a chip: one of its ID (9Fh), and three of its SFDP (5Ah) if no row applies
 abbrev pub reads_by : Option Part → ℕ
 reads_by (Some part) = 1
 reads_by None = 4
 
--- the number of reads of a probe that reads the ID `of_id`: 4 if the SFDP is read, because the ID has no row in the
--- table and shows that there is a chip, and otherwise 1
+-- the number of reads of a probe that reads the ID `of_id`: the SFDP isn't read if the ID shows that there is no chip
 abbrev pub reads_of : List ℕ → ℕ
 reads_of of_id = if is_no_chip of_id then 1 else reads_by (part_with_id of_id)
 
--- the number of reads of a probe that reads the ID `of_id` on a bus with or without further types
+-- the number of reads of a probe that reads the ID `of_id`, on a bus with or without further types
 abbrev pub reads_for : (further : Bool) → List ℕ → ℕ
 reads_for further of_id = if is_no_chip of_id then 1 else reads_by (part_for further of_id)
 
--- the number of transactions that a probe of this chip needs: one poll for each BUSY that the chip still shows, one
--- poll that shows it idle, and the reads
+-- the number of transactions that a probe of this chip needs; each BUSY that the chip still shows takes one poll
 abbrev pub needed : Chip → ℕ
 needed chip = chip.busy + 1 + reads_of (id_of chip.config)
 
--- Holds for each chip that a probe finds, on every bus. The chip found has a size from 64 KiB to 16 MiB that is a power
--- of two. It is that of the row which applies on this bus (`part_for further`): a row of the table or, if the bus has
--- further types, a further row. If no row applies, the chip was identified by its SFDP, and has no block protection.
--- Its ID is neither `FF FF FF` nor `00 00 00`, which are read if nothing drives the bus.
+-- Holds for each chip that a probe finds, on every bus: its size is one that a chip may have, and its row is the one
+-- that applies on this bus (`part_for further`). If no row applies, it was identified by its SFDP, and has no block
+-- protection.
 pub record IsPart (further : Bool) (found : Found) : Type 0 where
   pub driven : is_no_chip found.id ≡ false
   pub origin : (part_for further found.id ≡ Some (part_in found))
@@ -69,18 +63,12 @@ pub record IsPart (further : Bool) (found : Found) : Type 0 where
 
 -- Holds for the number of transactions of a probe that found a chip.
 pub record IsCounted (old : BusState) (probed : Probed) : Type 0 where
-  -- the number is at least that of one poll and the reads
   pub least : 1 + reads_for old.further probed.found.id ≤ probed.transactions
-  -- the number is at most that of 65,536 polls and four reads
   pub most : probed.transactions ≤ most_probe
-  -- on a well-behaved bus (`honest`), the number is exactly what the chip needs
   pub sent : old.honest ≡ true → probed.transactions ≡ needed old.chip
 
--- Holds after a probe on a well-behaved bus (`honest`) that found a chip. The chip found is what the chip on the bus
--- shows about itself (`shown_as`), and `found.status1` is the status 1 of this chip after the probe. The chip on the
--- bus is idle, and its bytes, non-volatile status bits and erased sectors are unchanged. Its write enable latch is
--- unchanged if the chip was idle before, and otherwise clear. The probe sent exactly the transactions that the chip
--- needs.
+-- Holds after a probe on a well-behaved bus that found a chip. `found` is what the chip on the bus shows about itself
+-- (`shown_as`). That chip is now idle, and its bytes and non-volatile status bits are unchanged.
 pub record Finds (old new : BusState) (found : Found) : Type 0 where
   pub rested : Rested old new
   pub part : shown_as old.chip.config ≡ Ok (part_in found)
@@ -89,8 +77,8 @@ pub record Finds (old new : BusState) (found : Found) : Type 0 where
   pub status1 : found.status1 ≡ status1_of new.chip
   pub count : Spent (needed old.chip) old new
 
--- Holds if the configuration is that of a known chip, and the chip found has its ID, size, erase types and block
--- protection. For a genuine chip this follows from `shown_as config ≡ Ok (part_in found)`, which also gives the name.
+-- Holds if the configuration is that of a known chip with the ID, size, erase types and block protection of `found`.
+-- For a genuine chip this follows from `shown_as config ≡ Ok (part_in found)`, which also gives the name.
 pub record IsConfigOf (config : Config) (found : Found) : Type 0 where
   pub known : IsKnown config
   pub id : found.id ≡ id_of config
@@ -98,26 +86,24 @@ pub record IsConfigOf (config : Config) (found : Found) : Type 0 where
   pub kinds : found.kinds ≡ config.kinds
   pub scheme : found.scheme ≡ config.scheme
 
--- Holds if the chip shows a chip type (`shown_as`) that has the requested name, if a name is requested.
+-- Holds if the chip shows a chip type that has the requested name, if a name is requested.
 pub record IsNamed (named : Option ChipName) (config : Config) : Type 0 where
   pub part : Part
   pub shown : shown_as config ≡ Ok part
   pub wanted : IsWanted named part.name
 
--- Holds if the chip shows a chip type (`shown_as`) that has another name than the requested one.
+-- Holds if the chip shows a chip type that has another name than the requested one.
 pub record HasOtherName (named : Option ChipName) (config : Config) : Type 0 where
   pub part : Part
   pub shown : shown_as config ≡ Ok part
   pub other : ¬ IsWanted named part.name
 
--- Holds if a probe on a well-behaved bus sent all the transactions that the chip needs. The chip's bytes, non-volatile
--- status bits and erased sectors are unchanged.
+-- Holds if a probe on a well-behaved bus sent all the transactions that the chip needs.
 pub record HasProbed (old new : BusState) : Type 0 where
   pub rested : Rested old new
   pub count : Spent (needed old.chip) old new
 
--- The meaning of each fault on a well-behaved bus. The bus stops only if fewer transactions were left than the chip
--- needs, and fewer than 65,540. A timeout doesn't occur.
+-- The meaning of each fault on a well-behaved bus. A timeout doesn't occur.
 abbrev pub ProbeErrors : Option ChipName → (old new : BusState) → ProbeFault → Type 0
 ProbeErrors named old new NoChip = (shown_as old.chip.config ≡ Err NoChip) × HasProbed old new
 ProbeErrors named old new (UnknownChip fault) = (shown_as old.chip.config ≡ Err (UnknownChip fault)) × HasProbed old new
@@ -125,37 +111,25 @@ ProbeErrors named old new OtherName = HasOtherName named old.chip.config × HasP
 ProbeErrors named old new Stopped = RanOut (needed old.chip) old new × RanOut most_probe old new
 ProbeErrors named old new Timeout = ⊥
 
--- ---- the promises of a probe
-
 -- The promises of a probe on every bus.
 pub record ProbeAlways (named : Option ChipName) (old new : BusState) (result : Result Found ProbeFault) : Type 0 where
   -- no modifying command was sent; on a well-behaved bus, at most 65,540 transactions were carried out
   pub only_reads : OnlyReads most_probe old new
-  -- a chip found is that of the row which applies on this bus or, without a row, was identified by SFDP, and has a size
-  -- that a chip may have
+  -- the row of a chip found is the one that applies on this bus
   pub part : IfOk result (IsPart old.further)
-  -- a chip found has the requested name, or no name is requested
   pub wanted : IfOk result (λ found. IsWanted named found.name)
-  -- `OtherName` is possible only if a name is requested
   pub blames : IfErr result (BlamesName named)
-  -- a chip is found only if the last poll showed that it is ready
   pub polled_ready : OnOk result (new.polled_ready ≡ true)
-  -- the ID and the status 1 of a chip found are what the bus replied and, if no row applies, its size and erase types
-  -- are those of the SFDP replies (`IsFoundBy`)
+  -- the ID and status 1 of a chip found are what the bus replied and, if no row applies, so are its size and erase
+  -- types
   pub replied : IfOk result (IsFoundBy old.further new.history)
-  -- after a stop or a timeout nothing more was sent
   pub last_transaction : IfErr result (ProbeEndsAt new.history)
 
 -- The promises of a probe on a well-behaved bus.
 pub record ProbeHonest (named : Option ChipName) (old new : BusState) (result : Result Found ProbeFault) : Type 0 where
-  -- a chip found is what the chip on the bus shows about itself; that chip is idle, and its bytes and non-volatile
-  -- status bits are unchanged
   pub finds : IfOk result (Finds old new)
-  -- a fault says that there is no known chip, that the chip has another name than the requested one, or that too few
-  -- transactions were left; a timeout doesn't occur
   pub errors : IfErr result (ProbeErrors named old new)
 
--- the result of a probe, without the number of transactions
 abbrev pub found_in : Result Probed ProbeFault → Result Found ProbeFault
 found_in (Ok probed) = Ok probed.found
 found_in (Err fault) = Err fault

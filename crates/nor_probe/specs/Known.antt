@@ -13,12 +13,11 @@ use Rattle.nor_probe.specs.declared.probes.ProbeFault.TheVariants.{NoChip, Unkno
 use Rattle.nor_probe.specs.Sfdp.{sfdp_says}
 use Rattle.nor_probe.specs.Table.{part_with_id, IsEmulatedPart, IsMadeOf}
 
--- the type of a chip that was found
 abbrev pub part_in : Found → Part
 part_in found =
     record { name = found.name; id = found.id; size = found.size; kinds = found.kinds; scheme = found.scheme }
 
--- True if the ID is `FF FF FF` or `00 00 00`, as it is read if nothing drives the bus. The lines then rest high or low.
+-- True if the ID is `FF FF FF` or `00 00 00`, which is read if nothing drives the bus: the lines rest high or low.
 abbrev pub is_no_chip : (of_id : List ℕ) → Bool
 is_no_chip of_id = bytes_eq of_id (0xFF ∷ 0xFF ∷ 0xFF ∷ []) || bytes_eq of_id (0x00 ∷ 0x00 ∷ 0x00 ∷ [])
 
@@ -26,8 +25,7 @@ is_no_chip of_id = bytes_eq of_id (0xFF ∷ 0xFF ∷ 0xFF ∷ []) || bytes_eq of
 abbrev pub pointer_in : (first : List ℕ) → ℕ
 pointer_in first = slice_index first 4 + 256 * slice_index first 5 + 65536 * slice_index first 6
 
--- The geometry that the chip's SFDP describes, or the fault of the SFDP. The parts of the SFDP are its header, its
--- first parameter header, and the table whose address that parameter header contains.
+-- The geometry that the chip's SFDP describes, or the fault of the SFDP.
 unfoldable pub chip_says : Config → Result Geometry SfdpFault
 chip_says config = sfdp_says (shown config 0 8) (shown config 8 8) (shown config (pointer_in (shown config 8 8)) 36)
 
@@ -36,33 +34,28 @@ abbrev pub sfdp_part : (with_id : List ℕ) → Geometry → Part
 sfdp_part with_id geometry =
     record { name = Sfdp; id = with_id; size = geometry.size; kinds = geometry.kinds; scheme = false }
 
--- the type of a chip with this ID that its SFDP describes, or `UnknownChip` with the fault for which the SFDP is
--- refused
+-- the type of a chip that its SFDP describes, or `UnknownChip` with the fault for which the SFDP is refused
 abbrev pub part_by_sfdp : (with_id : List ℕ) → Result Geometry SfdpFault → Result Part ProbeFault
 part_by_sfdp with_id (Ok geometry) = Ok (sfdp_part with_id geometry)
 part_by_sfdp with_id (Err fault) = Err (UnknownChip fault)
 
--- the row of the table if there is one, else the result of reading the SFDP
 abbrev pub listed_or : (by_sfdp : Result Part ProbeFault) → Option Part → Result Part ProbeFault
 listed_or by_sfdp (Some part) = Ok part
 listed_or by_sfdp None = by_sfdp
 
 -- The chip type that a chip shows: the row of the table with its ID or, without a row, the type that its SFDP
--- describes. The result is a fault if the ID shows that there is no chip, or if the ID has no row and the SFDP isn't
--- accepted.
+-- describes.
 abbrev pub shown_as : Config → Result Part ProbeFault
 shown_as config =
     if is_no_chip (id_of config) then Err NoChip
     else listed_or (part_by_sfdp (id_of config) (chip_says config)) (part_with_id (id_of config))
 
--- Holds if the configuration has the size and the erase types of this geometry.
 pub record HasGeometry (geometry : Geometry) (config : Config) : Type 0 where
   pub size : config.size ≡ geometry.size
   pub kinds : config.kinds ≡ geometry.kinds
 
--- Holds for the configuration of a genuine chip. If the chip's ID is in the table, its size, erase types and block
--- protection are those of the row. Otherwise it has no block protection and, if its SFDP is accepted, the size and the
--- erase types that the SFDP describes.
+-- Holds for the configuration of a genuine chip. Without a row for its ID, it has no block protection and, if its SFDP
+-- is accepted, the size and the erase types that the SFDP describes.
 pub record IsGenuine (config : Config) : Type 0 where
   pub listed : (part : Part) → part_with_id (id_of config) ≡ Some part
       → HasGeometry (record { size = part.size; kinds = part.kinds }) config × (config.scheme ≡ part.scheme)
@@ -70,8 +63,7 @@ pub record IsGenuine (config : Config) : Type 0 where
   pub described : part_with_id (id_of config) ≡ None
       → (geometry : Geometry) → chip_says config ≡ Ok geometry → HasGeometry geometry config
 
--- Holds for the configuration of a known chip. The chip is genuine, and its ID isn't one that is read if nothing drives
--- the bus. The ID has a row in the table, or the chip's SFDP is accepted.
+-- Holds for the configuration of a chip that is genuine, and that a probe can identify by its row or its SFDP.
 pub record IsKnown (config : Config) : Type 0 where
   pub genuine : IsGenuine config
   pub shown : IsOk (shown_as config)

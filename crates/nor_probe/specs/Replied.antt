@@ -12,9 +12,8 @@ use Rattle.nor_probe.specs.Known.{part_in, pointer_in, sfdp_part}
 use Rattle.nor_probe.specs.Sfdp.{sfdp_says}
 use Rattle.nor_probe.specs.Table.{part_for}
 
--- Holds if the last three transactions read these parts of the SFDP: the header, the first parameter header, and the
--- table whose address that parameter header contains. Each transaction begins with 5Ah and the address of its part. The
--- number of bytes read is not stated.
+-- Holds if the last three transactions read the SFDP header, the first parameter header, and the table whose address
+-- that parameter header contains. The number of bytes read is not stated.
 pub record RepliedSfdp (history : List Exchange) (header first table : List ℕ) : Type 0 where
   pub before : List Exchange
   pub at_header : List Exchange
@@ -23,8 +22,7 @@ pub record RepliedSfdp (history : List Exchange) (header first table : List ℕ)
   pub read_first : Answered (names 0x5A 8) at_header at_first first
   pub read_table : Answered (names 0x5A (pointer_in first)) at_first history table
 
--- Holds if three transactions in a row read SFDP bytes that describe the type `part` (`sfdp_says`). Other transactions
--- may have followed. The ID of the type may be any.
+-- Holds if three transactions in a row read SFDP bytes that describe the size and erase types of `part`.
 pub record IsTypeBySfdp (history : List Exchange) (part : Part) : Type 0 where
   pub read : List Exchange
   pub later : Continues read history
@@ -36,17 +34,15 @@ pub record IsTypeBySfdp (history : List Exchange) (part : Part) : Type 0 where
   pub says : sfdp_says header first table ≡ Ok geometry
   pub is : part ≡ sfdp_part part.id geometry
 
--- Holds if the chip found is what the bus replied. Its ID is the last reply to 9Fh, and its status 1 the reply to the
--- last poll. If no row applies to the ID on this bus (`part_for further`), the size and the erase types are those of
--- the SFDP replies (`IsTypeBySfdp`).
+-- Holds if `found` is what the bus replied: its ID to the last 9Fh, its status 1 to the last poll and, if no row
+-- applies to the ID, its size and erase types to reads of the SFDP.
 pub record IsFoundBy (further : Bool) (history : List Exchange) (found : Found) : Type 0 where
   pub id : last_reply (begins_with 0x9F) history ≡ found.id
   pub status1 : last_reply is_poll history ≡ found.status1 ∷ []
   pub by_sfdp : part_for further found.id ≡ None → IsTypeBySfdp history (part_in found)
 
--- The end of the history of a probe that returned this fault. After `Stopped`, the last transaction is the one at which
--- the bus stopped. After `Timeout`, the last transaction is a poll that showed BUSY. Nothing is stated for other
--- faults.
+-- The last transaction of a probe that returned this fault: the bus stopped at it, or for `Timeout` it is a poll that
+-- showed BUSY. Nothing is stated for other faults.
 abbrev pub ProbeEndsAt : List Exchange → ProbeFault → Type 0
 ProbeEndsAt history Stopped = EndsStopped history
 ProbeEndsAt history Timeout = EndsBusy history

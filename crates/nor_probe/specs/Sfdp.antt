@@ -1,6 +1,6 @@
--- The meaning of SFDP bytes: the header, the first parameter header, and double words 1, 2, 8 and 9 of the basic flash
--- parameter table (JESD216). `header` has the eight bytes at 0, `first` the eight bytes of the first parameter header,
--- and `table` the 36 bytes at the address that `first` contains. Bits that no definition here uses are ignored.
+-- The meaning of SFDP bytes (JESD216). `header` has the eight bytes at 0, `first` the first parameter header, and
+-- `table` the 36 bytes of the basic flash parameter table, at the address that `first` contains. Bits that no
+-- definition here uses are ignored.
 use Rattle.std.specs.Prelude.{ℕ, ◌==◌, ◌+◌, ◌-◌, ◌*◌, ◌/◌, ◌%◌, ◌^◌, nat_lt, nat_le, Bool, not, ◌&&◌, ◌||◌, if◌then◌else◌, List, [], ◌∷◌, ◌++◌, Result, Ok, Err, slice_index}
 use Rattle.byteorder.specs.Endian.{little_from}
 use Rattle.nor_model.specs.Size.{is_chip_size}
@@ -32,17 +32,13 @@ address_mode table = double_word 1 table / 2 ^ 17 % 4
 unfoldable pub has_write_granularity : (table : List ℕ) → Bool
 has_write_granularity table = double_word 1 table / 2 ^ 2 % 2 == 1
 
--- the size in bits that double word 2 gives: its value plus one or, if bit 31 is set, two to the power of the other
--- bits
+-- the size in bits: the value of double word 2 plus one or, if bit 31 is set, two to the power of the other bits
 unfoldable pub size_in_bits : (density : ℕ) → ℕ
 size_in_bits density = if nat_lt density (2 ^ 31) then density + 1 else 2 ^ (density - 2 ^ 31)
 
--- true if this number of bits is a whole number of bytes, and a size that a chip may have
 unfoldable pub is_chip_size_in_bits : (bits : ℕ) → Bool
 is_chip_size_in_bits bits = bits % 8 == 0 && is_chip_size (bits / 8)
 
--- True if the erase type at byte `at` of the table has this exponent of its size, in its first byte, and this opcode,
--- in its second byte.
 abbrev pub is_erase_type_at : (exponent opcode : ℕ) → (table : List ℕ) → (at : ℕ) → Bool
 is_erase_type_at exponent opcode table at = slice_index table at == exponent && slice_index table (at + 1) == opcode
 
@@ -61,7 +57,7 @@ header_faults header first =
     ∷ (nat_lt (slice_index first 3) 9, Length)
     ∷ []
 
--- the faults of the table, each with its condition, in the order in which they are checked
+-- the faults of the table, in the same form
 abbrev pub table_faults : (table : List ℕ) → List (Bool × SfdpFault)
 table_faults table =
     (nat_le 2 (address_mode table), Address)
@@ -70,15 +66,13 @@ table_faults table =
     ∷ (not (has_erase_type 0x0C 0x20 table), NoSector)
     ∷ []
 
--- the geometry that the table describes: the size in bytes, and which of the erase types of 32 KiB with opcode 52h and
--- of 64 KiB with opcode D8h the chip has
+-- the geometry of the table, with the erase types of 32 KiB with opcode 52h and of 64 KiB with opcode D8h
 abbrev pub geometry_of : (table : List ℕ) → Geometry
 geometry_of table = record {
   size = size_in_bits (double_word 2 table) / 8;
   kinds = record { k32 = has_erase_type 0x0F 0x52 table; k64 = has_erase_type 0x10 0xD8 table };
 }
 
--- the first fault whose condition holds or, if none does, the geometry
 abbrev pub first_fault_or : Geometry → List (Bool × SfdpFault) → Result Geometry SfdpFault
 first_fault_or geometry [] = Ok geometry
 first_fault_or geometry (case ∷ cases) = if case.0 then Err case.1 else first_fault_or geometry cases
@@ -87,7 +81,6 @@ first_fault_or geometry (case ∷ cases) = if case.0 then Err case.1 else first_
 abbrev pub sfdp_says : (header first table : List ℕ) → Result Geometry SfdpFault
 sfdp_says header first table = first_fault_or (geometry_of table) (header_faults header first ++ table_faults table)
 
--- the number that messages show for a fault
 abbrev pub sfdp_fault_number : SfdpFault → ℕ
 sfdp_fault_number Signature = 1
 sfdp_fault_number Major = 2

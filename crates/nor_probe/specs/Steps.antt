@@ -17,26 +17,22 @@ use Rattle.nor_driver.specs.OnlyReads.{Rested, Spent, RanOut}
 use Rattle.nor_probe.specs.Known.{id_of, is_no_chip, shown, pointer_in, chip_says, shown_as}
 use Rattle.nor_probe.specs.Found.{reads_of, reads_for}
 
--- the fault that a probe returns if a wait failed for this reason
 abbrev pub fault_of : OperationError → ProbeFault
 fault_of OperationFails.Stopped = Stopped
 fault_of (OperationFails.Timeout address) = Timeout
 
--- the number of reads that identify a chip of this name: one of its ID, and three more of its SFDP for `Sfdp`
+-- the number of reads that identify a chip of this name
 abbrev pub reads_under : ChipName → ℕ
 reads_under Sfdp = 4
 reads_under _ = 1
 
--- Holds if `parameters` has the parts of the SFDP of this configuration.
 pub record AreParameters (config : Config) (parameters : Parameters) : Type 0 where
   pub header : parameters.header ≡ shown config 0 8
   pub first : parameters.first ≡ shown config 8 8
   pub table : parameters.table ≡ shown config (pointer_in (shown config 8 8)) 36
 
--- Holds, on every bus, for the type of a chip that was identified after its ID was read as `of_id`. The type has this
--- ID and a size that a chip may have, and comes from the row that applies on this bus (`part_for further`) or the SFDP.
--- The ID isn't one that is read if nothing drives the bus. The name of the type requires the same number of reads
--- (`reads_under`) as the ID (`reads_for further`).
+-- Holds, on every bus, for a type that was identified after its ID was read as `of_id`. Its name requires the same
+-- number of reads (`reads_under`) as its ID (`reads_for further`).
 pub record IsIdentified (further : Bool) (of_id : List ℕ) (part : Part) : Type 0 where
   pub driven : is_no_chip of_id ≡ false
   pub same_id : part.id ≡ of_id
@@ -45,32 +41,26 @@ pub record IsIdentified (further : Bool) (of_id : List ℕ) (part : Part) : Type
   pub sized : is_chip_size part.size ≡ true
   pub reads : reads_under part.name ≡ reads_for further of_id
 
--- Holds on a well-behaved bus (`honest`) after the parts of the SFDP were read. Three transactions were sent, and the
--- chip's bytes and non-volatile status bits are unchanged.
+-- Holds on a well-behaved bus after the parts of the SFDP were read.
 pub record ReadsParameters (old new : BusState) (parameters : Parameters) : Type 0 where
   pub rested : Rested old new
   pub count : Spent 3 old new
-  -- if the chip was idle, these are the parts of its SFDP
   pub shown : old.chip.busy ≡ 0 → AreParameters old.chip.config parameters
 
--- Holds on a well-behaved bus after the SFDP was read. Three transactions were sent, and the chip's bytes and
--- non-volatile status bits are unchanged.
+-- Holds on a well-behaved bus after the SFDP was read.
 pub record ReadsGeometry (old new : BusState) (geometry : Geometry) : Type 0 where
   pub rested : Rested old new
   pub count : Spent 3 old new
-  -- if the chip was idle, this is the geometry that its SFDP describes
   pub says : old.chip.busy ≡ 0 → chip_says old.chip.config ≡ Ok geometry
 
--- The meaning of each fault of a function that reads only the SFDP, for an idle chip on a well-behaved bus. Only the
--- faults `UnknownChip` and `Stopped` are possible.
+-- The meaning of each fault of a function that reads only the SFDP, for an idle chip on a well-behaved bus.
 abbrev pub GeometryErrors : (old new : BusState) → ProbeFault → Type 0
 GeometryErrors old new (UnknownChip fault) =
     (chip_says old.chip.config ≡ Err fault) × Spent 3 old new × Rested old new
 GeometryErrors old new Stopped = RanOut 3 old new
 GeometryErrors old new _ = ⊥
 
--- Holds if, on a well-behaved bus that is punctual, exactly the reads of a probe after the read of the ID were carried
--- out.
+-- Holds if a punctual bus carried out exactly the reads of a probe after the read of the ID.
 abbrev pub SpentAfterId : (old new : BusState) → Type 0
 SpentAfterId old new = old.punctual ≡ true → old.left + 1 ≡ new.left + reads_of (id_of old.chip.config)
 
@@ -82,14 +72,12 @@ IsIdentityFault OtherName = ⊥
 IsIdentityFault Stopped = ⊤
 IsIdentityFault Timeout = ⊥
 
--- Holds for an idle chip on a well-behaved bus that was identified after its ID was read. `part` is the chip type that
--- the chip shows (`shown_as`), the remaining reads of the probe were sent, and the chip is unchanged.
+-- Holds if an idle chip on a well-behaved bus was identified as `part` after its ID was read.
 pub record Identifies (old new : BusState) (part : Part) : Type 0 where
   pub rested : Rested old new
   pub shows : shown_as old.chip.config ≡ Ok part
   pub count : SpentAfterId old new
 
--- The meaning of each fault that occurs after the ID was read, for an idle chip on a well-behaved bus.
 abbrev pub IdentityErrors : (old new : BusState) → ProbeFault → Type 0
 IdentityErrors old new Stopped =
     old.punctual ≡ true → (new.left ≡ 0) × (old.left + 1 < reads_of (id_of old.chip.config))

@@ -51,59 +51,48 @@ further_chips =
     ∷ winbond W25Q128JVM (0xEF ∷ 0x70 ∷ 0x18 ∷ []) 16777216
     ∷ []
 
--- the row of the table with this ID, or `None` if no row has it
 abbrev pub part_with_id : (of_id : List ℕ) → Option Part
 part_with_id of_id = find (λ part. bytes_eq part.id of_id) chips
 
--- the further row with this ID, or `None` if no further row has it
 abbrev pub further_with_id : (of_id : List ℕ) → Option Part
 further_with_id of_id = find (λ part. bytes_eq part.id of_id) further_chips
 
--- the row or, without a row, the given `other`
 abbrev pub row_or : (other : Option Part) → Option Part → Option Part
 row_or other (Some part) = Some part
 row_or other None = other
 
--- The row that applies to a chip with this ID on a bus: the row of the table or, if the bus has further types
--- (`further`), the further row. `None` if no row applies.
+-- The row that applies to a chip with this ID: that of the table or, if the bus has further types, the further row.
 abbrev pub part_for : (further : Bool) → (of_id : List ℕ) → Option Part
 part_for false of_id = part_with_id of_id
 part_for true of_id = row_or (further_with_id of_id) (part_with_id of_id)
 
--- the row of the table with this name, or `None` if no row has it
 abbrev pub part_with_name : (text : List ℕ) → Option Part
 part_with_name text = find (λ part. bytes_eq (name_text part.name) text) chips
 
--- the further row with this name, or `None` if no further row has it
 abbrev pub further_with_name : (text : List ℕ) → Option Part
 further_with_name text = find (λ part. bytes_eq (name_text part.name) text) further_chips
 
--- the name of a row or, without a row, the given name `unlisted`
 abbrev pub name_or : (unlisted : ChipName) → Option Part → ChipName
 name_or unlisted (Some part) = part.name
 name_or unlisted None = unlisted
 
--- the name that a text spells: that of a chip of the table or of a further row, `Sfdp` for "SFDP", or `Other` for any
--- other text
+-- the name that a text spells: that of a row, `Sfdp` for "SFDP", or `Other` for any other text
 abbrev pub name_of : List ℕ → ChipName
 name_of text =
     name_or (if bytes_eq text (codes "SFDP") then Sfdp else Other)
     (row_or (further_with_name text) (part_with_name text))
 
--- the type of the emulated chip TINY64, with the size and erase types that its SFDP gives; its ID isn't in the table
+-- the type of the emulated chip TINY64, which its SFDP gives; its ID isn't in the table
 abbrev pub tiny64 : Part
 tiny64 = record { name = Sfdp; id = 0xFE ∷ 0x10 ∷ 0x10 ∷ []; size = 65536; kinds = all_kinds; scheme = false }
 
--- the type of the emulated chip with this value of `emulate=` (TINY64, or a chip of the table), or `None` for any other
--- value
+-- the type of the emulated chip with this value of `emulate=`
 abbrev pub emulated_named : (text : List ℕ) → Option Part
 emulated_named text = if bytes_eq text (codes "TINY64") then Some tiny64 else part_with_name text
 
--- the type of the emulated chip with this ID, or `None` if no emulated chip has it
 abbrev pub emulated_with_id : (of_id : List ℕ) → Option Part
 emulated_with_id of_id = if bytes_eq of_id tiny64.id then Some tiny64 else part_with_id of_id
 
--- Holds for the type of an emulated chip.
 abbrev pub IsEmulatedPart : Part → Type 0
 IsEmulatedPart part = emulated_with_id part.id ≡ Some part
 

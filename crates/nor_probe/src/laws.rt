@@ -4,10 +4,8 @@ ghost use Rattle.nor_model.specs.declared.config.Config.{Config};
 ghost use Rattle.nor_model.specs.Makers.{IsTiny64, IsW25q64fv, IsW25q128fv};
 ghost use Rattle.nor_probe.specs.Known.{IsKnown, IsEmulated};
 
-/// States that every emulated chip is known (`IsKnown`): a probe can identify it, and it is genuine (what its ID or
-/// SFDP describes), so that promises made for genuine chips hold for it. The emulated chips include those of
-/// `Config::tiny64`, `Config::w25q64fv` and `Config::w25q128fv`. Also states that a known chip stays known if only its
-/// unique ID is replaced.
+/// States that every emulated chip is known: a probe can identify it, and it is genuine. Also states that a known chip
+/// stays known if only its unique ID is replaced.
 pub fn emulated_are_known()
     ensures made { (config : Config) → IsTiny64 config ⊎ IsW25q64fv config ⊎ IsW25q128fv config → IsEmulated config }
     ensures known { (config : Config) → IsEmulated config → IsKnown config }

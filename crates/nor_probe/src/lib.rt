@@ -21,11 +21,6 @@
 //! let other = ChipName::of("W25Q128FV");
 //! assert_eq!(rt; probe(&mut bus, Some(other)), Err(ProbeFault::OtherName));
 //! ```
-//!
-//! `specs/Found.antt` defines the promises of a probe, and `specs/Replied.antt` the replies of the bus by which a chip
-//! is identified. `specs/Known.antt` defines what a chip shows about itself, and which chips are genuine and known.
-//! `specs/Sfdp.antt` and `specs/Table.antt` define the meaning of SFDP bytes and of the table, and `specs/Steps.antt`
-//! the effect and the result of each step of a probe.
 #![tactic(auto)]
 
 mod laws;

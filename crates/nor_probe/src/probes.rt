@@ -63,21 +63,16 @@ pub struct Probed {
 }
 
 /// Identifies the chip on the bus. Waits until the chip is idle, with at most 65,536 polls (05h), and reads its ID
-/// (9Fh). If no row applies to the ID on this bus (`part_for`), and the ID isn't `FF FF FF` or `00 00 00`, also reads
-/// its SFDP with three reads (5Ah). The further rows apply if `has_further_types` of the bus returns true. If `named`
-/// is given, the chip must have this name.
+/// (9Fh). If no row applies to the ID on this bus (`part_for`, with further rows if `has_further_types` returns true),
+/// also reads its SFDP with three reads (5Ah). If `named` is given, the chip must have this name.
 ///
-/// On any bus, a returned chip has the given name, if one is given, and the last poll showed that it is ready. Its ID
-/// and status 1 are the last replies of the bus to 9Fh and 05h. Its size is supported. The chip has the row that
-/// applies on this bus or, if no row applies, was identified by the SFDP that the bus replied.
-///
-/// On a well-behaved bus (`honest`), the returned chip is what the chip on the bus shows about itself. That chip is
-/// idle, and its bytes and non-volatile status bits are unchanged. On a modelled bus (well-behaved, with a genuine
-/// chip: `IsModelled`), the returned ID, size, erase types and block protection are those of the chip's configuration.
+/// On any bus, the ID and status 1 returned are the last replies to 9Fh and 05h, the size is a power of two from 64 KiB
+/// to 16 MiB, and the last poll showed that the chip is ready. On a modelled bus, the size, erase types and block
+/// protection are those of the chip.
 ///
 /// Returns `NoChip`, `UnknownChip` or `OtherName`, checked in this order. Returns `Stopped` if the bus stopped, and
-/// `Timeout` if 65,536 polls showed BUSY, which doesn't occur on a well-behaved bus. Nothing is sent after a stop or a
-/// timeout.
+/// `Timeout` if 65,536 polls showed BUSY, which doesn't occur on a well-behaved bus. Nothing is sent after a stop or
+/// a timeout.
 pub fn probe<B: Bus>(bus: &mut B, named: Option<ChipName>) -> Result<Found, ProbeFault>
     ensures always { ProbeAlways named (B.state bus.old) (B.state bus.new) result }
     ensures honest { (B.state bus.old).honest ≡ true
@@ -89,12 +84,8 @@ pub fn probe<B: Bus>(bus: &mut B, named: Option<ChipName>) -> Result<Found, Prob
     Ok(probed.found)
 }
 
-/// Identifies the chip as `probe` does, with the same errors, and also returns the number of transactions that were
-/// sent.
-///
-/// On any bus, the returned number is at least that of one poll and the reads, and at most 65,540. On a well-behaved
-/// bus, it is exactly the number that the chip needs: one poll for each BUSY that the chip still shows, one poll that
-/// shows it idle, and the reads.
+/// Identifies the chip as `probe` does, with the same errors. Also returns the number of transactions sent, which is at
+/// most 65,540, and on a well-behaved bus exactly what the chip needs.
 #[tactic(auto, using(crate::proofs::Sizes::size_at_least, crate::proofs::Sizes::size_at_most, crate::proofs::Sizes::size_in_blocks))]
 pub fn probe_counted<B: Bus>(bus: &mut B, named: Option<ChipName>) -> Result<Probed, ProbeFault>
     ensures always { ProbeAlways named (B.state bus.old) (B.state bus.new) (found_in result) }
@@ -118,7 +109,6 @@ pub fn probe_counted<B: Bus>(bus: &mut B, named: Option<ChipName>) -> Result<Pro
 }
 
 impl Part {
-    // Returns a found chip of this type. `status1` is status 1, as the last poll returned it.
     fn found(self, status1: u8) -> Found
         ensures part { part_in result ≡ self }
         ensures status1 { result.status1 ≡ status1 }
@@ -141,9 +131,8 @@ impl Part {
     }
 }
 
-// Returns the type of the chip whose ID was read as `id`: the row that applies or, without a row, the type that its
-// SFDP describes. `further` says whether further rows apply. The clauses `shown` and `errors` hold only on a
-// well-behaved bus without further types, if the chip is idle and `id` is its ID.
+// Returns the type of the chip whose ID was read as `id`. The clauses `shown` and `errors` hold only on a well-behaved
+// bus without further types, if the chip is idle and `id` is its ID.
 fn identify<B: Bus>(bus: &mut B, further: bool, id: [u8; 3]) -> Result<Part, ProbeFault>
     ensures leaves { OnlyReads 3 (B.state bus.old) (B.state bus.new) }
     ensures polled_ready { (B.state bus.new).polled_ready ≡ (B.state bus.old).polled_ready }
@@ -177,15 +166,12 @@ fn identify<B: Bus>(bus: &mut B, further: bool, id: [u8; 3]) -> Result<Part, Pro
     })
 }
 
-// True if `id` is `FF FF FF` or `00 00 00`, as it is read if nothing drives the bus.
 fn is_no_chip(id: [u8; 3]) -> bool
     ensures { result ≡ is_no_chip id }
 {
     id == [0xFF; 3] || id == [0; 3]
 }
 
-// Reads the SFDP, and returns the size and the erase types that it describes. On a well-behaved bus, the SFDP is that
-// of the chip, if the chip is idle.
 fn read_geometry<B: Bus>(bus: &mut B) -> Result<Geometry, ProbeFault>
     ensures leaves { OnlyReads 3 (B.state bus.old) (B.state bus.new) }
     ensures polled_ready { (B.state bus.new).polled_ready ≡ (B.state bus.old).polled_ready }
@@ -215,8 +201,6 @@ struct Parameters {
     table: [u8; 36],
 }
 
-// Reads the SFDP header, the first parameter header, and 36 bytes of the table whose address the parameter header
-// contains. On a well-behaved bus, these bytes are those of the chip's SFDP, if the chip is idle.
 fn read_parts<B: Bus>(bus: &mut B) -> Result<Parameters, Stopped>
     ensures leaves { OnlyReads 3 (B.state bus.old) (B.state bus.new) }
     ensures polled_ready { (B.state bus.new).polled_ready ≡ (B.state bus.old).polled_ready }
@@ -249,8 +233,6 @@ fn pointer_in(first: &[u8; 8]) -> u32
     LittleEndian::read_u24(&first[4..])
 }
 
-// Returns the number of reads that identify a chip of this name: one of its ID (9Fh), and three more of its SFDP (5Ah)
-// for `Sfdp`.
 fn reads_of(name: ChipName) -> u64
     ensures { result ≡ reads_under name }
 {
@@ -260,7 +242,6 @@ fn reads_of(name: ChipName) -> u64
     }
 }
 
-// True if no name was given, or the chip has the given name.
 fn is_wanted(named: Option<ChipName>, name: ChipName) -> bool
     ensures { IsTrue result ↔ IsWanted named name }
 {

@@ -1,5 +1,4 @@
-//! Serial Flash Discoverable Parameters (JEDEC JESD216): decodes the size of a chip and its erase types from the
-//! header, the first parameter header and the basic flash parameter table.
+//! SFDP (JESD216): decodes the size of a chip and its erase types.
 
 ghost use Rattle.std.specs.Prelude.{◌≡◌, ◌<◌, ◌≤◌, ◌+◌, ◌*◌, ◌-◌, ◌/◌, true, IsTrue};
 ghost use Rattle.std.specs.Prelude.{IfSome, IfOk};
@@ -19,8 +18,7 @@ use thiserror::Error;
 pub struct Geometry {
     /// The size in bytes. `read_sfdp` returns a power of two from 65,536 to 16,777,216.
     pub size: u32,
-    /// Which of two more erase types the chip has: 32 KiB with opcode 52h, and 64 KiB with opcode D8h. A chip whose
-    /// SFDP is accepted always has the erase type of 4 KiB with opcode 20h.
+    /// Which of two more erase types the chip has, besides 4 KiB with opcode 20h: 32 KiB with 52h, and 64 KiB with D8h.
     pub kinds: Kinds,
 }
 
@@ -64,13 +62,12 @@ impl SfdpFault {
     }
 }
 
-// The least number of double words that the table must have. The erase types are in double words 8 and 9.
+// The erase types are in double words 8 and 9.
 const TABLE_LENGTH: u8 = 9;
 
 // Bit 31 of the density double word. If it is set, the other bits are the binary logarithm of the size in bits.
 const BY_EXPONENT: u32 = 0x8000_0000;
 
-// The smallest supported size, 64 KiB, in bits.
 const LEAST_BITS: u32 = 1 << 19;
 
 // The binary logarithm of the largest supported size in bits: 16 MiB has 2^27 bits.
@@ -99,7 +96,6 @@ pub fn read_sfdp(header: &[u8; 8], first: &[u8; 8], table: &[u8; 36]) -> Result<
     read_table(table)
 }
 
-// Checks the basic flash parameter table. Returns the size and the erase types, or the first fault.
 fn read_table(table: &[u8; 36]) -> Result<Geometry, SfdpFault>
     ensures says { result ≡ first_fault_or (geometry_of table.now) (table_faults table.now) }
     ensures sized { IfOk result (λ geometry. is_chip_size geometry.size ≡ true) }
@@ -123,7 +119,6 @@ fn read_table(table: &[u8; 36]) -> Result<Geometry, SfdpFault>
     Ok(Geometry { size, kinds })
 }
 
-// True if the header begins with the letters `SFDP`.
 #[tactic(auto, unfolding(crate::specs::Sfdp::has_signature))]
 fn is_sfdp(header: &[u8; 8]) -> bool
     ensures { result ≡ has_signature header.now }
@@ -131,8 +126,6 @@ fn is_sfdp(header: &[u8; 8]) -> bool
     header[0] == b'S' && header[1] == b'F' && header[2] == b'D' && header[3] == b'P'
 }
 
-// True if the first parameter header is that of the basic flash parameter table in major revision 1. Only the low byte
-// of its ID and its major revision are compared.
 #[tactic(auto, unfolding(crate::specs::Sfdp::is_basic))]
 fn is_basic_table(first: &[u8; 8]) -> bool
     ensures { result ≡ is_basic first.now }
@@ -140,8 +133,7 @@ fn is_basic_table(first: &[u8; 8]) -> bool
     first[0] == 0 && first[2] == 1
 }
 
-// Returns the length of addresses that the chip takes, from bits 17 and 18 of double word 1: 0 for three bytes, 1 for
-// three or four bytes, 2 for four bytes only. The value 3 is reserved.
+// Bits 17 and 18 of double word 1: 0 for three-byte addresses, 1 for three or four, 2 for four only; 3 is reserved.
 #[tactic(auto, unfolding(crate::specs::Sfdp::address_mode))]
 fn address_bits(table: &[u8; 36]) -> u32
     ensures { result ≡ address_mode table.now }
@@ -149,7 +141,6 @@ fn address_bits(table: &[u8; 36]) -> u32
     (double_word_of(table, 1) >> 17) % 4
 }
 
-// True if the write granularity is 64 bytes or more, as bit 2 of double word 1 says.
 #[tactic(auto, unfolding(crate::specs::Sfdp::has_write_granularity))]
 fn takes_pages(table: &[u8; 36]) -> bool
     ensures { result ≡ has_write_granularity table.now }
@@ -157,7 +148,6 @@ fn takes_pages(table: &[u8; 36]) -> bool
     (double_word_of(table, 1) >> 2) % 2 == 1
 }
 
-// Returns double word `k` of the table, counted from 1.
 #[tactic(auto, unfolding(crate::specs::Sfdp::double_word))]
 fn double_word_of(table: &[u8; 36], k: usize) -> u32
     requires counted { 1 ≤ k }
@@ -167,7 +157,6 @@ fn double_word_of(table: &[u8; 36], k: usize) -> u32
     LittleEndian::read_u32(&table[4 * (k - 1)..])
 }
 
-// Returns the size in bytes that the density double word gives, or `None` if this size isn't supported.
 #[tactic(auto, using(crate::proofs::SfdpLemmas::large_exponent, crate::proofs::SfdpLemmas::in_bits), unfolding(crate::specs::Sfdp::size_in_bits))]
 fn size_in_bytes(density: u32) -> Option<u32>
     ensures value { SomeIff result (IsTrue (is_chip_size_in_bits (size_in_bits density))) (size_in_bits density / 8) }
@@ -187,7 +176,6 @@ fn size_in_bytes(density: u32) -> Option<u32>
     }
 }
 
-// True if one of the four erase types has this opcode, and a size of 2 ^ `exponent` bytes.
 #[tactic(auto, unfolding(crate::specs::Sfdp::has_erase_type))]
 fn offers(table: &[u8; 36], exponent: u8, opcode: u8) -> bool
     ensures { result ≡ has_erase_type exponent opcode table.now }
@@ -198,7 +186,6 @@ fn offers(table: &[u8; 36], exponent: u8, opcode: u8) -> bool
         || offers_at(table, exponent, opcode, 34)
 }
 
-// True if the erase type that begins at byte `at` of the table has this exponent of its size and this opcode.
 fn offers_at(table: &[u8; 36], exponent: u8, opcode: u8, at: usize) -> bool
     requires { at < 35 }
     ensures { result ≡ is_erase_type_at exponent opcode table.now at }

@@ -36,8 +36,7 @@ pub enum ChipName {
 }
 
 impl ChipName {
-    /// Returns the name whose text is `text`: the name of a chip of the table or of a further row, or `Sfdp` for
-    /// `SFDP`. The text must be in upper case. Returns `Other` for any other text.
+    /// Returns the name whose text is `text`, in upper case: that of a chip with a row, or `Sfdp`. Otherwise `Other`.
     pub fn of(text: &str) -> ChipName
         ensures { result ≡ name_of text.now }
     {
@@ -83,8 +82,7 @@ pub struct Part {
     pub scheme: bool,
 }
 
-// A row for a Winbond chip, which has all erase types and block protection. It is a macro because the value of a
-// constant can't call a function.
+// This is a macro because the value of a constant can't call a function.
 macro_rules! winbond {
     ($name:ident, $id:expr, $size:expr) => {
         Part {
@@ -115,7 +113,6 @@ const FURTHER: [Part; 7] = [
     winbond!(W25Q128JVM, [0xEF, 0x70, 0x18], 16_777_216),
 ];
 
-// The emulated chip TINY64, with the size and erase types that its SFDP gives. Its ID isn't in the table.
 const TINY64: Part = Part {
     name: ChipName::Sfdp,
     id: [0xFE, 0x10, 0x10],
@@ -138,8 +135,7 @@ pub fn part_of(id: [u8; 3]) -> Option<Part>
     CHIPS.iter().find(|part| part.id == id).copied()
 }
 
-/// Returns the row that applies to a chip with this ID: the row of the table or, if `further` is true, the further row.
-/// Returns `None` if no row applies.
+/// Returns the row that applies to a chip with this ID: that of the table or, if `further` is true, the further row.
 pub fn part_for(further: bool, id: [u8; 3]) -> Option<Part>
     ensures { result ≡ part_for further id }
 {
@@ -151,14 +147,12 @@ pub fn part_for(further: bool, id: [u8; 3]) -> Option<Part>
     }
 }
 
-// Returns the further row with this ID, or `None` if no further row has it.
 fn further_part(id: [u8; 3]) -> Option<Part>
     ensures { result ≡ further_with_id id }
 {
     FURTHER.iter().find(|part| part.id == id).copied()
 }
 
-// Returns the row of the table with this name, or `None` if no row has it.
 fn part_named(name: &str) -> Option<Part>
     ensures { result ≡ part_with_name name.now }
 {
@@ -168,7 +162,6 @@ fn part_named(name: &str) -> Option<Part>
         .copied()
 }
 
-// Returns the further row with this name, or `None` if no further row has it.
 fn further_named(name: &str) -> Option<Part>
     ensures { result ≡ further_with_name name.now }
 {
@@ -178,8 +171,7 @@ fn further_named(name: &str) -> Option<Part>
         .copied()
 }
 
-/// Returns the type of the emulated chip that is called `name`: TINY64, which isn't in the table, or a chip of the
-/// table. Returns `None` for any other name.
+/// Returns the type of the emulated chip `name`, which is TINY64 or a chip of the table, or `None` for any other name.
 pub fn emulated_part(name: &str) -> Option<Part>
     ensures named { result ≡ emulated_named name.now }
     ensures emulated { IfSome result IsEmulatedPart }
