@@ -7,7 +7,6 @@ use Rattle.std.proofs.lemmas.Bool.Decides.{nat_tests}
 use Rattle.nor_layout.specs.Line.{cut_at}
 use Rattle.nor_layout.specs.Steps.{IsFirst}
 
--- If the first byte of the text that equals `byte` is at index i, `cut_at` splits the text there.
 cut_at-here : (byte : ℕ) (text : List ℕ) (i : ℕ) → i < length text → get_or text i 0 ≡ byte → ((k : ℕ) → k < i → get_or text k 0 ≢ byte) → cut_at byte text ≡ Some (take i text, drop (suc i) text)
 cut_at-here byte [] i lt here before = absurd (omega arith)
 cut_at-here byte (b ∷ text) zero lt here before = rw (eq-eqb b byte here) refl
@@ -18,7 +17,6 @@ pub cut_at-first : (byte : ℕ) (text : List ℕ) (i : ℕ) → IsFirst byte tex
 cut_at-first byte text i first =
     rw (take_rest text (i + 1), add-one) (cut_at-here byte text i first.within first.here first.before)
 
--- If the text doesn't contain `byte`, `cut_at` returns None.
 pub cut_at-nowhere : (byte : ℕ) (text : List ℕ) → ((k : ℕ) → k < length text → get_or text k 0 ≢ byte) → cut_at byte text ≡ None
 cut_at-nowhere byte [] none = refl
 cut_at-nowhere byte (b ∷ text) none =

@@ -6,18 +6,15 @@ use Rattle.std.proofs.lemmas.List.{drop_more, length-drop}
 use Rattle.std.specs.Char.{digit_value}
 use Rattle.nor_layout.specs.Address.{is_hex_digit, hex_value, digits_number}
 
--- If a character has a digit value below 16, it is a hexadecimal digit with this value.
 pub digit_is : (byte : ℕ) → digit_value byte < 16 → (is_hex_digit byte ≡ true) × (digit_value byte ≡ hex_value byte)
 digit_is byte below = grind (arith, nat_tests)
 
--- Reading one more digit replaces `value` by `value * 16` plus the value of that digit. The number that `value`,
--- followed by the remaining digits, encodes stays the same.
+-- Reading one more digit keeps the number that `value`, followed by the remaining digits, encodes.
 pub number_of-more : (digits : List ℕ) (i value : ℕ) → i < length digits
     → value * 16 ^ (length digits - i) + digits_number (drop i digits) ≡ (value * 16 + hex_value (get_or digits i 0)) * 16 ^ (length digits - (i + 1)) + digits_number (drop (i + 1) digits)
 number_of-more digits i value lt =
     let k : length digits - i ≡ suc (length digits - (i + 1)) = omega arith in
     rw (drop_more digits i 0 lt, length-drop (i + 1) digits, k, pow-suc) (omega arith)
 
--- If i is at most 8, 16 ^ i is at most 2 ^ 32, so the number that i hexadecimal digits encode fits in 32 bits.
 pub pow-fits : (i : ℕ) → i ≤ 8 → 16 ^ i ≤ 2 ^ 32
 pow-fits i le = pow-le-pow_right {n = 16} (omega arith) {i = i} {j = 8} le

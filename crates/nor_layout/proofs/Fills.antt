@@ -4,7 +4,6 @@ use Rattle.std.proofs.lemmas.Bool.Decides.{nat_tests}
 use Rattle.nor_layout.specs.declared.positions.Positions.{Positions}
 use Rattle.nor_layout.specs.Positions.{is_covered, AreRisingFrom}
 
--- If the ranges ascend, and the first one begins at `first` or above, no range covers a position below `first`.
 pub is_covered-below : (first : ℕ) (all : List Positions) (at : ℕ) → AreRisingFrom first all → at < first → is_covered all at ≡ false
 is_covered-below first [] at rising lt = refl
 is_covered-below first (positions ∷ more) at rising lt =

@@ -13,15 +13,10 @@ use Rattle.nor_layout.specs.Line.{cut_at, without_spaces, with_start, parts_afte
 use Rattle.nor_layout.specs.Line.{parts_say, line_says}
 use Rattle.nor_layout.specs.Grammar.{IsAddress, IsLine}
 
--- Let a result be the error `first` if `bad` is true, else `Ok x` if `good` is true, else the error `second`. If the
--- result is `Ok y`, then `bad` is false, `good` is true, and `x` equals `y`.
 passes : {A E : Type 0} (bad good : Bool) (x y : A) (first second : E)
     → (if bad then Err first else if good then Ok x else Err second) ≡ Ok y → (bad ≡ false) × (good ≡ true) × (x ≡ y)
 passes bad good x y first second e = grind arith
 
--- ---- addresses
-
--- The text is `digits_of text`, with or without `0x` before it.
 digits_of-is : (text : List ℕ) → (text ≡ digits_of text) ⊎ (text ≡ 48 ∷ 120 ∷ digits_of text)
 digits_of-is text = grind (arith, nat_tests)
 
@@ -30,14 +25,11 @@ address_of-found text = cond_both (are_digits (digits_of text)) _ _ (λ found. I
     (λ is. record { digits = digits_of text; text_is = digits_of-is text; hexadecimal = is; address_is = refl })
     (λ other. tt)
 
--- Hexadecimal digits don't begin with `0x`, so `digits_of` leaves them as they are.
 digits_of-digits : (digits : List ℕ) → list_all is_hex_digit digits ≡ true → digits_of digits ≡ digits
 digits_of-digits digits all = grind (arith, nat_tests)
 
 address_of-taken : (text : List ℕ) (address : ℕ) → IsAddress text address → digits_address text ≡ Some address
 address_of-taken text address is = grind (arith, nat_tests, digits_of-digits is.digits)
-
--- ---- splits at a byte (`cut_at`)
 
 -- Holds if the text is the first part, then `byte`, then the second part.
 abbrev IsCut : ℕ → List ℕ → List ℕ × List ℕ → Type 0
@@ -55,9 +47,6 @@ cut_at-taken : (byte : ℕ) (front rest : List ℕ) → lacks byte front ≡ tru
 cut_at-taken byte [] rest lacking = rw (eq-eqb byte byte refl) refl
 cut_at-taken byte (b ∷ front) rest lacking = grind (arith, nat_tests, cut_at-taken byte front rest)
 
--- ---- spaces
-
--- Splits a text into its leading spaces and the rest.
 leading : (text : List ℕ)
     → (spaces : List ℕ) × (text ≡ spaces ++ without_spaces text) × (list_all (λ b. eqb b 32) spaces ≡ true)
 leading [] = ([], refl, refl)
@@ -68,7 +57,6 @@ leading (b ∷ text) = elim (cases_Bool (eqb b 32)) [
   | inr other ↦ ([], rw other refl, refl)
 ]
 
--- A name has no spaces. Therefore removing the leading spaces of a text with spaces and then a name leaves the name.
 without_spaces-taken : (spaces name : List ℕ) → list_all (λ b. eqb b 32) spaces ≡ true
     → list_all is_name_byte name ≡ true
     → without_spaces (spaces ++ name) ≡ name
@@ -78,8 +66,6 @@ without_spaces-taken (b ∷ spaces) name blank all = grind (arith, nat_tests, wi
 
 -- ---- lines
 
--- Hexadecimal digits contain no byte that isn't a hexadecimal digit (`digits_lack`). An address consists of an optional
--- `0x` and hexadecimal digits, so it doesn't contain `:` or a space (`address_lacks`).
 digits_lack : (byte : ℕ) → is_hex_digit byte ≡ false → (digits : List ℕ) → list_all is_hex_digit digits ≡ true
     → lacks byte digits ≡ true
 digits_lack byte other [] all = refl
@@ -104,7 +90,6 @@ line_says-taken line region is =
     let forward = le-ltb region.end region.start is.forward in
     rw (is.line_is, first, second, third, start, end, forward, is.named) refl
 
--- Let `o` be an optional part of a line. If `gives` returns a region for `o`, but not for None, the part is there.
 some_of : {A : Type 0} (P : A → Type 0) (o : Option A) (gives : Option A → Result Region LineFault) (region : Region)
     → IfSome o P → ¬ (gives None ≡ Ok region) → gives o ≡ Ok region → (x : A) × P x × (gives (Some x) ≡ Ok region)
 some_of P o gives region is none e = grind arith

@@ -1,4 +1,3 @@
--- Lemmas about the positions in a sector that spans cover.
 use Rattle.std.proofs.Common.{◌≡◌, ℕ, ◌+◌, ◌-◌, ◌*◌, ◌/◌, ◌<◌, ◌≤◌, ◌||◌, ltb, List, [], ◌∷◌, refl, arith, Bool}
 use Rattle.std.specs.List.{cons_option}
 use Rattle.std.proofs.lemmas.Bool.{cond_both}
@@ -8,11 +7,8 @@ use Rattle.nor_layout.specs.declared.positions.Positions.{Positions}
 use Rattle.nor_layout.specs.Ranges.{is_in_span, contains, IsApartFrom, AreDisjoint}
 use Rattle.nor_layout.specs.Positions.{is_covered, part_in_sector, parts_in_sector, AreRisingFrom, AreIncludedIn}
 
--- true if the span has no address in the sector
 abbrev is_outside : ℕ → Span → Bool
 is_outside sector span = ltb sector (span.first / 4096) || ltb (span.last / 4096) sector
-
--- ---- a position is covered if and only if its address is in a span
 
 is_covered-cons : (sector : ℕ) (span : Span) (rest : List Positions) (at : ℕ) → at < 4096
     → is_covered (cons_option (part_in_sector sector span) rest) at
@@ -26,8 +22,6 @@ is_covered-parts : (sector : ℕ) (spans : List Span) (at : ℕ) → at < 4096
 is_covered-parts sector [] at lt = refl
 is_covered-parts sector (span ∷ spans) at lt =
     grind (arith, is_covered-cons sector span (parts_in_sector sector spans) at lt, is_covered-parts sector spans at lt)
-
--- ---- the positions are in ascending order
 
 weaker : (low high : ℕ) (parts : List Positions) → low ≤ high → AreRisingFrom high parts → AreRisingFrom low parts
 weaker low high [] le rising = tt
@@ -46,8 +40,6 @@ rising-cons sector first span rest le forward rising = cond_both (is_outside sec
       weaker _ _ rest (grind (arith, nat_tests)) rising,
     ))
 
--- If disjoint spans follow `low`, with at least one address in between, their positions ascend, and come after those of
--- `low`.
 parts_rise : (sector : ℕ) (low : Span) (spans : List Span) → IsApartFrom low spans → AreDisjoint spans
     → AreRisingFrom (low.last + 1 - 4096 * sector) (parts_in_sector sector spans)
 parts_rise sector low [] from apart = tt

@@ -10,7 +10,7 @@ use Rattle.nor_layout.specs.Steps.{join}
 abbrev is_below : Span → Span → Bool
 is_below a b = ltb (a.last + 1) b.first
 
--- the spans with the span `new` added, which is joined with the spans that it overlaps or is adjacent to
+-- the spans with `new` added, which is joined with the spans that it overlaps or is adjacent to
 unfoldable pub merged : Span → List Span → List Span
 merged new [] = new ∷ []
 merged new (span ∷ spans) =
@@ -26,14 +26,10 @@ contains-merged new (span ∷ spans) address forward apart =
     let joined = contains-merged (join new span) spans address (omega (arith, forward, apart.0)) apart.2 in
     grind (arith, nat_tests)
 
--- If `span` and `spans` are disjoint, and `low` ends below `span` with at least one address between them, then `low`
--- and `spans` are disjoint, too.
 further : (low span : Span) (spans : List Span) → low.first ≤ low.last → low.last + 1 < span.first
     → AreDisjoint (span ∷ spans) → AreDisjoint (low ∷ spans)
 further low span spans forward lt apart = grind arith
 
--- Let `low` and `spans` be disjoint, and let `new` begin above `low` with at least one address between them. If `new`
--- is added to `spans`, then `low` and the result are disjoint, too.
 apart_after : (low new : Span) (spans : List Span) → low.last + 1 < new.first → new.first ≤ new.last
     → AreDisjoint (low ∷ spans) → AreDisjoint (low ∷ merged new spans)
 unfolding merged
@@ -56,8 +52,6 @@ AreDisjoint-merged new (span ∷ spans) forward apart =
     let later = further new span spans in
     grind (arith, nat_tests)
 
--- After the loop has passed the last span, the finished spans `front` and the span `new` are the set with `added`
--- added.
 pub merged_all : (front : List Span) (new added : Span) (spans : List Span) (i : ℕ) → length spans ≤ i
     → front ++ merged new (drop i spans) ≡ merged added spans → added.first ≤ added.last → AreDisjoint spans
     → AreDisjoint (front ++ new ∷ [])

@@ -1,17 +1,13 @@
--- Disjoint spans (`AreDisjoint`) are the fewest spans that have their addresses. Therefore no set can have the
--- addresses of more than 64 disjoint spans.
+-- No set can have the addresses of more than 64 disjoint spans, because these are the fewest that have them.
 use Rattle.std.proofs.Common.{◌≡◌, ℕ, ◌+◌, ◌<◌, ◌≤◌, true, ◌&&◌, ltb, List, [], ◌∷◌, length, inl, inr, arith}
 use Rattle.std.proofs.lemmas.Bool.{false≢true, or_cases}
 use Rattle.std.proofs.lemmas.Bool.Decides.{nat_tests}
 use Rattle.nor_layout.specs.declared.ranges.Span.{Span}
 use Rattle.nor_layout.specs.Ranges.{is_in_span, contains, AreDisjoint, IsSetOf}
 
--- ---- the fewest spans with the same addresses
-
 first_in : (span : Span) (spans : List Span) → span.first ≤ span.last → contains (span ∷ spans) span.first ≡ true
 first_in span spans forward = grind (arith, nat_tests)
 
--- If `span` and the spans after it are disjoint, each address in these later spans is greater than `span.last + 1`.
 above : (span : Span) (spans : List Span) (a : ℕ) → AreDisjoint (span ∷ spans) → contains spans a ≡ true → span.last + 1 < a
 above span [] a apart holds = absurd (false≢true holds)
 above span (next ∷ spans) a apart holds = grind (arith, nat_tests, above next spans a apart.2)
@@ -24,9 +20,7 @@ record AreCut (low limit : ℕ) (few many : List Span) : Type 0 where
 
 module _ (low limit : ℕ) (s : Span) (ss : List Span) (b : Span) (bs : List Span) (apart : AreDisjoint (s ∷ ss))
     (apart_b : AreDisjoint (b ∷ bs)) (cut : AreCut low limit (s ∷ ss) (b ∷ bs)) where
-  -- If the span `s` begins in the span `b`, the spans `ss` after `s` are cut from the spans `bs` after `b` (`AreCut`).
-  -- No address of `ss` is in `b`: otherwise `b` would also contain the address after `s`, which neither `s` nor `ss`
-  -- contains.
+  -- No address of `ss` is in `b`: otherwise `b` would also contain the address after `s`, which isn't in `s ∷ ss`.
   rests : is_in_span b s.first ≡ true → AreCut (s.last + 1) limit ss bs
   rests begins = record {
     within = λ a holds. grind (arith, nat_tests, above s ss a apart, cut.within a);
@@ -37,7 +31,6 @@ module _ (low limit : ℕ) (s : Span) (ss : List Span) (b : Span) (bs : List Spa
     from = λ a least most holds. grind (arith, nat_tests, cut.from a, cut.within s.first);
   }
 
-  -- If the span `s` begins in one of the spans `bs` after `b`, the list `s ∷ ss` is cut from `bs` (`AreCut`).
   without : contains bs s.first ≡ true → AreCut low limit (s ∷ ss) bs
   without later =
       let high = λ (a : ℕ). above s ss a apart in
@@ -58,8 +51,6 @@ length_cut low limit (s ∷ ss) (b ∷ bs) apart apart_many cut =
           omega (arith, length_cut low limit (s ∷ ss) bs apart apart_many.2 rest)
     ]
 
--- If more than 64 disjoint spans have exactly those addresses of `spans` that are below `done`, no set (`IsSetOf`) has
--- exactly the addresses of `spans`.
 pub none_has : (spans all : List Span) (done : ℕ) → AreDisjoint all → 64 < length all
     → ((a : ℕ) → contains all a ≡ (ltb a done && contains spans a)) → (set : List Span) → ¬ IsSetOf spans set
 none_has spans all done apart many same set is =

@@ -21,8 +21,6 @@ use Rattle.nor_layout.specs.Grammar.{IsLine, IsLayout}
 use Rattle.nor_layout.specs.Steps.{AddsRegion}
 use Rattle.nor_layout.proofs.LineLaws.{line_says-taken, line_says-found}
 
--- ---- regions with the same name
-
 bytes_eq-swap : (a b : List ℕ) → bytes_eq a b ≡ bytes_eq b a
 bytes_eq-swap a b = grind (arith, bytes_eq-Decides a b, bytes_eq-Decides b a)
 
@@ -34,7 +32,6 @@ push_apart (first ∷ regions) region apart once =
     let named = list_any-append (λ (r : Region). bytes_eq r.name.items first.name.items) regions (region ∷ []) in
     (grind arith, push_apart regions region apart.1 (grind arith))
 
--- If no two regions of the list have the same name, no region before `region` has the name of `region`.
 named_before : (regions : List Region) (region : Region) (more : List Region) → AreNamedApart (regions ++ region ∷ more)
     → is_region_named regions region.name.items ≡ false
 named_before [] region more apart = refl
@@ -51,8 +48,6 @@ push_forward (first ∷ regions) region all forward = (all.0, push_forward regio
 pub no_regions : AreRegions []
 no_regions = record { few = omega arith; forward = tt; named_apart = tt }
 
--- If a layout may have `regions` (`AreRegions`), and they are fewer than 64, it may also have them with one more region
--- that has a new name and doesn't end before it begins.
 pub push_region : (regions : List Region) (region : Region) → AreRegions regions → region.start ≤ region.end
     → is_region_named regions region.name.items ≡ false → length regions < 64 → AreRegions (regions ++ region ∷ [])
 push_region regions region kept forward once room = record {
@@ -61,10 +56,6 @@ push_region regions region kept forward once room = record {
   named_apart = push_apart regions region kept.named_apart once;
 }
 
--- ---- what is read is in the grammar
-
--- If a nonempty line has no fault, and the rest of the reading (`follows`) has none either, the line adds a region with
--- a new name, and there were fewer than 64 regions before.
 joined : (regions all : List Region) (n : ℕ) (said : Result Region LineFault)
     (follows : List Region → Result (List Region) LayoutFault) → joins_or_fault regions n said >>= follows ≡ Ok all
     → (region : Region) × (said ≡ Ok region) × (is_region_named regions region.name.items ≡ false)
@@ -74,8 +65,7 @@ joined regions all n said follows e = grind (arith, nat_tests)
 abbrev is_full : List ℕ → Bool
 is_full line = not (eqb (length line) 0)
 
--- Holds if `all` are the earlier `regions` followed by the regions of the remaining lines, and a layout may have them
--- (`AreRegions`).
+-- Holds if `all` are `regions` followed by those of the remaining lines, and a layout may have them.
 abbrev RestDefines : (lines : List (List ℕ)) (regions all : List Region) → Type 0
 RestDefines lines regions all =
     AreRegions all × ((rest : List Region) × (all ≡ regions ++ rest) × AllZip IsLine (filter is_full lines) rest)
@@ -110,8 +100,6 @@ layout_says-found text regions e =
     let define = lines_say-found (lines_of text) [] regions 1 no_regions e in
     record { lines = rw define.1.1 define.1.2; few = define.0.few; named_apart = define.0.named_apart }
 
--- ---- what is in the grammar is read
-
 lines_say-taken : (all : List Region) → length all ≤ 64 → AreNamedApart all → (lines : List (List ℕ))
     (regions rest : List Region) (n : ℕ) → AllZip IsLine (filter is_full lines) rest → all ≡ regions ++ rest
     → lines_say regions n lines ≡ Ok all
@@ -128,7 +116,6 @@ lines_say-taken all few apart (line ∷ lines) regions (region ∷ rest) n are i
     let later = lines_say-taken all few apart lines (regions ++ region ∷ []) rest (n + 1) in
     grind (arith, nat_tests, lines_say-taken all few apart lines regions (region ∷ rest) (n + 1))
 
--- If a text is in the grammar, the result of reading it is its regions, or `Memory`.
 pub reads_taken : (text : List ℕ) (result : Result (List Region) LayoutFault) → ReadsLayout result (layout_says text)
     → (regions : List Region) → IsLayout text regions → ReadsLayout result (Ok regions)
 unfolding layout_says
@@ -136,13 +123,10 @@ reads_taken text result reads regions is =
     let says = lines_say-taken regions is.few is.named_apart (lines_of text) [] regions 1 is.lines refl in
     rw says at reads
 
--- ---- the lines that were read
-
 pub length-lines_of : (text : List ℕ) → length (lines_of text) ≤ length text + 1
 length-lines_of text = omega (arith, length-slice_split (λ b. eqb b 10) text, count_by-le-length (λ b. eqb b 10) text)
 
--- Holds if `lines`, the first n lines of a text, have no fault and define `regions`. Whatever lines follow, reading
--- then continues with line n + 1 and these regions.
+-- Holds if `lines`, the first n lines of a text, have no fault and define `regions`, whatever lines follow.
 abbrev pub LinesDefine : List (List ℕ) → ℕ → List Region → Type 0
 LinesDefine lines n regions = (after : List (List ℕ)) → lines_say [] 1 (lines ++ after) ≡ lines_say regions (n + 1) after
 
@@ -152,7 +136,6 @@ unfolding layout_says lines_say
 define_all text lines n regions is define = ap (lines_say [] 1) (sym (append-nil lines ∙ is)) ∙ define []
 
 module _ (before : List (List ℕ)) (n : ℕ) (line : List ℕ) (regions : List Region) (define : LinesDefine before n regions) where
-  -- Reading continues with the result (`said`) of line n + 1, and then with the lines after it.
   onward : (said : Result (List Region) LayoutFault) → with_line regions (n + 1) line ≡ said → (after : List (List ℕ))
       → lines_say [] 1 (before ++ line ∷ after) ≡ said >>= λ more. lines_say more (n + 1 + 1) after
   unfolding lines_say
@@ -171,8 +154,6 @@ module _ (before : List (List ℕ)) (n : ℕ) (line : List ℕ) (regions : List 
     unfolding layout_says
     returned said e = ap (lines_say [] 1) lines_are ∙ onward said e after
 
-    -- Reading a text allocates memory (`AsksMemory`) if one of its lines adds a region, and no earlier line has a
-    -- fault.
     asks_memory : (region : Region) → with_line regions (n + 1) line ≡ Ok (regions ++ region ∷ []) → AsksMemory text
     unfolding lines_say
     asks_memory region e = record {
@@ -186,7 +167,6 @@ module _ (before : List (List ℕ)) (n : ℕ) (line : List ℕ) (regions : List 
       more = rw counted e;
     }
 
-    -- If one line adds a region, and no earlier line has a fault, the text defines at least one region, or a fault.
     define_one : (region : Region) → AreRegions regions → with_line regions (n + 1) line ≡ Ok (regions ++ region ∷ [])
         → layout_says text ≢ Ok []
     define_one region kept e none =

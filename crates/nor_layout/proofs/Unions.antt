@@ -13,7 +13,6 @@ abbrev by_region : List (List ℕ) → ℕ → List Region → Bool
 by_region names address regions =
     list_any (λ region. list_any (bytes_eq region.name.items) names && has_address region address) regions
 
--- If one more name is listed, the addresses of the regions with this name are added.
 by_region-cons : (name : List ℕ) (names : List (List ℕ)) (address : ℕ) (regions : List Region)
     → by_region (name ∷ names) address regions ≡ (name_includes regions address name || by_region names address regions)
 by_region-cons name names address [] = refl

@@ -6,8 +6,7 @@ use Rattle.nor_layout.specs.declared.layout.adding.RegionFault.TheVariants.{Name
 use Rattle.nor_layout.specs.Line.{is_name}
 use Rattle.nor_layout.specs.Text.{is_region_named}
 
--- The regions with one more after them, or the first fault of the added region. A layout has at most 64 regions, each
--- has a valid name, and no two have the same name.
+-- The regions with one more after them, or the first fault of the added region.
 abbrev pub with_region : List Region → Region → Result (List Region) RegionFault
 with_region regions region =
     if not (is_name region.name.items) then Err Name
@@ -15,15 +14,13 @@ with_region regions region =
     else if nat_lt (length regions) 64 then Ok (regions ++ region ∷ [])
     else Err TooMany
 
--- Holds if a call that adds `region` to the regions `old` may have this result, and leave the regions `new`. The result
--- is what `with_region` defines, or `Memory`, which is possible only if the region has no fault. An error changes
--- nothing.
+-- Holds if a call that adds `region` may have this result: what `with_region` defines, or `Memory`, which is possible
+-- only if the region has no fault. An error changes nothing.
 abbrev pub Adds : (old new : List Region) → Region → Result ⊤ RegionFault → Type 0
 Adds old new region (Ok x) = with_region old region ≡ Ok new
 Adds old new region (Err Memory) = (new ≡ old) × (with_region old region ≡ Ok (old ++ region ∷ []))
 Adds old new region (Err fault) = (new ≡ old) × (with_region old region ≡ Err fault)
 
--- the number of a fault, 1 to 4 in the order in which the faults are checked
 abbrev pub region_fault_number : RegionFault → ℕ
 region_fault_number Name = 1
 region_fault_number Twice = 2

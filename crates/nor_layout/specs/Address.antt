@@ -2,31 +2,26 @@
 use Rattle.std.specs.Prelude.{ℕ, ◌+◌, ◌-◌, ◌*◌, ◌^◌, Bool, ◌&&◌, ◌||◌, ◌==◌, nat_le, if◌then◌else◌, List, [], ◌∷◌, length, Option, Some, None}
 use Rattle.std.specs.List.{list_all}
 
--- true for the characters 0 to 9, A to F and a to f
 abbrev pub is_hex_digit : ℕ → Bool
 is_hex_digit byte =
     (nat_le 48 byte && nat_le byte 57) || (nat_le 65 byte && nat_le byte 70)
     || (nat_le 97 byte && nat_le byte 102)
 
--- the value of a hexadecimal digit, 0 to 15
 abbrev pub hex_value : ℕ → ℕ
 hex_value byte = if nat_le byte 57 then byte - 48 else if nat_le byte 70 then byte - 55 else byte - 87
 
--- the number that these hexadecimal digits encode, the most significant digit first
 abbrev pub digits_number : List ℕ → ℕ
 digits_number [] = 0
 digits_number (digit ∷ digits) = hex_value digit * 16 ^ length digits + digits_number digits
 
--- the text without its optional prefix `0x`
 abbrev pub digits_of : List ℕ → List ℕ
 digits_of [] = []
 digits_of (a ∷ []) = a ∷ []
 digits_of (a ∷ b ∷ digits) = if (a == 48) && (b == 120) then digits else a ∷ b ∷ digits
 
--- true if the bytes are 1 to 8 hexadecimal digits
 abbrev pub are_digits : List ℕ → Bool
 are_digits digits = nat_le 1 (length digits) && nat_le (length digits) 8 && list_all is_hex_digit digits
 
--- the address that a text encodes by 1 to 8 hexadecimal digits after an optional `0x`, or None for any other text
+-- the address that a text encodes by 1 to 8 hexadecimal digits after an optional `0x`
 abbrev pub digits_address : List ℕ → Option ℕ
 digits_address text = if are_digits (digits_of text) then Some (digits_number (digits_of text)) else None

@@ -5,7 +5,6 @@ use Rattle.nor_layout.specs.declared.fault.LineFault.TheVariants.{Line, Address,
 use Rattle.nor_layout.specs.declared.fault.LayoutFault.{LayoutFault}
 use Rattle.nor_layout.specs.declared.fault.LayoutFault.TheVariants.{InLine, TooMany, Memory, NoRegion}
 
--- the number that messages print for the fault of a line
 abbrev pub number_in_line : LineFault → ℕ
 number_in_line Line = 1
 number_in_line Address = 2
@@ -13,14 +12,12 @@ number_in_line Backwards = 3
 number_in_line Name = 4
 number_in_line Twice = 5
 
--- the number that messages print for a fault of a layout text or of names
 abbrev pub layout_fault_number : LayoutFault → ℕ
 layout_fault_number (InLine line fault) = number_in_line fault
 layout_fault_number TooMany = 6
 layout_fault_number Memory = 7
 layout_fault_number NoRegion = 8
 
--- the number of the line that has the fault, or None if the fault isn't in one line
 abbrev pub line_of_fault : LayoutFault → Option ℕ
 line_of_fault (InLine line fault) = Some line
 line_of_fault TooMany = None

@@ -9,15 +9,12 @@ use Rattle.nor_layout.specs.Text.{is_region_named}
 abbrev pub names_of : List ℕ → List (List ℕ)
 names_of text = slice_split (λ b. b == 44) text
 
--- true if each of the comma-separated names is the name of a region
 abbrev pub are_known : List Region → List ℕ → Bool
 are_known regions text = list_all (λ name. is_region_named regions name) (names_of text)
 
--- true if the address is in the region, which includes its start and its end
 abbrev pub has_address : Region → ℕ → Bool
 has_address region address = nat_le region.start address && nat_le address region.end
 
--- true if the address is in a region with the name `name`
 abbrev pub name_includes : List Region → ℕ → List ℕ → Bool
 name_includes regions address name =
     list_any (λ region. bytes_eq region.name.items name && has_address region address) regions

@@ -7,13 +7,12 @@ use Rattle.nor_layout.specs.declared.fault.LineFault.{LineFault}
 use Rattle.nor_layout.specs.declared.fault.LineFault.TheVariants.{Line, Address, Backwards, Name}
 use Rattle.nor_layout.specs.Address.{digits_address}
 
--- the parts of a text before and after the first byte that equals `byte`, or None if the text has no such byte
+-- the parts of a text before and after the first byte that equals `byte`
 abbrev pub cut_at : ℕ → List ℕ → Option (List ℕ × List ℕ)
 cut_at byte [] = None
 cut_at byte (b ∷ text) =
     if b == byte then Some ([], text) else option_map (λ parts. (b ∷ parts.0, parts.1)) (cut_at byte text)
 
--- the text without its leading spaces
 abbrev pub without_spaces : List ℕ → List ℕ
 without_spaces [] = []
 without_spaces (b ∷ text) = if b == 32 then without_spaces text else b ∷ text
@@ -24,20 +23,17 @@ pub record Parts : Type 0 where
   pub end : List ℕ
   pub name : List ℕ
 
--- The parts of a line with this start. The pair is the text after the line's first `:`, split at the first space in it.
--- The result is None if that text has no space.
+-- The parts of a line with this start. The pair is the text after the first `:`, split at its first space.
 abbrev pub with_start : List ℕ → Option (List ℕ × List ℕ) → Option Parts
 with_start start None = None
 with_start start (Some parts) = Some (record { start = start; end = parts.0; name = without_spaces parts.1 })
 
--- The parts of a line, computed from the texts before and after its first `:`. The result is None if the line has no
--- `:`, or no space after the first `:`.
 abbrev pub parts_after : Option (List ℕ × List ℕ) → Option Parts
 parts_after None = None
 parts_after (Some parts) = with_start parts.0 (cut_at 32 parts.1)
 
--- The parts of a line. The start ends at the first `:`, the end at the next space, and the name follows one or more
--- spaces. The result is None if the line has no `:`, or no space after the first `:`.
+-- The parts of a line: the start ends at the first `:`, the end at the next space, and the name follows one or more
+-- spaces.
 abbrev pub parts_of : List ℕ → Option Parts
 parts_of line = parts_after (cut_at 58 line)
 
@@ -45,12 +41,10 @@ parts_of line = parts_after (cut_at 58 line)
 abbrev pub is_name_byte : ℕ → Bool
 is_name_byte b = nat_le 33 b && nat_le b 126 && not (b == 44) && not (b == 58)
 
--- true if the bytes are a valid name: 1 to 32 bytes, each of which is allowed in a name
 abbrev pub is_name : List ℕ → Bool
 is_name name = nat_le 1 (length name) && nat_le (length name) 32 && list_all is_name_byte name
 
--- The region with this start, end and name, or the first fault of these. The start or the end is None if its text is no
--- address.
+-- The region with this start, end and name, or the first fault of these. `None` stands for a text that is no address.
 abbrev pub region_of : (start end : Option ℕ) → (name : List ℕ) → Result Region LineFault
 region_of None end name = Err Address
 region_of (Some start) None name = Err Address
@@ -59,11 +53,9 @@ region_of (Some start) (Some end) name =
     else if is_name name then Ok (record { start = start; end = end; name = record { items = name } })
     else Err Name
 
--- The region that the parts of a line define, or the first fault. A line without parts has the fault `Line`.
 abbrev pub parts_say : Option Parts → Result Region LineFault
 parts_say None = Err Line
 parts_say (Some parts) = region_of (digits_address parts.start) (digits_address parts.end) parts.name
 
--- the region that a line defines, or its first fault
 abbrev pub line_says : List ℕ → Result Region LineFault
 line_says line = parts_say (parts_of line)

@@ -1,5 +1,4 @@
--- The positions in a sector whose addresses are in a set. A position is an offset in bytes from the beginning of the
--- sector.
+-- The positions in a sector, in bytes from its beginning, whose addresses are in a set.
 use Rattle.std.specs.Prelude.{◌≡◌, ℕ, ◌+◌, ◌*◌, ◌/◌, ◌%◌, ◌<◌, ◌≤◌, Bool, ◌&&◌, ◌||◌, nat_le, nat_lt, if◌then◌else◌, List, [], ◌∷◌, Option, Some, None, ⊤}
 use Rattle.std.specs.List.{list_any, filter_map}
 use Rattle.nor_layout.specs.declared.ranges.Span.{Span}
@@ -7,29 +6,24 @@ use Rattle.nor_layout.specs.declared.positions.Positions.{Positions}
 use Rattle.nor_layout.specs.declared.positions.PositionsIn.{PositionsIn}
 use Rattle.nor_layout.specs.Ranges.{contains}
 
--- true if `at` is one of the consecutive positions from `start` up to, but not including, `end`
 abbrev pub is_in_positions : Positions → ℕ → Bool
 is_in_positions positions at = nat_le positions.start at && nat_lt at positions.end
 
--- true if the position `at` is in one of the ranges of positions
 abbrev pub is_covered : List Positions → ℕ → Bool
 is_covered all at = list_any (λ positions. is_in_positions positions at) all
 
--- True if the ranges of positions ascend without overlap, begin at `first` or above, and end within the sector, and
--- none of them is empty.
+-- True if the ranges are nonempty, ascend without overlap from `first` on, and end within the sector.
 abbrev pub AreRisingFrom : ℕ → List Positions → Type 0
 AreRisingFrom first [] = ⊤
 AreRisingFrom first (positions ∷ more) =
     (first ≤ positions.start) × (positions.start < positions.end) × (positions.end ≤ 4096)
     × AreRisingFrom positions.end more
 
--- True if the ranges cover exactly those positions of the sector whose addresses are in the set, and are in ascending
--- order.
+-- True if the ranges cover exactly those positions of the sector whose addresses are in the set, in ascending order.
 pub record AreIncludedIn (spans : List Span) (sector : ℕ) (all : List Positions) : Type 0 where
   pub exact : (at : ℕ) → at < 4096 → is_covered all at ≡ contains spans (4096 * sector + at)
   pub rising : AreRisingFrom 0 all
 
--- the positions in the sector that the span covers, or None if the span has no address in the sector
 abbrev pub part_in_sector : ℕ → Span → Option Positions
 part_in_sector sector span =
     if nat_lt sector (span.first / 4096) || nat_lt (span.last / 4096) sector then None
@@ -38,10 +32,8 @@ part_in_sector sector span =
       end = if nat_lt sector (span.last / 4096) then 4096 else span.last % 4096 + 1;
     })
 
--- the ranges of positions in the sector that the spans cover, in the order of the spans
 abbrev pub parts_in_sector : ℕ → List Span → List Positions
 parts_in_sector sector spans = filter_map (part_in_sector sector) spans
 
--- the ranges of positions that the iterator has not yielded yet
 abbrev pub positions_left : PositionsIn → List Positions
 positions_left it = parts_in_sector it.sector it.spans.now

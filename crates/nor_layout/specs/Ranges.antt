@@ -3,16 +3,13 @@ use Rattle.std.specs.Prelude.{◌≡◌, ◌⊎◌, ℕ, ◌+◌, ◌<◌, ◌�
 use Rattle.std.specs.List.{list_any}
 use Rattle.nor_layout.specs.declared.ranges.Span.{Span}
 
--- true if the address is in the span, both ends included
 abbrev pub is_in_span : Span → (address : ℕ) → Bool
 is_in_span span address = nat_le span.first address && nat_le address span.last
 
--- true if the address is in one of the spans
 abbrev pub contains : (spans : List Span) → (address : ℕ) → Bool
 contains spans address = list_any (λ span. is_in_span span address) spans
 
--- True if no span follows, or if the first of the following spans begins above `span`, with at least one address
--- between them.
+-- True if the first of the following spans, if any, begins above `span`, with at least one address between them.
 abbrev pub IsApartFrom : Span → List Span → Type 0
 IsApartFrom span [] = ⊤
 IsApartFrom span (next ∷ spans) = span.last + 1 < next.first
@@ -22,13 +19,11 @@ abbrev pub AreDisjoint : List Span → Type 0
 AreDisjoint [] = ⊤
 AreDisjoint (span ∷ spans) = (span.first ≤ span.last) × IsApartFrom span spans × AreDisjoint spans
 
--- The invariant of `Ranges`. There are at most 64 spans, none of them ends before it begins, they ascend, and at least
--- one address is between each two neighbours.
+-- The invariant of `Ranges`.
 pub record AreRanges (spans : List Span) : Type 0 where
   pub few : length spans ≤ 64
   pub apart : AreDisjoint spans
 
--- true if one of the spans ends before it begins
 abbrev pub has_backwards : List Span → Bool
 has_backwards spans = list_any (λ span. nat_lt span.last span.first) spans
 
@@ -37,7 +32,6 @@ pub record IsSetOf (spans set : List Span) : Type 0 where
   pub ranges : AreRanges set
   pub same : (address : ℕ) → contains set address ≡ contains spans address
 
--- True if no set can be made of the spans: one of them ends before it begins, or no valid set (`AreRanges`) has exactly
--- their addresses.
+-- True if a span ends before it begins, or no valid set has exactly the addresses of the spans.
 abbrev pub MakeNoSet : List Span → Type 0
 MakeNoSet spans = (has_backwards spans ≡ true) ⊎ ((set : List Span) → ¬ IsSetOf spans set)

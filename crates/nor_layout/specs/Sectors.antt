@@ -9,15 +9,12 @@ abbrev pub includes : Option (List Span) → (address : ℕ) → Bool
 includes None address = true
 includes (Some spans) address = contains spans address
 
--- Holds if some address of the sector is in the set.
 abbrev pub SomeInSector : (set : ℕ → Bool) → (sector : ℕ) → Type 0
 SomeInSector set sector = (i : ℕ) × (i < 4096) × (set (4096 * sector + i) ≡ true)
 
--- Holds if no address of the sector is in the set.
 abbrev pub NoneInSector : (set : ℕ → Bool) → (sector : ℕ) → Type 0
 NoneInSector set sector = (i : ℕ) → i < 4096 → set (4096 * sector + i) ≡ false
 
--- true if some address of the sector is in the set, so that `SomeInSector` holds
 abbrev pub has_in_sector : (set : ℕ → Bool) → (sector : ℕ) → Bool
 has_in_sector set sector = any_below 4096 (λ i. set (4096 * sector + i))
 
@@ -25,12 +22,11 @@ has_in_sector set sector = any_below 4096 (λ i. set (4096 * sector + i))
 abbrev pub sectors_included : Option (List Span) → (size : ℕ) → ℕ
 sectors_included included size = count_below (size / 4096) (has_in_sector (includes included))
 
--- Holds if some address in the ranges is `size` or greater. Never holds if there are no ranges (`None`).
+-- Holds if some address in the ranges is `size` or greater. Without ranges (`None`) this never holds.
 abbrev pub ReachesPast : Option (List Span) → (size : ℕ) → Type 0
 ReachesPast None size = ⊥
 ReachesPast (Some spans) size = (address : ℕ) × (size ≤ address) × (contains spans address ≡ true)
 
--- Holds if no address in the ranges is past the end of a chip of `size` bytes. Always holds if there are no ranges.
 abbrev pub FitsInto : Option (List Span) → (size : ℕ) → Type 0
 FitsInto included size = ¬ ReachesPast included size
 
@@ -38,6 +34,5 @@ FitsInto included size = ¬ ReachesPast included size
 abbrev pub merged_byte : (ℕ → Bool) → (image content : ℕ → ℕ) → ℕ → ℕ
 merged_byte included image content a = if included a then image a else content a
 
--- Holds if `bytes` are the 4,096 bytes of `content` in the sector.
 abbrev pub AreOfSector : (ℕ → ℕ) → ℕ → List ℕ → Type 0
 AreOfSector content sector bytes = (i : ℕ) → i < 4096 → slice_index bytes i ≡ content (4096 * sector + i)

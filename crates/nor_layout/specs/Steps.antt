@@ -9,50 +9,43 @@ use Rattle.nor_layout.specs.declared.region.Region.{Region}
 use Rattle.nor_layout.specs.Included.{names_of, has_address}
 use Rattle.nor_layout.specs.Ranges.{is_in_span, contains}
 
--- Holds if the first byte of the text that equals `byte` is at index `at`.
 pub record IsFirst (byte : ℕ) (text : List ℕ) (at : ℕ) : Type 0 where
   pub within : at < length text
   pub here : slice_index text at ≡ byte
   pub before : (k : ℕ) → k < at → slice_index text k ≢ byte
 
--- Holds if a call that adds the region of a line may have this result. `said` is what `with_line` defines. The result
--- is `said`, or `Memory`, which is possible only if the line adds a region.
+-- Holds if a call that adds the region of a line may have this result: what `with_line` defines (`said`), or `Memory`,
+-- which is possible only if the line adds a region.
 abbrev pub AddsRegion : (old new : List Region) → Result ⊤ LayoutFault → Result (List Region) LayoutFault → Type 0
 AddsRegion old new (Ok x) said = said ≡ Ok new
 AddsRegion old new (Err Memory) said = (region : Region) × (said ≡ Ok (old ++ region ∷ []))
 AddsRegion old new (Err fault) said = said ≡ Err fault
 
--- true if the name is one of the comma-separated names
 abbrev pub is_listed : (text name : List ℕ) → Bool
 is_listed text name = list_any (λ listed. bytes_eq name listed) (names_of text)
 
--- true if the address is in a region whose name is one of the comma-separated names
 abbrev pub is_listed_address : List Region → List ℕ → ℕ → Bool
 is_listed_address regions text address =
     list_any (λ region. is_listed text region.name.items && has_address region address) regions
 
--- the smallest span that contains both spans
 abbrev pub join : (a b : Span) → Span
 join a b = record { first = min a.first b.first; last = max a.last b.last }
 
--- Holds if each address in the spans is below `done`.
 abbrev pub EndBelow : (done : ℕ) → List Span → Type 0
 EndBelow done spans = (address : ℕ) → done ≤ address → contains spans address ≡ false
 
--- Holds if each address of the span `next` is in `spans`, and the last address of `next` is `done` or greater. `next`
--- must begin at or below each address in `spans` that is `done` or greater.
+-- Holds if `next` lies in `spans`, ends at `done` or above, and begins at or below each address of `spans` from `done`
+-- on.
 pub record IsNext (done : ℕ) (spans : List Span) (next : Span) : Type 0 where
   pub forward : next.first ≤ next.last
   pub reaches : done ≤ next.last
   pub taken : (address : ℕ) → is_in_span next address ≡ true → contains spans address ≡ true
   pub least : (address : ℕ) → done ≤ address → contains spans address ≡ true → next.first ≤ address
 
--- Holds if `next` is a span for which `IsNext` holds, or if it is None and each address in the spans is below `done`.
 abbrev pub IsNextOrNone : (done : ℕ) → List Span → Option Span → Type 0
 IsNextOrNone done spans next = MatchOption next (EndBelow done spans) (IsNext done spans)
 
--- the one of `next` and `span` that begins first, or `next` if both begin at the same address, or `span` if `next` is
--- None
+-- the one of `next` and `span` that begins first, or `next` if both begin at the same address
 abbrev pub first_of : Option Span → Span → Option Span
 first_of None span = Some span
 first_of (Some next) span = if nat_le next.first span.first then Some next else Some span

@@ -9,23 +9,19 @@ use Rattle.nor_layout.specs.declared.fault.LayoutFault.{LayoutFault}
 use Rattle.nor_layout.specs.declared.fault.LayoutFault.TheVariants.{InLine, TooMany, Memory}
 use Rattle.nor_layout.specs.Line.{line_says}
 
--- The lines of a text, without their line feeds. The bytes after the last line feed, even if there are none, are one
--- more line.
+-- The lines of a text, without their line feeds. The bytes after the last line feed, even none, are one more line.
 abbrev pub lines_of : List ℕ → List (List ℕ)
 lines_of text = slice_split (λ b. b == 10) text
 
--- true if one of the regions has the name `name`
 abbrev pub is_region_named : List Region → List ℕ → Bool
 is_region_named regions name = list_any (λ region. bytes_eq region.name.items name) regions
 
--- The earlier `regions` with the region of line n added, or the fault of adding this region.
 abbrev pub joins : List Region → ℕ → Region → Result (List Region) LayoutFault
 joins regions n region =
     if is_region_named regions region.name.items then Err (InLine n Twice)
     else if nat_lt (length regions) 64 then Ok (regions ++ region ∷ [])
     else Err TooMany
 
--- the earlier `regions` with the region of line n added, or the fault of line n, or the fault of adding its region
 abbrev pub joins_or_fault : List Region → ℕ → Result Region LineFault → Result (List Region) LayoutFault
 joins_or_fault regions n (Ok region) = joins regions n region
 joins_or_fault regions n (Err fault) = Err (InLine n fault)
@@ -34,30 +30,25 @@ joins_or_fault regions n (Err fault) = Err (InLine n fault)
 unfoldable pub with_line : List Region → ℕ → List ℕ → Result (List Region) LayoutFault
 with_line regions n line = if length line == 0 then Ok regions else joins_or_fault regions n (line_says line)
 
--- Applies `f` to the value of a step that succeeded, and passes the fault of a failed step on, as `and_then` of Rust's
--- `Result` does.
+-- Passes the fault of a failed step on, as `and_then` of Rust's `Result` does.
 infixl 10 ◌>>=◌
 abbrev pub ◌>>=◌ : {A B : Type 0} → Result A LayoutFault → (A → Result B LayoutFault) → Result B LayoutFault
 (Ok x) >>= f = f x
 (Err fault) >>= f = Err fault
 
--- The regions of all lines, or the first fault. `lines` are the lines from line n on, and `regions` are the regions of
--- the earlier lines.
+-- The regions of all lines, or the first fault. `lines` are those from line n on, `regions` those of earlier lines.
 unfoldable pub lines_say : List Region → ℕ → List (List ℕ) → Result (List Region) LayoutFault
 lines_say regions n [] = Ok regions
 lines_say regions n (line ∷ lines) = with_line regions n line >>= λ more. lines_say more (n + 1) lines
 
--- the regions of a text, in order, or its first fault
 unfoldable pub layout_says : List ℕ → Result (List Region) LayoutFault
 layout_says text = lines_say [] 1 (lines_of text)
 
--- Holds if no two regions have the same name.
 abbrev pub AreNamedApart : List Region → Type 0
 AreNamedApart [] = ⊤
 AreNamedApart (region ∷ regions) = (is_region_named regions region.name.items ≡ false) × AreNamedApart regions
 
--- The invariant of `Layout`: there are at most 64 regions, none of them ends before it begins, and no two have the same
--- name.
+-- The invariant of `Layout`.
 pub record AreRegions (regions : List Region) : Type 0 where
   pub few : length regions ≤ 64
   pub forward : AllByRecursion (λ region. region.start ≤ region.end) regions

@@ -3,10 +3,8 @@
 ghost use Rattle.std.specs.Prelude.{◌≡◌};
 ghost use Rattle.nor_layout.specs.Address.{digits_of, digits_address};
 
-/// The greatest number of digits of an address.
 const DIGITS: usize = 8;
 
-/// Returns `text` without its optional prefix `0x`.
 fn digits(text: &[u8]) -> &[u8]
     ensures { result.now ≡ digits_of text.now }
 {
@@ -16,8 +14,7 @@ fn digits(text: &[u8]) -> &[u8]
     }
 }
 
-/// Parses an address: 1 to 8 hexadecimal digits in upper or lower case, with or without `0x`. Returns `None` for any
-/// other text.
+/// Parses an address in upper or lower case. Returns `None` for any other text.
 pub(crate) fn address(text: &[u8]) -> Option<u32>
     ensures { result ≡ digits_address text.now }
 {

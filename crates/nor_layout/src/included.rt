@@ -8,7 +8,6 @@ ghost use Rattle.nor_layout.specs.Sectors.{ReachesPast, FitsInto, merged_byte, A
 use crate::ranges::Ranges;
 use nor_geometry::SECTOR_LEN;
 
-/// The value of an erased byte.
 const ERASED: u8 = 0xFF;
 
 /// Returns true if `address` is in the ranges, or if there are no ranges (`None`).
@@ -21,8 +20,7 @@ pub fn includes(included: Option<&Ranges>, address: u32) -> bool
     }
 }
 
-/// Returns true if some address of sector number `sector`, counted from 0, is in the ranges. Without ranges (`None`),
-/// every sector has included addresses.
+/// Returns true if some address of the given sector is in the ranges, or if there are no ranges (`None`).
 pub fn includes_in_sector(included: Option<&Ranges>, sector: u32) -> bool
     ensures test { result ≡ has_in_sector (includes (option_copied included.entry)) sector }
     ensures cases { MatchBool result
@@ -35,9 +33,7 @@ pub fn includes_in_sector(included: Option<&Ranges>, sector: u32) -> bool
     }
 }
 
-/// Returns true if some address in the ranges is `size` or greater, which is past the end of a chip of `size` bytes.
-///
-/// Returns false if there are no ranges (`None`).
+/// Returns true if some address in the ranges is past the end of a chip of `size` bytes. Without ranges returns false.
 pub fn reaches_past(included: Option<&Ranges>, size: u32) -> bool
     ensures { MatchBool result
         (ReachesPast (option_copied included.entry) size) (FitsInto (option_copied included.entry) size) }
@@ -48,10 +44,8 @@ pub fn reaches_past(included: Option<&Ranges>, size: u32) -> bool
     }
 }
 
-/// Replaces the bytes of sector number `sector` whose addresses aren't included by those of `other`.
-///
-/// `bytes` and `other` must have 4,096 bytes each. The included bytes of `bytes` don't change. If `bytes` are the
-/// sector's bytes of an image, and `other` those of a chip, the result is the target of a write (`merged_byte`).
+/// Replaces the bytes of the sector whose addresses aren't included by those of `other`. Both slices must have 4,096
+/// bytes. If `bytes` are those of an image, and `other` those of a chip, the result is the target of a write.
 pub fn fill_excluded(included: Option<&Ranges>, sector: u32, bytes: &mut [u8], other: &[u8])
     requires long { length bytes.old ≡ 4096 }
     requires other_long { length other.now ≡ 4096 }
@@ -67,7 +61,7 @@ pub fn fill_excluded(included: Option<&Ranges>, sector: u32, bytes: &mut [u8], o
     }
 }
 
-/// Sets the bytes of sector number `sector` whose addresses aren't included to FFh. `bytes` must have 4,096 bytes.
+/// Sets the bytes of the sector whose addresses aren't included to FFh. `bytes` must have 4,096 bytes.
 pub fn blank_excluded(included: Option<&Ranges>, sector: u32, bytes: &mut [u8])
     requires long { length bytes.old ≡ 4096 }
     ensures { (i : ℕ) → i < 4096 → slice_index bytes.new i

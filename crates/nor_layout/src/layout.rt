@@ -35,21 +35,18 @@ impl Model for Layout {
     ghost invariant = { λ l. AreRegions l.regions.items };
 }
 
-/// Returns true if one of the regions has the name `name`.
 fn is_named(regions: &[Region], name: &[u8]) -> bool
     ensures { result ≡ is_region_named regions.now name.now }
 {
     regions.iter().any(|region| region.name.as_slice() == name)
 }
 
-/// Returns true if `name` is one of the comma-separated `names`.
 fn is_listed(names: &[u8], name: &[u8]) -> bool
     ensures { result ≡ is_listed names.now name.now }
 {
     names.split(|b| *b == b',').any(|listed| name == listed)
 }
 
-/// Returns true if each of the comma-separated `names` is the name of a region.
 fn are_known(regions: &[Region], names: &[u8]) -> bool
     ensures { result ≡ are_known regions.now names.now }
 {
@@ -58,10 +55,7 @@ fn are_known(regions: &[Region], names: &[u8]) -> bool
         .all(|name| is_named(regions, name))
 }
 
-/// Adds the region of line number `number` to `regions`. Adds nothing if the line is empty.
-///
-/// Returns the first fault of the line. If the line has none, returns `TooMany` if there are 64 regions already, or
-/// `Memory` if an allocation fails.
+/// Adds the region of line number `number` to `regions`. An empty line adds nothing.
 #[tactic(auto, unfolding(crate::specs::Text::with_line))]
 fn add_line(regions: &mut Vec<Region>, number: usize, line: &[u8]) -> Result<(), LayoutFault>
     ensures { AddsRegion regions.old.items regions.new.items result (with_line regions.old.items number line.now) }
@@ -89,23 +83,18 @@ fn add_line(regions: &mut Vec<Region>, number: usize, line: &[u8]) -> Result<(),
 impl Layout {
     /// Reads a layout text (flashrom's manual page, layout files).
     ///
-    /// Lines end with a line feed, which is optional after the last line. Empty lines are skipped. Every other line is
-    /// `start:end name`. The start ends at the first `:`, and the end at the next space. The name follows one or more
-    /// spaces, and is the rest of the line. An address is 1 to 8 hexadecimal digits in upper or lower case, with or
-    /// without `0x`. Both the start and the end belong to the region. A name has 1 to 32 visible ASCII characters
-    /// except `,` and `:`. Regions may overlap.
+    /// Every line that isn't empty is `start:end name`, with one or more spaces before the name. An address is 1 to 8
+    /// hexadecimal digits, with or without `0x`. The region includes its start and its end. A name has 1 to 32 visible
+    /// ASCII characters except `,` and `:`. Regions may overlap.
     ///
     /// Returns the fault of the first line that has one. The faults of a line are checked in the order of `LineFault`,
-    /// and `TooMany` after them. Returns `Memory` if an allocation fails, which is possible only at a line that adds a
-    /// region, if no earlier line has a fault.
+    /// and `TooMany` after them. Returns `Memory` if an allocation fails at a line that adds a region.
     pub fn read(alloc: Global, text: &[u8]) -> Result<Layout, LayoutFault>
-        // The result is what the text defines, or `Memory`. The result can be `Memory` only if some line adds a region,
-        // and no earlier line has a fault.
+        // `Memory` is possible only if some line adds a region, and no earlier line has a fault.
         ensures exact { ReadsLayout result (layout_says text.now) }
         ensures asks { IfErr result (λ fault. fault ≡ LayoutFault.Memory → AsksMemory text.now) }
 
-        // If a layout is returned, the text is in the grammar, with the regions of this layout. Every text in the
-        // grammar is read, unless memory runs out.
+        // Every text in the grammar is read, unless memory runs out.
         ensures found { IfOk result (λ layout. IsLayout text.now layout) }
         ensures taken { (regions : List Region) → IsLayout text.now regions → ReadsLayout result (Ok regions) }
     {
@@ -126,14 +115,9 @@ impl Layout {
         self.regions.as_slice()
     }
 
-    /// Returns the set of all addresses of the regions with the comma-separated `names`. Both the start and the end of
-    /// a region belong to it.
-    ///
-    /// A name may be repeated. Allocates nothing.
-    ///
-    /// Returns `NoRegion` if one of the names isn't the name of a region. No region has an empty name.
+    /// Returns the set of all addresses of the regions with the comma-separated `names`, which may be repeated.
+    /// Allocates nothing. Returns `NoRegion` if one of the names isn't the name of a region.
     pub fn include(&self, names: &str) -> Result<Ranges, LayoutFault>
-        // The call succeeds if and only if each name is the name of a region.
         ensures known { IsOk result ↔ IsTrue (are_known self.now names.now) }
         ensures unknown { IfErr result (λ fault. fault ≡ LayoutFault.NoRegion) }
 
@@ -149,7 +133,6 @@ impl Layout {
     }
 }
 
-/// Returns the addresses of the regions whose names are among the comma-separated `names`.
 fn listed_ranges(regions: &[Region], names: &[u8]) -> Ranges
     requires { AreRegions regions.now }
     ensures union { (address : ℕ)

@@ -28,9 +28,6 @@
 //! - `positions.rt`: the positions of one sector that are in a set
 //! - `merge.rt`: fills the bytes of a sector that aren't included from a second copy of the sector
 //! - `included.rt`: tests and fills for the addresses that a request includes, with ranges or for the whole chip
-//!
-//! `specs/Text.antt` defines the regions that a text defines, or its first fault. `Grammar.antt` defines the accepted
-//! texts as a grammar, and `Included.antt` the addresses that names include.
 #![tactic(auto)]
 
 mod address;

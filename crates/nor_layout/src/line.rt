@@ -9,7 +9,7 @@ use crate::fault::LineFault;
 use crate::region::{NAME_LEN, Region};
 use arrayvec::ArrayVec;
 
-/// The three parts of a line, as slices of it.
+/// The three parts of a line.
 #[derive(Clone, Copy)]
 struct Parts<'a> {
     start: &'a [u8],
@@ -17,7 +17,6 @@ struct Parts<'a> {
     name: &'a [u8],
 }
 
-/// Returns the index of the first `byte` in `text`, or `None` if `text` doesn't contain it.
 fn find(text: &[u8], byte: u8) -> Option<usize>
     ensures { MatchOption result (EachIndex text.now (λ k. slice_index text.now k ≢ byte))
         (λ at. IsFirst byte text.now at) }
@@ -34,7 +33,6 @@ fn split_once(text: &[u8], byte: u8) -> Option<(&[u8], &[u8])>
     Some((&text[..at], &text[at + 1..]))
 }
 
-/// Returns `text` without its leading spaces.
 fn trim_spaces(text: &[u8]) -> &[u8]
     ensures { result.now ≡ without_spaces text.now }
 {
@@ -45,8 +43,7 @@ fn trim_spaces(text: &[u8]) -> &[u8]
     rest
 }
 
-/// Splits a line at its first `:` and at the next space, and removes further spaces before the name. Returns `None` if
-/// the line has no `:`, or no space after the first `:`.
+/// Splits a line at its first `:` and at the next space, and removes further spaces before the name.
 fn parts_of(line: &[u8]) -> Option<Parts<'_>>
     ensures { MatchOption result (parts_of line.now ≡ None)
         (λ parts. parts_of line.now
@@ -61,14 +58,12 @@ fn parts_of(line: &[u8]) -> Option<Parts<'_>>
     })
 }
 
-/// Returns true if the byte is allowed in a name: visible ASCII except `,` and `:`.
 fn is_name_byte(byte: u8) -> bool
     ensures { result ≡ is_name_byte byte }
 {
     byte.is_ascii_graphic() && byte != b',' && byte != b':'
 }
 
-/// Returns true if the bytes are a valid name: 1 to 32 bytes, each of which is allowed in a name.
 pub(crate) fn is_name(bytes: &[u8]) -> bool
     ensures { result ≡ is_name bytes.now }
 {

@@ -1,12 +1,10 @@
-//! Completes a copy of a sector. The copy keeps its bytes at given positions, and gets all other bytes from a second
-//! copy.
+//! Completes a copy of a sector: all bytes outside given positions are taken from a second copy.
 
 ghost use Rattle.std.specs.Prelude.{◌≡◌, ◌<◌, ◌≤◌, ℕ, length, slice_index, if◌then◌else◌};
 ghost use Rattle.nor_layout.specs.Positions.{is_covered, AreRisingFrom, positions_left};
 
 use crate::positions::PositionsIn;
 
-/// Copies the bytes of `from` with indexes from `start` to `end`, excluding `end`, to the same indexes of `to`.
 fn copy_part(to: &mut [u8], from: &[u8], start: usize, end: usize)
     requires forward { start ≤ end }
     requires to_fits { end ≤ length to.old }
@@ -18,10 +16,7 @@ fn copy_part(to: &mut [u8], from: &[u8], start: usize, end: usize)
     to[start..end].copy_from_slice(&from[start..end]);
 }
 
-/// Copies all bytes of a sector from `other` to `bytes`, except those at the positions in `positions`.
-///
-/// `bytes` and `other` must have 4,096 bytes each. The ranges of positions must be nonempty, lie in the sector, and
-/// ascend without overlap.
+/// Copies all bytes of a sector from `other` to `bytes`, except those at `positions`.
 pub(crate) fn fill_around(positions: PositionsIn<'_>, bytes: &mut [u8], other: &[u8])
     requires long { length bytes.old ≡ 4096 }
     requires other_long { length other.now ≡ 4096 }

@@ -1,4 +1,4 @@
-//! The positions in one sector whose addresses are in a set. A position is an offset from the beginning of the sector.
+//! The positions in one sector, in bytes from its beginning, whose addresses are in a set.
 
 ghost use Rattle.std.specs.Prelude.{◌≡◌};
 ghost use Rattle.std.specs.Iterator.{YieldsFirst, item_count};
@@ -7,7 +7,7 @@ ghost use Rattle.nor_layout.specs.Positions.{part_in_sector, parts_in_sector, po
 use crate::ranges::Span;
 use nor_geometry::SECTOR_LEN;
 
-/// Consecutive positions in a sector from `start` to `end`, excluding `end`, in bytes from the beginning of the sector.
+/// Consecutive positions in a sector from `start` to `end`, excluding `end`.
 #[derive(Clone, Copy, Debug, PartialEq, Eq)]
 pub struct Positions {
     pub start: usize,
@@ -29,8 +29,6 @@ impl<'a> PositionsIn<'a> {
     }
 }
 
-/// Returns the positions in sector number `sector` that `span` covers, or `None` if the span has no address in this
-/// sector.
 fn part_of(span: &Span, sector: u32) -> Option<Positions>
     ensures { result ≡ part_in_sector sector span.now }
 {

@@ -23,9 +23,8 @@ pub struct Span {
 // One span more than a set may have, because the number of spans is checked only after a span was added.
 const ROOM: usize = REGIONS + 1;
 
-/// A set of addresses: at most 64 spans in ascending order, neither overlapping nor adjacent.
-///
-/// The time of a query depends on the number of spans, not on the number of addresses.
+/// A set of addresses: at most 64 spans in ascending order, neither overlapping nor adjacent. The time of a query
+/// depends on the number of spans, not on the number of addresses.
 #[derive(Clone, Debug, Drop)]
 pub struct Ranges {
     spans: ArrayVec<Span, ROOM>,
@@ -44,14 +43,12 @@ impl Model for Ranges {
 }
 
 impl Span {
-    /// Returns true if this span ends below `other`, and at least one address is between the two.
     fn is_apart_below(&self, other: &Span) -> bool
         ensures { result ≡ nat_lt (self.now.last + 1) other.now.first }
     {
         self.last < other.first && other.first - self.last > 1
     }
 
-    /// Returns the smallest span that contains both spans.
     fn joined(&self, other: &Span) -> Span
         ensures { result ≡ join self.now other.now }
     {
@@ -62,15 +59,13 @@ impl Span {
     }
 }
 
-// Returns true if one of the spans ends before it begins.
 fn has_backwards(spans: &[Span]) -> bool
     ensures { result ≡ has_backwards spans.now }
 {
     spans.iter().any(|span| span.last < span.first)
 }
 
-// Returns the one of `next` and `span` that begins first, or `next` if both begin at the same address. Returns `span`
-// if `next` is `None`. A `span` that ends below the address `done` is ignored, so that `next` is returned.
+// Returns the one of `next` and `span` that begins first. A `span` that ends below the address `done` is ignored.
 fn sooner(next: Option<Span>, span: &Span, done: u64) -> Option<Span>
     ensures { result ≡ sooner next span.now done }
 {
@@ -81,8 +76,7 @@ fn sooner(next: Option<Span>, span: &Span, done: u64) -> Option<Span>
     }
 }
 
-// Returns the span that begins first among those that end at or above the address `done`, or `None` if there are none.
-// No span may end before it begins.
+// Returns the span that begins first among those that end at or above the address `done`.
 fn next_span(spans: &[Span], done: u64) -> Option<Span>
     requires { has_backwards spans.now ≡ false }
     ensures { IsNextOrNone done spans.now result }
@@ -94,8 +88,7 @@ fn next_span(spans: &[Span], done: u64) -> Option<Span>
     next
 }
 
-/// Returns the spans of a set to which the span `added` was added. `spans` must be the spans of the set before: at most
-/// 64, ascending, neither overlapping nor adjacent. `added` must not end before it begins.
+/// Returns the spans of a set to which the span `added` was added.
 fn with_span(spans: &[Span], added: Span) -> ArrayVec<Span, ROOM>
     requires room { length spans.now ≤ 64 }
     requires forward { added.first ≤ added.last }
@@ -122,11 +115,9 @@ fn with_span(spans: &[Span], added: Span) -> ArrayVec<Span, ROOM>
 }
 
 impl Ranges {
-    /// Returns the set of the addresses in the given spans. The spans may be in any order, and may be adjacent or
-    /// overlap.
-    ///
-    /// Returns `None` if a span ends before it begins, or if more than 64 spans are left after adjacent and overlapping
-    /// spans were joined. Allocates nothing. The time of the call grows at most with the square of the number of spans.
+    /// Returns the set of the addresses in the given spans, which may be in any order, and may be adjacent or overlap.
+    /// Returns `None` if a span ends before it begins, or if more than 64 spans are left after joining. Allocates
+    /// nothing. The time grows at most with the square of the number of spans.
     pub fn of(spans: &[Span]) -> Option<Ranges>
         ensures { MatchOption result (MakeNoSet spans.now)
             (λ ranges. (has_backwards spans.now ≡ false) × IsSetOf spans.now ranges) }
@@ -146,7 +137,6 @@ impl Ranges {
         Some(Ranges { spans: all })
     }
 
-    /// Returns the empty set.
     pub(crate) fn new() -> Ranges
         ensures empty { result ≡ [] }
         ensures ranges { AreRanges result }
@@ -156,8 +146,7 @@ impl Ranges {
         }
     }
 
-    /// Returns the set to which the addresses of the span `added` were added. The set must have fewer than 64 spans,
-    /// and `added` must not end before it begins.
+    /// Returns the set with the addresses of the span `added`.
     pub(crate) fn with(&self, added: Span) -> Ranges
         requires room { length self.now < 64 }
         requires forward { added.first ≤ added.last }
@@ -188,7 +177,6 @@ impl Ranges {
             .any(|span| span.first <= address && address <= span.last)
     }
 
-    /// Returns true if some address of sector number `sector`, counted from 0, is in the set.
     pub(crate) fn has_in_sector(&self, sector: u32) -> bool
         ensures test { result ≡ has_in_sector (contains self.now) sector }
         ensures cases { MatchBool result
@@ -205,18 +193,14 @@ impl Ranges {
         self.spans.iter().any(|span| size <= span.last)
     }
 
-    /// Returns the positions in sector number `sector`, counted from 0, whose addresses are in the set. The positions
-    /// are in ascending order.
+    /// Returns the positions in the given sector whose addresses are in the set, in ascending order.
     pub(crate) fn positions_in(&self, sector: u32) -> PositionsIn<'_>
         ensures { AreIncludedIn self.now sector (positions_left result) }
     {
         PositionsIn::new(self.spans(), sector)
     }
 
-    /// Replaces the bytes of sector number `sector` whose addresses aren't in the set by those of `other`.
-    ///
-    /// `bytes` and `other` must have 4,096 bytes each. The bytes of `bytes` whose addresses are in the set don't
-    /// change.
+    /// Replaces the bytes of the sector whose addresses aren't in the set by those of `other`.
     pub(crate) fn fill_excluded(&self, sector: u32, bytes: &mut [u8], other: &[u8])
         requires long { length bytes.old ≡ 4096 }
         requires other_long { length other.now ≡ 4096 }

@@ -67,11 +67,8 @@ impl Layout {
         }
     }
 
-    /// Adds a region after the others. Its end must not be below its start. Both addresses belong to the region. The
-    /// region may overlap others.
-    ///
-    /// Returns the first fault in the order of `RegionFault`. `Memory` (an allocation failed) is possible only if the
-    /// region has no other fault. After an error the layout is unchanged.
+    /// Adds a region after the others. Its end, which belongs to it, must not be below its start. It may overlap
+    /// others. Returns the first fault in the order of `RegionFault`. After an error the layout is unchanged.
     pub fn add(&mut self, region: Region) -> Result<(), RegionFault>
         requires { region.start ≤ region.end }
         ensures { Adds self.old self.new region result }

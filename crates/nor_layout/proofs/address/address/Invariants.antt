@@ -3,8 +3,7 @@ use Rattle.std.specs.List.{list_all}
 use Rattle.nor_layout.specs.Address.{is_hex_digit, digits_number}
 use Rattle.nor_layout.proofs.address.address.Given as goal
 
--- `value`, followed by the remaining digits, encodes the same number as all digits. The digits read so far are
--- hexadecimal.
+-- `value`, followed by the remaining digits, encodes the same number as all digits.
 abbrev pub invariant-loop-byte : goal.invariant-loop-byte
 invariant-loop-byte l = record {
   hexadecimal : list_all is_hex_digit (take l.byte-index l.digits) ≡ true;

@@ -13,7 +13,6 @@ use Rattle.nor_layout.proofs.Texts.{define_all, define_more, reads_fault}
 use Rattle.nor_layout.proofs.layout.Layout.read.Goals as goal
 use Rattle.nor_layout.proofs.layout.Layout.read.Goals.{In-Some}
 
--- The list of an iterator consists of the items yielded so far, then the current item, and then the remaining items.
 all_are : {S A B : Type 0} {steps : S → Option A → S → Type 0} {v : A → B} {s : S} {all : List B}
     → YieldsList steps v s all → (xs : List A) (t : S) → Yields steps s xs t → (r : Option A) (u : S) (x : A)
     → r ≡ Some x → steps t r u → all ≡ map v xs ++ v x ∷ drop (suc (length xs)) all
