@@ -19,7 +19,6 @@ use Rattle.nor_maps.specs.Descriptor.{region_names, region_name, entry_region, i
 use Rattle.nor_maps.specs.Descriptor.{IsDescriptorFault}
 use Rattle.byteorder.specs.Endian.{little_from}
 
--- True if no name is in the list twice.
 abbrev are_apart : List (List ℕ) → Bool
 are_apart [] = true
 are_apart (name ∷ names) = not (list_any (bytes_eq name) names) && are_apart names
@@ -42,7 +41,6 @@ name_at index within = elim (cases_Bool (is_name (region_name index))) [
       absurd (cc)
 ]
 
--- Holds if each region has the name of an entry with an index below `index`.
 abbrev AreNamedBelow : (index : ℕ) → List Region → Type 0
 AreNamedBelow index [] = ⊤
 AreNamedBelow index (region ∷ regions) =
@@ -66,8 +64,6 @@ named_push index entry [] named = ((index, omega arith, refl), named)
 named_push index entry (region ∷ regions) named =
     ((named.0.0, omega (arith, named.0.1), named.0.2), named_push index entry regions named.1)
 
--- Let `regions` have only names of entries below `index`. Then entry `index` adds nothing to `regions`, or adds its
--- region, or has the fault `Outside`.
 added : (size index entry : ℕ) (regions : List Region) → index < 16 → AreNamedBelow index regions
     → length regions ≤ index
     → (with_number size regions index entry ≡ Ok regions)

@@ -8,8 +8,7 @@ use Rattle.nor_maps.specs.declared.fault.MapFault.{MapFault}
 use Rattle.nor_maps.specs.declared.fault.MapFault.TheVariants.{Region as InRecord}
 use Rattle.nor_maps.specs.Records.{Reading, if_read, records_say, AsksAt, ReadsTable, AddsRecord}
 
--- Holds if the first `before` records have no fault and define `regions`. Reading then continues with the records after
--- them, however many follow.
+-- Holds if the first `before` records have no fault and define `regions`, however many records follow.
 abbrev pub RecordsDefine : Reading → (len first : ℕ) → List ℕ → (before : ℕ) → List Region → Type 0
 RecordsDefine reading len first bytes before regions = (more : ℕ)
     → records_say reading len [] first (before + more) bytes
@@ -31,7 +30,6 @@ module _ (reading : Reading) (len first : ℕ) (bytes : List ℕ) where
         ap (λ n. records_say reading len [] first n bytes) same ∙ define 0
 
     module _ (number : ℕ) (number_is : number ≡ before + first) where
-      -- Reading continues with the result (`said`) of record `number`, and then with the records after it.
       onward : (said : Result (List Region) MapFault) → reading regions number (drop (len * before) bytes) ≡ said
           → (more : ℕ) → records_say reading len [] first (before + suc more) bytes
           ≡ if_read (λ all. records_say reading len all (number + 1) more (drop len (drop (len * before) bytes))) said
@@ -55,7 +53,6 @@ module _ (reading : Reading) (len first : ℕ) (bytes : List ℕ) where
           ∙ ap (records_say reading len more_regions (before + 1 + first) more)
           (drop-drop len (len * before) bytes ∙ ap (λ n. drop n bytes) place)
 
-      -- If a record has a fault, or memory runs out at it, reading the table fails in the same way.
       pub reads_fault : (count : ℕ) → before + 1 ≤ count → (new : List Region) (fault : MapFault)
           → AddsRecord regions new number (Err fault) (reading regions number (drop (len * before) bytes))
           → ReadsTable (records_say reading len [] first count bytes) (AsksAt reading len first bytes) (Err fault)
@@ -72,8 +69,6 @@ module _ (reading : Reading) (len first : ℕ) (bytes : List ℕ) where
           let same : count ≡ before + suc (count - (before + 1)) = omega arith in
           ap (λ n. records_say reading len [] first n bytes) same ∙ onward (Err fault) adds (count - (before + 1))
 
--- If `other` equals `said`, and `may_ask` holds for each record for which `asks` holds, then `ReadsTable` allows with
--- `other` and `may_ask` every result that it allows with `said` and `asks`.
 pub reads_same : (said other : Result (List Region) MapFault) (asks may_ask : ℕ → Type 0) → said ≡ other
     → ((number : ℕ) → asks number → may_ask number) → (result : Result (List Region) MapFault)
     → ReadsTable said asks result → ReadsTable other may_ask result

@@ -29,8 +29,8 @@ region_table signature bytes = 16 * (little_from (signature + 4) 4 bytes / 2 ^ 1
 abbrev pub masters_at : (signature : ℕ) → List ℕ → ℕ
 masters_at signature bytes = 16 * (little_from (signature + 8) 4 bytes % 2 ^ 8)
 
--- The number of entries of the region table. It is 16 if a table of 16 entries ends before the masters' section.
--- Otherwise it is the number that the descriptor states, but at least 5.
+-- The number of entries of the region table: 16 if that many fit before the masters' section, else the number that the
+-- descriptor states, but at least 5.
 unfoldable pub entry_count : (signature : ℕ) → List ℕ → ℕ
 entry_count signature bytes =
     if nat_le (region_table signature bytes + 64) (masters_at signature bytes) then 16
@@ -43,7 +43,6 @@ region_names =
     ∷ codes "ec" ∷ codes "reg9" ∷ codes "ie" ∷ codes "10gbe" ∷ codes "reg12" ∷ codes "reg13" ∷ codes "reg14"
     ∷ codes "reg15" ∷ []
 
--- the name of the region that entry `index` describes
 abbrev pub region_name : (index : ℕ) → List ℕ
 region_name index = slice_index_or region_names index []
 
@@ -54,8 +53,8 @@ base_of entry = entry % 2 ^ 15
 abbrev pub limit_of : (entry : ℕ) → ℕ
 limit_of entry = entry / 2 ^ 16 % 2 ^ 15
 
--- True if an entry describes no region: its base is above its limit, it is erased, or it is 0 and not the first entry.
--- (An entry of 0 would be the first 4 KiB of the image. These are the descriptor, which the first entry describes.)
+-- True if an entry describes no region: its base is above its limit, it is erased, or it is 0. Only the first entry may
+-- be 0, because it describes the descriptor, which is the first 4 KiB of the image.
 abbrev pub is_unused : (index entry : ℕ) → Bool
 is_unused index entry =
     nat_lt (limit_of entry) (base_of entry) || entry == 2 ^ 32 - 1 || (entry == 0 && not (index == 0))
@@ -68,17 +67,13 @@ entry_region index entry = record {
   name = record { items = region_name index };
 }
 
--- the `regions` with the region of entry `index` added, or the fault of this entry
 abbrev pub with_number : (size : ℕ) → List Region → (index entry : ℕ) → Result (List Region) MapFault
 with_number size regions index entry =
     if is_unused index entry then Ok regions else with_found size regions index (entry_region index entry)
 
--- the `regions` with the region of entry `index` added, or the fault of this entry; the bytes begin with the entry
 abbrev pub with_entry : (size : ℕ) → List Region → (index : ℕ) → List ℕ → Result (List Region) MapFault
 with_entry size regions index bytes = with_number size regions index (little_from 0 4 bytes)
 
--- the regions of a descriptor whose signature is at this index, or the first fault; without a signature (None), the
--- fault is `Missing`
 abbrev pub entries_say : (size : ℕ) → List ℕ → Option ℕ → Result (List Region) MapFault
 entries_say size image None = Err Missing
 entries_say size image (Some signature) =
@@ -90,16 +85,15 @@ abbrev pub descriptor_says : (size : ℕ) → (image : List ℕ) → Result (Lis
 descriptor_says size image =
     if nat_lt (length image) 4096 then Err Short else entries_say size image (signature_at image)
 
--- Holds for the faults that a descriptor may have. A layout can have all of its regions, because there are at most 16,
--- and their names are valid and differ.
+-- Holds for the faults that a descriptor may have: its at most 16 names are valid and differ, so a layout can have
+-- them.
 abbrev pub IsDescriptorFault : MapFault → Type 0
 IsDescriptorFault (InRecord index Name) = ⊥
 IsDescriptorFault (InRecord index Twice) = ⊥
 IsDescriptorFault (InRecord index TooMany) = ⊥
 IsDescriptorFault fault = ⊤
 
--- Holds if entry `index` describes a region and has no fault, and no entry before it has a fault. Memory may run out
--- only at such an entry.
+-- Holds if memory may run out at entry `index`, because it describes a region and no entry up to it has a fault.
 abbrev pub AsksInDescriptor : (size : ℕ) → (image : List ℕ) → (index : ℕ) → Type 0
 AsksInDescriptor size image index =
     (signature : ℕ) × (signature_at image ≡ Some signature)

@@ -4,7 +4,6 @@ use Rattle.nor_layout.specs.Adding.{region_fault_number}
 use Rattle.nor_maps.specs.declared.fault.MapFault.{MapFault}
 use Rattle.nor_maps.specs.declared.fault.MapFault.TheVariants.{Missing, Short, Outside, Region}
 
--- the number of a fault, 1 to 7, which messages print
 abbrev pub map_fault_number : MapFault → ℕ
 map_fault_number Missing = 1
 map_fault_number Short = 2

@@ -12,15 +12,12 @@ use Rattle.nor_maps.specs.declared.fault.MapFault.{MapFault}
 use Rattle.nor_maps.specs.declared.fault.MapFault.TheVariants.{Missing, Short}
 use Rattle.nor_maps.specs.Records.{before_nul, with_found, records_say, AsksAt}
 
--- true for a visible ASCII character
 abbrev pub is_visible : ℕ → Bool
 is_visible b = nat_le 33 b && nat_le b 126
 
--- the number of areas that a header states
 abbrev pub area_count : (header : List ℕ) → ℕ
 area_count header = little_from 54 2 header
 
--- the length in bytes of an FMAP with this header
 abbrev pub fmap_length : (header : List ℕ) → ℕ
 fmap_length header = 56 + 42 * area_count header
 
@@ -28,9 +25,8 @@ fmap_length header = 56 + 42 * area_count header
 abbrev pub is_ended_name : (field : List ℕ) → Bool
 is_ended_name field = nat_lt (length (before_nul field)) 32 && list_all is_visible (before_nul field)
 
--- True if the bytes begin with a valid header. A valid header has the signature, major version 1, and a name of visible
--- ASCII characters that ends with NUL. The size of the image that the header states must not be less than the length of
--- the FMAP.
+-- True if the bytes begin with a valid header: the signature, major version 1, a valid name, and a size of the image
+-- that is not less than the length of the FMAP.
 unfoldable pub is_fmap_header : List ℕ → Bool
 is_fmap_header bytes =
     nat_le 56 (length bytes) && bytes_eq (slice_range bytes 0 8) (codes "__FMAP__") && slice_index bytes 8 == 1
@@ -41,7 +37,6 @@ unfoldable pub first_fmap : (image : List ℕ) → Option (List ℕ)
 first_fmap [] = None
 first_fmap (b ∷ bytes) = if is_fmap_header (b ∷ bytes) then Some (b ∷ bytes) else first_fmap bytes
 
--- the region of the area with which the bytes begin; the size of the area must not be 0
 abbrev pub area_region : (area : List ℕ) → Region
 area_region area = record {
   start = little_from 0 4 area;
@@ -49,14 +44,11 @@ area_region area = record {
   name = record { items = before_nul (slice_range area 8 40) };
 }
 
--- The `regions` with the region of area `number` added, or the fault of this area. The bytes `area` begin with the
--- area. An area of size 0 is no region.
+-- The `regions` with that of the area at the start of `area` added, or the fault. An area of size 0 is no region.
 abbrev pub with_area : (size : ℕ) → List Region → (number : ℕ) → (area : List ℕ) → Result (List Region) MapFault
 with_area size regions number area =
     if little_from 4 4 area == 0 then Ok regions else with_found size regions number (area_region area)
 
--- the regions of the FMAP with which the bytes begin, or its first fault; without an FMAP (None), the fault is
--- `Missing`
 abbrev pub areas_say : (size : ℕ) → Option (List ℕ) → Result (List Region) MapFault
 areas_say size None = Err Missing
 areas_say size (Some map) =
@@ -67,8 +59,7 @@ areas_say size (Some map) =
 abbrev pub fmap_says : (size : ℕ) → (image : List ℕ) → Result (List Region) MapFault
 fmap_says size image = areas_say size (first_fmap image)
 
--- Holds if area `number` of the first FMAP has a region and no fault, and no area before it has a fault. Memory may run
--- out only at such an area.
+-- Holds if memory may run out at area `number`, because it has a region and no area up to it has a fault.
 abbrev pub AsksInFmap : (size : ℕ) → (image : List ℕ) → (number : ℕ) → Type 0
 AsksInFmap size image number =
     (map : List ℕ) × (first_fmap image ≡ Some map) × AsksAt (with_area size) 42 1 (drop 56 map) number

@@ -1,4 +1,4 @@
--- Tables in an image. A table has records of one length, one after another, each of which may describe a region.
+-- Tables in an image, which have records of one length. Each record may describe a region.
 use Rattle.std.specs.Prelude.{◌≡◌, ℕ, zero, suc, ◌+◌, ◌*◌, ◌==◌, nat_lt, if◌then◌else◌, List, [], ◌∷◌, ◌++◌, drop, Result, Ok, Err, ⊤}
 use Rattle.nor_layout.specs.declared.region.Region.{Region}
 use Rattle.nor_layout.specs.declared.layout.adding.RegionFault.{RegionFault}
@@ -12,39 +12,34 @@ abbrev pub before_nul : List ℕ → List ℕ
 before_nul [] = []
 before_nul (b ∷ bytes) = if b == 0 then [] else b ∷ before_nul bytes
 
--- the result of adding the region of record `number` to a layout, with a fault that names the record
 abbrev pub in_record : (number : ℕ) → Result (List Region) RegionFault → Result (List Region) MapFault
 in_record number (Ok regions) = Ok regions
 in_record number (Err fault) = Err (InRecord number fault)
 
--- The `regions` with the region of record `number` added, or the fault of this record. The region must lie in a chip of
--- `size` bytes, and the layout must be able to have it (`with_region`).
+-- The `regions` with the region of record `number` added, or its fault. The region must lie in a chip of `size` bytes.
 abbrev pub with_found : (size : ℕ) → List Region → (number : ℕ) → Region → Result (List Region) MapFault
 with_found size regions number region =
     if nat_lt region.end size then in_record number (with_region regions region) else Err (Outside number)
 
--- A function that reads a record. Its arguments are the regions of the records before, the number of the record, and
--- the bytes from the first byte of the record on. It returns the regions with the region of the record added, or the
--- fault of the record.
+-- A function that reads a record. It takes the regions of earlier records, the record's number and the bytes from its
+-- start on, and returns the regions with its own one added, or its fault.
 abbrev pub Reading : Type 0
 Reading = List Region → ℕ → List ℕ → Result (List Region) MapFault
 
--- the result of `next` for the regions so far, or the fault that already occurred
 abbrev pub if_read : (next : List Region → Result (List Region) MapFault) → Result (List Region) MapFault
     → Result (List Region) MapFault
 if_read next (Ok regions) = next regions
 if_read next (Err fault) = Err fault
 
--- The regions of `count` records of `len` bytes each, one after another, or the fault of the first record that has one.
--- `regions` are the regions of the records before, and `number` is the number of the first record.
+-- The regions of `count` records of `len` bytes each, or the fault of the first record that has one. `regions` are
+-- those of earlier records, and `number` is the number of the first record.
 unfoldable pub records_say : Reading → (len : ℕ) → (regions : List Region) → (number count : ℕ) → List ℕ
     → Result (List Region) MapFault
 records_say reading len regions number zero bytes = Ok regions
 records_say reading len regions number (suc count) bytes =
     if_read (λ more. records_say reading len more (number + 1) count (drop len bytes)) (reading regions number bytes)
 
--- Holds if record `number` describes a region and has no fault, and the records before it have no fault. Memory may run
--- out only at such a record. `first` is the number of the first record.
+-- Holds if memory may run out at record `number`, because it describes a region and no record up to it has a fault.
 pub record AsksAt (reading : Reading) (len first : ℕ) (bytes : List ℕ) (number : ℕ) : Type 0 where
   pub before : ℕ
   pub number_is : number ≡ before + first
@@ -60,8 +55,7 @@ ReadsTable said asks (Ok regions) = said ≡ Ok regions
 ReadsTable said asks (Err (InRecord number Memory)) = asks number
 ReadsTable said asks (Err fault) = said ≡ Err fault
 
--- Holds if reading record `number` changed the regions `old` to `new`, or failed, as `said` defines. It may also fail
--- with `Memory` if the record describes a region and has no fault. Only private functions use this definition.
+-- Holds if reading record `number` changed the regions `old` to `new`, or failed, as `said` defines or with `Memory`.
 abbrev pub AddsRecord : (old new : List Region) → (number : ℕ) → Result ⊤ MapFault
     → (said : Result (List Region) MapFault) → Type 0
 AddsRecord old new number (Ok x) said = said ≡ Ok new

@@ -11,19 +11,14 @@ use arrayvec::ArrayVec;
 use nor_layout::Layout;
 use std::alloc::Global;
 
-/// The length of a descriptor in bytes.
 const DESCRIPTOR_LEN: usize = 4096;
 
-/// The signature of a descriptor, FLVALSIG.
 const SIGNATURE: u32 = 0x0FF0_A55A;
 
-/// The length of an entry of the region table in bytes.
 const ENTRY_LEN: usize = 4;
 
-/// The greatest number of entries of a region table.
 const ENTRIES: usize = 16;
 
-/// Returns the index of the signature, 10h or 0, or `None` if the signature is at neither index.
 fn find_signature(bytes: &[u8]) -> Option<usize>
     requires { 4096 ≤ length bytes.now }
     ensures found { result ≡ signature_at bytes.now }
@@ -49,7 +44,6 @@ fn table_address(bytes: &[u8], signature: usize) -> usize
     16 * (number_at(bytes, signature + 4) as usize >> 16 & 0xFF)
 }
 
-/// Returns the number of entries of the region table. `signature` is the index of the signature.
 #[tactic(auto, unfolding(crate::specs::Descriptor::entry_count))]
 fn count_entries(bytes: &[u8], signature: usize) -> usize
     requires long { 4096 ≤ length bytes.now }
@@ -65,7 +59,6 @@ fn count_entries(bytes: &[u8], signature: usize) -> usize
     stated.max(5)
 }
 
-/// Returns the name of the region that entry `index` describes.
 fn name_of(index: u16) -> &'static [u8]
     requires { index < 16 }
     ensures name { result.now ≡ region_name index }
@@ -91,8 +84,6 @@ fn name_of(index: u16) -> &'static [u8]
     }
 }
 
-/// Adds the region of entry `index` to the layout. `bytes` must begin with this entry. Adds nothing if the entry is
-/// unused.
 fn add_entry(layout: &mut Layout, size: u32, index: u16, bytes: &[u8]) -> Result<(), MapFault>
     requires long { 4 ≤ length bytes.now }
     requires few { index < 16 }
@@ -108,7 +99,6 @@ fn add_entry(layout: &mut Layout, size: u32, index: u16, bytes: &[u8]) -> Result
     add_found(layout, size, index, base * 4096, end, name)
 }
 
-/// Reads the first `count` entries of `table` as the layout of a chip of `size` bytes.
 fn read_entries(alloc: Global, table: &[u8], count: u16, size: u32) -> Result<Layout, MapFault>
     requires few { count ≤ 16 }
     requires long { 4 * count ≤ length table.now }
@@ -125,21 +115,16 @@ fn read_entries(alloc: Global, table: &[u8], count: u16, size: u32) -> Result<La
 }
 
 /// Reads the Intel flash descriptor at the beginning of an image as the layout of a chip of `size` bytes (the SPI
-/// programming guides of Intel's chipsets; flashrom's ich_descriptors.c, and its manual page, `--ifd`).
+/// programming guides of Intel's chipsets; flashrom's ich_descriptors.c, and its manual page, `--ifd`). The regions are
+/// named as flashrom names them: `fd`, `bios`, `me`, `gbe`, `pd`, `reg5`, `bios2`, `reg7`, `ec`, `reg9`, `ie`, `10gbe`,
+/// and `reg12` to `reg15`.
 ///
-/// The signature 0FF0A55Ah is at 10h, or at 0 in descriptors up to the ICH10. The regions are named as flashrom names
-/// them: `fd`, `bios`, `me`, `gbe`, `pd`, `reg5`, `bios2`, `reg7`, `ec`, `reg9`, `ie`, `10gbe`, and `reg12` to `reg15`.
-/// The base and the limit of an entry are the numbers of the first and the last 4 KiB sector of its region. An entry is
-/// unused if its base is above its limit, if it is erased (FFFFFFFFh), or if it is 0 and not the first entry.
+/// Descriptors of the 100 series and later have 16 entries, and the number that they state isn't valid. Earlier ones
+/// have the stated number of entries, but at least five, because they may state fewer than they use.
 ///
-/// The table has 16 entries if the masters' section begins at least 40h bytes after the beginning of the table, as in
-/// the 100 series and later. The number of entries that such a descriptor states isn't valid. In earlier descriptors
-/// the table has the stated number of entries, but at least five, because they may state fewer entries than they use.
-///
-/// Returns `Short` if there are fewer than 4,096 bytes, `Missing` if the signature is at neither address, and `Short`
-/// if the table runs past the end of the descriptor. Otherwise returns the fault of the first entry that has one:
-/// `Outside` if its region reaches past the chip, or `Region` with the fault `Memory` if memory runs out, which is
-/// possible only for an entry without another fault.
+/// Returns `Short` if there are fewer than 4,096 bytes, `Missing` if the signature is at neither 10h nor 0, and `Short`
+/// if the table runs past the descriptor. Otherwise returns the fault of the first entry that has one: `Outside`, or
+/// `Region` with the fault `Memory`.
 pub fn read_descriptor(alloc: Global, bytes: &[u8], size: u32) -> Result<Layout, MapFault>
     ensures reads { ReadsTable (descriptor_says size bytes.now) (AsksInDescriptor size bytes.now) result }
     ensures named { IfErr result IsDescriptorFault }

@@ -12,23 +12,18 @@ use byteorder::{ByteOrder, LittleEndian};
 use nor_layout::Layout;
 use std::alloc::Global;
 
-/// The signature, with which an FMAP begins.
 const SIGNATURE: [u8; 8] = *b"__FMAP__";
 
-/// The length of the header of an FMAP in bytes.
 const HEADER_LEN: usize = 56;
 
-/// The length of an area in bytes.
 const AREA_LEN: usize = 42;
 
-/// Returns true if all bytes are visible ASCII characters.
 fn are_visible(bytes: &[u8]) -> bool
     ensures { result ≡ list_all is_visible bytes.now }
 {
     bytes.iter().all(|b| b.is_ascii_graphic())
 }
 
-/// Returns the number of areas that the header states.
 fn count_areas(header: &[u8]) -> u16
     requires { 56 ≤ length header.now }
     ensures { result ≡ area_count header.now }
@@ -36,7 +31,6 @@ fn count_areas(header: &[u8]) -> u16
     LittleEndian::read_u16(&header[54..])
 }
 
-/// Returns true if the bytes begin with a valid header.
 #[tactic(auto, unfolding(crate::specs::Fmap::is_fmap_header))]
 fn is_header(bytes: &[u8]) -> bool
     ensures value { result ≡ is_fmap_header bytes.now }
@@ -50,7 +44,6 @@ fn is_header(bytes: &[u8]) -> bool
     name.len() < NAME_LEN && are_visible(&name) && length <= number_at(bytes, 18) as usize
 }
 
-/// Returns the bytes from the first valid header on, or `None` if there is no valid header.
 #[tactic(auto, unfolding(crate::specs::Fmap::first_fmap))]
 fn find_fmap(bytes: &[u8]) -> Option<&[u8]>
     ensures first { MatchOption result (first_fmap bytes.now ≡ None) (λ map. first_fmap bytes.now ≡ Some map.now) }
@@ -66,8 +59,6 @@ fn find_fmap(bytes: &[u8]) -> Option<&[u8]>
     None
 }
 
-/// Adds the region of area `number` to the layout. The bytes `area` must begin with this area. Adds nothing if the size
-/// of the area is 0.
 fn add_area(layout: &mut Layout, size: u32, number: u16, area: &[u8]) -> Result<(), MapFault>
     requires { 42 ≤ length area.now }
     ensures { AddsRecord layout.old layout.new number result (with_area size layout.old number area.now) }
@@ -81,7 +72,6 @@ fn add_area(layout: &mut Layout, size: u32, number: u16, area: &[u8]) -> Result<
     add_found(layout, size, number, start, end, name)
 }
 
-/// Reads the first `count` of the areas that follow a header, as the layout of a chip of `size` bytes.
 fn read_areas(alloc: Global, areas: &[u8], count: u16, size: u32) -> Result<Layout, MapFault>
     requires { 42 * count ≤ length areas.now }
     ensures { ReadsTable (records_say (with_area size) 42 [] 1 count areas.now)
@@ -96,20 +86,15 @@ fn read_areas(alloc: Global, areas: &[u8], count: u16, size: u32) -> Result<Layo
 }
 
 /// Reads the first FMAP of an image as the layout of a chip of `size` bytes (Chromium's flashmap, lib/fmap.h;
-/// flashrom's manual page, `--fmap`).
+/// flashrom's manual page, `--fmap`). The regions are the areas, in their order and at their offsets. They may overlap.
 ///
-/// An FMAP begins, at any address, with a valid header. A valid header has the signature `__FMAP__`, major version 1,
-/// and a name of visible ASCII characters that ends with NUL. The size of the image that the header states must not be
-/// less than the length of the FMAP. If the image contains several FMAPs, the one at the lowest address is read. The
-/// minor version, the base address and the flags of areas are ignored.
+/// An FMAP begins with a valid header: the signature `__FMAP__`, major version 1, a name of visible ASCII characters
+/// that ends with NUL, and a stated size of the image that is not less than the length of the FMAP. The FMAP at the
+/// lowest address is read, without its minor version, base address and flags. The name of an area ends before the first
+/// NUL in its field, if any.
 ///
-/// The regions are the areas, in their order and at their offsets, and may overlap. The name of an area ends before the
-/// first NUL in its field, or has all 32 bytes of the field. An area of size 0 is no region.
-///
-/// Returns `Missing` if there is no valid header, or `Short` if the bytes end before the end of the last area.
-/// Otherwise returns the fault of the first area that has one: `Outside` if it reaches past the chip, or `Region` with
-/// the reason why a layout can't have it (`RegionFault`). The reason is `Memory` only for an area without another
-/// fault.
+/// Returns `Missing` if there is no valid header, or `Short` if the bytes end before the last area does. Otherwise
+/// returns the fault of the first area that has one: `Outside`, or `Region` with the reason why a layout can't have it.
 pub fn read_fmap(alloc: Global, bytes: &[u8], size: u32) -> Result<Layout, MapFault>
     ensures { ReadsTable (fmap_says size bytes.now) (AsksInFmap size bytes.now) result }
 {

@@ -15,16 +15,6 @@
 //! assert_eq!(rt; read_descriptor(rt.alloc(), &image, 0x8000).err(), Some(MapFault::Outside { record: 1 }));
 //! assert_eq!(rt; read_fmap(rt.alloc(), &image, 0x1_0000).err(), Some(MapFault::Missing));
 //! ```
-//!
-//! The source files:
-//!
-//! - `descriptor.rt`: `read_descriptor`, which reads an Intel flash descriptor
-//! - `fmap.rt`: `read_fmap`, which finds and reads an FMAP
-//! - `record.rt`: numbers, names and regions of records, for both formats
-//! - `fault.rt`: `MapFault`, with its numbers and messages
-//!
-//! `specs/Descriptor.antt` and `specs/Fmap.antt` define the two formats, and `specs/Records.antt` defines how a table
-//! of records is read.
 #![tactic(auto)]
 
 mod descriptor;

@@ -12,7 +12,6 @@ use nor_layout::{Layout, Region};
 /// The greatest length of a region's name, and the length of an FMAP's field for a name, in bytes.
 pub(crate) const NAME_LEN: usize = 32;
 
-/// Returns the little-endian number that the four bytes from index `at` on encode.
 pub(crate) fn number_at(bytes: &[u8], at: usize) -> u32
     requires { at + 4 ≤ length bytes.now }
     ensures { result ≡ little_from at 4 bytes.now }
@@ -20,7 +19,6 @@ pub(crate) fn number_at(bytes: &[u8], at: usize) -> u32
     LittleEndian::read_u32(&bytes[at..])
 }
 
-/// Returns the bytes from index `at` on.
 pub(crate) fn rest_from(bytes: &[u8], at: usize) -> &[u8]
     requires { at ≤ length bytes.now }
     ensures { result.now ≡ drop at bytes.now }
@@ -28,7 +26,6 @@ pub(crate) fn rest_from(bytes: &[u8], at: usize) -> &[u8]
     &bytes[at..]
 }
 
-/// Returns the bytes of `field` before its first NUL, or all of them if it has no NUL.
 pub(crate) fn name_in(field: &[u8]) -> ArrayVec<u8, NAME_LEN>
     requires { length field.now ≤ 32 }
     ensures { result.items ≡ before_nul field.now }
@@ -45,10 +42,8 @@ pub(crate) fn name_in(field: &[u8]) -> ArrayVec<u8, NAME_LEN>
     name
 }
 
-/// Adds the region that record `number` describes to the layout of a chip of `size` bytes. The region has the addresses
-/// from `start` to `end`, both included.
-///
-/// Returns `Outside` if the region reaches past the chip, or `Region` with the reason why the layout can't have it.
+/// Adds the region from `start` to `end`, both included, of record `number` to the layout of a chip of `size` bytes.
+/// Returns `Outside`, or `Region` with the reason why the layout can't have it.
 pub(crate) fn add_found(
     layout: &mut Layout,
     size: u32,

@@ -8,8 +8,6 @@ use Rattle.nor_maps.specs.Descriptor.{AsksInDescriptor}
 use Rattle.nor_maps.proofs.Tables.{reads_same}
 use Rattle.nor_maps.proofs.descriptor.read_descriptor.Goals as goal
 
--- Let the image begin with a complete descriptor. Each result that `ReadsTable` allows for reading the descriptor's
--- entries is also allowed for reading the image.
 reads_image : (size : ℕ) (image : List ℕ) (signature : ℕ) → 4096 ≤ length image → signature_at image ≡ Some signature
     → region_table signature image + 4 * entry_count signature image ≤ 4096
     → (result : Result (List Region) MapFault)

@@ -8,8 +8,6 @@ use Rattle.nor_maps.specs.Fmap.{area_count, fmap_length, first_fmap, with_area, 
 use Rattle.nor_maps.proofs.Tables.{reads_same}
 use Rattle.nor_maps.proofs.fmap.read_fmap.Goals as goal
 
--- Let the first FMAP of the image be complete. Each result that `ReadsTable` allows for reading the areas of this FMAP
--- is also allowed for reading the image.
 reads_image : (size : ℕ) (image map : List ℕ) → first_fmap image ≡ Some map → fmap_length map ≤ length map
     → (result : Result (List Region) MapFault)
     → ReadsTable (records_say (with_area size) 42 [] 1 (area_count map) (drop 56 map))
