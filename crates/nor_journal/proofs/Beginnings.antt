@@ -1,5 +1,4 @@
--- The pieces of a journal together are its encoding. A faithful vault that refused one of the pieces holds a prefix of
--- the encoding.
+-- A faithful vault that refused a piece of a journal holds a prefix of the journal's encoding.
 use Rattle.std.proofs.Common.{◌≡◌, ℕ, ◌/◌, List, [], ◌++◌, length, take, refl, sym, ap, ◌∙◌, append_assoc, arith}
 use Rattle.std.specs.Prelude.{true, Some, Result, Ok, Err, OnOk, OnErr}
 use Rattle.std.specs.Io.{StartsWith}
@@ -11,8 +10,6 @@ use Rattle.nor_journal.specs.Vault.{VaultState, Took, PutRefused, Seals, HoldsPr
 use Rattle.nor_journal.specs.Text.{SavedSector, Content, IsContent, MayFollow, next_number, head, record_text}
 use Rattle.nor_journal.specs.Text.{records_text, end_mark, front, body, text, empty_content, with_sector}
 use Rattle.nor_journal.proofs.SectorRecords.{AreRising-push, records_text-push}
-
--- ---- contents
 
 pub front-empty_content : (id unique status : List ℕ) (size : ℕ)
     → front (empty_content id (Some unique) status size) ≡ head (empty_content id (Some unique) status size)
@@ -27,7 +24,6 @@ front-with_sector c number bytes =
     ap (λ (t : List ℕ). head c ++ t) (records_text-push c.saved added)
     ∙ sym (append_assoc (head c) (records_text c.saved) (record_text added))
 
--- If `c` is valid, and a sector of 4,096 bytes may follow (`MayFollow`), `c` with this sector at the end is valid.
 pub IsContent-with_sector : (c : Content) (number : ℕ) (bytes : List ℕ) → IsContent c → MayFollow c number
     → length bytes ≡ 4096 → IsContent (with_sector c number bytes)
 unfolding next_number
@@ -44,15 +40,10 @@ pub text_is : (c : Content) → (front c ++ end_mark) ++ sha256 (front c ++ end_
 unfolding text body
 text_is c = refl
 
--- ---- lists
-
--- A prefix of `whole` is also a prefix of `whole ++ following`.
 pub begins_longer : (whole following bytes : List ℕ) → StartsWith whole bytes → StartsWith (whole ++ following) bytes
 begins_longer whole following bytes begins =
     take-append-le (length bytes) whole following (omega (arith, ap length begins, length-take (length bytes) whole))
     ∙ begins
-
--- ---- a vault
 
 -- Holds if the vault isn't faithful, or holds exactly these bytes.
 abbrev pub Holds : VaultState → List ℕ → Type 0
@@ -63,7 +54,6 @@ took_more : (old new : VaultState) (before piece : List ℕ) → Holds old befor
 took_more old new before piece held took faithful =
     let before_faithful = sym took.telling ∙ faithful in rw (took.bytes before_faithful, held before_faithful) refl
 
--- Let a faithful vault hold the bytes `before`. After it has refused `piece`, it holds a prefix of `before ++ piece`.
 pub after_refused : (old new : VaultState) (before piece : List ℕ) (kept : ℕ) → Holds old before
     → PutRefused old piece kept new → HoldsPrefix new (before ++ piece)
 after_refused old new before piece kept held refused faithful =
@@ -71,28 +61,20 @@ after_refused old new before piece kept held refused faithful =
     rw (refused.bytes before_faithful, held before_faithful)
     (rw (length-append before (take kept piece), take-append-add, length-take kept piece, take_min) refl)
 
--- A fact `P` that always holds also holds after an error.
 pub err_any : {T E P : Type 0} (r : Result T E) → P → OnErr r P
 err_any (Ok value) holds = tt
 err_any (Err error) holds = holds
 
--- ---- the end
-
--- Let a faithful vault hold the header and records of `c`. If it refuses the end mark, it holds a prefix of the
--- journal.
 pub begins_mark : (old new : VaultState) (c : Content) (kept : ℕ) → Holds old (front c)
     → PutRefused old end_mark kept new → HoldsPrefix new (text c)
 begins_mark old new c kept held refused = rw (← text_is c) (λ faithful.
     begins_longer (front c ++ end_mark) _ new.bytes (after_refused old new (front c) end_mark kept held refused faithful))
 
--- In the state `s0` a faithful vault holds the header and records of `c`. It then accepted the end mark (`s1`), and the
--- digest is written next.
 module _ (s0 s1 new : VaultState) (c : Content) (digest : List ℕ) (held : Holds s0 (front c))
     (marked : Took s0 end_mark s1) (is : digest ≡ sha256 (front c ++ end_mark)) where
   whole : (front c ++ end_mark) ++ digest ≡ text c
   whole = rw is (text_is c)
 
-  -- If the digest is accepted, too, a faithful vault holds the encoding of `c`.
   pub took_end : Took s1 digest new → Holds new (text c)
   took_end digested = rw (← whole) (took_more s1 new _ digest (took_more s0 s1 (front c) end_mark held marked) digested)
 
@@ -100,8 +82,6 @@ module _ (s0 s1 new : VaultState) (c : Content) (digest : List ℕ) (held : Hold
   begins_digest kept refused =
       rw (← whole) (after_refused s1 new _ digest kept (took_more s0 s1 (front c) end_mark held marked) refused)
 
--- Let a faithful vault hold the encoding of `c`. It still holds the encoding after a seal, and a prefix of it after a
--- refused seal.
 pub seals : {T : Type 0} (old new : VaultState) (r : Result T VaultFault) (c : Content) → Holds old (text c)
     → Seals old r new → OnOk r (Holds new (text c)) × OnErr r (HoldsPrefix new (text c))
 seals old new (Ok x) c held sealed =

@@ -15,16 +15,12 @@ use Rattle.nor_journal.proofs.SectorRecords.{IsBytes, IsBytes-drop, number_text-
 use Rattle.std.proofs.Math.Seq.{take-add}
 use Rattle.std.proofs.lemmas.Grind.{elements}
 
--- If `bytes` has at least two elements, `take 2 bytes` consists of those with the indices 0 and 1. If `bytes` has at
--- least three elements, `take 3 bytes` consists of those with the indices 0, 1 and 2 (`three_first`).
 two_first : (bytes : List ℕ) → 2 ≤ length bytes → take 2 bytes ≡ get_or bytes 0 0 ∷ get_or bytes 1 0 ∷ []
 two_first bytes long = grind (arith, elements)
 
 three_first : (bytes : List ℕ) → 3 ≤ length bytes → take 3 bytes ≡ get_or bytes 0 0 ∷ get_or bytes 1 0 ∷ get_or bytes 2 0 ∷ []
 three_first bytes long = grind (arith, elements)
 
--- Let `bytes`, each below 256, be long enough for a header that has k bytes between the ID and the status bytes. Then
--- they are the parts of this header (magic, ID, unique ID, status bytes, size), followed by the bytes after it.
 said : (k : ℕ) (bytes magic unique status : List ℕ) → IsBytes bytes → 17 + k ≤ length bytes → take 8 bytes ≡ magic
     → take k (drop 11 bytes) ≡ unique → take 2 (drop (11 + k) bytes) ≡ status
     → bytes ≡ ((((magic ++ get_or bytes 8 0 ∷ get_or bytes 9 0 ∷ get_or bytes 10 0 ∷ []) ++ unique) ++ status)
@@ -45,8 +41,6 @@ pub unique_read : {E : Type 0} (part : List ℕ) (r : Result (List ℕ) E) → M
 unique_read part (Ok u) whole = (sym whole.same, ap length whole.same ∙ whole.long)
 unique_read part (Err e) other = other
 
--- Let `bytes`, each below 256, begin with a complete header of either format. Then they are the encoding of the
--- header's fields, followed by the bytes after the header. The unique ID, if there is one, has eight bytes.
 pub splits : (returned : Option (List ℕ)) (len : ℕ) (bytes : List ℕ) (unique : Option (List ℕ)) → IsBytes bytes
     → take 8 bytes ≡ magic returned → len ≡ header_length returned → len ≤ length bytes
     → IsUnique (take (len - 6 - 11) (drop 11 bytes)) unique
@@ -73,16 +67,11 @@ splits (Some v) len bytes (Some u) fits begins is long read =
     let two = simp get_or-drop at (two_first (drop 19 bytes) (omega (arith, length-drop 19 bytes))) in
     (read.1, rw is (said 8 bytes (magic (Some v)) u _ fits (omega arith) begins (rw is at read.0) two))
 
--- ---- writing a header
-
--- If a part of k bytes is written at index n into a buffer of 25 bytes, and n + k is at most 25, the length of the
--- buffer doesn't change.
 pub length-put : (n k : ℕ) (bytes part : List ℕ) → length bytes ≡ 25 → length part ≡ k → n + k ≤ 25
     → length (put_mid n k bytes part) ≡ 25
 length-put n k bytes part long many within =
     same_len_mid n k bytes part (omega (arith, length-take k (drop n bytes), length-drop n bytes)) ∙ long
 
--- If `part` is written directly after the n bytes `before`, it replaces the first k bytes of `rest`.
 pub put_after : (n k : ℕ) (before rest part : List ℕ) → length before ≡ n
     → put_mid n k (before ++ rest) part ≡ (before ++ part) ++ drop k rest
 put_after n k before rest part len =

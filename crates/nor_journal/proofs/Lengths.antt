@@ -7,7 +7,6 @@ use Rattle.nor_journal.specs.Fault.{header_length}
 use Rattle.nor_journal.proofs.SectorRecords.{length-number_text}
 use Rattle.nor_journal.proofs.OneForm.{length-head, length-end_mark}
 
--- The records of complete sectors have 4,100 bytes each.
 long_records : (sectors least : ℕ) (saved : List SavedSector) → AreRising sectors least saved
     → length (records_text saved) ≡ 4100 * length saved
 unfolding records_text record_text
@@ -16,8 +15,6 @@ long_records sectors least (s ∷ rest) are =
     simp (length-append, length-number_text)
     (omega (arith, are.0.whole, long_records sectors (s.number + 1) rest are.2))
 
--- A journal has the bytes of its header, 4,100 bytes for each saved sector, and 36 bytes for the end mark and the
--- digest.
 pub long_text : (c : Content) → IsContent c → length (text c) ≡ header_length c.unique + 4100 * length c.saved + 36
 unfolding text body front
 long_text c is =

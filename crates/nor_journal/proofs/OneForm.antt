@@ -1,5 +1,4 @@
--- The parts of a journal are decoded uniquely: numbers, records, headers, and the header with the records (`front`).
--- Therefore a journal has one content and no fault, and other bytes have at most one first fault.
+-- A journal is decoded uniquely: it has one content and no fault, and other bytes have at most one first fault.
 use Rattle.std.proofs.Common.{◌≡◌, ℕ, ◌+◌, ◌-◌, ◌/◌, ◌^◌, ◌<◌, ◌≤◌, true, List, [], ◌∷◌, ◌++◌, length, take, drop}
 use Rattle.std.proofs.Common.{Option, refl, sym, ap, ◌∙◌, append_assoc, arith, inl, inr}
 use Rattle.std.specs.Prelude.{IfSome, Result, Ok, Err, IfOk, IfErr, OnOk, IsOkAnd}
@@ -18,14 +17,11 @@ use Rattle.nor_journal.proofs.SectorRecords.{length-number_text, number_at-numbe
 use Rattle.sha2.proofs.Facts256.{length-sha256}
 use Rattle.nor_journal.specs.declared.fault.JournalFault.{JournalFault}
 
--- If `a ++ x` equals `b ++ y`, and `a` and `b` have the same length, then `a` equals `b`, and `x` equals `y`.
 pub same_parts : (a b : List ℕ) {x y : List ℕ} → length a ≡ length b → a ++ x ≡ b ++ y → (a ≡ b) × (x ≡ y)
 same_parts a b {x} {y} len e = (
   sym (take_at a x _ len) ∙ ap (take (length b)) e ∙ take_at b y _ refl,
   sym (drop_at a x _ len) ∙ ap (drop (length b)) e ∙ drop_at b y _ refl,
 )
-
--- ---- numbers and records
 
 same_number : (m n : ℕ) {x y : List ℕ} → m < 2 ^ 32 → n < 2 ^ 32 → number_text m ++ x ≡ number_text n ++ y
     → (m ≡ n) × (x ≡ y)
@@ -38,7 +34,6 @@ pub length-end_mark : length end_mark ≡ 4
 unfolding end_mark
 length-end_mark = refl
 
--- Bytes that begin with the end mark encode the number 2^32 - 1, which is above every sector number.
 pub number_at-marked : (rest : List ℕ) → take 4 rest ≡ end_mark → number_at rest ≡ 4294967295
 unfolding end_mark number_at
 number_at-marked rest is_mark = sym (number_at-take rest) ∙ ap number_at is_mark
@@ -55,8 +50,6 @@ same_record sectors s t {x} {y} few s-is t-is e =
     let rest = same_parts s.bytes t.bytes (s-is.whole ∙ sym t-is.whole) numbers.1 in
     (ap (λ (n : ℕ). record s { number = n }) numbers.0 ∙ ap (λ (b : List ℕ). record t { bytes = b }) rest.0, rest.1)
 
--- Let the chip have at most 4,096 sectors. If `bytes` begin with the encoding of a complete sector of the chip whose
--- number is at least `least`, they begin with a valid record (`BeginsRecord`).
 begins_record : (sectors least : ℕ) (s : SavedSector) (rest bytes : List ℕ) → sectors ≤ 4096
     → IsSectorBelow sectors s → least ≤ s.number → bytes ≡ record_text s ++ rest
     → BeginsRecord sectors least bytes (number_at bytes)
@@ -76,9 +69,6 @@ begins_record sectors least s rest bytes few is rises e =
 abbrev pub NoRecord : (sectors least : ℕ) → List ℕ → Type 0
 NoRecord sectors least bytes = BeginsRecord sectors least bytes (number_at bytes) → ⊥
 
--- Let `ss` and `ts` be ascending lists (`AreRising`) for a chip with at most 4,096 sectors. Let `x` not begin with a
--- valid record that may follow `ss`, and let `y` not begin with one that may follow `ts`. If the encoding of `ss`
--- followed by `x` equals the encoding of `ts` followed by `y`, then `ss` equals `ts`, and `x` equals `y`.
 same_records : (sectors least : ℕ) (ss ts : List SavedSector) (x y : List ℕ) → sectors ≤ 4096
     → AreRising sectors least ss → AreRising sectors least ts → NoRecord sectors (least_after least ss) x
     → NoRecord sectors (least_after least ts) y → records_text ss ++ x ≡ records_text ts ++ y → (ss ≡ ts) × (x ≡ y)
@@ -94,17 +84,12 @@ same_records sectors least (s ∷ ss) (t ∷ ts) x y few s-are t-are no_x no_y e
     first.1 in
     (rw (first.0, rest.0) refl, rest.1)
 
--- ---- headers, and headers with records
-
 pub length-magic : (u : Option (List ℕ)) → length (magic u) ≡ 8
 length-magic u = grind arith
 
--- If two magics are equal, the headers of their formats have the same length.
 pub same_format : (u v : Option (List ℕ)) → magic u ≡ magic v → header_length u ≡ header_length v
 same_format u v e = grind arith
 
--- The length of a header is 17 bytes plus that of the unique ID, which has eight bytes in format 2 and none in format
--- 1.
 length-unique : (u : Option (List ℕ)) → IfSome u (λ unique. length unique ≡ 8)
     → length (unwrap_or u []) + 17 ≡ header_length u
 length-unique u is = grind arith
@@ -112,7 +97,6 @@ length-unique u is = grind arith
 same_unique : (u v : Option (List ℕ)) → header_length u ≡ header_length v → unwrap_or u [] ≡ unwrap_or v [] → u ≡ v
 same_unique u v f e = grind arith
 
--- The header of `c` and the bytes `x` after it are the fields of the header, one after the other, and then `x`.
 pub head_opened : (c : Content) (x : List ℕ)
     → head c ++ x ≡ magic c.unique ++ (c.id ++ (unwrap_or c.unique [] ++ (c.status ++ (number_text c.size ++ x))))
 unfolding head
@@ -147,9 +131,8 @@ pub text_opened : (c : Content) → text c ≡ front c ++ (end_mark ++ sha256 (b
 unfolding text body
 text_opened c = rw append_assoc
 
--- Let `c` and `d` be valid contents. Let `x` not begin with a valid record that may follow those of `c`, and let `y`
--- not begin with one that may follow those of `d`. If `front c ++ x` equals `front d ++ y`, then `c` equals `d`, and
--- `x` equals `y`.
+-- Let `x` begin with no valid record that may follow those of `c`, and `y` with none that may follow those of `d`. If
+-- `front c ++ x` equals `front d ++ y`, then `c` equals `d`, and `x` equals `y`.
 pub same_fronts : (c d : Content) (x y : List ℕ) → IsContent c → IsContent d
     → NoRecord (c.size / 4096) (next_number c) x → NoRecord (d.size / 4096) (next_number d) y
     → front c ++ x ≡ front d ++ y → (c ≡ d) × (x ≡ y)
@@ -164,16 +147,12 @@ same_fronts c d x y c-is d-is no_x no_y e =
       records.1,
     )
 
--- ---- at most one fault
-
 least_head : (u : Option (List ℕ)) → 17 ≤ header_length u
 least_head u = grind arith
 
--- The header at the beginning of `bytes` has at most one fault.
 one_in_head : (bytes : List ℕ) (f g : JournalFault) → HeaderFault bytes f → HeaderFault bytes g → f ≡ g
 one_in_head bytes f g p q = grind (arith, same_format, least_head)
 
--- The last four bytes of the header of a valid content `c` encode its size.
 head_number : (c : Content) (x : List ℕ) → IsContent c
     → number_at (drop (header_length c.unique - 4) (head c ++ x)) ≡ c.size
 unfolding head
@@ -184,20 +163,17 @@ head_number c x is =
     rw (append_assoc before (number_text c.size) x, drop_at before (number_text c.size ++ x) _ len)
     (number_at-number_text c.size x (omega (arith, few_sectors c.size is.size)))
 
--- The header of a valid content has no fault.
 none_in_head : (c : Content) (x : List ℕ) (f : JournalFault) → IsContent c → HeaderFault (head c ++ x) f → ⊥
 none_in_head c x f is found =
     let begins = ap (take 8) (head_opened c x) ∙ take_at _ _ _ (length-magic c.unique) in
     let long = length-append (head c) x in let len = length-head c is in let number = head_number c x is in
     grind (arith, begins, long, len, number, is.size, same_format, least_head)
 
--- The bytes `rest` after the header and records of a valid content have at most one fault.
 one_in_rest : (c : Content) (rest : List ℕ) (f g : JournalFault) → IsContent c → NextFault c rest f → NextFault c rest g
     → f ≡ g
 one_in_rest c rest f g is p q =
     grind (arith, number_at-marked rest, few_sectors c.size is.size, length-take 4 rest, length-end_mark)
 
--- If the end mark and the correct digest follow the header and records of a valid content, they have no fault.
 none_at_end : (c : Content) (f : JournalFault) → IsContent c → NextFault c (end_mark ++ sha256 (body c)) f → ⊥
 unfolding body
 none_at_end c f is found =
@@ -207,21 +183,15 @@ none_at_end c f is found =
     let few = few_sectors c.size is.size in
     grind (arith, number_at-marked (end_mark ++ digest), length-end_mark, mark, last, long, len, few)
 
--- If the bytes `rest` after the header and records of a valid content have a fault, they don't begin with a valid
--- record that may come next.
 faulty : (c : Content) (rest : List ℕ) (f : JournalFault) → IsContent c → NextFault c rest f
     → NoRecord (c.size / 4096) (next_number c) rest
 faulty c rest f is found begins = grind (arith, number_at-marked rest, few_sectors c.size is.size)
 
--- ---- all bytes
-
--- If `bytes` begin with the header and records of a valid content, their header has no fault.
 not_in_head : (bytes : List ℕ) (f : JournalFault) (c : Content) (rest : List ℕ) → IsContent c
     → bytes ≡ front c ++ rest → HeaderFault bytes f → ⊥
 not_in_head bytes f c rest is split found =
     none_in_head c (records_text c.saved ++ rest) f is (rw (split ∙ front_opened c rest) at found)
 
--- Bytes that begin with the end mark don't begin with a valid record that may follow those of a valid content `c`.
 no_record : (c : Content) (following : List ℕ) → IsContent c
     → NoRecord (c.size / 4096) (next_number c) (end_mark ++ following)
 no_record c following is begins =
@@ -237,7 +207,6 @@ one_fault bytes f g (inr p) (inr q) =
     (faulty _ _ f p.is_content p.next) (faulty _ _ g q.is_content q.next) (sym p.split ∙ q.split) in
     one_in_rest p.content p.rest f g p.is_content p.next (rw (same.0, same.1) q.next)
 
--- A journal has no fault.
 pub faultless : (c : Content) (bytes : List ℕ) (fault : JournalFault) → IsContent c → bytes ≡ text c → HasFault bytes fault → ⊥
 faultless c bytes fault is e (inl found) =
     not_in_head bytes fault c (end_mark ++ sha256 (body c)) is (e ∙ text_opened c) found
@@ -245,8 +214,6 @@ faultless c bytes fault is e (inr found) =
     let same = same_fronts c found.content _ found.rest is found.is_content (no_record c _ is)
     (faulty _ _ fault found.is_content found.next) (sym (text_opened c) ∙ sym e ∙ found.split) in
     none_at_end c fault is (rw (same.1, same.0) found.next)
-
--- ---- each journal has one content, and none is a proper prefix of another
 
 text_then : (c : Content) (x : List ℕ) → text c ++ x ≡ front c ++ (end_mark ++ (sha256 (body c) ++ x))
 text_then c x = rw text_opened (simp append_assoc)
@@ -257,8 +224,6 @@ one_text c d x y c-is d-is e =
     (sym (text_then c x) ∙ e ∙ text_then d y) in
     (same.0, append_cancel_left (text c) x y (e ∙ ap (λ (b : Content). text b ++ y) (sym same.0)))
 
--- For `Journal::read`: let its result `r` satisfy the clauses `found` and `fault`. If `bytes` are the encoding of the
--- valid content `c`, then `r` is `Ok` with this content.
 pub is_read : (bytes : List ℕ) (r : Result Content JournalFault) (c : Content)
     → IfOk r (λ j. IsContent j × (bytes ≡ text j)) → IfErr r (HasFault bytes) → IsContent c → bytes ≡ text c
     → IsOkAnd r (λ j. j ≡ c)
@@ -266,8 +231,6 @@ is_read bytes (Ok j) c found fault is e =
     (one_text j c [] [] found.0 is (ap (λ (t : List ℕ). t ++ []) (sym found.1 ∙ e))).0
 is_read bytes (Err f) c found fault is e = faultless c bytes f is e fault
 
--- For `Journal::read`: let its result `r` satisfy the clause `found`. If `r` is `Ok`, no proper prefix of `bytes` is a
--- journal.
 pub ends_whole : (bytes : List ℕ) (r : Result Content JournalFault) → IfOk r (λ j. IsContent j × (bytes ≡ text j))
     → OnOk r ((c : Content) (n : ℕ) → IsContent c → take n bytes ≡ text c → length bytes ≤ n)
 ends_whole bytes (Ok j) found = λ c n is begins.

@@ -12,7 +12,6 @@ use Rattle.nor_journal.specs.Reading.{with_header, content_at, IsHeader, HasReco
 use Rattle.nor_journal.proofs.SectorRecords.{IsBytes, records_text-sectors_in, with_mark}
 use Rattle.nor_journal.proofs.OneForm.{length-end_mark}
 
--- If `bytes` are `before` followed by `rest`, and each element of `bytes` is below 256, so is each element of `rest`.
 IsBytes-rest : (before rest bytes : List ℕ) → bytes ≡ before ++ rest → IsBytes bytes → IsBytes rest
 IsBytes-rest before rest bytes split fits i =
     rw (← get_or-append-add before rest i 0, ← split) (fits (length before + i))
@@ -57,7 +56,6 @@ module _ {h : Head} {bytes records : List ℕ} {k : ℕ} (split : bytes ≡ head
   pub from_mark : drop mark bytes ≡ drop (4100 * k) records
   from_mark = ap (drop mark) front_splits ∙ drop_at _ _ _ length-front
 
-  -- If the k records are followed by an end mark, the end mark is within `bytes`.
   pub mark_within : take 4 (drop (4100 * k) records) ≡ end_mark → mark + 4 ≤ length bytes
   mark_within ends = omega (
     arith,
@@ -67,7 +65,6 @@ module _ {h : Head} {bytes records : List ℕ} {k : ℕ} (split : bytes ≡ head
     length-drop mark bytes,
   )
 
-  -- If the header `h` is valid, and the bytes after the k records have a fault (`NextFault`), `bytes` have this fault.
   pub next_fault : (fault : JournalFault) → IsHeader h → NextFault content (drop (4100 * k) records) fault
       → FaultAfterFront bytes fault
   next_fault fault is found = record {
@@ -82,8 +79,6 @@ module _ {h : Head} {bytes records : List ℕ} {k : ℕ} (split : bytes ≡ head
       → FaultAfterFront bytes fault
   end_fault fault is found = next_fault fault is (inr (rw (before_mark, from_mark) at found))
 
-  -- If the k records are followed by the end mark and then by exactly the correct digest, `bytes` are the encoding of
-  -- the content.
   pub is_text : take 4 (drop (4100 * k) records) ≡ end_mark → drop (mark + 4) bytes ≡ sha256 (take (mark + 4) bytes)
       → bytes ≡ text content
   unfolding text body

@@ -1,6 +1,5 @@
--- Lemmas about the final state of a vault that a function borrows. The function returns a writer that still borrows the
--- vault, or an error. The handwritten proofs of `Writer::into_result`, `Writer::start` and `Writer::sector` use these
--- lemmas.
+-- Lemmas about the final state of a vault that a function borrows, for a result that still borrows the vault or an
+-- error. The handwritten proofs of `Writer::into_result`, `Writer::start` and `Writer::sector` use them.
 use mathlib.Core.Path.{◌≡◌, refl}
 use mathlib.Core.Logic.{inl, inr}
 use mathlib.Core.Option.{Option, some, none}
@@ -30,12 +29,10 @@ use Rattle.std.specs.Prelude.{Result, Ok, Err, OnErr, IfOk}
 module _ {M : Type 1} {𝓤 : Ura M} (𝓛 : Logic 𝓤) (R : RattleType) (γ : GName) (v : R.Denot)
     (P : R.Denot → R.Denot → Type 0) (Q : R.Denot → Type 0) (q : Q v) where
   -- How the final value of a borrowed reference depends on the result. If the result holds a reference with the last
-  -- value w, the final value is `s.0 w`, and `P w (s.0 w)` holds. If the result holds no reference, the final value is
-  -- `s.1`, and `Q s.1` holds.
+  -- value w, the final value is `s.0 w`; otherwise it is `s.1`.
   abbrev How : Type 0
   How = (s : (R.Denot → R.Denot) × R.Denot) × ((w : R.Denot) → P w (s.0 w)) × Q s.1
 
-  -- If the result holds the borrowed reference itself, the final value is the last value of this reference.
   pub rests_held : ((w : R.Denot) → P w w) → ent 𝓤 (emp 𝓤) (sem 𝓛 (follows_so R R γ (some γ) P Q))
   unfolding such_by follows_by
   rests_held p =
@@ -43,7 +40,6 @@ module _ {M : Type 1} {𝓤 : Ura M} (𝓛 : Logic 𝓤) (R : RattleType) (γ : 
       fpack ! How (λ s. follows_by R.Denot R.Denot R.coded.code R.coded.code γ (some γ) s.0.0 s.0.1)
       (((λ w. w), v), p, q) $ done !
 
-  -- If the result doesn't hold the reference, the final value is v, the last value of the reference.
   pub rests_said : ((w : R.Denot) → P w v)
       → ent 𝓤 (sem 𝓛 (fres γ (R.coded.code v))) (sem 𝓛 (follows_so R R γ none P Q))
   unfolding such_by follows_by
@@ -54,8 +50,6 @@ module _ {M : Type 1} {𝓤 : Ura M} (𝓛 : Logic 𝓤) (R : RattleType) (γ : 
 
 module _ {M : Type 1} {𝓤 : Ura M} (𝓛 : Logic 𝓤) (R : RattleType) (γ : GName) (m : Option GName)
     (P : R.Denot → R.Denot → Type 0) (Q Q' : R.Denot → Type 0) where
-  -- Let `Q` be a fact about the final value for a result that holds no reference. If `Q` implies `Q'`, then `Q'` may
-  -- replace `Q`.
   pub rests_more : ((n : R.Denot) → Q n → Q' n)
       → ent 𝓤 (sem 𝓛 (follows_so R R γ m P Q)) (sem 𝓛 (follows_so R R γ m P Q'))
   unfolding such_by
@@ -72,7 +66,6 @@ module _ {M : Type 1} {𝓤 : Ura M} (𝓛 : Logic 𝓤) (A E : RattleType) (w :
   abbrev fields : RattleType → List Field
   fields R = row_field R ∷ []
 
-  -- Ownership of a value implies ownership of `Ok` of this value.
   pub ok_owns : (x : A.Denot) → ent 𝓤 (sem 𝓛 (A.own_val x (w ∷ []))) (sem 𝓛 ((result.the_row A E).own_val (Ok x) (live 0 (vcons w vnil) ∷ [])))
   ok_owns x =
       qed 𝓛 (‵ (A.own_val x (w ∷ [])) ∷ []) ∵ nothing ! $ move ! (1 ∷ 0 ∷ []) $ fjoin ! $
@@ -81,7 +74,6 @@ module _ {M : Type 1} {𝓤 : Ura M} (𝓛 : Logic 𝓤) (A E : RattleType) (w :
       feq_i ! (List Val) (live 0 (vcons w vnil) ∷ []) (live 0 (vcons w vnil) ∷ []) refl $ fjoin ! $
       fpack ! (List Val) (tagged_with (form_of (shape N)) (payload (rowss N.parts)) (inl (x, tt)) (live 0 (vcons w vnil) ∷ [])) (w ∷ []) $ done !
 
-  -- Ownership of an error implies ownership of `Err` of this error.
   pub err_owns : (x : E.Denot) → ent 𝓤 (sem 𝓛 (E.own_val x (w ∷ []))) (sem 𝓛 ((result.the_row A E).own_val (Err x) (live 1 (vcons w vnil) ∷ [])))
   err_owns x =
       qed 𝓛 (‵ (E.own_val x (w ∷ [])) ∷ []) ∵ nothing ! $ move ! (1 ∷ 0 ∷ []) $ fjoin ! $
@@ -95,13 +87,10 @@ abbrev pub tail : Body → Body
 tail (seq first rest) = rest
 tail body = body
 
--- If two facts that hold after an error imply a third fact, the third fact holds after an error, too.
 pub err_both : {T E A B C : Type 0} (r : Result T E) → (A → B → C) → OnErr r A → OnErr r B → OnErr r C
 err_both (Ok x) f a b = tt
 err_both (Err e) f a b = f a b
 
--- Let the reference in the attempt `a` have the name γ. If the attempt returns a writer, the reference in this writer
--- also has the name γ.
 pub outcome_same : {V : Type 0} (a : Attempt V) (γ : GName) → (lent_by a).ghost_name ≡ γ
     → IfOk (outcome_of a) (λ writer. (vault_of writer).ghost_name ≡ γ)
 outcome_same (attempt.Accepted writer) γ same = same

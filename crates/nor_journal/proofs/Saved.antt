@@ -1,5 +1,4 @@
--- Lemmas about the list of saved sectors, for the loops that write and restore sectors, and for the search for a
--- sector.
+-- Lemmas about the list of saved sectors, for loops over it and for the search for a sector.
 use Rattle.std.proofs.Common.{add-one, ◌≡◌, ℕ, zero, suc, ◌+◌, ◌/◌, ◌<◌, ◌≤◌, cond, eqb, List, [], ◌∷◌, ◌++◌, length}
 use Rattle.std.proofs.Common.{take, refl, sym, ap, ◌∙◌, arith, Option, Some, None, inl, inr}
 use Rattle.std.specs.Prelude.{◌↔◌, slice_get}
@@ -27,14 +26,10 @@ pub saved_in-empty_content : (id : List ℕ) (unique : Option (List ℕ)) (statu
 unfolding saved_in
 saved_in-empty_content id unique status size number = refl
 
--- ---- ascending lists
-
 least_le : (sectors least : ℕ) (ss : List SavedSector) → AreRising sectors least ss → least ≤ least_after least ss
 least_le sectors least [] rising = omega arith
 least_le sectors least (s ∷ ss) rising = omega (arith, rising.1, least_le sectors (s.number + 1) ss rising.2)
 
--- Let `ss` ascend, and let the number of `s` be above those of `ss`. Then the list with `s` at the end saves `s`, and
--- saves every other sector as `ss` does.
 pub saved_in-push : (sectors least : ℕ) (ss : List SavedSector) (s : SavedSector) (n : ℕ) → AreRising sectors least ss → least_after least ss ≤ s.number
     → saved_in (ss ++ s ∷ []) n ≡ cond (eqb s.number n) (Some s.bytes) (saved_in ss n)
 unfolding saved_in
@@ -43,8 +38,6 @@ saved_in-push sectors least (t ∷ ss) s n rising above =
     let later = saved_in-push sectors (t.number + 1) ss s n rising.2 above in
     grind (arith, nat_tests, least_le sectors (t.number + 1) ss rising.2)
 
--- If `ss` ascends (`AreRising`), the sector with index i is complete, and its number is below `sectors` and at least
--- `least`.
 pub rising_at : (sectors least : ℕ) (ss : List SavedSector) (i : ℕ) (s : SavedSector) → AreRising sectors least ss → slice_get ss i ≡ Some s → IsSectorBelow sectors s × (least ≤ s.number)
 rising_at sectors least [] i s rising e = absurd cc
 rising_at sectors least (t ∷ ss) zero s rising e = rw (← same_Some t s e) (rising.0, rising.1)
@@ -52,7 +45,6 @@ rising_at sectors least (t ∷ ss) (suc i) s rising e =
     let later = rising_at sectors (t.number + 1) ss i s rising.2 e in
     (later.0, omega (arith, rising.1, later.1))
 
--- An ascending list saves each of its sectors: `saved_in` finds the bytes of the sector with index i by its number.
 pub saved_in-at : (sectors least : ℕ) (ss : List SavedSector) (i : ℕ) (s : SavedSector) → AreRising sectors least ss → slice_get ss i ≡ Some s → saved_in ss s.number ≡ Some s.bytes
 unfolding saved_in
 saved_in-at sectors least [] i s rising e = absurd cc
@@ -61,7 +53,6 @@ saved_in-at sectors least (t ∷ ss) (suc i) s rising e =
     let later = rising_at sectors (t.number + 1) ss i s rising.2 e in
     rw (ne_eqb t.number s.number (λ same. omega arith)) (saved_in-at sectors (t.number + 1) ss i s rising.2 e)
 
--- If the list saves `bytes` for the sector number n, one of its records has this number and these bytes.
 pub saved_in-record : (ss : List SavedSector) (n : ℕ) (bytes : List ℕ) → saved_in ss n ≡ Some bytes → (i : ℕ) × (slice_get ss i ≡ Some (record { number = n; bytes = bytes }))
 unfolding saved_in
 saved_in-record [] n bytes e = absurd cc
@@ -71,10 +62,6 @@ saved_in-record (s ∷ rest) n bytes e =
       | inr miss ↦ let later = saved_in-record rest n bytes (rw miss.0 at e) in (suc later.0, later.1)
     ]
 
--- ---- contents
-
--- A valid content `c` saves `bytes` for a sector if and only if one of its records has the sector's number and these
--- bytes.
 pub saved_record : (c : Content) (sector : ℕ) (bytes : List ℕ) → IsContent c → saved_in c.saved sector ≡ Some bytes ↔ HasRecord c sector bytes
 saved_record c sector bytes is = (
   λ e. let found = saved_in-record c.saved sector bytes e in record { place = found.0; is = found.1 },
@@ -84,8 +71,6 @@ saved_record c sector bytes is = (
 pub saved_in-with_sector : (c : Content) (number : ℕ) (bytes : List ℕ) (n : ℕ) → IsContent c → MayFollow c number → saved_in (with_sector c number bytes).saved n ≡ cond (eqb number n) (Some bytes) (saved_in c.saved n)
 unfolding next_number
 saved_in-with_sector c number bytes n is follows = saved_in-push (c.size / 4096) 0 c.saved (record { number = number; bytes = bytes }) n is.saved follows.rises
-
--- ---- the first sectors of a content, for a loop over all of them
 
 take-sector : (ss : List SavedSector) (i : ℕ) (s : SavedSector) → slice_get ss i ≡ Some s → take (i + 1) ss ≡ take i ss ++ s ∷ []
 take-sector ss i s e =
@@ -104,16 +89,12 @@ saved_in-take_more c i s n is e =
     let parts = take-rising (c.size / 4096) 0 c.saved i s is.saved e in
     rw (take-sector c.saved i s e) (saved_in-push (c.size / 4096) 0 (take i c.saved) s n parts.0 parts.1)
 
--- In a valid content, the number of record i is at least the least number that may follow the records before it. After
--- record i, the least number that may follow is one more than the number of this record.
 pub take-next : (c : Content) (i : ℕ) (s : SavedSector) → IsContent c → slice_get c.saved i ≡ Some s → (least_after 0 (take i c.saved) ≤ s.number) × (least_after 0 (take (i + 1) c.saved) ≡ s.number + 1)
 take-next c i s is e = (
   (take-rising (c.size / 4096) 0 c.saved i s is.saved e).1,
   rw (take-sector c.saved i s e) (least_after-push 0 (take i c.saved) s),
 )
 
--- Let `ss` ascend, and let `least` be at most `sectors`. Then the least number that may follow `ss` is at most
--- `sectors`, and so is the sum of `least` and the length of `ss`.
 after_within : (sectors least : ℕ) (ss : List SavedSector) → AreRising sectors least ss → least ≤ sectors → (least_after least ss ≤ sectors) × (least + length ss ≤ sectors)
 after_within sectors least [] rising within = (within, omega arith)
 after_within sectors least (s ∷ ss) rising within =
@@ -134,10 +115,6 @@ pub saved_in-nil : (n : ℕ) → saved_in [] n ≡ None
 unfolding saved_in
 saved_in-nil n = refl
 
--- ---- the records at the beginning of bytes
-
--- For `Journal::sector`: let `j` be the content whose records are the first k records of `bytes`, which are all valid
--- (`HasRecords`). Then record i is a complete sector of the chip, and `j` saves this sector with its bytes.
 pub sector_saved : (h : Head) (bytes : List ℕ) (k i : ℕ) (s : SavedSector) (j : Content) → content_at h k bytes ≡ j
     → HasRecords h bytes k → i < length j.saved → s ≡ sector_at bytes i
     → (slice_get j.saved i ≡ Some s) × (saved_in j.saved s.number ≡ Some s.bytes) × IsSectorBelow (j.size / 4096) s
@@ -150,17 +127,13 @@ sector_saved h bytes k i s j view has within is =
       (rising_at (h.size / 4096) 0 (saved_records k bytes) i s has.rising at).0,
     )
 
--- ---- searching for a sector
-
--- Holds if the records before index `low` have numbers below `number`, and the records from index `high` on have
--- numbers above it. Also, `low` is at most `high`, and `high` is at most the number of records.
+-- Holds if the record that is searched for can only be from index `low` up to, but not including, `high`.
 pub record IsSought (saved : List SavedSector) (number low high : ℕ) : Type 0 where
   pub order : low ≤ high
   pub within : high ≤ length saved
   pub before : (i : ℕ) (s : SavedSector) → slice_get saved i ≡ Some s → i < low → s.number < number
   pub after : (i : ℕ) (s : SavedSector) → slice_get saved i ≡ Some s → high ≤ i → number < s.number
 
--- In an ascending list, the number of record i is at most that of record j if i is at most j.
 risen : (sectors least : ℕ) (ss : List SavedSector) (i j : ℕ) (s t : SavedSector) → AreRising sectors least ss
     → slice_get ss i ≡ Some s → slice_get ss j ≡ Some t → i ≤ j → s.number ≤ t.number
 risen sectors least [] i j s t rising e f upto = absurd cc
@@ -190,6 +163,5 @@ sought_below sectors ss n low high middle t rising sought at from below more = r
   after = λ i s is upper. let upto = risen sectors 0 ss middle i t s rising at is upper in omega arith;
 }
 
--- If no record is left between `low` and `high`, the list doesn't save sector n.
 pub sought_none : (ss : List SavedSector) (n low high : ℕ) → IsSought ss n low high → high ≤ low → saved_in ss n ≡ None
 sought_none ss n low high sought empty = grind (arith, saved_in-record ss n)

@@ -14,9 +14,6 @@ use Rattle.nor_journal.proofs.Saved.{next_number-with_sector}
 use Rattle.std.proofs.lemmas.Bool.{both_ways}
 use Rattle.nor_journal.proofs.Beginnings.{IsContent-with_sector}
 
--- ---- contents
-
--- If a content saves the set `saved`, it saves every set `other` with the same sectors.
 pub Saves-same : (chip : ℕ → ℕ) (saved other : ℕ → Bool) (c : Content) → ((s : ℕ) → other s ≡ saved s) → Saves chip saved c → Saves chip other c
 Saves-same chip saved other c same saves = record {
   is = saves.is;
@@ -24,8 +21,6 @@ Saves-same chip saved other c same saves = record {
   others = λ s is. saves.others s (sym (same s) ∙ is);
 }
 
--- Let `c` save a set of the chip's sectors, and let one more sector of the chip be allowed to follow (`MayFollow`).
--- Then `c` with this sector at the end saves the set with this sector added.
 pub Saves-more : (chip : ℕ → ℕ) (saved more : ℕ → Bool) (c : Content) (number : ℕ) (bytes : List ℕ) → Saves chip saved c → MayFollow c number → IsWholeSector chip number bytes → HasOneMore saved number more → Saves chip more (with_sector c number bytes)
 Saves-more chip saved more c number bytes saves follows sector one = record {
   is = IsContent-with_sector c number bytes saves.is follows sector.whole;
@@ -35,18 +30,14 @@ Saves-more chip saved more c number bytes saves follows sector one = record {
       (grind (arith, nat_tests, one.here, one.others s, saves.others s));
 }
 
--- If `c` saves the set `saved`, the sector s is in the set if and only if `c` saves s.
 pub Saves-set : (chip : ℕ → ℕ) (saved : ℕ → Bool) (c : Content) (s : ℕ) → Saves chip saved c → saved s ≡ is_saved c s
 Saves-set chip saved c s saves = grind (arith, saves.sectors s, saves.others s)
 
--- If `c` saves a set of the chip's sectors, and the address `a` is in one of them, the byte that `c` saves for `a` is
--- the chip's byte at `a`.
 pub saved_byte-is : (chip : ℕ → ℕ) (saved : ℕ → Bool) (c : Content) (a : ℕ) → Saves chip saved c → saved (a / 4096) ≡ true → saved_byte c a ≡ chip a
 saved_byte-is chip saved c a saves is =
     let place : 4096 * (a / 4096) + a % 4096 ≡ a = omega arith in
     grind (arith, saves.sectors (a / 4096) is)
 
--- A valid content without records saves the empty set of sectors.
 pub Saves-none : (chip : ℕ → ℕ) (saved : ℕ → Bool) (c : Content) → IsContent c → c.saved ≡ [] → ((s : ℕ) → saved s ≡ false) → Saves chip saved c
 Saves-none chip saved c is empty none = record {
   is = is;
@@ -54,19 +45,11 @@ Saves-none chip saved c is empty none = record {
   others = λ s out. rw empty (saved_in-nil s);
 }
 
--- ---- the bytes of a journal
-
--- For `Journal::read`: if it returns the content of a journal that saves a set of sectors, the returned content has the
--- header of that journal, and saves this set.
 pub reads_kept : (bytes : List ℕ) (r : Result Content JournalFault) (head : Content) (chip : ℕ → ℕ) (saved : ℕ → Bool) (kept : JournalSaves head chip saved bytes) → IsOkAnd r (λ journal. journal ≡ kept.content)
     → IsOkAnd r (λ journal. SameHeader head journal × Saves chip saved journal)
 reads_kept bytes (Ok journal) head chip saved kept is = rw is (kept.same, kept.saves)
 reads_kept bytes (Err fault) head chip saved kept never = absurd never
 
--- ---- a writer
-
--- If exactly a header was written, then `HasPutSectors` (a header, and a set of sectors with numbers below n, were
--- written) holds for the empty set and every n.
 pub HasKept-none : {V : Type 0} (state : V → VaultState) (w : Writer V) (id : List ℕ) (unique : Option (List ℕ)) (status : List ℕ) (size : ℕ) (chip : ℕ → ℕ) (saved : ℕ → Bool) (n : ℕ)
     → HasWritten state w (empty_content id unique status size) → ((s : ℕ) → saved s ≡ false) → HasPutSectors state w (empty_content id unique status size) chip saved n
 HasKept-none state w id unique status size chip saved n written none = record {
@@ -77,16 +60,12 @@ HasKept-none state w id unique status size chip saved n written none = record {
   next = omega (arith, next_number-empty_content id unique status size);
 }
 
--- If a header and sectors with numbers below n were written (`HasPutSectors`), a sector of the chip with a number of at
--- least n may follow.
 pub may_follow : {V : Type 0} (state : V → VaultState) (w : Writer V) (head : Content) (chip : ℕ → ℕ) (saved : ℕ → Bool) (n number : ℕ) (kept : HasPutSectors state w head chip saved n) → n ≤ number → number < head.size / 4096 → MayFollow kept.content number
 may_follow state w head chip saved n number kept above place = record {
   rises = omega (arith, kept.next);
   place = subst (λ (c : Content). number < c.size / 4096) kept.same place;
 }
 
--- Let a header and a set of the chip's sectors be written (`HasPutSectors`). If one more sector of the chip, which may
--- follow these, is then written, `HasPutSectors` holds for the set with this sector added.
 pub HasKept-more : {V : Type 0} (state : V → VaultState) (old new : Writer V) (head : Content) (chip : ℕ → ℕ) (saved more : ℕ → Bool) (n number : ℕ) (bytes : List ℕ) (kept : HasPutSectors state old head chip saved n)
     → MayFollow kept.content number → IsWholeSector chip number bytes → HasOneMore saved number more → HasWritten state new (with_sector kept.content number bytes) → HasPutSectors state new head chip more (number + 1)
 HasKept-more state old new head chip saved more n number bytes kept follows sector one written = record {

@@ -32,7 +32,6 @@ pub number_at-number_text : (n : ℕ) (rest : List ℕ) → n < 2 ^ 32 → numbe
 unfolding number_text number_at
 number_at-number_text n rest fits = little_number-reads_back 4 n rest fits
 
--- The number that `bytes` encode depends only on their first four bytes.
 pub number_at-take : (bytes : List ℕ) → number_at (take 4 bytes) ≡ number_at bytes
 unfolding number_at
 number_at-take bytes = little_from-take 0 4 4 bytes (omega arith)
@@ -49,10 +48,6 @@ number_text-number_at bytes fits long =
     rw (← number_at-take bytes) (le_bytes_4 (take 4 bytes) (number_at (take 4 bytes)) (length-take-le 4 bytes long)
     (IsBytes-take 4 bytes fits) (omega arith))
 
--- ---- ascending sectors
-
--- If `ss` ascends (`AreRising`), and `s` is a complete sector of the chip whose number may follow those of `ss`, the
--- list with `s` at the end ascends, too.
 pub AreRising-push : (sectors least : ℕ) (ss : List SavedSector) (s : SavedSector) → AreRising sectors least ss → IsSectorBelow sectors s → least_after least ss ≤ s.number → AreRising sectors least (ss ++ s ∷ [])
 AreRising-push sectors least [] s rising is rises = (is, rises, tt)
 AreRising-push sectors least (first ∷ ss) s rising is rises = (rising.0, rising.1, AreRising-push sectors (first.number + 1) ss s rising.2 is rises)
@@ -64,8 +59,6 @@ least_after-push least (first ∷ ss) s = least_after-push (first.number + 1) ss
 pub records_text-push : (ss : List SavedSector) (s : SavedSector) → records_text (ss ++ s ∷ []) ≡ records_text ss ++ record_text s
 unfolding records_text
 records_text-push ss s = flat_map-append record_text ss (s ∷ []) ∙ ap (λ (t : List ℕ). flat_map record_text ss ++ t) (append-nil (record_text s))
-
--- ---- the records at the beginning of bytes
 
 pub length-sectors_in : (k : ℕ) (bytes : List ℕ) → length (saved_records k bytes) ≡ k
 unfolding saved_records
@@ -83,8 +76,6 @@ slice_get-sectors_in (suc k) bytes i lt =
       | inr at ↦ let here : i ≡ k = omega arith in rw here (grind (arith, common_steps, gets))
     ]
 
--- If `bytes`, each below 256, contain all of record k, the 4,100 bytes of this record are the encoding of its sector
--- (`sector_at`).
 pub record_text-sector_at : (k : ℕ) (bytes : List ℕ) → IsBytes bytes → 4100 * k + 4100 ≤ length bytes → record_text (sector_at bytes k) ≡ take 4100 (drop (4100 * k) bytes)
 unfolding record_text
 record_text-sector_at k bytes fits long =
@@ -101,10 +92,6 @@ records_text-sectors_in (suc k) bytes fits long =
     let end : 4100 * suc k ≡ 4100 * k + 4100 = omega arith in
     rw (records_text-push (saved_records k bytes) (sector_at bytes k), so_far, next, end) (sym (take-add (4100 * k) 4100 bytes))
 
--- ---- one record more
-
--- Let `bytes` begin with k valid records. If the bytes after these begin with a valid record, `bytes` begin with k + 1
--- valid records.
 pub has_one_more : (h : Head) (bytes : List ℕ) (k : ℕ) (least : ℕ) (rest : List ℕ) (n : ℕ) → HasRecords h bytes k → rest ≡ drop (4100 * k) bytes → least ≡ next_number (content_at h k bytes)
     → BeginsRecord (h.size / 4096) least rest n → HasRecords h bytes (k + 1)
 unfolding next_number saved_records
@@ -123,7 +110,5 @@ pub next_number-more : (h : Head) (bytes : List ℕ) (k : ℕ) (n : ℕ) → n �
 unfolding next_number saved_records
 next_number-more h bytes k n e = rw (add-one k) (ap (λ (m : ℕ). m + 1) e ∙ sym (least_after-push 0 (saved_records k bytes) (sector_at bytes k)))
 
--- If the end mark is at index `mark` of `bytes`, the first `mark` + 4 bytes are the first `mark` bytes followed by the
--- end mark.
 pub with_mark : (mark : ℕ) (bytes : List ℕ) → take 4 (drop mark bytes) ≡ end_mark → take (mark + 4) bytes ≡ take mark bytes ++ end_mark
 with_mark mark bytes is_mark = rw (← is_mark) (take-add mark 4 bytes)

@@ -17,8 +17,6 @@ use Rattle.nor_journal.proofs.Saves.{Saves-same, Saves-more}
 use Rattle.nor_journal.proofs.Beginnings.{front-with_sector, text_is, begins_longer}
 use Rattle.nor_journal.proofs.OneForm.{one_text}
 
--- ---- the bytes of a sector
-
 sector_bytes : (chip : ℕ → ℕ) (sector : ℕ) → List ℕ
 sector_bytes chip sector = map (λ i. chip (4096 * sector + i)) (range_with_len 0 4096)
 
@@ -29,9 +27,6 @@ sector_whole chip sector = record {
   same = λ i below. get_or-map-range_with_len (λ i. chip (4096 * sector + i)) 0 4096 i i 0 below (omega arith);
 }
 
--- ---- the part of a set below a bound
-
--- If n is in the set, the part of the set below n + 1 is the part below n with n added.
 pub one_more_below : (set : ℕ → Bool) (n : ℕ) → set n ≡ true
     → HasOneMore (λ s. nat_lt s n && set s) n (λ s. nat_lt s (n + 1) && set s)
 one_more_below set n is = record {
@@ -39,16 +34,11 @@ one_more_below set n is = record {
   others = λ s other. grind (arith, nat_tests);
 }
 
--- If n isn't in the set, the parts of the set below n and below n + 1 are equal.
 none_more_below : (set : ℕ → Bool) (n : ℕ) → set n ≡ false
     → (s : ℕ) → (nat_lt s (n + 1) && set s) ≡ (nat_lt s n && set s)
 none_more_below set n is s = grind (arith, nat_tests)
 
--- ---- completing a content
-
--- Holds if some content continues `c`. That content has the header of `c`, and saves exactly the chip's sectors that
--- are in the set and below n. Each prefix of the header and records of `c` is also a prefix of the header and records
--- of that content.
+-- Holds if some content continues `c`, with its header, and saves exactly the chip's sectors in the set below n.
 pub record GoesOn (chip : ℕ → ℕ) (set : ℕ → Bool) (c : Content) (n : ℕ) : Type 0 where
   pub content : Content
   pub same : SameHeader c content
@@ -93,10 +83,6 @@ go_on chip set c n (suc more) saves next within =
     subst (GoesOn chip set c) e
     (go_on_here chip set c (n + more) (omega arith) (go_on chip set c n more saves next (omega arith)))
 
--- ---- prefixes of a journal
-
--- If the header and records of `c` begin with `part`, each prefix of `part` is a prefix of the journal with the content
--- `c`.
 pub front_begins : (c : Content) (part rest bytes : List ℕ) → front c ≡ part ++ rest → StartsWith part bytes
     → StartsWith (text c) bytes
 front_begins c part rest bytes is begins =
@@ -104,9 +90,6 @@ front_begins c part rest bytes is begins =
     (begins_longer (front c ++ end_mark) (sha256 (front c ++ end_mark)) bytes (begins_longer (front c) end_mark bytes
     (rw is (begins_longer part rest bytes begins))))
 
--- Let n be at most the chip's number of sectors, and let `c` save the chip's sectors that are in the set and below n.
--- Then each prefix of the header and records of `c` is a prefix of a journal that saves all of the chip's sectors in
--- the set.
 pub begins_whole : (head : Content) (chip : ℕ → ℕ) (set : ℕ → Bool) (c : Content) (n : ℕ) (bytes : List ℕ)
     → SameHeader head c → Saves chip (λ s. nat_lt s n && set s) c → next_number c ≤ n → n ≤ head.size / 4096
     → StartsWith (front c) bytes → IsJournalPrefix head chip (λ s. nat_lt s (head.size / 4096) && set s) bytes
@@ -123,8 +106,6 @@ begins_whole head chip set c n bytes same saves next within begins =
       begins = front_begins on.content (front on.content) [] bytes (sym (append-nil _)) (on.begins bytes begins);
     }
 
--- Let `bytes` be a prefix of a journal with the header of `head` that saves the set `saved`. If `bytes` are a journal
--- themselves, they have this header, too, and save the same set.
 pub begins_all_of_it : (head : Content) (chip : ℕ → ℕ) (saved : ℕ → Bool) (bytes : List ℕ) (journal : Content)
     → IsJournalPrefix head chip saved bytes → IsContent journal → bytes ≡ text journal
     → SameHeader head journal × Saves chip saved journal
@@ -136,7 +117,6 @@ begins_all_of_it head chip saved bytes journal begun is e =
     subst (λ (c : Content). SameHeader head c × Saves chip saved c)
     (sym (one_text journal begun.content rest [] is begun.saves.is whole).0) (begun.same, begun.saves)
 
--- No journal is empty.
 pub never_empty : (c : Content) → text c ≡ [] → ⊥
 never_empty c none =
     let long = length-append (front c ++ end_mark) (sha256 (front c ++ end_mark)) in

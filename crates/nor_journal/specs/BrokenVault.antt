@@ -4,7 +4,6 @@ use Rattle.nor_journal.specs.declared.broken.BrokenVault.{BrokenVault}
 use Rattle.nor_journal.specs.declared.vault.VaultFault.{VaultFault}
 use Rattle.nor_journal.specs.Vault.{VaultState, Took, PutRefused}
 
--- the inner vault, to which a `BrokenVault` passes calls on
 abbrev pub inner_vault : {V : Type 0} → BrokenVault V → V
 inner_vault vault = vault.inner
 
@@ -16,10 +15,8 @@ calls_left vault = vault.calls_left
 abbrev pub kept_of : {V : Type 0} → BrokenVault V → ℕ
 kept_of vault = vault.kept
 
--- The effect of a refused `put` of `piece` on the inner vault, whose states before and after are `old` and `new`.
--- Either the inner vault accepted the first `kept` bytes of the piece, or all of a shorter piece, and `fault.kept` is
--- their number. Or the inner vault refused the call with these bytes, and `fault.kept` is the number of bytes that it
--- accepted first.
+-- The effect of a refused `put` of `piece` on the inner vault. Either the inner vault accepted the first `kept` bytes
+-- of the piece, or all of a shorter one, or it refused these; `fault.kept` is the number of bytes that it accepted.
 abbrev pub Broke : ℕ → VaultState → List ℕ → VaultState → VaultFault → Type 0
 Broke kept old piece new fault =
     (Took old (take kept piece) new × (fault.kept ≡ min kept (length piece)))

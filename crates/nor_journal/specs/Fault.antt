@@ -8,7 +8,6 @@ use Rattle.nor_journal.specs.Text.{Content, IsContent, magic, front, end_mark, n
 use Rattle.nor_journal.specs.declared.fault.JournalFault.{JournalFault}
 use Rattle.nor_journal.specs.declared.fault.JournalFault.TheVariants.{Short, Magic, Size, Place, Order, Long, Digest}
 
--- the number of a fault, which messages print
 abbrev pub journal_fault_number : JournalFault → ℕ
 journal_fault_number Short = 1
 journal_fault_number Magic = 2
@@ -18,8 +17,7 @@ journal_fault_number Order = 5
 journal_fault_number Long = 6
 journal_fault_number Digest = 7
 
--- The length of a header in bytes: without a unique ID (format 1) and with one (format 2). The last four bytes of a
--- header are the size.
+-- The length of a header in bytes. Its last four bytes are the size.
 abbrev pub header_length : (unique : Option (List ℕ)) → ℕ
 header_length None = 17
 header_length (Some _) = 25
@@ -37,8 +35,8 @@ HeaderFault bytes Size = (unique : Option (List ℕ)) × (take 8 bytes ≡ magic
     × (is_chip_size (number_at (drop (header_length unique - 4) bytes)) ≡ false)
 HeaderFault bytes _ = ⊥
 
--- Holds if the record at the beginning of `rest` has this fault. The chip has `sectors` sectors. The number of the
--- record must be at least `least`, because the numbers of the records ascend.
+-- Holds if the record at the beginning of `rest` has this fault, on a chip with `sectors` sectors. Numbers of records
+-- ascend, so `least` is the least possible one.
 abbrev pub RecordFault : (sectors least : ℕ) → (rest : List ℕ) → JournalFault → Type 0
 -- the number is incomplete, or the number is valid but the sector's bytes are incomplete
 RecordFault sectors least rest Short =
@@ -49,8 +47,7 @@ RecordFault sectors least rest Place = (4 ≤ length rest) × (take 4 rest ≢ e
 RecordFault sectors least rest Order = (4 ≤ length rest) × (number_at rest < sectors) × (number_at rest < least)
 RecordFault sectors least rest _ = ⊥
 
--- Holds if the end has this fault: `rest` begins with the end mark, and the digest after it is incomplete, is followed
--- by more bytes, or isn't the SHA-256 of `before` and the end mark.
+-- Holds if `rest` begins with the end mark, and the digest after it is incomplete, wrong, or followed by more bytes.
 abbrev pub EndFault : (before rest : List ℕ) → JournalFault → Type 0
 EndFault before rest Short = (take 4 rest ≡ end_mark) × (length rest < 36)
 EndFault before rest Long = (take 4 rest ≡ end_mark) × (36 < length rest)
@@ -58,8 +55,7 @@ EndFault before rest Digest =
     (take 4 rest ≡ end_mark) × (length rest ≡ 36) × (drop 4 rest ≢ sha256 (before ++ end_mark))
 EndFault before rest _ = ⊥
 
--- Holds if `rest`, the bytes after the header and records of the content `c`, begins with a record or an end that has
--- this fault.
+-- Holds if `rest`, the bytes after the header and records of `c`, begins with a record or an end that has this fault.
 abbrev pub NextFault : Content → List ℕ → JournalFault → Type 0
 NextFault c rest fault = RecordFault (c.size / 4096) (next_number c) rest fault ⊎ EndFault (front c) rest fault
 
@@ -71,7 +67,6 @@ pub record FaultAfterFront (bytes : List ℕ) (fault : JournalFault) : Type 0 wh
   pub split : bytes ≡ front content ++ rest
   pub next : NextFault content rest fault
 
--- Holds if `fault` is the first fault of `bytes`: a fault in the header, or a fault in the bytes after a valid header
--- and valid records.
+-- Holds if `fault` is the first fault of `bytes`, in the header or after valid records.
 abbrev pub HasFault : List ℕ → JournalFault → Type 0
 HasFault bytes fault = HeaderFault bytes fault ⊎ FaultAfterFront bytes fault

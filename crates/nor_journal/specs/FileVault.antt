@@ -5,12 +5,10 @@ use Rattle.nor_journal.specs.declared.file_vault.FileVault.{FileVault}
 use Rattle.nor_journal.specs.declared.vault.VaultFault.{VaultFault}
 use Rattle.nor_journal.specs.Vault.{VaultState}
 
--- the file that a vault writes to
 abbrev pub file_of : {F : Type 0} → FileVault F → F
 file_of vault = vault.file
 
--- A list that stands for the accepted bytes, which contracts don't know. It is empty if and only if no byte was
--- accepted.
+-- A list that stands for the accepted bytes, which contracts don't know. It is empty only if no byte was accepted.
 abbrev pub unknown_bytes : (used : Bool) → List ℕ
 unknown_bytes used = if used then 0 ∷ [] else []
 
@@ -23,14 +21,13 @@ filed_by vault = record {
   failures = vault.failures;
 }
 
--- The effect of `put` on the contents of a file, if they are known. The whole piece is appended, or if the vault
--- refuses, only the first `kept` bytes of the piece.
+-- The effect of `put` on the contents of a file, if known: the whole piece is appended, or only its first `kept` bytes.
 abbrev pub FileTakes : {T : Type 0} → (old new : Option (List ℕ)) → List ℕ → Result T VaultFault → Type 0
 FileTakes old new piece (Ok _) = Appends old new piece
 FileTakes old new piece (Err fault) = Appends old new (take fault.kept piece)
 
--- The effect of a sync on a file, if its contents are known. The contents don't change. If the sync succeeds, they are
--- also the synced contents.
+-- The effect of a sync on a file, if its contents are known. They don't change, and a sync that succeeds makes them
+-- durable.
 abbrev pub SyncsFile : {T E : Type 0} → (old new synced : Option (List ℕ)) → Result T E → Type 0
 SyncsFile old new synced (Ok _) = Keeps old new × Keeps old synced
 SyncsFile old new synced (Err _) = Keeps old new

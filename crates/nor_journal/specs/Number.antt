@@ -2,10 +2,8 @@
 use Rattle.std.specs.Prelude.{ℕ, List}
 use Rattle.byteorder.specs.Endian.{little_bytes, little_number}
 
--- the little-endian encoding of a number in four bytes
 unfoldable pub number_text : (n : ℕ) → List ℕ
 number_text n = little_bytes 4 n
 
--- the number that the first four bytes encode
 unfoldable pub number_at : List ℕ → ℕ
 number_at bytes = little_number 4 bytes

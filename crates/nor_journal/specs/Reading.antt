@@ -8,40 +8,32 @@ use Rattle.nor_journal.specs.Fault.{RecordFault}
 use Rattle.nor_journal.specs.declared.fault.JournalFault.{JournalFault}
 use Rattle.nor_journal.specs.declared.head.Head.{Head}
 
--- the record with index k, counted from 0, decoded from the bytes after the header
 abbrev pub sector_at : List ℕ → ℕ → SavedSector
 sector_at bytes k = record { number = number_at (drop (4100 * k) bytes); bytes = take 4096 (drop (4100 * k + 4) bytes) }
 
--- the first k records, decoded from the bytes after the header
 unfoldable pub saved_records : ℕ → List ℕ → List SavedSector
 saved_records zero bytes = []
 saved_records (suc k) bytes = saved_records k bytes ++ sector_at bytes k ∷ []
 
--- the content with the fields of a header, and no saved sector
 abbrev pub with_header : Head → Content
 with_header h = record { id = h.id; unique = h.unique; status = h.status; size = h.size; saved = [] }
 
--- the content with the fields of a header, and the first k records of the bytes after it
 abbrev pub content_at : Head → ℕ → List ℕ → Content
 content_at h k bytes =
     record { id = h.id; unique = h.unique; status = h.status; size = h.size; saved = saved_records k bytes }
 
--- Holds if the ID, the status bytes and the unique ID, if there is one, have the right lengths, and the size is one
--- that a chip may have.
 pub record IsHeader (h : Head) : Type 0 where
   pub id : length h.id ≡ 3
   pub unique : IfSome h.unique (λ unique. length unique ≡ 8)
   pub status : length h.status ≡ 2
   pub size : is_chip_size h.size ≡ true
 
--- Holds if `bytes`, the bytes after the header `h`, begin with k complete records. Their numbers ascend, and are below
--- the chip's number of sectors.
+-- Holds if `bytes`, the bytes after the header `h`, begin with k complete records in ascending order.
 pub record HasRecords (h : Head) (bytes : List ℕ) (k : ℕ) : Type 0 where
   pub within : 4100 * k ≤ length bytes
   pub rising : AreRising (h.size / 4096) 0 (saved_records k bytes)
 
--- Holds if `bytes`, the bytes after the header `h`, begin with valid records (`HasRecords`), or none, and the record
--- after these has this fault (`RecordFault`).
+-- Holds if `bytes`, the bytes after the header `h`, begin with valid records, or none, and then one with this fault.
 pub record FaultAfterRecords (h : Head) (bytes : List ℕ) (fault : JournalFault) : Type 0 where
   pub count : ℕ
   pub records : HasRecords h bytes count
@@ -52,8 +44,7 @@ pub record EndsAfter (h : Head) (bytes : List ℕ) (k : ℕ) : Type 0 where
   pub records : HasRecords h bytes k
   pub mark : take 4 (drop (4100 * k) bytes) ≡ end_mark
 
--- Holds if `bytes` begin with a complete record that has this number. The number is at least `least` and below
--- `sectors`.
+-- Holds if `bytes` begin with a complete record that has this number, from `least` up to, but not including, `sectors`.
 pub record BeginsRecord (sectors least : ℕ) (bytes : List ℕ) (number : ℕ) : Type 0 where
   pub is : number ≡ number_at bytes
   pub rises : least ≤ number

@@ -9,7 +9,6 @@ unfoldable pub saved_in : List SavedSector → (number : ℕ) → Option (List �
 saved_in [] number = None
 saved_in (s ∷ rest) number = if s.number == number then Some s.bytes else saved_in rest number
 
--- Holds if a record of `content` has the number `sector` and the bytes `bytes`.
 pub record HasRecord (content : Content) (sector : ℕ) (bytes : List ℕ) : Type 0 where
   pub place : ℕ
   pub is : slice_get content.saved place ≡ Some (record { number = sector; bytes = bytes })
@@ -27,8 +26,7 @@ pub record IsWholeSector (old : ℕ → ℕ) (s : ℕ) (bytes : List ℕ) : Type
   pub whole : length bytes ≡ 4096
   pub same : (i : ℕ) → i < 4096 → slice_index bytes i ≡ old (4096 * s + i)
 
--- Holds if the content is valid, and saves exactly the sectors in the set `saved`, each with its bytes on a chip with
--- the contents `old`.
+-- Holds if the content is valid, and saves exactly the sectors in the set `saved` of a chip with the contents `old`.
 pub record Saves (old : ℕ → ℕ) (saved : ℕ → Bool) (content : Content) : Type 0 where
   pub is : IsContent content
   pub sectors : (s : ℕ) → saved s ≡ true → IsSomeAnd (saved_in content.saved s) (IsWholeSector old s)
@@ -39,8 +37,7 @@ pub record HasOneMore (saved : ℕ → Bool) (sector : ℕ) (more : ℕ → Bool
   pub here : more sector ≡ true
   pub others : (s : ℕ) → s ≢ sector → more s ≡ saved s
 
--- Holds if `bytes` are a prefix of a journal that has the header of `head`, and saves exactly the sectors in `saved` of
--- a chip with the contents `old`.
+-- Holds if `bytes` are a prefix of a journal that satisfies `JournalSaves`.
 pub record IsJournalPrefix (head : Content) (old : ℕ → ℕ) (saved : ℕ → Bool) (bytes : List ℕ) : Type 0 where
   pub content : Content
   pub same : SameHeader head content

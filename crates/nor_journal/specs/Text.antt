@@ -11,8 +11,7 @@ pub record SavedSector : Type 0 where
   pub number : ℕ
   pub bytes : List ℕ
 
--- The content of a journal. In a valid content (`IsContent`) the fields have the lengths that are given here, and the
--- saved sectors are in ascending order.
+-- The content of a journal. `IsContent` says when it is valid.
 pub record Content : Type 0 where
   -- the three bytes of the chip's ID
   pub id : List ℕ
@@ -24,22 +23,18 @@ pub record Content : Type 0 where
   pub size : ℕ
   pub saved : List SavedSector
 
--- ---- valid contents
-
 -- Holds if the number of `s` is below `sectors`, and `s` has 4,096 bytes.
 pub record IsSectorBelow (sectors : ℕ) (s : SavedSector) : Type 0 where
   pub place : s.number < sectors
   pub whole : length s.bytes ≡ 4096
 
--- Holds if the numbers in the list of sectors ascend, the first one is at least `least`, and each sector has 4,096
--- bytes and a number below `sectors`.
+-- Holds if the list of sectors ascends from `least` on, and each sector has 4,096 bytes and a number below `sectors`.
 abbrev pub AreRising : (sectors least : ℕ) → List SavedSector → Type 0
 AreRising sectors least [] = ⊤
 AreRising sectors least (s ∷ rest) =
     IsSectorBelow sectors s × (least ≤ s.number) × AreRising sectors (s.number + 1) rest
 
--- Holds if the content is valid: the fields have the right lengths, the size is one that a chip may have, and the saved
--- sectors are complete sectors of the chip in ascending order.
+-- Holds if the content is valid: its fields have the right lengths, and the saved sectors are complete and ascend.
 pub record IsContent (c : Content) : Type 0 where
   pub id : length c.id ≡ 3
   pub unique : IfSome c.unique (λ unique. length unique ≡ 8)
@@ -47,10 +42,7 @@ pub record IsContent (c : Content) : Type 0 where
   pub size : is_chip_size c.size ≡ true
   pub saved : AreRising (c.size / 4096) 0 c.saved
 
--- ---- the encoding
-
--- The first eight bytes of a journal. A journal without a unique ID has format 1, and a journal with a unique ID has
--- format 2.
+-- The first eight bytes of a journal: format 1 has no unique ID, format 2 has one.
 abbrev pub magic : (unique : Option (List ℕ)) → List ℕ
 magic None = codes "NORUNDO1"
 magic (Some _) = codes "NORUNDO2"
@@ -59,11 +51,9 @@ magic (Some _) = codes "NORUNDO2"
 unfoldable pub head : Content → List ℕ
 head c = magic c.unique ++ c.id ++ unwrap_or c.unique [] ++ c.status ++ number_text c.size
 
--- a record: the sector's number and its bytes
 unfoldable pub record_text : SavedSector → List ℕ
 record_text s = number_text s.number ++ s.bytes
 
--- the concatenated records
 unfoldable pub records_text : (saved : List SavedSector) → List ℕ
 records_text saved = flat_map record_text saved
 
@@ -75,7 +65,6 @@ end_mark = 0xFF ∷ 0xFF ∷ 0xFF ∷ 0xFF ∷ []
 unfoldable pub front : Content → List ℕ
 front c = head c ++ records_text c.saved
 
--- all bytes that the digest is computed from
 unfoldable pub body : Content → List ℕ
 body c = front c ++ end_mark
 
@@ -83,14 +72,10 @@ body c = front c ++ end_mark
 unfoldable pub text : Content → List ℕ
 text c = body c ++ sha256 (body c)
 
--- ---- adding sectors to a content
-
--- the content with these fields of a header and no saved sector
 abbrev pub empty_content : (id : List ℕ) → (unique : Option (List ℕ)) → (status : List ℕ) → (size : ℕ)
     → Content
 empty_content id unique status size = record { id = id; unique = unique; status = status; size = size; saved = [] }
 
--- the content `c` with one more sector at the end, which has this number and these bytes
 abbrev pub with_sector : Content → ℕ → List ℕ → Content
 with_sector c number bytes = record c { saved = c.saved ++ record { number = number; bytes = bytes } ∷ [] }
 
@@ -98,18 +83,15 @@ with_sector c number bytes = record c { saved = c.saved ++ record { number = num
 abbrev pub SameHeader : (c d : Content) → Type 0
 SameHeader c d = record c { saved = [] } ≡ record d { saved = [] }
 
--- The least number that a sector added to the end of the list may have: one more than the number of the list's last
--- sector, or `least` if the list is empty.
+-- The least number that a sector added to the end of the list may have, which is `least` if the list is empty.
 abbrev pub least_after : ℕ → List SavedSector → ℕ
 least_after least [] = least
 least_after least (s ∷ rest) = least_after (s.number + 1) rest
 
--- the least number that a sector added to the end of a content may have
 unfoldable pub next_number : Content → ℕ
 next_number c = least_after 0 c.saved
 
--- Holds if a sector with this number may be added to the end of `c`. The number must be above that of the last sector
--- of `c`, and below the chip's number of sectors.
+-- Holds if a sector with this number may be added to the end of `c`.
 pub record MayFollow (c : Content) (number : ℕ) : Type 0 where
   pub rises : next_number c ≤ number
   pub place : number < c.size / 4096

@@ -7,29 +7,26 @@ use Rattle.nor_journal.specs.declared.vault.VaultFault.{VaultFault}
 pub record VaultState : Type 0 where
   -- true for a faithful vault, which holds exactly the bytes it accepted
   pub telling : Bool
-  -- The accepted bytes, in order. If the vault isn't faithful, contracts don't know these bytes, but until the vault is
-  -- sealed, they are empty only if it has accepted no byte.
+  -- The accepted bytes, in order. Of a vault that isn't faithful, contracts know only that they aren't empty if it
+  -- accepted a byte and isn't sealed.
   pub bytes : List ℕ
   -- true if the vault was sealed
   pub sealed : Bool
   -- the number of refusals, modulo 2^64
   pub failures : ℕ
 
--- a vault that is empty and unsealed, and has refused no call
 abbrev pub new_vault : Bool → VaultState
 new_vault telling = record { telling = telling; bytes = []; sealed = false; failures = 0 }
 
--- the number of refusals after one more, modulo 2^64
 abbrev pub one_more_failure : (failures : ℕ) → ℕ
 one_more_failure failures = (failures + 1) % 2 ^ 64
 
--- Holds if `old` and `new` have different numbers of refusals. The vault then refused a call between these states.
+-- Holds if the number of refusals changed, because the vault refused a call.
 abbrev pub CountsRefusal : (old new : VaultState) → Type 0
 CountsRefusal old new = new.failures ≢ old.failures
 
--- The effect of an accepted piece: the piece is appended, and nothing else changes. The bytes are known only for a
--- faithful vault. A vault, faithful or not, is empty after the piece only if it was empty before and the piece is
--- empty.
+-- The effect of an accepted piece, which is appended to a faithful vault. Any vault is empty after the piece only if it
+-- was empty before and the piece is empty.
 pub record Took (old : VaultState) (piece : List ℕ) (new : VaultState) : Type 0 where
   pub telling : new.telling ≡ old.telling
   pub sealed : new.sealed ≡ old.sealed
@@ -37,24 +34,21 @@ pub record Took (old : VaultState) (piece : List ℕ) (new : VaultState) : Type 
   pub bytes : old.telling ≡ true → new.bytes ≡ old.bytes ++ piece
   pub empty : new.bytes ≡ [] → (old.bytes ≡ []) × (piece ≡ [])
 
--- The effect of every refusal: the number of refusals is one higher (modulo 2^64). Whether the vault is faithful, and
--- whether it is sealed, doesn't change.
+-- The effect of every refusal: the number of refusals is one higher (modulo 2^64).
 pub record Refused (old new : VaultState) : Type 0 where
   pub telling : new.telling ≡ old.telling
   pub sealed : new.sealed ≡ old.sealed
   pub failures : new.failures ≡ one_more_failure old.failures
 
--- The effect of a refused piece: the vault counts a refusal, and `kept` is at most the length of the piece. A faithful
--- vault has accepted the first `kept` bytes of the piece. A vault, faithful or not, is empty after the refusal only if
--- it was empty before and `kept` is 0.
+-- The effect of a refused piece. A faithful vault has accepted its first `kept` bytes. Any vault is empty after the
+-- refusal only if it was empty before and `kept` is 0.
 pub record PutRefused (old : VaultState) (piece : List ℕ) (kept : ℕ) (new : VaultState) : Type 0 where
   pub refused : Refused old new
   pub within : kept ≤ length piece
   pub bytes : old.telling ≡ true → new.bytes ≡ old.bytes ++ take kept piece
   pub empty : new.bytes ≡ [] → (old.bytes ≡ []) × (kept ≡ 0)
 
--- The effect of a seal: the vault is sealed, counts no refusal, and is as faithful as before. The bytes of a faithful
--- vault don't change.
+-- The effect of a seal. The bytes of a faithful vault don't change.
 pub record Sealed (old new : VaultState) : Type 0 where
   pub telling : new.telling ≡ old.telling
   pub sealed : new.sealed ≡ true
@@ -72,20 +66,16 @@ abbrev pub Seals : {T : Type 0} → (old : VaultState) → Result T VaultFault �
 Seals old (Ok _) new = Sealed old new
 Seals old (Err fault) new = PutRefused old [] fault.kept new
 
--- ---- several calls
-
 -- Holds if the vault isn't faithful, or its bytes are a prefix of `whole`.
 abbrev pub HoldsPrefix : VaultState → (whole : List ℕ) → Type 0
 HoldsPrefix vault whole = vault.telling ≡ true → StartsWith whole vault.bytes
 
--- Holds if a journal may be written to the vault. A vault, faithful or not, must be unsealed, and must have accepted no
--- byte.
+-- Holds if a journal may be written to the vault, because it is unsealed and has accepted no byte.
 pub record IsFresh (vault : VaultState) : Type 0 where
   pub empty : vault.bytes ≡ []
   pub unsealed : vault.sealed ≡ false
 
--- The effect of pieces that were all accepted: no refusal was counted. Whether the vault is faithful, and whether it is
--- sealed, doesn't change.
+-- The effect of pieces that were all accepted: no refusal was counted.
 pub record Accepted (old new : VaultState) : Type 0 where
   pub telling : new.telling ≡ old.telling
   pub sealed : new.sealed ≡ old.sealed
@@ -96,8 +86,7 @@ abbrev pub PutsOn : {T : Type 0} → VaultState → Result T VaultFault → Vaul
 PutsOn old (Ok _) new = Accepted old new
 PutsOn old (Err _) new = Refused old new
 
--- The effect of accepted last pieces and an accepted seal. The vault is sealed and as faithful as before, and no
--- refusal was counted.
+-- The effect of accepted last pieces and an accepted seal: no refusal was counted.
 pub record Completed (old new : VaultState) : Type 0 where
   pub telling : new.telling ≡ old.telling
   pub sealed : new.sealed ≡ true

@@ -10,27 +10,24 @@ use Rattle.nor_journal.specs.Vault.{VaultState}
 use Rattle.nor_journal.specs.Text.{Content, IsContent, SameHeader, next_number, front}
 use Rattle.nor_journal.specs.Saved.{Saves}
 
--- the reference to the vault that a writer borrows
 abbrev pub vault_of : {V : Type 0} → Writer V → MutBor V
 vault_of writer = writer.vault
 
--- the state of the vault that a writer borrows, given by the function `state`
 abbrev pub vault_seen : {V : Type 0} → (V → VaultState) → Writer V → VaultState
 vault_seen state writer = state (vault_of writer).now
 
--- Holds if the digest of the writer was updated with exactly `bytes`, and the vault, if it is faithful (`telling`),
--- holds exactly these bytes.
+-- Holds if the writer's digest was updated with exactly `bytes`, and the vault, if faithful, holds exactly these.
 pub record HasPut {V : Type 0} (state : V → VaultState) (writer : Writer V) (bytes : List ℕ) : Type 0 where
   pub hashed : Holds256 writer.hasher bytes
   pub held : (vault_seen state writer).telling ≡ true → (vault_seen state writer).bytes ≡ bytes
 
--- Holds if the content is valid, and exactly its header and its records were written to the vault (`HasPut`).
+-- Holds if the content is valid, and exactly its header and its records were written to the vault.
 pub record HasWritten {V : Type 0} (state : V → VaultState) (writer : Writer V) (content : Content) : Type 0 where
   pub is : IsContent content
   pub put : HasPut state writer (front content)
 
--- Holds if exactly the header of `head`, and the records of the sectors in `saved`, were written (`HasPut`). The bytes
--- of the sectors are those on a chip with the contents `old`, and the numbers of the sectors are below n.
+-- Holds if exactly the header of `head`, and the records of the sectors in `saved`, all with numbers below n, were
+-- written. Their bytes are those on a chip with the contents `old`.
 pub record HasPutSectors {V : Type 0} (state : V → VaultState) (writer : Writer V) (head : Content)
     (old : ℕ → ℕ) (saved : ℕ → Bool) (n : ℕ) : Type 0 where
   pub content : Content
@@ -39,14 +36,10 @@ pub record HasPutSectors {V : Type 0} (state : V → VaultState) (writer : Write
   pub saves : Saves old saved content
   pub next : next_number content ≤ n
 
--- ---- a piece that was written or refused
-
--- the reference to the vault, which the writer holds if the piece was accepted
 abbrev pub lent_by : {V : Type 0} → Attempt V → MutBor V
 lent_by (attempt.Accepted writer) = vault_of writer
 lent_by (attempt.Refused vault fault) = vault
 
--- the result of an attempt: the writer, or the error that the vault returned
 abbrev pub outcome_of : {V : Type 0} → Attempt V → Result (Writer V) VaultFault
 outcome_of (attempt.Accepted writer) = Ok writer
 outcome_of (attempt.Refused vault fault) = Err fault

@@ -5,11 +5,8 @@ ghost use Rattle.nor_journal.specs.BrokenVault.{inner_vault, calls_left, kept_of
 
 use crate::vault::{Vault, VaultFault};
 
-/// A vault that refuses one call, and passes every other call on to an inner vault.
-///
-/// The calls of `put` and `seal` are counted together, from 1. The vault refuses the call with the number `nth`, or
-/// none if `nth` is 0. A refused `put` first writes the first `kept` bytes of the piece, or all of a shorter piece, to
-/// the inner vault. The number of refusals also includes the calls that the inner vault refused.
+/// A vault that refuses one call, and passes every other call on to an inner vault. The calls of `put` and `seal` are
+/// counted together, from 1. The number of refusals also includes those of the inner vault.
 #[derive(Drop)]
 pub struct BrokenVault<V: Vault> {
     inner: V,
@@ -58,7 +55,6 @@ impl<V: Vault> BrokenVault<V> {
         self.failures
     }
 
-    // Counts a call, and returns true if it is the call to refuse.
     fn breaks(&mut self) -> bool
         ensures now { IsTrue result ↔ calls_left self.old ≡ 1 }
         ensures counted { self.new ≡ record self.old { calls_left = calls_left self.old - 1 } }
@@ -68,7 +64,6 @@ impl<V: Vault> BrokenVault<V> {
         breaks
     }
 
-    // Counts a refusal, and returns the error for it, with the given `kept`.
     fn refusal(&mut self, kept: usize) -> VaultFault
         ensures returned { result.kept ≡ kept }
         ensures counted { self.new ≡ record self.old { failures = one_more_failure self.old.failures } }
@@ -77,7 +72,6 @@ impl<V: Vault> BrokenVault<V> {
         VaultFault { kept }
     }
 
-    // Writes a piece to the inner vault, and counts a refusal if the inner vault refuses it.
     fn pass_on(&mut self, piece: &[u8]) -> Result<(), VaultFault>
         requires { (V.state (inner_vault self.old)).sealed ≡ false }
         ensures law { Puts (⟦<BrokenVault<V> as Vault>⟧.state self.old) piece.now result
@@ -104,7 +98,6 @@ impl<V: Vault> Vault for BrokenVault<V> {
         ensures breaks { calls_left self.old ≡ 1
             → IsErrAnd result
             (Broke (kept_of self.old) (V.state (inner_vault self.old)) piece.now (V.state (inner_vault self.new))) }
-        // Every other call writes the piece to the inner vault and returns the inner vault's result.
         ensures passes { calls_left self.old ≢ 1
             → Puts (V.state (inner_vault self.old)) piece.now result (V.state (inner_vault self.new)) }
         ensures calls { calls_left self.new ≡ calls_left self.old - 1 }

@@ -6,13 +6,11 @@ ghost use Rattle.nor_journal.specs.FileVault.{file_of, filed_by, FileTakes, Sync
 use crate::file::VaultFile;
 use crate::vault::{Vault, VaultFault};
 
-/// A vault that appends its bytes to a file opened for writing, and syncs the file when it is sealed.
+/// A vault that appends its bytes to a file opened for writing, and syncs the file when it is sealed. `put` fails if a
+/// write fails or writes no bytes, and `seal` if the sync fails.
 ///
-/// `put` fails if a write fails or writes no bytes. The `kept` of its error is the number of bytes of the piece that
-/// were written before. `seal` fails if the sync fails.
-///
-/// The vault isn't faithful (`telling`), because contracts don't know what a file of the system contains. The `bytes`
-/// of the vault's state show only whether it has accepted a byte since `new`, not which bytes.
+/// The vault isn't faithful, because contracts don't know what a file of the system contains. The `bytes` of its state
+/// show only whether it accepted a byte.
 #[derive(Drop)]
 pub struct FileVault<F: VaultFile> {
     file: F,
@@ -51,7 +49,6 @@ impl<F: VaultFile> FileVault<F> {
         file
     }
 
-    // Counts a refusal, and returns the error for it, with the given `kept`.
     fn refusal(&mut self, kept: usize) -> VaultFault
         ensures returned { result.kept ≡ kept }
         ensures counted { self.new ≡ record self.old { failures = one_more_failure self.old.failures } }

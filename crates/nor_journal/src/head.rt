@@ -43,10 +43,8 @@ pub fn head_bytes(id: [u8; 3], unique: [u8; 8], status: [u8; 2], size: u32) -> [
     bytes
 }
 
-/// Reads the header of either format. Returns the header, and the bytes after it.
-///
-/// Returns `Short` if the header is incomplete, `Magic` if the first eight bytes aren't the magic of a format, or
-/// `Size` if the size isn't a power of two from 64 KiB to 16 MiB.
+/// Reads the header of either format, and returns it with the bytes after it. Returns `Short` if the header is
+/// incomplete, `Magic` if the first eight bytes aren't the magic of a format, or `Size` if no chip may have the size.
 pub fn read_head(bytes: &[u8]) -> Result<(Head, &[u8]), JournalFault>
     ensures fault { IfErr result (HeaderFault bytes.now) }
     ensures found { IfOk result (λ x. IsHeader x.0 × (bytes.now ≡ head (with_header x.0) ++ x.1.now)) }
@@ -63,8 +61,7 @@ pub fn read_head(bytes: &[u8]) -> Result<(Head, &[u8]), JournalFault>
     Err(JournalFault::Magic)
 }
 
-// Reads the header of one format. `bytes` must begin with the magic of this format, and `len` must be the length of its
-// header. The bytes between the ID and the status bytes are the unique ID; in format 1 there are none.
+// Reads the header of the format with whose magic `bytes` begin. `len` is the length of such a header.
 fn read_form(bytes: &[u8], len: usize) -> Result<(Head, &[u8]), JournalFault>
     requires { (unique : Option (List ℕ)) × (take 8 bytes.now ≡ magic unique)
         × (len ≡ header_length unique) }

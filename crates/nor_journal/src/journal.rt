@@ -12,9 +12,7 @@ use crate::head::{HEADER_LEN, Head, read_head};
 use crate::records::{DIGEST_LEN, END_MARK, RECORD_LEN, check_end, count_records, record_at};
 use std::marker::Model;
 
-/// A journal that was read. The saved sectors are borrowed from its bytes.
-///
-/// In contracts its value is a `Content`: the fields of the header, and the list of saved sectors.
+/// A journal that was read. The saved sectors are borrowed from its bytes. In contracts its value is a `Content`.
 #[derive(Drop)]
 pub struct Journal<'a> {
     head: Head,
@@ -36,31 +34,25 @@ impl<'a> Model for Journal<'a> {
 }
 
 impl<'a> Journal<'a> {
-    /// Reads a journal of either format. `bytes` must be the whole journal and nothing else. Allocates nothing.
-    ///
-    /// If `bytes` aren't a journal, returns the first fault that occurs when they are read from the beginning (see
-    /// `JournalFault`).
+    /// Reads a journal of either format. `bytes` must be the whole journal and nothing else. Allocates nothing. If
+    /// `bytes` aren't a journal, returns their first fault (see `JournalFault`).
     pub fn read(bytes: &'a [u8]) -> Result<Journal<'a>, JournalFault>
-        // If the call succeeds, the returned content is valid, and the bytes are its encoding.
         ensures found { IfOk result (λ journal. IsContent journal × (bytes.now ≡ text journal)) }
-        // If the bytes are the encoding of a valid content, the call succeeds and returns this content.
+        // A valid journal is always read.
         ensures only { (c : Content) → IsContent c → bytes.now ≡ text c
             → IsOkAnd result (λ journal. journal ≡ c) }
-        // If the bytes are a journal that has the header `head`, and saves exactly the sectors `saved` of a chip with
-        // the contents `old`, the call succeeds. The returned journal then has this header, and saves these sectors.
+        // A journal that saves the sectors `saved` of a chip with the contents `old` is read as one that saves them.
         ensures kept { (head : Content) (old : ℕ → ℕ) (saved : ℕ → Bool)
             → JournalSaves head old saved bytes.now
             → IsOkAnd result (λ journal. SameHeader head journal × Saves old saved journal) }
-        // If the call succeeds, no proper prefix of the bytes is a journal.
+        // No proper prefix of a journal is a journal.
         ensures whole { OnOk result ((c : Content) (n : ℕ) → IsContent c → take n bytes.now ≡ text c
             → length bytes.now ≤ n) }
-        // An error is the first fault of the bytes.
         ensures fault { IfErr result (HasFault bytes.now) }
     {
         Self::read_parts(bytes)
     }
 
-    // Reads the header, the records, the end mark and the digest.
     fn read_parts(bytes: &'a [u8]) -> Result<Journal<'a>, JournalFault>
         ensures found { IfOk result (λ journal. IsContent journal × (bytes.now ≡ text journal)) }
         ensures fault { IfErr result (HasFault bytes.now) }
@@ -115,9 +107,7 @@ impl<'a> Journal<'a> {
         self.count
     }
 
-    /// Returns the number and the 4,096 bytes of the saved sector with index `i`, counted from 0 in ascending order.
-    ///
-    /// `i` must be less than `count`.
+    /// Returns the number and the 4,096 bytes of the saved sector with index `i`, which must be less than `count`.
     pub fn sector(&self, i: usize) -> (u32, &'a [u8])
         requires { i < length self.now.saved }
         ensures value { slice_get self.now.saved i ≡ Some (record { number = result.0; bytes = result.1.now }) }
@@ -129,9 +119,7 @@ impl<'a> Journal<'a> {
         record_at(self.records, i)
     }
 
-    /// Returns the 4,096 bytes saved for sector number `sector`, or `None` if this sector isn't saved.
-    ///
-    /// Uses binary search, because the numbers of the records ascend.
+    /// Returns the 4,096 bytes saved for this sector, or `None` if it isn't saved. Uses binary search.
     pub fn find(&self, sector: u32) -> Option<&'a [u8]>
         ensures value { MatchOption result (saved_in self.now.saved sector ≡ None)
             (λ bytes. saved_in self.now.saved sector ≡ Some bytes.now) }
@@ -156,9 +144,7 @@ impl<'a> Journal<'a> {
     }
 }
 
-/// A law: if the encodings of two journals are prefixes of the same bytes, both journals have the same content.
-///
-/// Therefore each journal has one content, and no journal is a proper prefix of another.
+/// A law: each journal has one content, and no journal is a proper prefix of another.
 pub fn one_text()
     ensures { (c d : Content) (x y : List ℕ) → IsContent c → IsContent d → text c ++ x ≡ text d ++ y
         → (c ≡ d) × (x ≡ y) }
@@ -178,8 +164,7 @@ pub fn one_fault()
     ensures { (bytes : List ℕ) (f g : JournalFault) → HasFault bytes f → HasFault bytes g → f ≡ g }
 {}
 
-/// A law: a valid content `c` saves the bytes `bytes` for the sector `sector` if and only if one of its records has
-/// this number and these bytes.
+/// A law: a valid content saves `bytes` for a sector if and only if one of its records has its number and these bytes.
 pub fn one_record()
     ensures { (c : Content) (sector : ℕ) (bytes : List ℕ) → IsContent c
         → saved_in c.saved sector ≡ Some bytes ↔ HasRecord c sector bytes }

@@ -29,9 +29,6 @@
 //! - `records.rt`: the records of saved sectors, the end mark and the digest
 //! - `number.rt`: little-endian numbers of four bytes
 //! - `fault.rt`: `JournalFault`, the reasons why bytes aren't a journal
-//!
-//! `specs/Vault.antt` defines the contract of a vault, `Text.antt` the encoding of a journal, `Fault.antt` the faults
-//! of bytes that aren't a journal, and `Saved.antt` the sectors that a journal saves.
 #![tactic(auto)]
 
 mod broken;

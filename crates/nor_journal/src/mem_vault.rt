@@ -6,10 +6,8 @@ ghost use Rattle.nor_journal.specs.MemVault.{held_by, room_of};
 use crate::vault::{Vault, VaultFault};
 use std::alloc::Global;
 
-/// A faithful (`telling`) vault in memory.
-///
-/// `put` fails only if the buffer has to grow and the allocation fails. The vault then accepts no byte of the piece.
-/// `seal` never fails.
+/// A faithful vault in memory. `put` fails only if an allocation fails, and the vault then accepts no byte of the
+/// piece. `seal` never fails.
 #[derive(Drop)]
 pub struct MemVault {
     bytes: Vec<u8>,

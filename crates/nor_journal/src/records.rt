@@ -20,10 +20,8 @@ pub const END_MARK: [u8; 4] = [0xFF; 4];
 /// The length of a digest in bytes.
 pub const DIGEST_LEN: usize = 32;
 
-/// Returns the sector number of the record at the beginning of `bytes`, or `None` if `bytes` begin with the end mark.
-///
-/// The errors are checked in this order: `Short` if `bytes` has fewer than four bytes, `Place` if the number isn't
-/// below `sectors`, `Order` if the number is below `least`, and `Short` if `bytes` end within the record.
+/// Returns the sector number of the record at the beginning of `bytes`, or `None` for the end mark. The number must be
+/// below `sectors` and at least `least`.
 #[tactic(auto, unfolding(crate::specs::Text::end_mark))]
 fn next_record(sectors: u32, least: u32, bytes: &[u8]) -> Result<Option<u32>, JournalFault>
     ensures fault { IfErr result (RecordFault sectors least bytes.now) }
@@ -49,10 +47,8 @@ fn next_record(sectors: u32, least: u32, bytes: &[u8]) -> Result<Option<u32>, Jo
     Ok(Some(number))
 }
 
-/// Counts the records up to the end mark. `bytes` are all bytes after the header.
-///
-/// Returns `Short`, `Place` or `Order` for the first record that has a fault (`RecordFault`). Returns `Short`, too, if
-/// the bytes end before the end mark is complete.
+/// Counts the records up to the end mark. `bytes` are all bytes after the header. Returns `Short`, `Place` or `Order`
+/// for the first record that has a fault, and `Short` if the end mark is incomplete.
 pub fn count_records(head: &Head, bytes: &[u8]) -> Result<usize, JournalFault>
     ensures fault { IfErr result (FaultAfterRecords head.now bytes.now) }
     ensures found { IfOk result (EndsAfter head.now bytes.now) }
@@ -80,8 +76,7 @@ pub fn record_bytes(number: u32, bytes: &[u8; SECTOR_LEN as usize]) -> [u8; RECO
     record
 }
 
-/// Returns the sector number and the bytes of the record with index `i`, counted from 0. `records` must contain all of
-/// this record.
+/// Returns the sector number and the bytes of the record with index `i`, all of which `records` must contain.
 pub fn record_at(records: &[u8], i: usize) -> (u32, &[u8])
     requires { 4100 * i + 4100 ≤ length records.now }
     ensures { record { number = result.0; bytes = result.1.now } ≡ sector_at records.now i }
@@ -90,10 +85,8 @@ pub fn record_at(records: &[u8], i: usize) -> (u32, &[u8])
     (number_of(record), &record[4..RECORD_LEN])
 }
 
-/// Checks that exactly the correct digest follows the end mark, which must be at index `mark` of `bytes`.
-///
-/// Returns `Short` if the digest is incomplete, `Long` if bytes follow it, or `Digest` if it isn't the SHA-256 of the
-/// bytes before it.
+/// Checks that exactly the correct digest follows the end mark, which must be at index `mark` of `bytes`. Returns
+/// `Short` if the digest is incomplete, `Long` if bytes follow it, or `Digest` if it is wrong.
 pub fn check_end(bytes: &[u8], mark: usize) -> Result<(), JournalFault>
     requires within { mark + 4 ≤ length bytes.now }
     requires is_mark { take 4 (drop mark bytes.now) ≡ end_mark }

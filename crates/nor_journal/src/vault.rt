@@ -7,8 +7,7 @@ use std::fmt;
 /// The error that a vault returns if it refuses a piece or the seal.
 #[derive(Clone, Copy, Debug, PartialEq, Eq)]
 pub struct VaultFault {
-    /// The number of bytes, from the beginning of the piece, that the vault accepted before it refused. It is 0 for a
-    /// refused seal.
+    /// The number of bytes of the piece that the vault accepted before it refused. It is 0 for a refused seal.
     pub kept: usize,
 }
 
@@ -24,30 +23,22 @@ impl fmt::Display for VaultFault {
 
 impl Error for VaultFault {}
 
-/// A sink that receives the bytes of a journal piece by piece, and is then sealed.
-///
-/// In contracts, the state of a vault is a `VaultState`. For every vault, `Puts` and `Seals` relate the states before
-/// and after a call. If the vault is faithful (`telling`), they also say which bytes it holds. About the bytes of a
-/// vault that isn't faithful, they say only this: the bytes aren't empty if the vault has accepted a byte and isn't
-/// sealed.
+/// A sink that receives the bytes of a journal piece by piece, and is then sealed. If the vault is faithful
+/// (`telling`), the clauses say which bytes it holds. Otherwise they say only that its bytes aren't empty if it has
+/// accepted a byte and isn't sealed.
 pub trait Vault {
     ghost use Rattle.nor_journal.specs.Vault.{VaultState, Puts, Seals};
 
-    // Contracts describe the vault by this state.
     ghost state: { Self → VaultState };
 
-    /// Appends `piece` to the bytes of the vault, which must be unsealed.
-    ///
-    /// If the call fails, the vault has accepted only the first `kept` bytes of the piece, or none if `kept` is 0.
+    /// Appends `piece` to the bytes of the vault, which must be unsealed. If the call fails, the vault has accepted
+    /// only the first `kept` bytes of the piece.
     fn put(&mut self, piece: &[u8]) -> Result<(), VaultFault>
         requires { (state self.old).sealed ≡ false }
         ensures { Puts (state self.old) piece.now result (state self.new) };
 
-    /// Seals the vault, so that its bytes are complete. The vault must be unsealed, and it stays unsealed if the call
-    /// fails.
-    ///
-    /// An implementation that stores journals permanently must make the bytes durable before it returns `Ok`. No clause
-    /// requires that.
+    /// Seals the vault, so that its bytes are complete. The vault must be unsealed, and stays so if the call fails. If
+    /// it stores journals permanently, it must make the bytes durable first, although no clause requires that.
     fn seal(&mut self) -> Result<(), VaultFault>
         requires { (state self.old).sealed ≡ false }
         ensures { Seals (state self.old) result (state self.new) };

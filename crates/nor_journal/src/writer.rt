@@ -15,23 +15,18 @@ use crate::vault::{Vault, VaultFault};
 use nor_geometry::SECTOR_LEN;
 use sha2::{Digest, Sha256};
 
-/// A writer of a journal of format 2. The header is written first, then the sectors in ascending order, then the end.
+/// A writer of a journal of format 2: first the header, then the sectors in ascending order, then the end. It borrows
+/// the vault until the journal is complete, and allocates nothing itself.
 ///
-/// The writer borrows the vault until the journal is complete. It allocates nothing itself, because it updates the
-/// digest with each piece.
-///
-/// A call fails if the vault refuses a piece or the seal. The vault is then unsealed. If the vault is faithful
-/// (`telling`), and the header and then sectors of the chip in ascending order were written, the vault holds a prefix
-/// of the journal. No public clause says how long the prefix is. The `kept` of the error counts the accepted bytes of
-/// the refused piece, but no public clause says so.
+/// A call fails if the vault refuses a piece or the seal. A faithful vault, in which header and sectors were written in
+/// this order, then holds a prefix of the journal. No public clause says how long it is.
 #[derive(Drop)]
 pub struct Writer<'a, V: Vault> {
     vault: &'a mut V,
     hasher: Sha256,
 }
 
-// The result of writing a piece: the writer if the vault accepted the piece, otherwise the vault and the error that it
-// returned.
+// The result of writing a piece: the writer or, if the vault refused the piece, the vault and its error.
 #[derive(Drop)]
 enum Attempt<'a, V: Vault> {
     Accepted(Writer<'a, V>),
@@ -52,13 +47,11 @@ impl<'a, V: Vault> Writer<'a, V> {
         }
     }
 
-    /// Writes the header to `vault`, which must be empty and unsealed, and returns the writer.
+    /// Writes the header to `vault`, which must be empty and unsealed, and returns the writer. `status` has status 1
+    /// and 2. `size` is in bytes, and must be a power of two from 64 KiB to 16 MiB.
     ///
-    /// `status` has status 1 and 2. `size` is in bytes, and must be a power of two from 64 KiB to 16 MiB.
-    ///
-    /// If it fails, the vault is unsealed and has counted one more refusal, and a faithful (`telling`) vault holds a
-    /// prefix of the header. Rattle proves the clause `refused`, but can't use it in the proof of a caller. Call `on`
-    /// and `header` instead if a proof needs the state after a failure.
+    /// If it fails, the vault is unsealed, and if it is faithful it holds a prefix of the header. Rattle can't use the
+    /// clause `refused` in the proof of a caller, which needs `on` and `header` instead.
     pub fn start(
         vault: &'a mut V,
         id: [u8; 3],
@@ -79,7 +72,6 @@ impl<'a, V: Vault> Writer<'a, V> {
         Self::into_result(Self::try_start(vault, id, unique, status, size))
     }
 
-    // Writes the header to `vault`, as `start` does. If the vault refuses it, returns the vault with the error.
     fn try_start(
         vault: &'a mut V,
         id: [u8; 3],
@@ -108,7 +100,6 @@ impl<'a, V: Vault> Writer<'a, V> {
         }
     }
 
-    // Returns the writer if the piece was accepted. Otherwise drops the reference to the vault and returns the error.
     fn into_result(attempt: Attempt<'a, V>) -> Result<Writer<'a, V>, VaultFault>
         ensures* refused { sem 𝓛 (RestsIfErr V.row (lent_by attempt.entry) (λ writer. (vault_of writer).ghost_name)
             result (λ last. last ≡ (lent_by attempt.entry).now)) }
@@ -120,12 +111,9 @@ impl<'a, V: Vault> Writer<'a, V> {
         }
     }
 
-    /// Appends the sector `number` to the journal, as `add` does, and returns the writer.
-    ///
-    /// If it fails, the writer is consumed, and the vault is unsealed and has counted one more refusal. If a header and
-    /// ascending sectors were written before, a faithful (`telling`) vault then holds a prefix of the journal's bytes
-    /// up to the end of this sector. Call `add` if a proof needs this: Rattle can't use the clause `refused` in the
-    /// proof of a caller.
+    /// Appends the sector `number` to the journal, as `add` does, and returns the writer. If it fails, the writer is
+    /// consumed, and the vault is unsealed. Rattle can't use the clause `refused` in the proof of a caller, which needs
+    /// `add` instead.
     pub fn sector(
         mut self,
         number: u32,
@@ -145,7 +133,6 @@ impl<'a, V: Vault> Writer<'a, V> {
         Self::into_result(self.try_sector(number, bytes))
     }
 
-    // Appends the sector `number`, as `sector` does. If the vault refuses it, returns the vault with the error.
     fn try_sector(mut self, number: u32, bytes: &[u8; SECTOR_LEN as usize]) -> Attempt<'a, V>
         requires { (vault_seen V.state self).sealed ≡ false }
         ensures same_vault { (lent_by result).ghost_name ≡ (vault_of self.entry).ghost_name }
@@ -167,7 +154,6 @@ impl<'a, V: Vault> Writer<'a, V> {
         }
     }
 
-    // Writes a piece to the vault, and updates the digest if the vault accepts it.
     fn piece(&mut self, bytes: &[u8]) -> Result<(), VaultFault>
         requires { (vault_seen V.state self.old).sealed ≡ false }
         ensures same_vault { (vault_of self.new).ghost_name ≡ (vault_of self.old).ghost_name }
@@ -182,11 +168,9 @@ impl<'a, V: Vault> Writer<'a, V> {
         Ok(())
     }
 
-    /// Writes the header. Must be called once, before any sector is written.
-    ///
-    /// `status` has status 1 and 2. `size` is in bytes, and must be a power of two from 64 KiB to 16 MiB.
-    ///
-    /// If it fails, a faithful (`telling`) vault that was empty holds a prefix of the header.
+    /// Writes the header. Must be called once, before any sector is written. `status` has status 1 and 2. `size` is in
+    /// bytes, and must be a power of two from 64 KiB to 16 MiB. If it fails, a faithful vault that was empty holds a
+    /// prefix of the header.
     pub fn header(
         &mut self,
         id: [u8; 3],
@@ -208,13 +192,10 @@ impl<'a, V: Vault> Writer<'a, V> {
         self.piece(&head_bytes(id, unique, status, size))
     }
 
-    /// Appends a sector to the journal: its number and its 4,096 bytes.
+    /// Appends a sector to the journal: its number and its 4,096 bytes. `number` must be greater than those before it,
+    /// and less than the chip's number of sectors. Otherwise the bytes aren't a journal.
     ///
-    /// `number` must be greater than the numbers of the sectors before it, and less than the chip's number of sectors.
-    /// Otherwise the bytes aren't a journal, and the clauses `written` and `kept` say nothing.
-    ///
-    /// If it fails, and a header and ascending sectors were written before, a faithful (`telling`) vault holds a prefix
-    /// of the journal's bytes up to the end of this sector.
+    /// If it fails after a header and ascending sectors, a faithful vault holds a prefix of the journal.
     pub fn add(&mut self, number: u32, bytes: &[u8; SECTOR_LEN as usize]) -> Result<(), VaultFault>
         requires { (vault_seen V.state self.old).sealed ≡ false }
         ensures same_vault { (vault_of self.new).ghost_name ≡ (vault_of self.old).ghost_name }
@@ -231,11 +212,9 @@ impl<'a, V: Vault> Writer<'a, V> {
         self.piece(&record_bytes(number, bytes))
     }
 
-    /// Writes the end mark and the digest, and seals the vault.
-    ///
-    /// Let a header and ascending sectors be written before. If `end` succeeds, a faithful (`telling`) vault holds
-    /// exactly the journal. If `end` fails, the vault is unsealed, and a faithful vault holds a prefix of the journal.
-    /// This prefix is the whole journal if only the seal failed.
+    /// Writes the end mark and the digest, and seals the vault. After a header and ascending sectors, a faithful vault
+    /// then holds exactly the journal, or a prefix of it if the call fails. If only the seal failed, it holds all of
+    /// it.
     pub fn end(self) -> Result<(), VaultFault>
         requires { (vault_seen V.state self).sealed ≡ false }
         ensures vault { Completes (vault_seen V.state self.entry) result (V.state self.exit.0.now) }

@@ -2,8 +2,7 @@ use Rattle.std.proofs.Common.{length, take, false, ◌-◌, ◌≡◌, ◌≤◌
 use Rattle.std.specs.Io.KnownBytes.{Appends}
 use Rattle.nor_journal.proofs.file_vault.FileVaultVault.put.Given as goal
 
--- The first `kept` bytes of the piece were written, and no refusal was counted. If nothing was written since `new`
--- (`used` is false), `kept` is 0, and nothing was written before the call either.
+-- If nothing was written since `new` (`used` is false), nothing was written before the call either.
 abbrev pub invariant-loop-kept : goal.invariant-loop-kept
 invariant-loop-kept g l = record {
   within : l.kept ≤ length l.piece;

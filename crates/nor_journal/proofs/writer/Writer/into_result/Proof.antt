@@ -1,6 +1,6 @@
--- The proof of `into_result`, written by hand as a walk through its code, because Rattle doesn't prove the final state
--- of a borrowed value whose type is a parameter. In the first arm the reference to the vault goes into the result. In
--- the second arm the reference is given up, so that its last value is known.
+-- A handwritten walk through the code, because Rattle doesn't prove the final state of a borrowed value whose type is a
+-- parameter. In the first arm the reference to the vault goes into the result; in the second it is given up, so that
+-- its last value is known.
 use mathlib.Core.Path.{◌≡◌, refl, sym}
 use native.Mathlib.Nat.{suc-ne-zero}
 use mathlib.Core.Logic.{inl, inr}

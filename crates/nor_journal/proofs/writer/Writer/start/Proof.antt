@@ -1,5 +1,5 @@
--- The proof of `start`, written by hand as a walk through its code, because Rattle doesn't prove the final state of a
--- borrowed value whose type is a parameter. It combines the contracts of `try_start` and `into_result`.
+-- A handwritten walk through the code, because Rattle doesn't prove the final state of a borrowed value whose type is a
+-- parameter. It combines the contracts of `try_start` and `into_result`.
 use mathlib.Core.Path.{◌≡◌, refl, sym, subst}
 use mathlib.Core.List.{[], ◌∷◌}
 use Prim.Native.Nat.{ℕ}
