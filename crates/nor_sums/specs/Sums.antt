@@ -8,11 +8,9 @@ use Rattle.sha2.specs.Sha256.{sha256}
 unfoldable pub sum_of : (bytes : List ℕ) → List ℕ
 sum_of bytes = take 8 (sha256 bytes)
 
--- the entry of sector `s`: its sum, or None if it isn't known
 abbrev pub entry_of : (entries : List (Option (List ℕ))) → (s : ℕ) → Option (List ℕ)
 entry_of entries s = unwrap_or (slice_get entries s) None
 
--- Holds if nothing is known of a sector before, or if its sum is known before and after, and is the same.
 abbrev pub Agree : (before after : Option (List ℕ)) → Type 0
 Agree None after = ⊤
 Agree (Some sum) after = after ≡ Some sum

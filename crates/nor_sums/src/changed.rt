@@ -4,7 +4,6 @@ ghost use Rattle.nor_sums.specs.Sums.{Agree, entry_of};
 
 use crate::sums::{SECTORS, Sums};
 
-// How many sectors are named.
 const NAMED: usize = 4;
 
 /// The sectors that differ: how many there are, and the first ones.
@@ -27,8 +26,7 @@ impl Changed {
     }
 }
 
-/// Finds the sectors that don't have in `after` the sum that they have in `before`. A sector that is unknown in
-/// `before` is left out.
+/// Finds the sectors that are known in `before` and have another sum, or none, in `after`.
 pub fn find_changed(before: &Sums, after: &Sums) -> Changed
     ensures { result.count ≡ 0 → (s : ℕ) → s < 4096
         → Agree (entry_of before.now.entries.items s) (entry_of after.now.entries.items s) }
@@ -42,7 +40,6 @@ pub fn find_changed(before: &Sums, after: &Sums) -> Changed
     changed
 }
 
-// True if `before` is known, and `after` isn't the same.
 fn differ(before: Option<[u8; 8]>, after: Option<[u8; 8]>) -> bool
     ensures { result ≡ false → Agree before after }
 {

@@ -3,10 +3,6 @@
 //!
 //! A sum is the first eight bytes of the SHA-256 of the sector's 4,096 bytes. Other contents have another sum, except
 //! by an accident in 2^64.
-//!
-//! - `sums.rt`: `Sums`, the table of the sums, with one entry per sector
-//! - `sheet.rt`: `Sheet`, a table with the chip's ID and unique ID, and its encoding
-//! - `changed.rt`: compares the sectors that a journal doesn't save with a table
 #![tactic(auto)]
 
 mod changed;

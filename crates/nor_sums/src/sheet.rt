@@ -25,8 +25,8 @@ pub struct Sheet {
     pub sums: Sums,
 }
 
-/// Puts the encoding of a table into `out`, in place of what `out` had. If `out` has room for `SHEET_LEN` bytes,
-/// nothing is allocated. Otherwise an error is possible, if memory runs out.
+/// Replaces the contents of `out` by the encoding of a table. If `out` has room for `SHEET_LEN` bytes, nothing is
+/// allocated. Otherwise an error is possible, if memory runs out.
 pub fn encode(
     id: [u8; 3],
     unique: [u8; 8],
@@ -46,7 +46,6 @@ pub fn encode(
     out.extend_from_slice(&digest)
 }
 
-// Appends the encoding of an entry.
 fn push_entry(entry: Option<[u8; 8]>, out: &mut Vec<u8>) -> Result<(), AllocError>
     ensures { OnOk result (out.new.items ≡ out.old.items ++ entry_text entry) }
 {
@@ -76,8 +75,7 @@ pub fn decode(alloc: Global, bytes: &[u8]) -> Result<Option<Sheet>, AllocError>
     }
 }
 
-// Reads the fields at their places. The magic, the first byte of each entry and the digest aren't checked. Returns
-// `None` if the length is wrong.
+// Reads the fields without checking the magic, the first byte of each entry and the digest.
 fn read_fields(alloc: Global, bytes: &[u8]) -> Result<Option<Sheet>, AllocError> {
     if bytes.len() != SHEET_LEN {
         return Ok(None);
@@ -99,8 +97,8 @@ fn read_fields(alloc: Global, bytes: &[u8]) -> Result<Option<Sheet>, AllocError>
 }
 
 impl Sheet {
-    /// True if the table may describe the chip before the session of this journal: the journal's IDs are those of the
-    /// table, and each sector that it saves has the sum in the table.
+    /// True if the table may describe the chip before the session of this journal: it has the journal's IDs, and the
+    /// sum of each sector that the journal saves.
     pub fn fits(&self, journal: &Journal<'_>) -> bool {
         let is_same = journal.id() == self.id && journal.unique() == Some(self.unique);
         is_same

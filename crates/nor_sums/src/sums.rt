@@ -34,7 +34,7 @@ impl Sums {
         Ok(Sums { entries })
     }
 
-    /// Records the sum of a sector that has these bytes. Does nothing for a sector that isn't in the table.
+    /// Records the sum of a sector with these bytes. Ignores a sector that isn't in the table.
     pub fn record(&mut self, sector: usize, bytes: &[u8])
         ensures size { length self.new.entries.items ≡ length self.old.entries.items }
         ensures here { sector < length self.old.entries.items
@@ -45,7 +45,7 @@ impl Sums {
         self.set(sector, sum_of(bytes));
     }
 
-    /// Sets the sum of a sector. Does nothing for a sector that isn't in the table.
+    /// Sets the sum of a sector. Ignores a sector that isn't in the table.
     pub fn set(&mut self, sector: usize, sum: [u8; 8])
         ensures size { length self.new.entries.items ≡ length self.old.entries.items }
         ensures here { sector < length self.old.entries.items
@@ -58,7 +58,7 @@ impl Sums {
         }
     }
 
-    /// Makes a sector unknown. Does nothing for a sector that isn't in the table.
+    /// Makes a sector unknown. Ignores a sector that isn't in the table.
     pub fn forget(&mut self, sector: usize)
         ensures size { length self.new.entries.items ≡ length self.old.entries.items }
         ensures here { sector < length self.old.entries.items
