@@ -1,5 +1,4 @@
--- The list `spans_of` satisfies `AreSpans`: it has one span for each page that differs, in ascending order, from the
--- first to the last differing byte of the page.
+-- The list `spans_of` satisfies `AreSpans`.
 use Rattle.std.proofs.Common.{ℕ, zero, suc, ◌≡◌, ◌<◌, ◌≤◌, ◌+◌, ◌-◌, ◌*◌, ◌/◌, min, Bool, true, cond, List, [], ◌∷◌, All, Option, Some, None, filter, length, get_or, refl, sym, ap, ◌∙◌, inl, inr, arith}
 use Rattle.std.specs.Prelude.{AllPairs, is_some, count_by}
 use Rattle.std.specs.List.{cons_option, list_any, range_with_len}
@@ -15,7 +14,6 @@ use Rattle.nor_plan.specs.SpanFacts.{IsSpan, AreSpans, spanned_by}
 use Rattle.nor_plan.proofs.Ends.{AreEnds}
 use Rattle.nor_plan.proofs.PageSpans.{other, DiffersOn, page_ends}
 
--- `ends` returns a span for the positions of a list that pass `test` if and only if some position of the list passes it
 is_some-ends : (test : ℕ → Bool) (places : List ℕ) → is_some (ends (filter test places)) ≡ list_any test places
 is_some-ends test [] = refl
 is_some-ends test (k ∷ ks) = elim (cases_Bool (test k)) [
@@ -33,8 +31,7 @@ module _ (old target : List ℕ) where
   abbrev SpanFrom : ℕ → PageSpan → Type 0
   SpanFrom page s = IsSpan old target s × (page ≤ s.first / 256)
 
-  -- Holds if `spans` has one span for each of the `count` pages from `page` on in which `old` and `target` differ, in
-  -- ascending order.
+  -- Holds if `spans` has one span for each of the `count` pages from `page` on that differ, in ascending order.
   record ArePageSpans (page count : ℕ) (spans : List PageSpan) : Type 0 where
     each : All (SpanFrom page) spans
     complete : (k : ℕ) → page ≤ k / 256 → k / 256 < page + count → DifferAt old target k → spanned_by spans k ≡ true

@@ -1,5 +1,5 @@
--- Vector code compares two slices 32 bytes at a time: it computes the XOR of the bytes and combines the results with
--- OR. If the combined result is 0, the slices agree in all bytes compared.
+-- Vector code compares two slices 32 bytes at a time: it combines the XORs of the bytes with OR. If the result is 0,
+-- the slices agree in all bytes compared.
 use Rattle.std.proofs.Common.{ℕ, zero, suc, ◌≡◌, ◌≢◌, ◌<◌, ◌≤◌, ◌+◌, ◌-◌, bit_or, bit_xor, List, [], ◌∷◌, length, replicate, get_or, sym, ◌∙◌, ap, not, nat_eq, inl, inr, arith}
 use lib.Bits.{xor_self, xor_assoc, xor_zero_l, xor_zero_r, or_zero_l}
 use lib.Lanes.{chunk, zip2, fold_l}
@@ -12,17 +12,14 @@ use Rattle.std.specs.Bool.{MatchBool}
 use Rattle.nor_plan.specs.Bytes.{AgreeWithin, SomeDiffer}
 use Rattle.nor_plan.specs.Mask.{ShowsDifferences}
 
--- if the XOR of `a` and `b` is 0, the numbers are equal
 same_from_xor : (a b : ℕ) → bit_xor a b ≡ 0 → a ≡ b
 same_from_xor a b none =
     sym (xor_zero_r a) ∙ ap (bit_xor a) (sym none) ∙ sym (xor_assoc a a b)
     ∙ ap (λ x. bit_xor x b) (xor_self a) ∙ xor_zero_l b
 
--- if the OR of `x` and `y` is 0, both numbers are 0
 or_zero : (x y : ℕ) → bit_or x y ≡ 0 → (x ≡ 0) × (y ≡ 0)
 or_zero x y none = (omega (arith, none, le_or_l x y), omega (arith, none, le_or_r x y))
 
--- the OR of `start` and all numbers of the list `xs` is at least `start`
 front_le : (start : ℕ) (xs : List ℕ) → start ≤ fold_l bit_or start xs
 front_le start [] = omega arith
 front_le start (x ∷ xs) = omega (arith, le_or_l start x, front_le (bit_or start x) xs)
@@ -32,8 +29,6 @@ lane_le start [] i = omega arith
 lane_le start (x ∷ xs) zero = omega (arith, le_or_r start x, front_le (bit_or start x) xs)
 lane_le start (x ∷ xs) (suc i) = lane_le (bit_or start x) xs i
 
--- Proves `P` by cases: if the OR of `start` and all numbers of `xs` isn't 0, then `start` or some number of `xs` isn't
--- 0.
 some_lane : (P : Type 0) (start : ℕ) (xs : List ℕ) → (start ≢ 0 → P) → ((i : ℕ) → i < length xs → get_or xs i 0 ≢ 0 → P)
     → fold_l bit_or start xs ≢ 0 → P
 some_lane P start [] front lane some = front some
@@ -46,8 +41,6 @@ some_lane P start (x ∷ xs) front lane some =
     (λ i within other. lane (suc i) (omega arith) other) some
 
 module _ (a b : List ℕ) where
-  -- the XOR of the 32 bytes from `at` on in `a` with those in `b` shows whether `a` and `b` differ in these bytes
-  -- (`ShowsDifferences`)
   pub ShowsDifferences-xor : (at : ℕ) → at + 32 ≤ length a → at + 32 ≤ length b
       → ShowsDifferences a b at 32 (zip2 bit_xor (chunk at 32 a) (chunk at 32 b))
   ShowsDifferences-xor at a_room b_room =
@@ -70,8 +63,6 @@ module _ (a b : List ℕ) where
         some = λ i lane other. (at + i, omega arith, λ same. other (bits i lane ∙ rw (same, xor_self)));
       }
 
-  -- a vector of 32 zero lanes, with which `changes_256` and `blocks_differ` begin, satisfies `ShowsDifferences` for an
-  -- empty range of bytes
   pub ShowsDifferences-zeros : (at : ℕ) → ShowsDifferences a b at 0 (replicate 32 0)
   ShowsDifferences-zeros at = record {
     long = length-replicate {A = ℕ} 32 0;
@@ -79,8 +70,7 @@ module _ (a b : List ℕ) where
     some = λ i lane other. absurd (other (get_or-replicate {A = ℕ} 32 i 0 0 lane));
   }
 
-  -- Suppose that the vectors `xs` and `ys` show whether `a` and `b` differ in two adjacent ranges of bytes
-  -- (`ShowsDifferences`). Then the OR of `xs` and `ys` shows whether `a` and `b` differ in the two ranges together.
+  -- The vectors of two adjacent ranges of bytes can be combined with OR.
   pub ShowsDifferences-or : {at m from n count : ℕ} {xs ys : List ℕ} → from ≡ at + m → count ≡ m + n
       → ShowsDifferences a b at m xs → ShowsDifferences a b from n ys → ShowsDifferences a b at count (zip2 bit_or xs ys)
   ShowsDifferences-or {at} {m} {from} {n} {count} {xs} {ys} next sum first second =
@@ -103,15 +93,10 @@ module _ (a b : List ℕ) where
         ];
       }
 
-  -- If the vector `xs` shows whether `a` and `b` differ in a range of bytes (`ShowsDifferences`), and the OR of its
-  -- lanes is 0, no byte of the range differs.
   pub ShowsDifferences-none : (at count : ℕ) (xs : List ℕ) → ShowsDifferences a b at count xs → fold_l bit_or 0 xs ≡ 0
       → AgreeWithin a b at (at + count)
   ShowsDifferences-none at count xs shows none = shows.none (λ i lane. omega (arith, none, lane_le 0 xs i))
 
-  -- Suppose that `xs` shows whether `a` and `b` differ in the first `count` bytes (`ShowsDifferences`), and that `end`
-  -- is at most `count`. If the OR of the lanes of `xs` isn't 0, some byte of the slices differs. If the OR is 0, none
-  -- of the first `end` bytes differs.
   pub ShowsDifferences-tested : (count end : ℕ) (xs : List ℕ) → ShowsDifferences a b 0 count xs → end ≤ count
       → MatchBool (not (nat_eq (fold_l bit_or 0 xs) 0)) (SomeDiffer a b) (AgreeWithin a b 0 end)
   ShowsDifferences-tested count end xs shows within =

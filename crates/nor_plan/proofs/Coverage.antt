@@ -1,5 +1,4 @@
--- The planned erases cover a set of sectors that lies on the chip and below sector 4,096 (`IsPlannable`). The chip can
--- carry out each planned erase, the sectors of each erase lie in the set, and each sector of the set lies in an erase.
+-- The planned erases erase exactly the sectors of a set, and the chip can carry out each of them.
 use Rattle.std.proofs.Common.{ℕ, ◌≡◌, ◌<◌, ◌≤◌, ◌+◌, ◌-◌, ◌%◌, Bool, true, ◌&&◌, ◌||◌, List, [], ◌∷◌, map, filter, get_or, refl, sym, ap, ◌∙◌, inl, inr, arith}
 use Rattle.std.specs.List.{list_any, range_with_len}
 use Rattle.std.proofs.lemmas.Bool.{cases_Bool, cases_lt, and_parts, and_from, le-leb, leb-true, lt-ltb, ltb-true}
@@ -15,20 +14,17 @@ use Rattle.nor_plan.specs.Erase.{is_offered, IsErase, Covers}
 use Rattle.nor_plan.specs.Planned.{holds_run, planned_block, begins_block, erase_at, planned_from}
 use Rattle.nor_plan.proofs.Units.{holds_run-at, first_of, first_of-once, first_of-aligned, first_of-holds, IsLargest, planned_block-largest, planned_block-first}
 
--- Holds if `whole` says whether all sectors below `total` are in `set`, and each sector of `set` is below `total` and
--- below 4,096. These are the premises of a plan of erases.
+-- The premises of a plan: `set` lies below `total` and below sector 4,096, and `whole` says whether it is all of the
+-- chip.
 pub record IsPlannable (whole : Bool) (total : ℕ) (set : ℕ → Bool) : Type 0 where
   pub whole_is : whole ≡ holds_run set 0 total
   pub below : (s : ℕ) → set s ≡ true → s < total
   pub small : (s : ℕ) → set s ≡ true → s < 4096
 
--- if a planned erase begins at the sector `q`, `q` is in `set`
 pub begins_in : (whole : Bool) (kinds : Kinds) (set : ℕ → Bool) (q : ℕ) → begins_block whole kinds set q ≡ true
     → set q ≡ true
 begins_in whole kinds set q begins = (and_parts _ _ begins).0
 
--- Some element of the list `map f (filter test ks)` passes `p` if and only if some `k` in `ks` passes `test` and `f k`
--- passes `p`.
 list_any-kept : {X : Type 0} (p : X → Bool) (f : ℕ → X) (test : ℕ → Bool) (ks : List ℕ)
     → list_any p (map f (filter test ks)) ≡ list_any (λ k. test k && p (f k)) ks
 list_any-kept p f test [] = refl
@@ -38,7 +34,6 @@ list_any-kept p f test (k ∷ ks) = elim (cases_Bool (test k)) [
 ]
 
 module _ (whole : Bool) (kinds : Kinds) (total : ℕ) (set : ℕ → Bool) (can : IsPlannable whole total set) where
-  -- if `unit` is the largest erase block that may be used for the sector `q` (`IsLargest`), the chip has its erase type
   largest_offered : (q : ℕ) (unit : EraseBlock) → IsLargest whole kinds set q unit → is_offered kinds unit ≡ true
   largest_offered q Sector largest = refl
   largest_offered q Block32 largest = (and_parts _ _ largest.2).0
@@ -52,7 +47,6 @@ module _ (whole : Bool) (kinds : Kinds) (total : ℕ) (set : ℕ → Bool) (can 
   largest_within q member Block64 largest s = holds_run-at set (q - q % 16) 16 (and_parts _ _ largest.1).1 s
   largest_within q member Chip largest s = holds_run-at set 0 total (sym can.whole_is ∙ largest) s
 
-  -- each sector that a planned erase erases is in the set
   unit_within : (q : ℕ) → begins_block whole kinds set q ≡ true
       → (s : ℕ) → q ≤ s → s < q + sectors_in total (planned_block whole kinds set q) → set s ≡ true
   unit_within q begins s low high =
@@ -62,7 +56,6 @@ module _ (whole : Bool) (kinds : Kinds) (total : ℕ) (set : ℕ → Bool) (can 
       largest_within q (begins_in whole kinds set q begins) unit (planned_block-largest whole kinds set q) s
       (omega arith) (omega arith)
 
-  -- each planned erase satisfies `IsErase`: the chip has its erase type, and its block is aligned and ends on the chip
   planned_IsErase : (q : ℕ) → begins_block whole kinds set q ≡ true → IsErase kinds total (erase_at whole kinds set q)
   planned_IsErase q begins = record {
     offered = largest_offered q _ (planned_block-largest whole kinds set q);
@@ -76,7 +69,6 @@ module _ (whole : Bool) (kinds : Kinds) (total : ℕ) (set : ℕ → Bool) (can 
         elim (cases_lt 0 count) [ inl some ↦ omega (arith, inside some) | inr none ↦ omega arith ];
   }
 
-  -- for each sector of the set, there is a planned erase that erases it; this erase begins at some sector `q`
   unit_begins : (s : ℕ) → set s ≡ true
       → (q : ℕ) × (begins_block whole kinds set q ≡ true)
       × (q ≤ s) × (s < q + sectors_in total (planned_block whole kinds set q))
@@ -89,7 +81,6 @@ module _ (whole : Bool) (kinds : Kinds) (total : ℕ) (set : ℕ → Bool) (can 
       largest_within s member unit largest (first_of unit s) (omega arith) (omega arith) in
       (first_of unit s, and_from _ _ here (rw same (first_of-aligned unit s)), holds.0, rw same holds.1)
 
-  -- if `from` is 0, the planned erases from `from` on together erase exactly the sectors of the set
   planned_union : (from : ℕ) → from ≡ 0 → (s : ℕ)
       → list_any (erases_sector total s) (planned_from whole kinds set from) ≡ set s
   unfolding planned_from

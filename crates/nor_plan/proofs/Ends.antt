@@ -6,12 +6,11 @@ use Rattle.std.proofs.lemmas.Bool.{cases_eq, cases_Bool, both_ways}
 use Rattle.nor_plan.specs.declared.page.PageSpan.{PageSpan}
 use Rattle.nor_plan.specs.Span.{ends}
 
--- holds if `o` is the span from the first to the last number that satisfies `P`, or `None` if no number satisfies `P`
+-- holds if `o` is the span from the first to the last number that satisfies `P`, or `None` if there is none
 abbrev pub AreEnds : (ℕ → Type 0) → Option PageSpan → Type 0
 AreEnds P o =
     MatchOption o ((k : ℕ) → ¬ P k) (λ s. P s.first × P s.last × ((k : ℕ) → P k → (s.first ≤ k) × (k ≤ s.last)))
 
--- for each `P` there is at most one span from the first to the last number that satisfies `P`
 pub ends_once : (P : ℕ → Type 0) (o p : Option PageSpan) → AreEnds P o → AreEnds P p → o ≡ p
 ends_once P None None a b = refl
 ends_once P None (Some t) a b = absurd (a t.first b.0)
@@ -22,19 +21,14 @@ ends_once P (Some s) (Some t) a b =
     let span : ℕ → ℕ → Option PageSpan = λ f l. Some (record { first = f; last = l }) in
     ap (λ f. span f s.last) first ∙ ap (span t.first) last
 
--- if `P` and `Q` hold for the same numbers, a span from the first to the last number that satisfies `P` is also one for
--- `Q`
 pub ends_like : (P Q : ℕ → Type 0) (o : Option PageSpan) → ((k : ℕ) → P k → Q k) → ((k : ℕ) → Q k → P k) → AreEnds P o
     → AreEnds Q o
 ends_like P Q None to from none = λ k is. none k (from k is)
 ends_like P Q (Some s) to from are = (to s.first are.0, to s.last are.1, λ k is. are.2 k (from k is))
 
--- holds if `k` is one of the `count` positions from `from` on and passes `test`
 abbrev pub Passes : (test : ℕ → Bool) → (from count k : ℕ) → Type 0
 Passes test from count k = (from ≤ k) × (k < from + count) × (test k ≡ true)
 
--- Suppose that `from` passes the test, and that `ends others` is the span of the later positions that pass it. Then
--- `ends (from ∷ others)` is the span of all positions from `from` on that pass it.
 in_front : (test : ℕ → Bool) (from count : ℕ) (others : List ℕ) → test from ≡ true
     → AreEnds (Passes test (from + 1) count) (ends others)
     → AreEnds (Passes test from (suc count)) (ends (from ∷ others))

@@ -1,5 +1,5 @@
--- No list of erases that covers the set is shorter than the list of planned erases. The reason is that the planned
--- erases begin at different sectors, and that each covering list has an erase that begins at each of these sectors.
+-- No list of erases that covers the set is shorter than the planned one. The planned erases begin at different sectors,
+-- and each covering list has an erase that begins at each of these sectors.
 use Rattle.std.proofs.Common.{ℕ, ◌≡◌, ◌<◌, ◌≤◌, ◌+◌, ◌-◌, ◌%◌, ◌&&◌, Bool, true, false, cond, nat_eq, List, length, map, filter, get_or, refl, sym, ap, ◌∙◌, arith}
 use Rattle.std.specs.List.{range_with_len, list_any, IsDistinct}
 use Rattle.std.proofs.lemmas.Cmp.{nat_eq_equiv}
@@ -23,7 +23,6 @@ use Rattle.nor_plan.specs.Planned.{holds_run, planned_block, begins_block, erase
 use Rattle.nor_plan.proofs.Units.{holds_run-from, first_of, first_of-once, is_fit, larger_begins, planned_block-largest}
 use Rattle.nor_plan.proofs.Coverage.{IsPlannable, planned_Covers, begins_in}
 
--- the positions of a range that pass `test` are distinct
 IsDistinct-filtered : (test : ℕ → Bool) (from count : ℕ) → IsDistinct nat_eq (filter test (range_with_len from count))
 IsDistinct-filtered test from count =
     let place = get_or-range_with_len from count in
@@ -38,8 +37,6 @@ abbrev sector : Erase → ℕ
 sector erase = erase.sector
 
 module _ (whole : Bool) (kinds : Kinds) (total : ℕ) (set : ℕ → Bool) (can : IsPlannable whole total set) where
-  -- If the chip has the erase type of `unit`, and the aligned block of this kind that contains the sector `q` lies in
-  -- the set, then this block may be used for `q` (`is_fit`).
   within_fit : (unit : EraseBlock) (q : ℕ) → is_offered kinds unit ≡ true
       → ((s : ℕ) → first_of unit q ≤ s → s < first_of unit q + sectors_in total unit → set s ≡ true)
       → is_fit whole kinds set q unit ≡ true
@@ -48,8 +45,6 @@ module _ (whole : Bool) (kinds : Kinds) (total : ℕ) (set : ℕ → Bool) (can 
   within_fit Block64 q offered inside = and_from _ _ offered (holds_run-from set (q - q % 16) 16 inside)
   within_fit Chip q offered inside = can.whole_is ∙ holds_run-from set 0 total inside
 
-  -- Suppose that a planned erase begins at the sector `q`. Then each aligned erase block that the chip has, that lies
-  -- in the set and that contains `q` begins at `q` too.
   begins_alike : (q : ℕ) → begins_block whole kinds set q ≡ true → (unit : EraseBlock) (first : ℕ)
       → is_offered kinds unit ≡ true → is_aligned unit first ≡ true
       → ((s : ℕ) → first ≤ s → s < first + sectors_in total unit → set s ≡ true)
@@ -60,8 +55,6 @@ module _ (whole : Bool) (kinds : Kinds) (total : ℕ) (set : ℕ → Bool) (can 
       sym (larger_begins whole kinds set q unit _ fit (planned_block-largest whole kinds set q) (and_parts _ _ begins).1)
       ∙ start
 
-  -- if a planned erase begins at the sector `q`, each list of erases that covers the set has an erase that begins at
-  -- `q`
   some_begins : (others : List Erase) → Covers kinds total others set → (q : ℕ) → begins_block whole kinds set q ≡ true
       → list_any (nat_eq q) (map sector others) ≡ true
   some_begins others covers q begins =
@@ -91,8 +84,7 @@ module _ (whole : Bool) (kinds : Kinds) (total : ℕ) (set : ℕ → Bool) (can 
       some_begins others covers q (and_parts (list_any (nat_eq q) sectors) (begins q) (sym kept ∙ member)).1) in
       omega (arith, length-map others sector, length-map (filter begins sectors) (erase_at whole kinds set))
 
--- From each sector on, the number of planned erases is at most the number of sectors of the set, because the erases
--- begin at different sectors of the set.
+-- The planned erases begin at different sectors of the set.
 pub planned_few : (whole : Bool) (kinds : Kinds) (set : SectorSet) (from : ℕ)
     → length (planned_from whole kinds (has set) from) ≤ length (members_from set from)
 unfolding planned_from members_from
@@ -109,8 +101,6 @@ planned_few whole kinds set from =
     both_le true false = omega arith
     both_le false b = omega arith
 
--- The list of planned erases covers the set, and no list of erases that covers the set is shorter. The premises are
--- that all sectors of the set lie on the chip, and that the chip has at most 4,096 sectors.
 pub fewest_least : (kinds : Kinds) (total : ℕ) (set : ℕ → Bool) → total ≤ 4096 → ((s : ℕ) → set s ≡ true → s < total)
     → IsLeastLength kinds total set (fewest_erases kinds total set)
 fewest_least kinds total set few below =

@@ -10,13 +10,10 @@ use Rattle.std.proofs.lemmas.Nat.Bits.{bit_at-zero, bit_at-trailing_zeros, bit_a
 use Rattle.nor_plan.specs.Mask.{IsMask}
 use Rattle.std.proofs.lemmas.Simd.{tops_compared, mask_l-lt, mask_l-mod, bit_mask_l, length-zip2, get_or-zip2}
 
--- The mask that vector code computes for the comparison `t`. Each lane becomes all ones if `t` holds for it, and
--- otherwise 0. The mask has the top bit of each lane.
+-- The mask of the comparison `t`: each lane becomes all ones or 0, and the mask has the top bit of each lane.
 abbrev pub compared : (ℕ → ℕ → Bool) → List ℕ → List ℕ → ℕ
 compared t xs ys = mask_l (map (top 7) (zip2 (λ a b. cond (t a b) (2 ^ 8 - 1) 0) xs ys)) % 2 ^ 64
 
--- Suppose that `t`, applied to the two lanes at position `i`, returns `test i`, for each `i` below 32. Then bit `i` of
--- the mask `compared` is set if and only if `test i` is true (`IsMask`).
 pub compared-IsMask : (t : ℕ → ℕ → Bool) (xs ys : List ℕ) → length xs ≡ 32 → length ys ≡ 32 → (test : ℕ → Bool)
     → ((i : ℕ) → i < 32 → t (get_or xs i 0) (get_or ys i 0) ≡ test i) → IsMask (compared t xs ys) test
 compared-IsMask t xs ys long same test compares =
@@ -30,29 +27,25 @@ compared-IsMask t xs ys long same test compares =
           ∙ ap (λ b. cond b 1 0) (get_or-zip2 t xs ys i 0 0 false (omega arith) (omega arith) ∙ compares i lane);
     }
 
--- if `not (nat_eq x y)` is true, `x` and `y` differ
 pub other_from_test : (x y : ℕ) → not (nat_eq x y) ≡ true → x ≢ y
 other_from_test x y e same = grind (arith, nat_tests)
 
 pub test_from_other : (x y : ℕ) → x ≢ y → not (nat_eq x y) ≡ true
 test_from_other x y differ = grind (arith, nat_tests)
 
--- if the bit that encodes `not (nat_eq x y)` is 0, `x` and `y` are equal
 same_from_bit : (x y : ℕ) → ◌≡◌ {A = ℕ} (cond (not (nat_eq x y)) 1 0) 0 → x ≡ y
 same_from_bit x y e = grind (arith, nat_tests)
 
 other_from_bit : (x y : ℕ) → ◌≡◌ {A = ℕ} (cond (not (nat_eq x y)) 1 0) 1 → x ≢ y
 other_from_bit x y e same = grind (arith, nat_tests)
 
--- if `n` is at least `2 ^ r` and below `2 ^ (r + 1)`, bit `r` of `n` is set
 highest_bit : (n r : ℕ) → 2 ^ r ≤ n → n < 2 * 2 ^ r → bit_at n r ≡ 1
 highest_bit n r least most =
     let above = le-div 1 n (2 ^ r) (pow_pos r) (omega (arith, least)) in
     let one : n / 2 ^ r ≡ 1 = omega (arith, above, div_below n (2 ^ r) 2 (pow_pos r) most) in
     ap (λ x. x % 2) one
 
--- Suppose that bit `i` of `mask` is set if and only if the functions `f` and `g` differ at `at + i`, for each `i` below
--- 32.
+-- Bit `i` of `mask` is set if and only if the functions `f` and `g` differ at `at + i`.
 module _ (f g : ℕ → ℕ) (at mask : ℕ) (is : IsMask mask (λ i. not (nat_eq (f (at + i)) (g (at + i))))) where
   clear_lane : (k : ℕ) → at ≤ k → k < at + 32 → bit_at mask (k - at) ≡ 0 → f k ≡ g k
   clear_lane k low high clear =
@@ -65,7 +58,6 @@ module _ (f g : ℕ → ℕ) (at mask : ℕ) (is : IsMask mask (λ i. not (nat_e
       let lane : i < 32 = omega arith in
       (lane, other_from_bit _ _ (sym (is.bits i lane) ∙ one))
 
-  -- if `mask` is 0, `f` and `g` agree at all 32 positions from `at` on
   pub passed_block : mask ≡ 0 → (k : ℕ) → at ≤ k → k < at + 32 → f k ≡ g k
   passed_block none k low high = clear_lane k low high (ap (λ m. bit_at m (k - at)) none ∙ bit_at-zero (k - at))
 
@@ -73,8 +65,6 @@ module _ (f g : ℕ → ℕ) (at mask : ℕ) (is : IsMask mask (λ i. not (nat_e
   passed_before before none k high =
       elim (cases_lt k at) [ inl earlier ↦ before k earlier | inr here ↦ passed_block none k here high ]
 
-  -- If `mask` isn't 0, the number of its trailing zeros is the offset of the first of the 32 positions from `at` on at
-  -- which `f` and `g` differ.
   pub first_in_block : 0 < mask → let t = trailing_zeros w64
       mask in (t < 32) × (f (at + t) ≢ g (at + t)) × ((k : ℕ) → at ≤ k → k < at + t → f k ≡ g k)
   first_in_block some =
@@ -82,8 +72,6 @@ module _ (f g : ℕ → ℕ) (at mask : ℕ) (is : IsMask mask (λ i. not (nat_e
       let first = set_lane (trailing_zeros w64 mask) lowest.1 in
       (first.0, first.1, λ k low before. clear_lane k low (omega (arith, first.0)) (lowest.2 (k - at) (omega arith)))
 
-  -- Suppose that `mask` isn't 0, and that its highest set bit is bit `r`. Then `at + r` is the last of the 32 positions
-  -- from `at` on at which `f` and `g` differ.
   pub last_in_block : (r : ℕ) → 2 ^ r ≤ mask → mask < 2 * 2 ^ r
       → (r < 32) × (f (at + r) ≢ g (at + r)) × ((k : ℕ) → at + r < k → k < at + 32 → f k ≡ g k)
   last_in_block r least most =

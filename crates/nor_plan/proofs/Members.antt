@@ -9,12 +9,10 @@ use Rattle.nor_geometry.specs.Below.{count_below}
 use Rattle.nor_geometry.proofs.Counting.{count_below-add, count_below-none}
 use Rattle.nor_plan.proofs.Words.{none_past}
 
--- each sector of a set is below 4,096, because the set has 64 words of 64 bits
 pub has-small : (set : SectorSet) → length set.words ≡ 64 → LiesBelow set 4096
 has-small set long s member =
     let small : ¬ (4096 ≤ s) = λ past. both_ways _ (none_past set long s past) member in omega arith
 
--- If all numbers that pass `test` are below `end`, then as many are below `end + more` as below `end`.
 count_past : (test : ℕ → Bool) (end more : ℕ) → ((s : ℕ) → test s ≡ true → s < end)
     → count_below (end + more) test ≡ count_below end test
 count_past test end more below =
@@ -22,8 +20,6 @@ count_past test end more below =
     let inside = below (end + i) passes in omega arith)) in
     omega (arith, count_below-add end more test, none)
 
--- If all sectors of the set are below `end`, the list of these sectors has as many items as sectors below `end` are in
--- the set.
 length-members-counted : (set : SectorSet) → length set.words ≡ 64 → (from most end : ℕ) → from ≡ 0 → most ≡ 4096
     → LiesBelow set end → length (members_from set from) ≡ count_below end (has set)
 unfolding members_from count_below

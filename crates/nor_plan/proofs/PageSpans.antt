@@ -17,8 +17,6 @@ module _ (old target : List ℕ) where
   abbrev pub DiffersOn : (page k : ℕ) → Type 0
   DiffersOn page k = (k / 256 ≡ page) × DifferAt old target k
 
-  -- the span of a page reaches from the first to the last difference of the page, and a page without a difference has
-  -- no span
   pub page_ends : (page : ℕ) → AreEnds (DiffersOn page) (page_span old target page)
   page_ends page =
       let from = page * 256 in
@@ -30,8 +28,6 @@ module _ (old target : List ℕ) where
       (omega arith, omega arith, test_from_other _ _ differs.1.1))
       (ends_of (other old target) from count)
 
-  -- if the parts of `old` and `target` that begin at `start` agree at position `k` of the slices, the slices agree at
-  -- `k`
   same_in_part : (start count k : ℕ) → start ≤ k → k < start + count
       → get_or (chunk start count old) (k - start) 0 ≡ get_or (chunk start count target) (k - start) 0
       → get_or old k 0 ≡ get_or target k 0
@@ -78,12 +74,9 @@ module _ (old target : List ℕ) where
       )
       (page_ends page)
 
-  -- from the page count on, there are no more spans
   pub spans_from-end : (page : ℕ) → page_count old ≤ page → spans_from old target page ≡ []
   spans_from-end page past = let none : page_count old - page ≡ 0 = omega arith in rw none
 
-  -- if `page` is below the page count, the number of pages from `page` on is one more than the number of pages from
-  -- `page + 1` on
   pages_left : (page : ℕ) → page < page_count old → page_count old - page ≡ suc (page_count old - (page + 1))
   pages_left page there = omega arith
 
@@ -95,7 +88,6 @@ module _ (old target : List ℕ) where
       → spans_from old target page ≡ span ∷ spans_from old target (page + 1)
   spans_from-some page span there some = rw (pages_left page there, some)
 
--- each page with a number below the page count begins within the slice
 pub page_within : (length page : ℕ) → page < div_ceil length 256 → page * 256 < length
 page_within length page there = omega arith
 

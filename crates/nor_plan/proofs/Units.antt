@@ -1,5 +1,5 @@
--- The erase block planned for a sector. The lemmas say which aligned blocks that contain the sector lie in the set, and
--- where these blocks begin.
+-- The erase block planned for a sector: which aligned blocks that contain the sector lie in the set, and where they
+-- begin.
 use Rattle.std.proofs.Common.{ℕ, ◌≡◌, ◌<◌, ◌≤◌, ◌+◌, ◌-◌, ◌%◌, Bool, true, false, ◌&&◌, refl, sym, ap, ◌∙◌, inl, inr, arith}
 use Rattle.std.specs.List.{range_with_len}
 use Rattle.std.proofs.lemmas.Bool.{cases_Bool, both_ways, eq-eqb, eqb-true}
@@ -11,8 +11,6 @@ use Rattle.nor_driver.specs.declared.units.EraseBlock.TheVariants.{Sector, Block
 use Rattle.nor_driver.specs.Units.{sectors_in, is_aligned}
 use Rattle.nor_plan.specs.Planned.{holds_run, holds_block, planned_block}
 
--- `holds_run` is true for a run of sectors if and only if each sector of the run is in the set (`holds_run-at` and
--- `holds_run-from`).
 pub holds_run-at : (set : ℕ → Bool) (from count : ℕ) → holds_run set from count ≡ true → (s : ℕ) → from ≤ s
     → s < from + count → set s ≡ true
 unfolding holds_run
@@ -58,9 +56,8 @@ first_of-holds total Block64 s below = (omega arith, omega arith)
 first_of-holds total Chip s below = (omega arith, omega arith)
 
 module _ (whole : Bool) (kinds : Kinds) (set : ℕ → Bool) where
-  -- True if the aligned erase block of this kind that contains the sector `s` may be used for an erase, here called
-  -- fit. A block of 32 or 64 KiB is fit if the chip has its erase type and the block lies in the set. The whole chip is
-  -- fit if `whole` is true. A block of 4 KiB is always fit.
+  -- True if the aligned erase block of this kind that contains the sector `s` is fit, which means that it may be used
+  -- for an erase: the chip has its erase type, and the block lies in the set.
   abbrev pub is_fit : ℕ → EraseBlock → Bool
   is_fit s Sector = true
   is_fit s Block32 = kinds.k32 && holds_block set 8 s
@@ -87,8 +84,6 @@ module _ (whole : Bool) (kinds : Kinds) (set : ℕ → Bool) where
     ]
   ]
 
-  -- If `unit` is the largest fit erase block of the sector `s`, it is also the block planned for the first sector of
-  -- that block.
   pub planned_block-first : (s : ℕ) (unit : EraseBlock) → IsLargest s unit
       → planned_block whole kinds set (first_of unit s) ≡ unit
   unfolding planned_block
@@ -102,7 +97,6 @@ module _ (whole : Bool) (kinds : Kinds) (set : ℕ → Bool) where
       rw (largest.0, wide, largest.1, same, largest.2)
   planned_block-first s Sector largest = rw (largest.0, largest.1, largest.2)
 
-  -- If the largest fit erase block of the sector `s` begins at `s`, each fit erase block of `s` begins at `s`.
   pub larger_begins : (s : ℕ) (unit largest : EraseBlock) → is_fit s unit ≡ true → IsLargest s largest
       → is_aligned largest s ≡ true → first_of unit s ≡ s
   larger_begins s Sector _ fit is aligned = refl

@@ -7,7 +7,6 @@ use Rattle.std.proofs.lemmas.Nat.Bits.{bit_at-zero, bit_at_set_same, bit_at_set_
 use Rattle.nor_plan.specs.declared.set.SectorSet.{SectorSet}
 use Rattle.nor_plan.specs.SectorSet.{has}
 
--- true if the bit of `sector` is set in `words`
 abbrev pub bit_of : List ℕ → ℕ → Bool
 bit_of words sector = nat_eq (bit_at (get_or words (sector / 64) 0) (sector % 64)) 1
 
@@ -19,7 +18,6 @@ zeros (suc n) (suc k) = zeros n k
 pub none-set : (sector : ℕ) → bit_of (replicate 64 0) sector ≡ false
 none-set sector = rw (zeros 64 (sector / 64), bit_at-zero)
 
--- the words after the bit of `sector` was set in `words`
 abbrev pub with_bit : List ℕ → ℕ → List ℕ
 with_bit words sector =
     set words (sector / 64) (bit_or (get_or words (sector / 64) 0) (1 * 2 ^ (sector % 64) % 2 ^ 64))
@@ -46,7 +44,6 @@ bit_of-with_bit words sector there s =
           rw (get_or-set_other words (sector / 64) (s / 64) new 0 row, other)
     ]
 
--- no sector from 4,096 on is in the set, because the 64 words have no bits for it
 pub none_past : (set : SectorSet) → length set.words ≡ 64 → (s : ℕ) → 4096 ≤ s → has set s ≡ false
 unfolding has
 none_past set long s past = rw (get_or_past set.words (s / 64) 0 (omega arith), bit_at-zero)

@@ -1,13 +1,10 @@
--- The changes that turn the content `old` into the target `wanted`: touched and raised sectors, and pages to program. A
--- content is a function from addresses to bytes.
+-- The changes that turn the content `old`, a function from addresses to bytes, into the target `wanted`.
 use Rattle.std.specs.Prelude.{ℕ, ◌+◌, ◌*◌, ◌/◌, ◌==◌, ◌&&◌, Bool, not, bit_and, if◌then◌else◌}
 use Rattle.nor_geometry.specs.Below.{any_below}
 
--- true if the two bytes differ
 abbrev pub is_other : (old wanted : ℕ) → Bool
 is_other old wanted = not (old == wanted)
 
--- true if some bit is 1 in `wanted` and 0 in `old`
 abbrev pub must_rise : (old wanted : ℕ) → Bool
 must_rise old wanted = not (bit_and wanted old == wanted)
 
@@ -27,6 +24,6 @@ once_erased raised old a = if raised (a / 4096) then 255 else old a
 unfoldable pub is_page_other : (old wanted : ℕ → ℕ) → (page : ℕ) → Bool
 is_page_other old wanted page = any_below 256 (λ i. is_other (old (256 * page + i)) (wanted (256 * page + i)))
 
--- true if `page` needs a program: it lies in a touched sector, and some byte of it differs between `old` and `wanted`
+-- true if `page` needs a program: it lies in a touched sector, and some byte of it differs
 abbrev pub is_programmed : (touched : ℕ → Bool) → (old wanted : ℕ → ℕ) → (page : ℕ) → Bool
 is_programmed touched old wanted page = touched (page / 16) && is_page_other old wanted page

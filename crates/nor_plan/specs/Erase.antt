@@ -7,16 +7,15 @@ use Rattle.nor_driver.specs.declared.units.Erase.{Erase}
 use Rattle.nor_driver.specs.declared.units.EraseBlock.{EraseBlock}
 use Rattle.nor_driver.specs.declared.units.EraseBlock.TheVariants.{Sector, Block32, Block64, Chip}
 
--- True if a chip with the erase types `kinds` can erase blocks of this kind. `has_block` tests the same for a
--- configuration. This test takes `kinds`, because a probe returns the erase types of a chip but not its configuration.
+-- True if a chip with the erase types `kinds` can erase blocks of this kind. Unlike `has_block`, this needs no
+-- configuration, which a probe doesn't return.
 abbrev pub is_offered : Kinds → EraseBlock → Bool
 is_offered kinds Sector = true
 is_offered kinds Block32 = kinds.k32
 is_offered kinds Block64 = kinds.k64
 is_offered kinds Chip = true
 
--- Holds if a chip with the erase types `kinds` and `total` sectors can carry out `erase`. For this, the chip must be
--- able to erase blocks of this kind, and the block must be aligned and end on the chip.
+-- Holds if a chip with the erase types `kinds` and `total` sectors can carry out `erase`.
 pub record IsErase (kinds : Kinds) (total : ℕ) (erase : Erase) : Type 0 where
   pub offered : is_offered kinds erase.unit ≡ true
   pub aligned : is_aligned erase.unit erase.sector ≡ true
@@ -26,9 +25,8 @@ pub record IsErase (kinds : Kinds) (total : ℕ) (erase : Erase) : Type 0 where
 abbrev pub erased_by : (total : ℕ) → List Erase → (sector : ℕ) → Bool
 erased_by total erases sector = list_any (erases_sector total sector) erases
 
--- Holds if the list `erases`, carried out on a chip with `total` sectors, erases exactly the sectors for which `set` is
--- true. The erases may be in any order and may overlap. The chip must have the erase type of each erase, and each block
--- must be aligned and end on the chip.
+-- Holds if the chip can carry out each of `erases`, and these together erase exactly the sectors for which `set` is
+-- true. They may be in any order and may overlap.
 pub record Covers (kinds : Kinds) (total : ℕ) (erases : List Erase) (set : ℕ → Bool) : Type 0 where
   pub units : All (IsErase kinds total) erases
   pub union : (sector : ℕ) → erased_by total erases sector ≡ set sector

@@ -8,9 +8,8 @@ pub record IsMask (mask : ℕ) (test : ℕ → Bool) : Type 0 where
   pub lanes : mask < 2 ^ 32
   pub bits : (i : ℕ) → i < 32 → bit_at mask i ≡ (if test i then 1 else 0)
 
--- Holds if `lanes` are 32 lanes that show whether `a` and `b` differ in the `count` bytes from position `at` on. If all
--- lanes are 0, none of these bytes differs. If some lane isn't 0, some byte of the slices differs, which need not be
--- one of these.
+-- Holds if 32 lanes show whether `a` and `b` differ in the `count` bytes from position `at` on. A lane that isn't 0
+-- only shows that some byte of the slices differs.
 pub record ShowsDifferences (a b : List ℕ) (at count : ℕ) (lanes : List ℕ) : Type 0 where
   pub long : length lanes ≡ 32
   pub none : ((i : ℕ) → i < 32 → slice_index lanes i ≡ 0) → AgreeWithin a b at (at + count)

@@ -12,13 +12,11 @@ use Rattle.nor_plan.specs.Erase.{Covers}
 unfoldable pub holds_run : (ℕ → Bool) → (from count : ℕ) → Bool
 holds_run set from count = list_all set (range_with_len from count)
 
--- true if all sectors of the aligned block of `count` sectors that contains `sector` are in `set`
 abbrev pub holds_block : (ℕ → Bool) → (count sector : ℕ) → Bool
 holds_block set count sector = holds_run set (sector - sector % count) count
 
--- The erase block with which `sector`, a sector of `set`, is erased. If `whole` is true, the block is the whole chip.
--- Otherwise it is the largest of the blocks of 64, 32 and 4 KiB that contains `sector`, lies in the set and is an erase
--- type of the chip.
+-- The erase block for `sector`, a sector of `set`: the whole chip if `whole` is true, otherwise the largest block of
+-- 64, 32 and 4 KiB that contains `sector`, lies in the set and is an erase type of the chip.
 unfoldable pub planned_block : Bool → Kinds → (ℕ → Bool) → ℕ → EraseBlock
 planned_block whole kinds set sector =
     if whole then Chip
@@ -30,7 +28,6 @@ planned_block whole kinds set sector =
 abbrev pub begins_block : Bool → Kinds → (ℕ → Bool) → ℕ → Bool
 begins_block whole kinds set sector = set sector && is_aligned (planned_block whole kinds set sector) sector
 
--- the erase of the block that is planned for `sector`, with `sector` as its first sector
 abbrev pub erase_at : Bool → Kinds → (ℕ → Bool) → ℕ → Erase
 erase_at whole kinds set sector = record { unit = planned_block whole kinds set sector; sector = sector }
 
@@ -39,9 +36,8 @@ unfoldable pub planned_from : Bool → Kinds → (ℕ → Bool) → ℕ → List
 planned_from whole kinds set from =
     map (erase_at whole kinds set) (filter (begins_block whole kinds set) (range_with_len from (4096 - from)))
 
--- Holds if `head` is the first planned erase that begins at or after the sector `from`, paired with a second sector
--- number. The remaining erases are the planned ones that begin at or after this second sector. If no planned erase
--- begins at or after `from`, `head` is `None`.
+-- Holds if `head` is the first planned erase from the sector `from` on, paired with the sector from which the others
+-- follow. If there is none, `head` is `None`.
 abbrev pub HeadsPlanned : Bool → Kinds → (ℕ → Bool) → ℕ → Option (Erase × ℕ) → Type 0
 HeadsPlanned whole kinds set from head =
     MatchOption head (planned_from whole kinds set from ≡ [])
@@ -51,13 +47,12 @@ HeadsPlanned whole kinds set from head =
 abbrev pub planned : Kinds → ℕ → (ℕ → Bool) → List Erase
 planned kinds total set = planned_from (holds_run set 0 total) kinds set 0
 
--- The number of erases planned for `set`. `fewest_is_least` proves that it is the least number of erases that together
--- erase exactly the sectors of the set, if the set lies on a chip of at most 4,096 sectors.
+-- The number of erases planned for `set`. `fewest_is_least` proves that no list of erases for the set is shorter, if
+-- the set lies on a chip of at most 4,096 sectors.
 abbrev pub fewest_erases : Kinds → ℕ → (ℕ → Bool) → ℕ
 fewest_erases kinds total set = length (planned kinds total set)
 
--- Holds if `count` is the least number of erases that together erase exactly the sectors of `set` (`Covers`): some list
--- of this length does so, and no shorter list does.
+-- Holds if `count` is the least number of erases that together erase exactly the sectors of `set`.
 pub record IsLeastLength (kinds : Kinds) (total : ℕ) (set : ℕ → Bool) (count : ℕ) : Type 0 where
   pub some : List Erase
   pub covers : Covers kinds total some set

@@ -8,19 +8,15 @@ use Rattle.nor_plan.specs.declared.set.SectorSet.{SectorSet}
 unfoldable pub has : SectorSet → ℕ → Bool
 has set sector = bit_at (slice_index set.words (sector / 64)) (sector % 64) == 1
 
--- holds if `set` is empty
 abbrev pub IsEmpty : SectorSet → Type 0
 IsEmpty set = (sector : ℕ) → has set sector ≡ false
 
--- holds if some sector is in `set`
 abbrev pub HasSome : SectorSet → Type 0
 HasSome set = (sector : ℕ) × (has set sector ≡ true)
 
--- holds if each sector of `set` is below `end`
 abbrev pub LiesBelow : SectorSet → ℕ → Type 0
 LiesBelow set end = (sector : ℕ) → has set sector ≡ true → sector < end
 
--- holds if `new` has exactly the sectors of `old`, and `sector`
 abbrev pub Inserts : (old new : SectorSet) → ℕ → Type 0
 Inserts old new sector = (s : ℕ) → has new s ≡ ((s == sector) || has old s)
 
@@ -28,14 +24,11 @@ Inserts old new sector = (s : ℕ) → has new s ≡ ((s == sector) || has old s
 unfoldable pub members_from : SectorSet → ℕ → List ℕ
 members_from set from = filter (has set) (range_with_len from (4096 - from))
 
--- the sectors of `set`, in ascending order
 abbrev pub members : SectorSet → List ℕ
 members set = members_from set 0
 
--- the number of sectors in `set`
 abbrev pub member_count : SectorSet → ℕ
 member_count set = length (members set)
 
--- the empty set of sectors, as a test that is false for each sector
 abbrev pub none : ℕ → Bool
 none s = false

@@ -1,13 +1,11 @@
--- Properties of spans. Each differing byte lies in a span, and each span reaches from the first to the last differing
--- byte of one page. A page has 256 bytes.
+-- Properties of spans: each differing byte lies in a span.
 use Rattle.std.specs.Prelude.{ℕ, ◌≡◌, ◌<◌, ◌≤◌, ◌/◌, Bool, false, ◌&&◌, nat_le, List, length, slice_index, All, Any, AllPairs}
 use Rattle.std.specs.List.{list_any}
 use Rattle.nor_plan.specs.declared.page.PageSpan.{PageSpan}
 use Rattle.nor_plan.specs.Bytes.{DifferAt}
 use Rattle.nor_plan.specs.Span.{pages_changed}
 
--- Holds if `span` lies in one page, and reaches from the first to the last byte of the page in which `old` and `target`
--- differ.
+-- Holds if `span` reaches from the first to the last byte of one page in which `old` and `target` differ.
 pub record IsSpan (old target : List ℕ) (span : PageSpan) : Type 0 where
   pub one_page : span.first / 256 ≡ span.last / 256
   pub order : span.first ≤ span.last
@@ -15,11 +13,9 @@ pub record IsSpan (old target : List ℕ) (span : PageSpan) : Type 0 where
   pub last : DifferAt old target span.last
   pub outside : (k : ℕ) → k / 256 ≡ span.first / 256 → DifferAt old target k → (span.first ≤ k) × (k ≤ span.last)
 
--- true if position `k` is in `span`, which includes both its ends
 abbrev pub is_within_span : ℕ → PageSpan → Bool
 is_within_span k span = nat_le span.first k && nat_le k span.last
 
--- true if position `k` is in one of the spans
 abbrev pub spanned_by : List PageSpan → ℕ → Bool
 spanned_by spans k = list_any (is_within_span k) spans
 
@@ -28,6 +24,5 @@ pub record AreSpans (old target : List ℕ) (spans : List PageSpan) : Type 0 whe
   pub each : All (IsSpan old target) spans
   pub complete : (k : ℕ) → DifferAt old target k → Any (λ span. (span.first ≤ k) × (k ≤ span.last)) spans
   pub rising : AllPairs (λ span later. span.last / 256 < later.first / 256) spans
-  -- At each position outside the spans, the old byte already equals the target byte.
   pub others : (k : ℕ) → k < length old → spanned_by spans k ≡ false → slice_index old k ≡ slice_index target k
   pub count : length spans ≡ pages_changed old target

@@ -20,15 +20,11 @@ mod iter;
 pub use iter::Erases;
 
 /// Returns the fewest erases that together erase exactly the sectors of `set`, on a chip of `size` bytes with the erase
-/// types `kinds`. If the set is empty, so is the result. Otherwise, if the set contains all sectors of the chip, the
-/// result is one erase of the whole chip (C7h).
+/// types `kinds`. All sectors of `set` must lie on the chip.
 ///
-/// In all other cases the erases are in ascending order of their sectors. If the chip has D8h, one D8h erases each
-/// aligned 64 KiB block whose sectors are all in the set. In the rest of the set, if the chip has 52h, one 52h erases
-/// each aligned 32 KiB block whose sectors are all in the set. A 20h erases each other sector of the set.
-///
-/// All sectors of `set` must lie on the chip. No shorter list of erases that the chip supports erases exactly these
-/// sectors.
+/// If the set contains all sectors of the chip, the result is one chip erase (C7h). Otherwise the erases are in
+/// ascending order: D8h for each aligned 64 KiB block in the set, 52h for each such 32 KiB block of the rest, if the
+/// chip has these erase types, and 20h for each other sector.
 pub fn erases(set: &SectorSet, kinds: Kinds, size: u32) -> Erases
     requires { LiesBelow set.now (size / 4096) }
     ensures covers { Covers kinds (size / 4096) (erases_left result) (has set.now) }
@@ -44,7 +40,7 @@ pub fn erases(set: &SectorSet, kinds: Kinds, size: u32) -> Erases
 }
 
 /// States that `fewest_erases` is the length of a shortest list of erases that together erase exactly the sectors of a
-/// set, using only erase types of the chip. The set must lie on the chip, and the chip must have at most 4,096 sectors.
+/// set on a chip of at most 4,096 sectors.
 #[tactic(auto, using(crate::proofs::Fewest::fewest_least))]
 pub fn fewest_is_least()
     ensures { (kinds : Kinds) (total : ℕ) (set : ℕ → Bool) → total ≤ 4096
@@ -52,8 +48,7 @@ pub fn fewest_is_least()
         → IsLeastLength kinds total set (fewest_erases kinds total set) }
 {}
 
-/// Returns the first planned erase that begins at or after the sector `from`, together with the sector from which to
-/// search for the next planned erase. Returns `None` if no planned erase begins at or after `from`.
+/// Returns the first planned erase from the sector `from` on, and the sector from which to search for the next one.
 fn next_erase(set: &SectorSet, kinds: Kinds, whole: bool, from: u32) -> Option<(Erase, u32)>
     ensures { HeadsPlanned whole kinds (has set.now) from result }
 {
@@ -72,9 +67,6 @@ fn next_erase(set: &SectorSet, kinds: Kinds, whole: bool, from: u32) -> Option<(
     None
 }
 
-/// Returns the erase block with which `sector`, a sector of the set, is erased. If `whole` is true, the block is the
-/// whole chip. Otherwise it is the largest of the blocks of 64, 32 and 4 KiB that contains `sector`, lies in the set
-/// and is an erase type of the chip.
 #[tactic(auto, unfolding(crate::specs::Planned::planned_block))]
 fn block_of(set: &SectorSet, kinds: Kinds, whole: bool, sector: u16) -> EraseBlock
     ensures { result ≡ planned_block whole kinds (has set.now) sector }
@@ -90,7 +82,6 @@ fn block_of(set: &SectorSet, kinds: Kinds, whole: bool, sector: u16) -> EraseBlo
     }
 }
 
-/// Returns whether all sectors of the aligned block of `count` sectors that contains `sector` are in the set.
 fn is_block(set: &SectorSet, count: u16, sector: u16) -> bool
     requires { 0 < count }
     ensures { result ≡ holds_block (has set.now) count sector }
@@ -98,7 +89,6 @@ fn is_block(set: &SectorSet, count: u16, sector: u16) -> bool
     is_run(set, u32::from(sector - sector % count), u32::from(count))
 }
 
-/// Returns whether all of the `count` sectors from `from` on are in the set.
 #[tactic(auto, unfolding(crate::specs::Planned::holds_run))]
 fn is_run(set: &SectorSet, from: u32, count: u32) -> bool
     requires { from + count < 2 ^ 32 }

@@ -7,7 +7,6 @@ ghost use Rattle.nor_plan.specs.Bytes.{AllAgree, AgreeWithin, SomeDiffer, NoneRi
 
 use std::simd::prelude::*;
 
-/// The number of bytes that one vector comparison covers.
 const LANES: usize = 32;
 
 /// The number of bytes whose differences `changes_256` combines in one vector.
@@ -21,8 +20,8 @@ pub fn differs(a: &[u8], b: &[u8]) -> bool
     blocks_differ(a, b) || first_from(a, b, a.len() / BLOCK * BLOCK).is_some()
 }
 
-/// Returns whether `a` and `b` differ in some byte of their whole 256-byte blocks. The loop combines the differences of
-/// all blocks and tests them once at the end. For equal slices this avoids a test per block.
+/// Returns whether `a` and `b` differ in some whole 256-byte block. The differences are tested once at the end, which
+/// for equal slices avoids a test per block.
 fn blocks_differ(a: &[u8], b: &[u8]) -> bool
     requires { length a.now ≡ length b.now }
     ensures { MatchBool result (SomeDiffer a.now b.now) (AgreeWithin a.now b.now 0 (length a.now / 256 * 256)) }
@@ -34,8 +33,7 @@ fn blocks_differ(a: &[u8], b: &[u8]) -> bool
     changes.reduce_or() != 0
 }
 
-/// Returns the positions of the first and the last byte in which `old` and `target` differ, or `None` if they are
-/// equal. The slices must have equal lengths.
+/// Returns the positions of the first and the last byte that differs, or `None`. The slices must have equal lengths.
 pub fn bounds(old: &[u8], target: &[u8]) -> Option<(usize, usize)>
     requires { length old.now ≡ length target.now }
     ensures none { IfNone result (AllAgree old.now target.now) }
@@ -47,7 +45,6 @@ pub fn bounds(old: &[u8], target: &[u8]) -> Option<(usize, usize)>
     Some((first, last))
 }
 
-/// Returns the position of the first byte in which `a` and `b` differ, or `None` if they are equal.
 fn first_difference(a: &[u8], b: &[u8]) -> Option<usize>
     requires { length a.now ≡ length b.now }
     ensures { MatchOption result (AllAgree a.now b.now) (IsFirstDifference a.now b.now) }
@@ -55,8 +52,7 @@ fn first_difference(a: &[u8], b: &[u8]) -> Option<usize>
     first_from(a, b, agreeing(a, b))
 }
 
-/// Returns the position of the first byte in which `a` and `b` differ, or `None` if they are equal. The slices must
-/// agree in all bytes before `from`.
+/// The slices must agree in all bytes before `from`.
 fn first_from(a: &[u8], b: &[u8], from: usize) -> Option<usize>
     requires same_length { length a.now ≡ length b.now }
     requires within { from ≤ length a.now }
@@ -78,8 +74,8 @@ fn first_from(a: &[u8], b: &[u8], from: usize) -> Option<usize>
     None
 }
 
-/// Returns a position before which `a` and `b` agree: the start of the first whole 256-byte block in which they differ.
-/// If they differ in none of these blocks, the result is the end of the last one, or 0 if there is none.
+/// Returns a position before which `a` and `b` agree: the start of the first whole 256-byte block in which they differ,
+/// or the end of the last block.
 fn agreeing(a: &[u8], b: &[u8]) -> usize
     requires { length a.now ≡ length b.now }
     ensures within { result ≤ length a.now }
@@ -93,7 +89,6 @@ fn agreeing(a: &[u8], b: &[u8]) -> usize
     a.len() / BLOCK * BLOCK
 }
 
-/// Returns the position of the last byte in which `a` and `b` differ, or `None` if they are equal.
 fn last_difference(a: &[u8], b: &[u8]) -> Option<usize>
     requires { length a.now ≡ length b.now }
     ensures { MatchOption result (AllAgree a.now b.now) (IsLastDifference a.now b.now) }
@@ -113,7 +108,7 @@ fn last_difference(a: &[u8], b: &[u8]) -> Option<usize>
     None
 }
 
-/// Returns whether some bit is 1 in `target` and 0 in `old`. Only an erase can set this bit. The slices must have equal
+/// Returns whether an erase is needed, because some bit is 1 in `target` and 0 in `old`. The slices must have equal
 /// lengths.
 pub fn raises(old: &[u8], target: &[u8]) -> bool
     requires { length old.now ≡ length target.now }
@@ -132,8 +127,8 @@ pub fn raises(old: &[u8], target: &[u8]) -> bool
     false
 }
 
-/// Returns the differences of the 256 bytes from `at` on, combined into 32 lanes. Lane `i` combines the eight bytes at
-/// the positions `at + i`, `at + i + 32`, and so on. It is 0 if and only if `a` and `b` agree in these eight bytes.
+/// Returns the differences of the 256 bytes from `at` on, combined into 32 lanes: lane `i` has those of the bytes at
+/// `at + i`, `at + i + 32`, and so on.
 #[inline(always)]
 fn changes_256(a: &[u8], b: &[u8], at: usize) -> u8x32
     requires a_within { at + 256 ≤ length a.now }
@@ -147,7 +142,6 @@ fn changes_256(a: &[u8], b: &[u8], at: usize) -> u8x32
     changes
 }
 
-/// Returns 32 lanes: for each of the 32 bytes from `at` on, the bits in which `a` and `b` differ.
 #[inline(always)]
 fn changes_32(a: &[u8], b: &[u8], at: usize) -> u8x32
     requires a_within { at + 32 ≤ length a.now }
@@ -157,8 +151,7 @@ fn changes_32(a: &[u8], b: &[u8], at: usize) -> u8x32
     u8x32::from_slice(&a[at..]) ^ u8x32::from_slice(&b[at..])
 }
 
-/// Returns a mask with one bit for each of the 32 bytes from `at` on. Bit `i` is set if and only if `a` and `b` differ
-/// in the byte at `at + i`.
+/// Returns a mask whose bit `i` is set if and only if `a` and `b` differ in the byte at `at + i`.
 #[inline(always)]
 fn differing(a: &[u8], b: &[u8], at: usize) -> u64
     requires a_within { at + 32 ≤ length a.now }
@@ -170,8 +163,8 @@ fn differing(a: &[u8], b: &[u8], at: usize) -> u64
         .to_bitmask()
 }
 
-/// Returns a mask with one bit for each of the 32 bytes from `at` on. Bit `i` is set if and only if some bit of the
-/// byte at `at + i` is 1 in `target` and 0 in `old`.
+/// Returns a mask whose bit `i` is set if and only if the byte at `at + i` has a bit that is 1 in `target` and 0 in
+/// `old`.
 #[inline(always)]
 fn rising(old: &[u8], target: &[u8], at: usize) -> u64
     requires old_within { at + 32 ≤ length old.now }

@@ -21,9 +21,6 @@
 //! assert_eq!(rt; list.next(), Some(PageSpan { first: 5, last: 5 }));
 //! assert_eq!(rt; list.next(), None);
 //! ```
-//!
-//! `specs/Plan.antt` defines the plan of a sector, `specs/Span.antt` the spans of a sector, and `specs/Planned.antt`
-//! the planned erases. `specs/Content.antt` defines touched and raised sectors.
 #![tactic(auto)]
 
 mod erase;

@@ -1,5 +1,4 @@
-//! Finds the spans of a sector. A span reaches from the first to the last differing byte of a page, and one page
-//! program writes it.
+//! Finds the spans of a sector. One page program writes each span.
 
 ghost use Rattle.std.specs.Prelude.{◌≡◌, ◌*◌, ◌<◌, length};
 ghost use Rattle.nor_plan.specs.Span.{page_span, spans_of, HeadsSpans};
@@ -22,9 +21,8 @@ pub struct PageSpan {
     pub last: usize,
 }
 
-/// Returns the spans of two slices of equal length, in ascending order. The slices are divided into pages of 256 bytes,
-/// from their start. A page in which the slices differ has one span, from its first to its last differing byte. A page
-/// in which they agree has none.
+/// Returns the spans of two slices of equal length, in ascending order: for each page of 256 bytes that differs, from
+/// its first to its last differing byte.
 pub fn spans<'a>(old: &'a [u8], target: &'a [u8]) -> Spans<'a>
     requires { length old.now ≡ length target.now }
     ensures pages { spans_left result ≡ spans_of old.now target.now }
@@ -33,8 +31,7 @@ pub fn spans<'a>(old: &'a [u8], target: &'a [u8]) -> Spans<'a>
     Spans::new(old, target)
 }
 
-/// Returns the first span on the page `page` or a later one, together with the number of the page after the one with
-/// this span. Returns `None` if the page `page` and all later pages have no span.
+/// Returns the first span from the page `page` on, and the number of the page after it.
 #[tactic(auto, using(crate::proofs::PageSpans::page_steps))]
 fn next_span(old: &[u8], target: &[u8], page: usize) -> Option<(PageSpan, usize)>
     requires { length old.now ≡ length target.now }
@@ -48,8 +45,6 @@ fn next_span(old: &[u8], target: &[u8], page: usize) -> Option<(PageSpan, usize)
     None
 }
 
-/// Returns the span of the page with the number `page`, or `None` if no byte of it differs. The last page may have
-/// fewer than 256 bytes.
 fn span_of(old: &[u8], target: &[u8], page: usize) -> Option<PageSpan>
     requires same_length { length old.now ≡ length target.now }
     requires there { page * 256 < length old.now }

@@ -3,7 +3,6 @@ use Rattle.nor_plan.specs.SectorSet.{has}
 use Rattle.nor_plan.specs.Planned.{planned_from}
 use Rattle.nor_plan.proofs.erase.next_erase.Given as goal
 
--- No planned erase begins at a sector that the loop has passed, so the planned erases from `l.sector` on are those from
--- `l.fn.from` on.
+-- No planned erase begins at a sector that the loop has passed.
 abbrev pub invariant-loop-sector : goal.invariant-loop-sector
 invariant-loop-sector l = planned_from l.fn.whole l.fn.kinds (has l.fn.set) l.sector ≡ planned_from l.fn.whole l.fn.kinds (has l.fn.set) l.fn.from

@@ -1,4 +1,3 @@
--- Proves the contract of `differing`: bit `i` of the mask is set if and only if `a` and `b` differ at `at + i`.
 use Rattle.std.proofs.Common.{not, nat_eq}
 use lib.Lanes.{chunk}
 use Rattle.std.proofs.lemmas.Simd.{length-chunk, get_or-chunk}

@@ -1,5 +1,3 @@
--- Proves the contract of `rising`: bit `i` of the mask is set if and only if, at `at + i`, `target` AND `old` differs
--- from `target`.
 use Rattle.std.proofs.Common.{not, nat_eq, bit_and, ◌∙◌, sym, arith}
 use lib.Lanes.{chunk, zip2}
 use Rattle.std.proofs.lemmas.Simd.{length-chunk, length-zip2, get_or-chunk, get_or-zip2}

@@ -2,7 +2,6 @@ use Rattle.std.proofs.Common.{◌≡◌}
 use Rattle.nor_plan.specs.Span.{spans_from}
 use Rattle.nor_plan.proofs.page.next_span.Given as goal
 
--- No page that the loop has passed has a span, so the spans from the page `l.page` on are those from the page
--- `l.fn.page` on.
+-- No page that the loop has passed has a span.
 abbrev pub invariant-loop-page : goal.invariant-loop-page
 invariant-loop-page l = spans_from l.fn.old l.fn.target l.page ≡ spans_from l.fn.old l.fn.target l.fn.page
