@@ -10,11 +10,9 @@ use Rattle.nor_probe.specs.Found.{ProbeErrors}
 use Rattle.nor_request.specs.declared.refusal.Refusal.{Refusal}
 use Rattle.nor_request.specs.declared.refusal.Refusal.TheVariants.{NoChip, UnknownChip, OtherName, Stopped, Timeout, Mismatch}
 
--- The meaning of an error that identification returned. Identification is a probe and the reads that follow it, which
--- need at most `most` transactions together. On a well-behaved bus (`honest`), `NoChip`, `UnknownChip` and `OtherName`
--- mean the same as the faults of the probe. On such a bus, a stop occurs only if fewer than `most` transactions are
--- left, and a timeout doesn't occur. On every bus, nothing is sent after a stop or a timeout, the address of a timeout
--- is 0, and no errors other than these five occur.
+-- The meaning of an error of identification, which needs at most `most` transactions. On a well-behaved bus, errors 1
+-- to 3 mean the same as the faults of a probe, and a timeout doesn't occur. On every bus, nothing is sent after a stop
+-- or a timeout.
 abbrev pub IdentificationErrors : (most : ℕ) → Option ChipName → (old new : BusState) → Refusal → Type 0
 IdentificationErrors most named old new NoChip = old.honest ≡ true → ProbeErrors named old new Probes.NoChip
 IdentificationErrors most named old new (UnknownChip fault) =
@@ -25,9 +23,8 @@ IdentificationErrors most named old new (Timeout address) =
     (address ≡ 0) × EndsBusy new.history × (old.honest ≡ true → ⊥)
 IdentificationErrors most named old new _ = ⊥
 
--- Holds for the history of a bus after a call that returned the given error. After error 12 the last transaction is one
--- at which the bus stopped. After error 13 it is a poll that showed BUSY, and after error 14 a read of the sector that
--- contains the address of the error. For any other error the definition says nothing.
+-- Holds for the history after a call that returned this error: the bus stopped at the last transaction (12), or this
+-- was a poll that showed BUSY (13), or a read of the sector with the error's address (14).
 abbrev pub EndsAtError : Refusal → List Exchange → Type 0
 EndsAtError Stopped history = EndsStopped history
 EndsAtError (Timeout address) history = EndsBusy history

@@ -7,7 +7,6 @@ use Rattle.nor_probe.specs.declared.probes.ProbeFault.TheVariants as Probes
 use Rattle.nor_request.specs.declared.refusal.Refusal.{Refusal}
 use Rattle.nor_request.specs.declared.refusal.Refusal.TheVariants.{NoChip, UnknownChip, OtherName, ImageSize, RegionOutside, NoProtection, UndefinedProtection, RangeNotOffered, StatusLocked, Protected, Vault, Stopped, Timeout, Mismatch, BadJournal, OtherChip, StatusDiffers, Memory, Output, OtherUnit}
 
--- the number of an error, which messages show
 abbrev pub refusal_number : Refusal → ℕ
 refusal_number NoChip = 1
 refusal_number (UnknownChip fault) = 2
@@ -30,8 +29,7 @@ refusal_number Memory = 18
 refusal_number (Output written) = 19
 refusal_number OtherUnit = 20
 
--- The error that a call returns for a probe's fault. The address of a timeout is 0, because the wait of a probe follows
--- no modifying command.
+-- The error for a probe's fault. The address of a timeout is 0, because the wait follows no modifying command.
 abbrev pub of_probe : ProbeFault → Refusal
 of_probe Probes.NoChip = NoChip
 of_probe (Probes.UnknownChip fault) = UnknownChip fault
@@ -39,7 +37,6 @@ of_probe Probes.OtherName = OtherName
 of_probe Probes.Stopped = Stopped
 of_probe Probes.Timeout = Timeout 0
 
--- the error that a call returns for an operation or a wait that failed
 abbrev pub of_operation : OperationError → Refusal
 of_operation OperationFails.Stopped = Stopped
 of_operation (OperationFails.Timeout address) = Timeout address

@@ -8,18 +8,14 @@ use Rattle.nor_request.specs.declared.request.Request.{Request}
 use Rattle.nor_request.specs.declared.request.What.{What}
 use Rattle.nor_request.specs.declared.request.What.TheVariants.{Write, WpRange}
 
--- The request for the change `wish` on a chip of any name. All addresses are included, and neither `unlock` nor
--- `verify` is set.
 abbrev pub plain : What → Request
 plain wish = record { what = wish; named = None; included = None; unlock = false; verify = false }
 
--- true for a write or erase, false for a protection range
 abbrev pub is_data : What → Bool
 is_data (WpRange start len) = false
 is_data _ = true
 
--- The byte that a write or erase stores at the included address `a`. For a protection range, which changes no byte,
--- this value isn't used.
+-- The byte that a write or erase stores at the included address `a`. For a protection range the value isn't used.
 abbrev pub target : What → (image : List ℕ) → (a : ℕ) → ℕ
 target Write image a = slice_index image a
 target _ image a = 255
@@ -28,8 +24,7 @@ target _ image a = 255
 abbrev pub is_requested : Request → (size a : ℕ) → Bool
 is_requested request size a = is_data request.what && (nat_lt a size && includes request.included a)
 
--- The target byte at the address `a`: the byte for which the request asks if it may change this address, otherwise the
--- chip's own byte.
+-- The target byte at the address `a`: if the request may not change it, the chip's own byte.
 abbrev pub wanted : Request → (image : List ℕ) → Chip → (a : ℕ) → ℕ
 wanted request image chip a =
     if is_requested request chip.config.size a then target request.what image a else chip.bytes a
@@ -38,8 +33,8 @@ wanted request image chip a =
 abbrev pub scanned_sectors : Request → (size : ℕ) → ℕ
 scanned_sectors request size = if is_data request.what then sectors_included request.included size else 0
 
--- Holds if `code` is the target value of the protection bits. For a protection range this is the least defined value
--- that protects exactly the range. For a write or an erase it is the chip's own value.
+-- Holds if `code` is the target of the protection bits: for a protection range the least defined value that protects
+-- exactly the range, otherwise the chip's own.
 abbrev pub IsWantedCode : What → Chip → (code : ℕ) → Type 0
 IsWantedCode (WpRange start len) chip code = IsLeastCode chip.config.size start len code
 IsWantedCode _ chip code = code ≡ code_of chip.kept

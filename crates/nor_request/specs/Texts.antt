@@ -15,7 +15,6 @@ hex_digits width number = replicate (width - length (digits 16 false number)) 48
 abbrev pub address : ℕ → List ℕ
 address place = codes "0x" ++ hex_digits 6 place
 
--- the text of an error
 abbrev pub refusal_text : Refusal → List ℕ
 refusal_text NoChip = codes "no chip"
 refusal_text (UnknownChip fault) = codes "unknown chip, SFDP fault " ++ decimal (sfdp_number fault)

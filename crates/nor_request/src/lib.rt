@@ -16,10 +16,6 @@
 //! let text = format!(in rt.alloc(); "{refusal}")?;
 //! assert_eq!(rt; text.as_str(), "protected at 0x001000");
 //! ```
-//!
-//! `specs/Request.antt` defines what a request asks of a chip, and `specs/Refusal.antt` the numbers of errors.
-//! `specs/Texts.antt` defines the texts of errors. `specs/Errors.antt` defines what an error during identification
-//! means, and how the history of the bus ends after an error.
 #![tactic(auto)]
 
 mod refusal;

@@ -10,9 +10,8 @@ use nor_probe::{ProbeFault, SfdpFault};
 use std::error::Error;
 use std::fmt;
 
-/// The reason why a call failed. `number` returns the number of the error, which is different for each variant. A
-/// session checks errors 1 to 10 in the order of their numbers, and returns the first one that applies, unless the bus
-/// or the vault fails first.
+/// The reason why a call failed. A session checks errors 1 to 10 in the order of their numbers, and returns the first
+/// one that applies, unless the bus or the vault fails first.
 #[derive(Clone, Copy, Debug, PartialEq, Eq)]
 pub enum Refusal {
     /// 1: the ID reads `FF FF FF` or `00 00 00`, as it does if nothing drives the bus.
@@ -25,8 +24,7 @@ pub enum Refusal {
     ImageSize { chip: u32, image: usize },
     /// 5: an included address isn't on the chip.
     RegionOutside,
-    /// 6: the chip has no block protection, and the call is a request for a protection range or a call of `wp_status`
-    /// (nor_read).
+    /// 6: the chip has no block protection, which a protection range and `wp_status` (nor_read) need.
     NoProtection,
     /// 7: the chip has block protection, and the datasheets don't define which range its protection bits select.
     UndefinedProtection,
@@ -41,8 +39,8 @@ pub enum Refusal {
     Vault,
     /// 12: the bus stopped.
     Stopped,
-    /// 13: status 1 showed BUSY in 65,536 polls in a row. `address` is the address of the command for whose completion
-    /// the call waited. It is 0 during identification, for an erase of the whole chip, and for a status write.
+    /// 13: status 1 showed BUSY in 65,536 polls in a row. `address` is the address of the command before the polls, or
+    /// 0 during identification, for a chip erase, and for a status write.
     Timeout { address: u32 },
     /// 14: bytes that were read differ from the expected ones. `address` is the first address at which they differ.
     Mismatch { address: u32 },
@@ -50,8 +48,8 @@ pub enum Refusal {
     BadJournal(JournalFault),
     /// 16: the chip's ID or size differs from the journal's.
     OtherChip,
-    /// 17: a status bit differs from the journal's. The bit is one that flashnor never changes or, on a chip without
-    /// block protection, any non-volatile status bit.
+    /// 17: a status bit that flashnor never changes differs from the journal's or, on a chip without block protection,
+    /// any non-volatile status bit.
     StatusDiffers,
     /// 18: out of memory.
     Memory,

@@ -1,13 +1,12 @@
 //! The report of a call that succeeded.
 use nor_probe::Found;
 
-/// The report of a call that succeeded.
+/// What a call that succeeded did.
 #[derive(Clone, Copy, Debug, PartialEq, Eq)]
 pub struct Report {
     /// The chip that was identified.
     pub found: Found,
-    /// The number of touched sectors, in which a byte differed from its target. For a rewrite these are all sectors
-    /// that the journal saves.
+    /// The number of touched sectors. For a rewrite these are all sectors that the journal saves.
     pub touched: u32,
     /// The number of erases that were sent.
     pub erases: u32,

@@ -17,9 +17,7 @@ pub enum What {
     WpRange { start: u32, len: u32 },
 }
 
-/// A request for a session. `write`, `erase` and `protect` return a request with default values for the other fields,
-/// which `named`, `included`, `unlocked` and `verified` set. An example is
-/// `Request::write().named(ChipName::W25Q64FV).verified()`.
+/// A request for a session, for example `Request::write().named(ChipName::W25Q64FV).verified()`.
 #[derive(Clone, Debug, Drop)]
 pub struct Request {
     /// The change for which the session is asked.
@@ -28,41 +26,35 @@ pub struct Request {
     pub named: Option<ChipName>,
     /// The addresses whose bytes may change, or `None` for the whole chip. A protection range ignores this field.
     pub included: Option<Ranges>,
-    /// Whether the session lifts protection that is in the way of a change, and sets it again at the end. A protection
-    /// range ignores this field.
+    /// Whether the session lifts protection that is in the way, and sets it again. A protection range ignores this
+    /// field.
     pub unlock: bool,
-    /// Whether the session reads the touched sectors back at the end and compares them with the target. A protection
-    /// range touches no sector.
+    /// Whether the session reads the touched sectors back and compares them. A protection range touches no sector.
     pub verify: bool,
 }
 
 impl Request {
-    /// Returns a request to write the whole image to the chip. The request accepts a chip of any name, doesn't lift
-    /// protection, and doesn't verify.
+    /// Returns a request to write the whole image to a chip of any name, without lifting protection or verifying.
     pub const fn write() -> Request
         ensures { result ≡ plain Whats.Write }
     {
         Request::plain(What::Write)
     }
 
-    /// Returns a request to set all bytes of the chip to FFh. The request accepts a chip of any name, doesn't lift
-    /// protection, and doesn't verify.
+    /// Returns a request to set all bytes of a chip of any name to FFh, without lifting protection or verifying.
     pub const fn erase() -> Request
         ensures { result ≡ plain Whats.Erase }
     {
         Request::plain(What::Erase)
     }
 
-    /// Returns a request to protect exactly the `len` addresses from `start` on. The request accepts a chip of any
-    /// name.
+    /// Returns a request to protect exactly the `len` addresses from `start` on, on a chip of any name.
     pub const fn protect(start: u32, len: u32) -> Request
         ensures { result ≡ plain (Whats.WpRange start len) }
     {
         Request::plain(What::WpRange { start, len })
     }
 
-    // Returns a request for the change `what` on a chip of any name. All addresses are included, and neither `unlock`
-    // nor `verify` is set.
     const fn plain(what: What) -> Request
         ensures { result ≡ plain what }
     {
@@ -85,8 +77,7 @@ impl Request {
         }
     }
 
-    /// Returns this request, restricted to changes at the addresses of `ranges`. They replace ranges that were set
-    /// before.
+    /// Returns this request, restricted to the addresses of `ranges`, which replace ranges that were set before.
     pub fn included(self, ranges: Ranges) -> Request
         ensures { result ≡ record self { included = Some ranges } }
     {
@@ -96,8 +87,7 @@ impl Request {
         }
     }
 
-    /// Returns this request with `unlock` set: protection that is in the way of a change is lifted, and set again at
-    /// the end.
+    /// Returns this request with `unlock` set: protection that is in the way is lifted, and set again at the end.
     pub fn unlocked(self) -> Request
         ensures { result ≡ record self { unlock = true } }
     {
