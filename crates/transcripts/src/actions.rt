@@ -9,15 +9,9 @@ use crate::word::Word;
 use nor_chip::{Bus, Meter};
 use std::alloc::Global;
 
-/// Performs the action on `bus`, and compares the action's result with the expected one. `came` must be empty. If the
-/// fault is `Differs`, `came` then has the actual result.
-///
-/// Returns one of these faults:
-///
-/// - `Unread` if the line can't be parsed, or if an argument breaks a premise of the called function
-/// - `Differs` if the result differs from the expected one
-/// - `Stopped` if the bus stops a transaction that it must carry out, `Replied` if it carries out one that it must stop
-/// - `Memory` if memory runs out
+/// Performs the action on `bus`, and compares its result with the expected one. `came` must be empty; after the fault
+/// `Differs` it has the actual result. `Unread` also means that an argument breaks a premise of the called function.
+/// `Stopped` and `Replied` mean that the bus stopped a transaction that it must carry out, or the reverse.
 pub fn take(
     alloc: Global,
     bus: &mut Way<'_>,
@@ -50,8 +44,7 @@ fn call(
     agree(came, wanted)
 }
 
-// Sends a transaction. `words` has the bytes to send and, after `<`, the bytes that the reply buffer must have after
-// the transaction. `stops` is true if the bus must stop the transaction.
+// Sends a transaction. `words` has the bytes to send and, after `<`, the bytes that the reply buffer must have then.
 fn exchange(
     alloc: Global,
     bus: &mut Way<'_>,
@@ -65,9 +58,8 @@ fn exchange(
     send(alloc, bus, came, stops, (&out, &wanted))
 }
 
-// Sends `out`, and compares the reply buffer with `wanted`. If the bus must carry out the transaction, the buffer first
-// gets bytes that all differ from the expected ones, so that the comparison fails if the bus does not write each of
-// them. If the bus must stop it, the buffer first gets the expected bytes, which the bus must leave as they are.
+// The reply buffer first gets bytes that all differ from the expected ones, so that the comparison fails if the bus
+// doesn't write each of them. A bus that must stop must leave them, so they are then the expected ones.
 fn send(
     alloc: Global,
     bus: &mut Way<'_>,

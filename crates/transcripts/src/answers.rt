@@ -10,16 +10,14 @@ use std::alloc::Global;
 use std::fmt::Write;
 use std::str::Lines;
 
-/// The chip after the actions of a case, and the number of transactions that succeeded (those that the bus did not
-/// stop).
+/// The chip after the actions of a case, and the number of transactions that the bus did not stop.
 #[derive(Drop)]
 pub struct Left {
     pub chip: SimBus,
     pub sent: u64,
 }
 
-/// The data that the checks of a case compare with the expected values: the chip's configuration, its state after the
-/// actions, and the trace.
+/// The data that the checks of a case compare with the expected values.
 #[derive(Drop)]
 pub struct Answers<'a> {
     config: Config,
@@ -32,7 +30,6 @@ pub struct Answers<'a> {
 }
 
 impl<'a> Answers<'a> {
-    /// Returns the checker for a chip of this configuration, its state `left` after the actions, and the trace `log`.
     pub fn new(config: Config, left: Left, log: &'a [u8]) -> Answers<'a> {
         Answers {
             config,
@@ -43,9 +40,7 @@ impl<'a> Answers<'a> {
         }
     }
 
-    /// Makes the check of a line. `came` must be empty. Returns `Differs` if the actual value differs from the expected
-    /// one; `came` then has the actual value. Returns `Unread` if `word` isn't a check, or a value can't be parsed or
-    /// isn't allowed, and `Memory` if memory runs out.
+    /// Makes the check of a line. `came` must be empty; after the fault `Differs` it has the actual value.
     pub fn check(
         &mut self,
         alloc: Global,
@@ -66,7 +61,6 @@ impl<'a> Answers<'a> {
         }
     }
 
-    // Makes a check whose actual value is compared with the expected one as text.
     fn check_text(
         &self,
         alloc: Global,
@@ -79,7 +73,6 @@ impl<'a> Answers<'a> {
         agree(came, wanted)
     }
 
-    // Appends to `came` the actual value of a check that compares texts.
     fn put(&self, alloc: Global, came: &mut String, word: Word, words: &str) -> Result<(), Fault> {
         let config = &self.config;
         match word {
@@ -94,7 +87,7 @@ impl<'a> Answers<'a> {
         }
     }
 
-    /// Checks that the trace has no further lines. Checks nothing if no check of the case compared a line of the trace.
+    /// Checks that the trace has no further lines, unless no check of the case compared a line of it.
     pub fn end(mut self, came: &mut String) -> Result<(), Fault> {
         match self.trace.next() {
             Some(line) if self.is_traced => {
@@ -105,8 +98,8 @@ impl<'a> Answers<'a> {
         }
     }
 
-    // Checks that the bytes of the range `words` have one value, and all other bytes a second one. `bytes` has both
-    // values, as `ff else 00`, or one value for the whole chip, as `ff`.
+    // Checks that the bytes of the range `words` have one value, and all others a second one: `bytes` is `ff else 00`,
+    // or `ff` for the whole chip.
     fn check_array(&self, came: &mut String, words: &str, bytes: &str) -> Result<(), Fault> {
         let places = addresses_of(words)?;
         let (inside, outside) = bytes.split_once(" else ").unwrap_or((bytes, bytes));
@@ -117,14 +110,12 @@ impl<'a> Answers<'a> {
         }
     }
 
-    // Checks that the status `words` protects exactly the range `places`. Only the first and the last address of each
-    // sector are compared.
+    // Checks the protection only of the first and the last address of each sector.
     fn check_guards(&self, came: &mut String, words: &str, places: &str) -> Result<(), Fault> {
         let status = status_of(words)?;
         guards::check(came, &self.config, status, addresses_of(places)?)
     }
 
-    // Checks that `line` is the next line of the trace.
     fn check_trace(&mut self, came: &mut String, line: &str) -> Result<(), Fault> {
         self.is_traced = true;
         let next = self.trace.next().unwrap_or("the trace's end");
@@ -135,9 +126,8 @@ impl<'a> Answers<'a> {
         Err(Fault::Differs)
     }
 
-    // Checks that the range `words` is the next protectable one, that the status `wanted` has the protection bits with
-    // the least value for this range (`code_for`), and that these bits protect exactly this range. Only the first and
-    // the last address of each sector are compared.
+    // Checks that the range `words` is the next protectable one, that `wanted` has the least protection bits for it
+    // (`code_for`), and that these protect exactly this range.
     fn check_set(&mut self, came: &mut String, words: &str, wanted: &str) -> Result<(), Fault> {
         let set = pair_of(words)?;
         let status = status_of(wanted)?;
@@ -164,9 +154,8 @@ fn tell_place(came: &mut String, (at, byte): (usize, u8)) -> Result<(), Fault> {
     Err(Fault::Differs)
 }
 
-// Returns the first address whose byte isn't the expected one, and this byte. The expected byte is `inside` at the
-// addresses from `places.0` to `places.1 - 1`, and `outside` at all others. Returns `None` if all bytes are as
-// expected.
+// Returns the first address whose byte isn't the expected one, and this byte. `inside` is expected at `places`,
+// `outside` at all others.
 fn unlike(bytes: &[u8], places: (u32, u32), (inside, outside): (u8, u8)) -> Option<(usize, u8)> {
     let (start, end) = (places.0 as usize, places.1 as usize);
     for (at, byte) in bytes.iter().enumerate() {
@@ -189,8 +178,7 @@ fn put_status(came: &mut String, [one, two]: [u8; 2]) -> Result<(), Fault> {
 // The SFDP bytes for `put_made`, which gives its chip the first bytes of this array.
 const SFDP: [u8; 512] = [0xAB; 512];
 
-// Appends `made` to `came` if `Config::new` accepts the size and the number of SFDP bytes in `words`, otherwise `none`.
-// Returns `Unread` if the number of SFDP bytes is greater than 512.
+// Appends `made` to `came` if a chip may have the size and the number of SFDP bytes in `words`, otherwise `none`.
 fn put_made(came: &mut String, words: &str) -> Result<(), Fault> {
     let (size, count) = words.split_once(' ').ok_or(Fault::Unread)?;
     let sfdp = SFDP.get(..count.parse()?).ok_or(Fault::Unread)?;
@@ -198,8 +186,7 @@ fn put_made(came: &mut String, words: &str) -> Result<(), Fault> {
     put_text(came, if config.is_some() { "made" } else { "none" })
 }
 
-// Creates a simulated chip with the number of bytes in `words`. Appends `taken` to `came` if `SimBus::new` accepts this
-// number, otherwise the text of its error.
+// Appends `taken` to `came` if a simulated chip may have the number of bytes in `words`, otherwise the error's text.
 fn put_length(alloc: Global, came: &mut String, config: Config, words: &str) -> Result<(), Fault> {
     let bytes = vec![in alloc; 0xFF; words.parse()?]?;
     let delays = Delays { now: 0, each: 0 };

@@ -14,9 +14,7 @@ use std::alloc::Global;
 use std::fmt::Write;
 
 /// Calls the function that `word` names with the arguments in `words`, and writes its result to `came`: the number of
-/// transactions that it sent, `stop`, or `timeout ADDRESS`. If a wait succeeds, the text begins with the status 1 of
-/// its last poll. Returns `Unread` if there is no such function, or if an argument can't be parsed or breaks the
-/// function's premises.
+/// transactions, `stop`, or `timeout ADDRESS`. A wait's text begins with the status 1 of its last poll.
 pub fn call(
     alloc: Global,
     bus: &mut Way<'_>,
@@ -44,8 +42,7 @@ fn wait_at(bus: &mut Way<'_>, came: &mut String, address: u32) -> Result<(), Fau
     }
 }
 
-// Programs bytes within one page. Returns `Unread` if there are none or they cross the end of the page, or if the
-// address is 1000000h or above.
+// Programs bytes within one page.
 fn program(
     alloc: Global,
     bus: &mut Way<'_>,
@@ -71,8 +68,7 @@ fn erase_from(
     put(came, erase(bus, erased))
 }
 
-// Writes the status registers with the protection bits `code`. `status` has status 1 in bits 15 to 8, and status 2 in
-// bits 7 to 0. Returns `Unread` if the status has further bits, or the code is 64 or more.
+// Writes the status registers. `status` has status 1 in bits 15 to 8, and status 2 in bits 7 to 0.
 fn protect(bus: &mut Way<'_>, came: &mut String, status: u32, code: &str) -> Result<(), Fault> {
     let code = byte_of(code)?;
     let [0, 0, one, two] = status.to_be_bytes() else {
@@ -84,8 +80,6 @@ fn protect(bus: &mut Way<'_>, came: &mut String, status: u32, code: &str) -> Res
     put(came, write_status(bus, Status::of([one, two]), code))
 }
 
-// Returns the erase with this opcode whose block begins at this sector. Returns `Unread` if the opcode isn't 20h, 52h,
-// D8h or C7h, if the sector isn't below 4,096, or if no such erase block begins at the sector.
 fn erase_of(opcode: u32, sector: u32) -> Result<Erase, Fault>
     ensures reachable { IfOk result (λ erase. erase.sector < 4096) }
     ensures aligned { IfOk result (λ erase. is_aligned erase.unit erase.sector ≡ true) }
@@ -110,7 +104,6 @@ fn erase_of(opcode: u32, sector: u32) -> Result<Erase, Fault>
     Ok(erased)
 }
 
-// Appends the result of a call to `came`: the number of transactions, `stop`, or `timeout ADDRESS`.
 fn put(came: &mut String, outcome: Result<u32, OperationError>) -> Result<(), Fault> {
     match outcome {
         Ok(count) => put_number(came, u64::from(count)),

@@ -18,8 +18,8 @@ pub struct Case<'a> {
 }
 
 impl<'a> Case<'a> {
-    /// Splits the text of a case into its parts. The text begins with the case's name, which is in the line `number` of
-    /// the input. If no line `chip` follows the name, the case has no settings, and fails when it is played.
+    /// Splits the text of a case, which begins with its name in the line `number` of the input. Without a line `chip`
+    /// the case has no settings, and fails when it is played.
     pub fn of(text: &'a str, number: usize) -> Case<'a> {
         let (name, rest) = text.split_once('\n').unwrap_or((text, ""));
         let (chip, steps) = rest.split_once('\n').unwrap_or((rest, ""));
@@ -31,8 +31,8 @@ impl<'a> Case<'a> {
         }
     }
 
-    /// Plays the case on a chip of its own, and returns the first failure. If the fault is `Differs`, `came` then has
-    /// the actual value. A case fails if it has no line `chip`, or neither an action nor a check.
+    /// Plays the case on a chip of its own, and returns the first failure. After the fault `Differs`, `came` has the
+    /// actual value. A case without an action or a check fails.
     pub fn play(self, alloc: Global, came: &mut String) -> Result<(), LineFault> {
         let setup = match self.setup() {
             Ok(setup) => setup,
@@ -51,9 +51,8 @@ impl<'a> Case<'a> {
         }
     }
 
-    // Performs all actions on a new bus. Returns the chip, and the number of transactions that the bus did not stop.
-    // Otherwise returns the fault that occurred when the bus was created, the fault of the first action that failed, or
-    // `Lost` if a line of the trace was lost.
+    // Performs all actions on a new bus. Returns the chip and the number of transactions that the bus did not stop, or
+    // the first fault, which is `Lost` if a line of the trace was lost.
     fn act(
         self,
         alloc: Global,
@@ -91,7 +90,6 @@ impl<'a> Case<'a> {
         }
     }
 
-    // Makes all checks. If one of them compared a line of the trace, checks that the trace has no further lines.
     fn ask(
         self,
         alloc: Global,
@@ -110,8 +108,6 @@ impl<'a> Case<'a> {
     }
 }
 
-// Splits a line into its first word and the text after it. A line that is blank or begins with `#` has the word
-// `Nothing`.
 fn step_of(line: &str) -> (Word, &str) {
     let line = line.trim();
     if line.starts_with('#') {
@@ -131,7 +127,6 @@ pub fn is_blank(text: &str) -> bool {
     true
 }
 
-// Returns the outcome. If the outcome is a fault, the line number `line` is added to it.
 fn at(line: usize, outcome: Result<(), Fault>) -> Result<(), LineFault> {
     match outcome {
         Ok(()) => Ok(()),

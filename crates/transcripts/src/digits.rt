@@ -4,8 +4,7 @@ use crate::fault::Fault;
 use hex::FromHex;
 use std::alloc::{AllocError, Global};
 
-/// Parses groups of hexadecimal bytes with spaces between them, for example `02 0000fe 1122`. The group `ff*8` is eight
-/// bytes FFh.
+/// Parses groups of hexadecimal bytes such as `02 0000fe 1122`. The group `ff*8` is eight bytes FFh.
 pub fn bytes_of(alloc: Global, words: &str) -> Result<Vec<u8>, Fault> {
     let mut bytes = Vec::new(alloc);
     for word in words.split_whitespace() {
@@ -16,7 +15,6 @@ pub fn bytes_of(alloc: Global, words: &str) -> Result<Vec<u8>, Fault> {
     Ok(bytes)
 }
 
-// Appends `piece` to `bytes` `count` times.
 fn repeat(bytes: &mut Vec<u8>, piece: &[u8], count: u32) -> Result<(), AllocError> {
     for _ in 0..count {
         bytes.extend_from_slice(piece)?;
@@ -24,7 +22,6 @@ fn repeat(bytes: &mut Vec<u8>, piece: &[u8], count: u32) -> Result<(), AllocErro
     Ok(())
 }
 
-/// Parses one byte in hexadecimal digits.
 pub fn byte_of(digits: &str) -> Result<u8, Fault> {
     u8::from_str_radix(digits, 16).map_err(Fault::from)
 }
@@ -34,7 +31,6 @@ pub fn status_of(digits: &str) -> Result<[u8; 2], Fault> {
     <[u8; 2] as FromHex>::from_hex(digits).map_err(Fault::from)
 }
 
-/// Parses an address or another number in hexadecimal digits.
 pub fn address_of(digits: &str) -> Result<u32, Fault> {
     u32::from_str_radix(digits, 16).map_err(Fault::from)
 }

@@ -10,7 +10,6 @@ use std::num::ParseIntError;
 pub enum Fault {
     /// The line can't be parsed, or a value in it isn't allowed.
     Unread,
-    /// The actual value differs from the expected one.
     Differs,
     /// The bus stopped a transaction that it must carry out.
     Stopped,
@@ -18,7 +17,6 @@ pub enum Fault {
     Replied,
     /// A line of the trace is lost.
     Lost,
-    /// Out of memory.
     Memory,
 }
 
@@ -36,7 +34,6 @@ impl Fault {
     }
 }
 
-/// A fault, and the number of the line that is printed with it.
 #[derive(Clone, Copy)]
 pub struct LineFault {
     pub line: usize,

@@ -8,9 +8,8 @@ use crate::fault::Fault;
 use nor_chip::{Config, SECTOR_LEN, code_for, protected, unit_protected};
 use std::fmt::Write;
 
-/// Checks that `status` protects exactly the addresses from `start` up to, but not including, `end`. Checks only the
-/// first and the last address of each sector. If the protection of such an address is wrong, appends `guarded` or
-/// `free` and the address to `came`, and returns `Differs`.
+/// Checks that `status` protects exactly the addresses from `start` up to, but not including, `end`: the first and the
+/// last address of each sector. Appends `guarded` or `free` and the address that is wrong to `came`.
 pub fn check(
     came: &mut String,
     config: &Config,
@@ -39,8 +38,7 @@ fn word(is_protected: bool) -> &'static str {
 }
 
 /// Appends `guarded` to `came` if `unit_protected` finds a protected address, otherwise `free`. `words` has the status,
-/// the first address, and the address after the last one. Returns `Unread` if the range is empty or reaches past the
-/// chip's end.
+/// the first address, and the address after the last one.
 pub fn put_unit(came: &mut String, config: &Config, words: &str) -> Result<(), Fault> {
     let (status, places) = words.split_once(' ').ok_or(Fault::Unread)?;
     let status = status_of(status)?;
@@ -52,8 +50,8 @@ pub fn put_unit(came: &mut String, config: &Config, words: &str) -> Result<(), F
     put_text(came, word(is_protected))
 }
 
-/// Appends to `came` the least value of the protection bits that protect exactly the range in `words`, in decimal, or
-/// `none` if no such bits exist. `words` has the first address and the length of the range.
+/// Appends to `came` the least value of the protection bits that protect exactly the range in `words` (first address
+/// and length), or `none`.
 pub fn put_least(came: &mut String, config: &Config, words: &str) -> Result<(), Fault> {
     let (start, len) = pair_of(words)?;
     match code_for(start, len, config.size) {

@@ -4,18 +4,6 @@
 //!
 //! Each line is parsed when it is played. If a line can't be parsed, its case fails, and the other cases are played.
 //!
-//! - `main.rt`: splits the text into cases, plays them and prints the results
-//! - `case.rt`: plays one case
-//! - `word.rt`: the words with which lines begin
-//! - `setup.rt`: the chip of a case, and the bus to it
-//! - `actions.rt`: transactions and calls of nor_driver, and the comparison of their results
-//! - `calls.rt`: calls of the functions of nor_driver that wait for a chip or modify it
-//! - `answers.rt`: checks of the chip, the trace and the protection after all actions
-//! - `guards.rt`: checks of protected ranges
-//! - `digits.rt`: parses bytes and addresses in hexadecimal
-//! - `agree.rt`: comparisons of results with expected values
-//! - `fault.rt`: the faults of a line or a case
-//!
 //! If a comparison fails, the actual value is in the string `came`, which the caller passes. The fault doesn't contain
 //! the value, so that a fault owns no memory: the prover must prove at each exit of a function that every value that
 //! owns memory is dropped.
@@ -48,8 +36,7 @@ fn main(rt: HostRuntime) -> io::Result<ExitCode> {
     })
 }
 
-// Plays the cases of a text, and prints each failure. Returns the numbers of cases that passed and failed. Text before
-// the first case counts as a failure, unless each of its lines is blank or begins with `#`.
+// Plays the cases of a text. Text before the first case, except blank lines and comments, counts as a failure.
 fn play_all(rt: &(impl Print + AllocGlobal), text: &str) -> io::Result<(u64, u64)> {
     let (mut passed, mut failed) = (0_u64, 0_u64);
     let mut number = 1_usize;
@@ -66,7 +53,6 @@ fn play_all(rt: &(impl Print + AllocGlobal), text: &str) -> io::Result<(u64, u64
     Ok((passed, failed))
 }
 
-// Plays a case, and prints the failure if there is one. Returns whether the case passed.
 fn play(rt: &(impl Print + AllocGlobal), case: Case<'_>) -> io::Result<bool> {
     let mut came = String::new(rt.alloc());
     match case.play(rt.alloc(), &mut came) {

@@ -17,7 +17,6 @@ pub struct Setup {
     start: Start,
 }
 
-// The initial state of a chip and of the bus to it.
 #[derive(Clone, Copy)]
 struct Start {
     fill: u8,
@@ -30,8 +29,7 @@ struct Start {
 }
 
 impl Setup {
-    /// Parses the chip's name and the settings that follow it. Returns `Unread` if the name or a setting is unknown or
-    /// a value can't be parsed.
+    /// Parses the chip's name and the settings that follow it.
     pub fn read(words: &str) -> Result<Setup, Fault> {
         let (name, settings) = words.split_once(' ').unwrap_or((words, ""));
         let config = config_of(name).ok_or(Fault::Unread)?;
@@ -89,7 +87,6 @@ impl Start {
     }
 }
 
-// The key of a setting.
 #[derive(Clone, Copy)]
 enum Key {
     Of,
@@ -105,8 +102,7 @@ enum Key {
     Low,
 }
 
-// Each row has the text of a key, the key, its greatest value, and whether the value is hexadecimal (otherwise
-// decimal).
+// The text of each key, the key, its greatest value, and whether the value is hexadecimal.
 const KEYS: [(&str, Key, u64, bool); 11] = [
     ("of", Key::Of, 0xFF, true),
     ("status", Key::Status, 0xFFFF, true),
@@ -121,7 +117,6 @@ const KEYS: [(&str, Key, u64, bool); 11] = [
     ("low", Key::Low, 0xFF, false),
 ];
 
-// Parses a setting, `KEY=VALUE`. Returns `Unread` if the key is unknown, or if the value is no number or too great.
 fn setting_of(setting: &str) -> Result<(Key, u64), Fault> {
     let (name, value) = setting.split_once('=').ok_or(Fault::Unread)?;
     for (known, key, most, is_hexadecimal) in &KEYS {
@@ -135,9 +130,8 @@ fn setting_of(setting: &str) -> Result<(Key, u64), Fault> {
     Err(Fault::Unread)
 }
 
-// Returns the configuration of the chip with this name, if there is one. In addition to the emulated chips there are
-// two chips of 128 KiB, on which an erase of 64 KiB doesn't erase the whole chip. `BLOCKS` has erases of 32 and 64 KiB,
-// but no block protection. `SECTORS` has block protection, but not these erases.
+// Returns the configuration of an emulated chip, or of one of two chips of 128 KiB, on which an erase of 64 KiB doesn't
+// erase the whole chip. `BLOCKS` has erases of 32 and 64 KiB but no block protection, `SECTORS` the reverse.
 fn config_of(name: &str) -> Option<Config> {
     let id = [0xAA, 0x11, 0x22];
     match name {

@@ -21,13 +21,11 @@ pub enum Word {
     Protect,
     /// `| LINE`: the next line of the trace. A case has all lines of its trace, or none.
     Traced,
-    /// `array START..END = BYTE else BYTE`: the value of each byte in the range, and the value of each other byte.
-    /// `END` is the address after the last one.
+    /// `array START..END = BYTE else BYTE`: the bytes from `START` to `END - 1`, and all others.
     Array,
     /// `guards STATUS = START..END`: this status protects exactly this range.
     Guards,
-    /// `set START LENGTH = STATUS`: the next protectable range, and a status whose protection bits have the least value
-    /// that protects exactly this range.
+    /// `set START LENGTH = STATUS`: the next protectable range, and a status with the least protection bits for it.
     Set,
     /// `status = BYTES`: status 1 and status 2.
     Status,
@@ -37,13 +35,11 @@ pub enum Word {
     Sets,
     /// `unit STATUS START..END = guarded`, or `= free`: whether this status protects some address of the range.
     Unit,
-    /// `least START LENGTH = CODE`, or `= none`: the least value of the protection bits that protects exactly this
-    /// range.
+    /// `least START LENGTH = CODE`, or `= none`: the least value of the protection bits for exactly this range.
     Least,
     /// `size SIZE SFDP = made`, or `= none`: whether a chip may have this size and this number of SFDP bytes.
     Size,
-    /// `bytes COUNT = TEXT`: the error text of the simulated chip for this number of bytes, or `taken` if the chip
-    /// accepts them.
+    /// `bytes COUNT = TEXT`: the error text of the simulated chip for this number of bytes, or `taken`.
     Bytes,
     /// Any other word, which is a fault.
     Other,
@@ -84,7 +80,6 @@ impl Word {
         Word::Other
     }
 
-    /// True if the line is an action.
     pub fn is_action(self) -> bool {
         matches!(
             self,
