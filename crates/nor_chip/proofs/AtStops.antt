@@ -10,8 +10,6 @@ use Rattle.nor_model.specs.Bus.{BusState, AtStop}
 use Rattle.nor_chip.specs.declared.sim.SimBus.{SimBus}
 use Rattle.nor_chip.specs.Sim.{sim_state, TornTo, WornTo, LostTo}
 
--- the power failure of a simulated chip (`PowerLostWith`) is a power failure as the contract of a bus describes it
--- (`PowerLost`)
 pub power_lost : (fill : ℕ) (old new : Chip) → PowerLostWith fill old new → PowerLost old new
 power_lost fill old new lost = grind (arith, lost.bytes)
 
@@ -59,7 +57,6 @@ stops_at (Some count) (Some fill) out old new reached steady torn lost worn = re
   unsent = λ is. absurd (true≢false (sym is ∙ steady));
 }
 
--- `AtStop` for a simulated bus doesn't depend on the history that the bus has before the stop
 pub stops_as : (out : List ℕ) (old : SimBus) (history : History) (new : BusState)
     → AtStop out (sim_state (record old { history = history })) new → AtStop out (sim_state old) new
 stops_as out old history new stop = record {

@@ -8,17 +8,15 @@ use Rattle.nor_model.specs.Step.{last_for, lowered}
 use Rattle.nor_model.proofs.PageBytes.{last_for-apart, last_for-at}
 use Rattle.nor_chip.specs.Cells.{HasPageProgrammed}
 
--- Holds if the first `done` bytes of `sent` were ANDed into the list from index `from` on, and all other items are as
--- they were.
+-- Holds if the first `done` bytes of `sent` were ANDed into the list from index `from` on, and nothing else changed.
 pub record ClearsFrom (from done : ℕ) (sent old new : List ℕ) : Type 0 where
   pub inside : (i : ℕ) → i < done
       → slice_index new (from + i) ≡ bit_and (slice_index old (from + i)) (slice_index sent i)
   pub below : (a : ℕ) → a < from → slice_index new a ≡ slice_index old a
   pub above : (a : ℕ) → from + done ≤ a → slice_index new a ≡ slice_index old a
 
--- Holds if `sent` is divided as the function `program` (`src/sim/cells.rt`) divides it. Only the last 256 bytes have an
--- effect, and `skipped` is the number of bytes before these. `front` has the bytes from there up to the end of the
--- page. `back` has the remaining bytes, which go to the start of the page.
+-- Holds if `sent` is divided as the function `program` (`src/sim/cells.rt`) divides it: `skipped` bytes without effect
+-- before the last 256, then `front` up to the end of the page, and `back` for its start.
 pub record IsParted (at : ℕ) (sent : List ℕ) (skipped : ℕ) (front back : List ℕ) : Type 0 where
   pub skips : skipped ≡ length sent - 256
   pub front_len : length front ≡ min (length sent - skipped) (256 - (at + skipped) % 256)
@@ -30,8 +28,6 @@ module _ (at : ℕ) (sent : List ℕ) (skipped : ℕ) (front back old mid new : 
     (parted : IsParted at sent skipped front back)
     (first : ClearsFrom (at / 256 * 256 + (at + skipped) % 256) (length front) front old mid)
     (second : ClearsFrom (at / 256 * 256) (length back) back mid new) where
-  -- After `front` and `back` were programmed, the byte at the address `a` of the page is ANDed with the last byte that
-  -- was sent for `a`, if any.
   in_page : (a : ℕ) → a / 256 ≡ at / 256 → slice_index new a ≡ lowered (slice_index old a) (last_for at sent a)
   in_page a here =
       let p = a % 256 in let start = (at + skipped) % 256 in
@@ -53,7 +49,6 @@ module _ (at : ℕ) (sent : List ℕ) (skipped : ℕ) (front back old mid new : 
         ]
       ]
 
-  -- ANDing `front` and then `back` into the bytes has the effect of one program of the page.
   pub programmed : HasPageProgrammed at sent old new
   programmed a = elim (eqb_tells (a / 256) (at / 256)) [
     | inl same ↦ rw same.0 (in_page a same.1)
@@ -63,7 +58,6 @@ module _ (at : ℕ) (sent : List ℕ) (skipped : ℕ) (front back old mid new : 
     ])
   ]
 
--- after a program, each byte is at most its old value (`HasPageProgrammed-le`)
 lowered-le : (here : Bool) (old : ℕ) (sent : Option ℕ) → (if here then lowered old sent else old) ≤ old
 lowered-le true old (Some byte) = and_le_l old byte
 lowered-le _ old _ = omega arith

@@ -2,8 +2,7 @@
 use Rattle.std.specs.Prelude.{◌≡◌, ◌/◌, ◌+◌, ◌==◌, ◌&&◌, ℕ, List, nat_lt, nat_le, slice_index, if◌then◌else◌}
 use Rattle.nor_model.specs.Step.{last_for, lowered}
 
--- Holds if `new` is `old` after a program of the bytes `sent` from `at` on, within the page that contains `at`. All
--- bytes outside the page are as they were.
+-- Holds if `new` is `old` after a program of the bytes `sent` from `at` on, within the page that contains `at`.
 abbrev pub HasPageProgrammed : ℕ → (sent old new : List ℕ) → Type 0
 HasPageProgrammed at sent old new =
     (a : ℕ) → slice_index new a

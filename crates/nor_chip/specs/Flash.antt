@@ -7,7 +7,6 @@ use Rattle.nor_model.specs.Chip.{Chip}
 use Rattle.nor_model.specs.Power.{is_known_running, is_in_work, kept_before}
 use Rattle.nor_model.specs.Step.{is_operation}
 
--- the state of the chip that `flash` simulates
 abbrev pub chip_of : Flash → Chip
 chip_of flash = record {
   config = flash.config;
@@ -19,7 +18,7 @@ chip_of flash = record {
 }
 
 -- Holds if the operation `runs` begins: the next `polls` polls will show BUSY. The write enable latch is clear if
--- `polls` is 0, otherwise set. Bytes, configuration and non-volatile bits are as they were.
+-- `polls` is 0, otherwise set.
 pub record Begins (runs : Running) (polls : ℕ) (old new : Chip) : Type 0 where
   pub config : new.config ≡ old.config
   pub bytes : (a : ℕ) → new.bytes a ≡ old.bytes a
@@ -28,18 +27,15 @@ pub record Begins (runs : Running) (polls : ℕ) (old new : Chip) : Type 0 where
   pub running : new.running ≡ runs
   pub latch : new.latch ≡ not (new.busy == 0)
 
--- The effect of an interruption of the operation in progress. Each byte on which a program or erase works is `fill`,
--- and all other bytes are as they were. If `fill` is even, a status write was undone, so the non-volatile bits are
--- those from before it. If `fill` is odd, the status write is complete, so these bits keep the values that it wrote.
--- Any other operation leaves them as they were. The definition says nothing about the latch, `busy` and `running`.
+-- The effect of an interruption of the operation in progress. Each byte on which a program or erase works is `fill`. A
+-- status write was undone if `fill` is even, and is complete if `fill` is odd.
 pub record CutsOff (fill : ℕ) (old new : Chip) : Type 0 where
   pub config : new.config ≡ old.config
   pub bytes : (a : ℕ)
       → new.bytes a ≡ (if is_known_running old.running && is_in_work old.running a then fill else old.bytes a)
   pub kept : new.kept ≡ (if fill % 2 == 0 then kept_before old else old.kept)
 
--- Holds if `each` (the number of polls that show BUSY after an operation) is as it was, and `busy` is equal to `each`
--- if the command is an operation.
+-- Holds if the command, if it is an operation, takes the number of polls that show BUSY after each operation (`each`).
 pub record Paces (command : Command) (old new : Flash) : Type 0 where
   pub each : new.each ≡ old.each
   pub busy : is_operation command ≡ true → new.busy ≡ old.each

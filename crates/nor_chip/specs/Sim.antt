@@ -11,8 +11,7 @@ use Rattle.nor_model.specs.Sent.{sent_in}
 use Rattle.nor_model.specs.PolledReady.{polled_ready_in}
 use Rattle.nor_model.specs.Bus.{BusState}
 
--- The state of a simulated bus. The bus is always well-behaved, takes transactions of any length, and has no further
--- types. It is steady if and only if both `lose` and `tear` are set to `None`.
+-- The state of a simulated bus, which is steady if and only if both `lose` and `tear` are set to `None`.
 abbrev pub sim_state : SimBus → BusState
 sim_state bus = record {
   chip = chip_of bus.flash;
@@ -29,13 +28,11 @@ sim_state bus = record {
   further = false;
 }
 
--- the value that `lose` set: the fill byte of the power failure at a stop, or `None` if the chip keeps its power at a
--- stop
+-- the value that `lose` set: the fill byte of the power failure at a stop, or `None` if the chip keeps its power
 abbrev pub fill_of : SimBus → Option ℕ
 fill_of bus = bus.fill
 
--- the value that `tear` set: the number of bytes that are sent of the transaction at which the bus stops, or `None` for
--- no byte
+-- the value that `tear` set: the number of bytes that are sent of the transaction at which the bus stops
 abbrev pub torn_of : SimBus → Option ℕ
 torn_of bus = bus.torn
 
@@ -43,15 +40,13 @@ torn_of bus = bus.torn
 abbrev pub pace_of : SimBus → ℕ
 pace_of bus = bus.flash.each
 
--- Holds if `new` is the chip after a stop, before any power failure. `torn` is the value that `tear` set: with `None`
--- no byte of the transaction `out` was sent, with `Some count` its first `count` bytes were.
+-- Holds if `new` is the chip after a stop, before any power failure. `torn` is the value that `tear` set.
 abbrev pub TornTo : (torn : Option ℕ) → (out : List ℕ) → (old new : Chip) → Type 0
 TornTo None out old new = new ≡ old
 TornTo (Some count) out old new = Step old (take count out) [] new
 
--- The effect of a stop on the chip after the first bytes of the transaction were sent, from the state `old` to `new`.
--- `fill` is the value that `lose` set: with `None` the chip kept its power, with `Some fill` it lost its power with
--- this fill byte.
+-- The effect of a stop on the chip after the first bytes of the transaction were sent. `fill` is the value that `lose`
+-- set.
 abbrev pub LostTo : (fill : Option ℕ) → (old new : Chip) → Type 0
 LostTo None old new = new ≡ old
 LostTo (Some fill) old new = PowerLostWith fill old new
@@ -64,23 +59,21 @@ pub record KeepsBus (old new : SimBus) : Type 0 where
   pub left : new.left ≡ old.left
   pub history : new.history ≡ old.history
 
--- Holds if `new` has the sectors that are recorded as erased after a stop. If `torn` is `None`, these are the sectors
--- of `old`. If it is `Some count`, they also include those that the first `count` bytes of the transaction erased.
+-- Holds if `new` has the sectors that are recorded as erased after a stop. With `torn = Some count`, the first `count`
+-- bytes of the transaction may have erased more.
 abbrev pub WornTo : (torn : Option ℕ) → (out : List ℕ) → Chip → (old new : ℕ → Bool) → Type 0
 WornTo None out chip old new = (s : ℕ) → new s ≡ old s
 WornTo (Some count) out chip old new = (s : ℕ) → new s ≡ (old s || wears (done_of chip (take count out) 0) s)
 
--- The effect of a stop on the chip. `torn` says how many bytes of the transaction were sent to the chip, and `fill`
--- says whether and how the chip then lost its power.
+-- The effect of a stop on the chip, for the settings of `tear` and `lose`.
 pub record TearsOff (torn fill : Option ℕ) (out : List ℕ) (old new : Chip) : Type 0 where
   pub reached : Chip
   pub torn_off : TornTo torn out old reached
   pub lost : LostTo fill reached new
 
--- The effect of a transaction over a simulated bus, in addition to the contract of a bus. The settings stay as they
--- were. If the transaction succeeded and began an operation, the next `pace_of` polls will show BUSY. After a stop the
--- chip is as `TearsOff` says for the settings of `tear` and `lose`. The sectors that the first bytes of the transaction
--- erased are recorded, even if the chip then lost its power (`WornTo`).
+-- The effect of a transaction over a simulated bus, in addition to the contract of a bus. An operation that began will
+-- show BUSY in `pace_of` polls. Sectors that the first bytes of a stopped transaction erased are recorded, even if the
+-- chip then lost its power.
 pub record Simulates (out answer : List ℕ) (outcome : Result Unit Stopped) (old new : SimBus) : Type 0 where
   pub fill : fill_of new ≡ fill_of old
   pub torn : torn_of new ≡ torn_of old

@@ -9,16 +9,13 @@ use Rattle.nor_model.specs.Sent.{sent_in}
 use Rattle.nor_model.specs.PolledReady.{is_poll, polled_ready_in}
 use Rattle.nor_model.specs.Bus.{BusState, IsHonestFor, Stops, Carries}
 
--- the inner bus
 abbrev pub bus_in : {B : Type 0} → SpoiltBus B → B
 bus_in bus = bus.bus
 
--- the way in which the faulty bus fails
 abbrev pub spoil_of : {B : Type 0} → SpoiltBus B → Spoil
 spoil_of bus = bus.spoil
 
--- The transactions that the faulty bus was asked to carry out, each with the reply that the faulty bus returned, or
--- without a reply if the inner bus stopped.
+-- The transactions that the faulty bus was asked to carry out, each with the reply that it returned, if any.
 abbrev pub history_of : {B : Type 0} → SpoiltBus B → List Exchange
 history_of bus = bus.history.exchanges
 
@@ -27,8 +24,7 @@ abbrev pub succeeded_of : {B : Type 0} → SpoiltBus B → ℕ
 succeeded_of bus = bus.sent
 
 -- The state of a faulty bus, which isn't well-behaved. Its history has each transaction that it was asked to carry out,
--- even a dropped one, with the reply that it returned. `sent` and `polled_ready` follow from this history. The
--- allowances are those that were set on the faulty bus. All else is the state of the inner bus.
+-- even a dropped one, with the reply that it returned. The chip is that of the inner bus.
 abbrev pub spoilt_state : {B : Type 0} → (B → BusState) → SpoiltBus B → BusState
 spoilt_state state bus = record (state bus.bus) {
   honest = false;
@@ -38,20 +34,19 @@ spoilt_state state bus = record (state bus.bus) {
   polled_ready = polled_ready_in (history_of bus);
 }
 
--- The value of each reply byte of the next transaction if the faulty bus drops this transaction, otherwise `None`.
--- `sent` is the number of transactions that succeeded before.
+-- The value of each reply byte of the next transaction if the faulty bus drops it, otherwise `None`. `sent` is the
+-- number of transactions that succeeded before.
 abbrev pub withheld : Spoil → ℕ → Option ℕ
 withheld (Fill byte) sent = Some byte
 withheld (BusyFrom first) sent = None
 withheld (Drop number) sent = if sent + 1 == number then Some 255 else None
 withheld (Low bit) sent = None
 
--- the value of each reply byte of the next transaction if the faulty bus drops this transaction, otherwise `None`
 abbrev pub withheld_of : {B : Type 0} → SpoiltBus B → Option ℕ
 withheld_of bus = withheld (spoil_of bus) (succeeded_of bus)
 
--- The reply byte that the faulty bus returns in place of `byte` in the next transaction, which sends `out` and isn't
--- dropped. `sent` is the number of transactions that succeeded before.
+-- The reply byte that the faulty bus returns in place of `byte`. `sent` is the number of earlier successful
+-- transactions.
 abbrev pub spoilt_byte : Spoil → ℕ → List ℕ → ℕ → ℕ
 spoilt_byte (Fill fill) sent out byte = byte
 spoilt_byte (BusyFrom first) sent out byte = if nat_le first (sent + 1) && is_poll out then bit_or byte 1 else byte
@@ -65,26 +60,22 @@ pub record IsWithheld {B : Type 0} (byte : ℕ) (asked answer : List ℕ) (outco
   pub inner : new ≡ old
   pub replies : answer ≡ replicate (length asked) byte
 
--- Holds if the transaction was passed on to the inner bus. `replied` has the bytes of the inner bus's reply, and each
--- reply byte of the faulty bus is `byte_for` of the byte of `replied` at the same index. If the inner bus is
--- well-behaved and takes a transaction of this length, it carried the transaction out with the reply `replied`.
+-- Holds if the transaction was passed on to the inner bus, whose reply is `replied`. Each reply byte of the faulty bus
+-- is `byte_for` of the byte of `replied` at the same index.
 pub record IsPassedOn (byte_for : ℕ → ℕ) (out asked answer : List ℕ) (old new : BusState) : Type 0 where
   pub replied : List ℕ
   pub as_many : length answer ≡ length replied
   pub replies : (i : ℕ) → i < length answer → slice_index answer i ≡ byte_for (slice_index replied i)
   pub inner : IsHonestFor out (length asked) old → Carries out replied old new
 
--- The effect of a transaction that was not dropped: it succeeded (`IsPassedOn`), or the inner bus stopped. If the inner
--- bus is well-behaved and takes a transaction of this length, a stop leaves the chip as `Stops` says, and the reply
--- buffer as it was if the inner bus is also punctual.
+-- The effect of a transaction that was not dropped: it succeeded (`IsPassedOn`), or the inner bus stopped.
 abbrev pub GoesThrough : (ℕ → ℕ) → (out asked answer : List ℕ) → Result Unit Stopped → (old new : BusState) → Type 0
 GoesThrough byte_for out asked answer (Ok done) old new = IsPassedOn byte_for out asked answer old new
 GoesThrough byte_for out asked answer (Err stopped) old new =
     IsHonestFor out (length asked) old → (old.punctual ≡ true → answer ≡ asked) × Stops out old new
 
--- The effect of a transaction over a faulty bus. The way in which the bus fails is as it was, and the transaction was
--- dropped (`IsWithheld`) or passed on (`GoesThrough`). A transaction that succeeds is counted, up to the greatest u64.
--- A transaction at which the inner bus stops isn't counted.
+-- The effect of a transaction over a faulty bus, which was dropped (`IsWithheld`) or passed on (`GoesThrough`). Only a
+-- transaction that succeeds is counted, up to the greatest u64.
 pub record Spoils {B : Type 0} (state : B → BusState) (out asked answer : List ℕ) (outcome : Result Unit Stopped)
     (old new : SpoiltBus B) : Type 0 where
   pub spoil : spoil_of new ≡ spoil_of old

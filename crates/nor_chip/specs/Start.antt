@@ -6,10 +6,8 @@ use Rattle.nor_model.specs.declared.running.Running.TheVariants.{Unknown}
 use Rattle.nor_model.specs.Chip.{Chip, kept_in}
 use Rattle.nor_model.specs.Bus.{BusState}
 
--- The state of a new simulated bus. Its chip has the configuration `setup`, the bytes `image`, and the non-volatile
--- bits and latch of the two status bytes `flags`. The first `delays.now` polls will show BUSY, and the operation in
--- progress is unknown. The bus is well-behaved and steady, and has no transaction left. No transaction was sent, no
--- allowance was set, no sector was erased, and no poll showed that the chip is ready.
+-- The state of a new simulated bus: its chip has the configuration `setup`, the bytes `image` and the status bytes
+-- `flags`, and will show BUSY in `delays.now` polls. The operation in progress is unknown, and no transaction is left.
 pub record Starts (setup : Config) (image flags : List ℕ) (delays : Delays) (state : BusState) : Type 0 where
   pub config : state.chip.config ≡ setup
   pub bytes : (a : ℕ) → state.chip.bytes a ≡ slice_index image a

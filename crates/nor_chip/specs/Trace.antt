@@ -5,11 +5,9 @@ use Rattle.hex.specs.Hex.{encode_lower}
 use Rattle.nor_chip.specs.declared.trace.TraceBus.{TraceBus}
 use Rattle.nor_model.specs.declared.bus.Stopped.{Stopped}
 
--- the inner bus
 abbrev pub traced_by : {B L : Type 0} → TraceBus B L → B
 traced_by traced = traced.bus
 
--- the log
 abbrev pub log_of : {B L : Type 0} → TraceBus B L → L
 log_of traced = traced.log
 
@@ -17,22 +15,19 @@ log_of traced = traced.log
 abbrev pub has_lost : {B L : Type 0} → TraceBus B L → Bool
 has_lost traced = traced.lost
 
--- The end of a line without the line feed. It is empty if no byte was received. If one to three bytes were received, it
--- is ` > ` and their hexadecimal digits. If more were received, it is ` > `, their number and ` bytes`.
+-- The end of a line: ` > ` and the digits of one to three received bytes, or ` > `, their number and ` bytes`.
 abbrev pub reply_digits : List ℕ → List ℕ
 reply_digits answer =
     if length answer == 0 then []
     else if nat_lt 3 (length answer) then codes " > " ++ decimal (length answer) ++ codes " bytes"
     else codes " > " ++ encode_lower answer
 
--- the line of a transaction: the hexadecimal digits of the bytes sent, then the end for the bytes received, then a line
--- feed
+-- the line of a transaction: the hexadecimal digits of the bytes sent, the end for the bytes received, and a line feed
 abbrev pub traced_line : (out answer : List ℕ) → List ℕ
 traced_line out answer = encode_lower out ++ reply_digits answer ++ codes "\n"
 
--- The effect of a transaction on the log. If the inner bus stops, the log and `has_lost` are as they were. If the
--- transaction succeeded and `has_lost` is false after it, the line was appended to the log's contents, provided that
--- these are known. Once true, `has_lost` stays true.
+-- The effect of a transaction on the log. If it succeeded, its line was appended, or `has_lost` is true from then on. A
+-- stop leaves the log as it was.
 pub record Traces {B L : Type 0} (contents : L → Option (List ℕ)) (out answer : List ℕ) (outcome : Result Unit Stopped)
     (old new : TraceBus B L) : Type 0 where
   pub still_lost : has_lost old ≡ true → has_lost new ≡ true

@@ -13,12 +13,6 @@
 //! bus.transfer(&[0x9F], &mut id)?;
 //! assert_eq!(rt; id, [0xFE, 0x10, 0x10]);
 //! ```
-//!
-//! - `sim.rt`: the simulated bus
-//! - `sim/flash.rt`: the modelled chip in memory
-//! - `sim/cells.rt`: reads, programs and fills byte slices
-//! - `trace.rt`: a bus that logs each transaction that succeeds
-//! - `spoilt.rt`: a faulty bus, for tests
 #![tactic(auto)]
 
 mod sim;

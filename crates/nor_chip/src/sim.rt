@@ -55,12 +55,10 @@ impl SimBus {
     ghost use Rattle.nor_model.specs.Bus.{AtStop};
     ghost use Rattle.nor_chip.specs.Sim.{sim_state, fill_of, torn_of, pace_of, TornTo, WornTo, TearsOff, KeepsBus};
 
-    /// Returns a bus to a chip with the configuration `config`, the contents `bytes` and the two bytes `status`, status
-    /// 1 first. BUSY (bit 0 of status 1) and SUS (bit 7 of status 2) are ignored. The first `delays.now` polls show
-    /// BUSY, unless the chip loses its power before. The operation in progress at the start is unknown. The bus carries
-    /// out no transaction before `allow` is called.
-    ///
-    /// Returns `WrongLength` if the length of `bytes` differs from the chip's size.
+    /// Returns a bus to a chip with this configuration, the contents `bytes`, and status 1 and 2, whose bits BUSY and
+    /// SUS are ignored. The first `delays.now` polls show BUSY, for an unknown operation. The bus carries out no
+    /// transaction before `allow` is called. Returns `WrongLength` if the length of `bytes` differs from the chip's
+    /// size.
     pub fn new(
         config: Config,
         bytes: Vec<u8>,
@@ -103,13 +101,9 @@ impl SimBus {
         &self.flash.bytes
     }
 
-    /// Sets whether the chip loses its power at a stop, and the effect of the loss. With `None`, as after `new`, the
-    /// chip keeps its power.
-    ///
-    /// With `Some(fill)`, each byte on which a program or erase in progress works becomes `fill`. A status write in
-    /// progress is undone if `fill` is even, and completed if it is odd. The write enable latch is cleared, and no
-    /// operation is in progress any more. If the operation in progress is unknown, the contents and the non-volatile
-    /// status bits stay as they were.
+    /// Sets whether the chip loses its power at a stop. With `None`, as after `new`, it keeps its power. With
+    /// `Some(fill)`, each byte on which a program or erase in progress works becomes `fill`. A status write in progress
+    /// is undone if `fill` is even, and completed if it is odd. An unknown operation changes nothing.
     pub fn lose(&mut self, fill: Option<u8>)
         ensures state { ⟦<SimBus as Bus>⟧.state self.new
             ≡ record (⟦<SimBus as Bus>⟧.state self.old) { steady = is_none fill && is_none (torn_of self.old) } }
@@ -120,10 +114,9 @@ impl SimBus {
         self.fill = fill;
     }
 
-    /// Sets how many bytes of a transaction are sent before the bus stops at it. With `Some(count)`, the first `count`
-    /// bytes are sent (all bytes, if there are fewer). The chip treats them as a whole transaction, and no reply is
-    /// read. With `None`, as after `new`, no byte is sent. In both cases the chip then loses its power if `lose` is set
-    /// to `Some`.
+    /// Sets how many bytes of a transaction are sent before the bus stops at it: with `Some(count)` at most `count`,
+    /// which the chip treats as a whole transaction without a reply, and with `None`, as after `new`, no byte. After
+    /// them the chip may lose its power (`lose`).
     pub fn tear(&mut self, count: Option<u32>)
         ensures state { ⟦<SimBus as Bus>⟧.state self.new
             ≡ record (⟦<SimBus as Bus>⟧.state self.old) { steady = is_none (fill_of self.old) && is_none count } }
@@ -141,7 +134,6 @@ impl SimBus {
         self.flash.status().bytes()
     }
 
-    // Sends the first bytes of the transaction at which the bus stops, if `tear` is set to `Some`.
     fn tear_off(&mut self, out: &[u8])
         ensures torn { TornTo (torn_of self.old) out.now (chip_of self.old.flash) (chip_of self.new.flash) }
         ensures worn { WornTo (torn_of self.old) out.now (chip_of self.old.flash)
@@ -155,8 +147,6 @@ impl SimBus {
         }
     }
 
-    // Performs a stop. Sends the first bytes of the transaction if `tear` is set to `Some`. Then makes the chip lose
-    // its power if `lose` is set to `Some`.
     fn cut(&mut self, out: &[u8])
         ensures at_stop { AtStop out.now (sim_state self.old) (sim_state self.new) }
         ensures torn_off { TearsOff (torn_of self.old) (fill_of self.old) out.now
@@ -220,7 +210,6 @@ impl Meter for SimBus {
     }
 }
 
-// Marks in `worn` the sectors that `command` erases. Any command other than an erase marks none.
 fn wear(worn: &mut [bool], command: Command)
     requires length { length worn.old ≡ 4096 }
     requires targeted { HasValidAddress 16777216 command }

@@ -7,23 +7,21 @@ ghost use Rattle.nor_chip.specs.Spoilt.{bus_in, spoil_of, succeeded_of, history_
 
 use nor_model::{Bus, History, Meter, Stopped};
 
-/// The way in which a faulty bus fails. Transactions are numbered from 1: the number of a transaction is one more than
-/// the number of transactions that succeeded before it (`SpoiltBus::sent`).
+/// The way in which a faulty bus fails. The number of a transaction is one more than the number of transactions that
+/// succeeded before it.
 #[derive(Clone, Copy, Debug, PartialEq, Eq)]
 pub enum Spoil {
     /// No transaction is carried out. Each transaction succeeds, and each of its reply bytes is the given byte.
     Fill(u8),
     /// From the transaction with the given number on, each reply byte of a poll has bit 0 (BUSY) set.
     BusyFrom(u64),
-    /// The transaction with the given number isn't carried out. It succeeds, and each of its reply bytes is FFh. The
-    /// number 0 has no effect.
+    /// The transaction with this number isn't carried out. It succeeds, and each of its reply bytes is FFh.
     Drop(u64),
     /// In each reply byte, the bit with the given number is clear. A number above 7 has no effect.
     Low(u8),
 }
 
-/// A faulty bus. It drops transactions to an inner bus or changes the replies, in one fixed way, to test how callers
-/// react.
+/// A faulty bus. It drops transactions or changes replies in one fixed way, to test how callers react.
 #[derive(Drop)]
 pub struct SpoiltBus<B> {
     bus: B,
@@ -33,8 +31,7 @@ pub struct SpoiltBus<B> {
 }
 
 impl<B: Bus> SpoiltBus<B> {
-    /// Returns a bus that passes transactions on to `inner` and fails as `spoil` says. The new bus isn't well-behaved
-    /// (`honest`), and its own history begins empty.
+    /// Returns a bus that passes transactions on to `inner` and fails as `spoil` says. It isn't well-behaved.
     pub fn new(inner: B, spoil: Spoil) -> SpoiltBus<B>
         ensures inner { bus_in result ≡ inner }
         ensures spoil { spoil_of result ≡ spoil }
@@ -56,8 +53,7 @@ impl<B: Bus> SpoiltBus<B> {
         }
     }
 
-    /// Returns the number of transactions that succeeded so far, whether they were carried out or dropped. A
-    /// transaction at which the inner bus stops isn't counted. The count stays at the greatest `u64` after reaching it.
+    /// Returns the number of transactions that succeeded so far, even if they were dropped, up to the greatest `u64`.
     pub fn sent(&self) -> u64
         ensures { result ≡ succeeded_of self.now }
     {
@@ -121,8 +117,6 @@ impl<B: Meter> Meter for SpoiltBus<B> {
     }
 }
 
-// Returns the value of each reply byte of the next transaction if this transaction is dropped, otherwise `None`. `sent`
-// is the number of transactions that succeeded before.
 fn withheld(spoil: Spoil, sent: u64) -> Option<u8>
     ensures { result ≡ withheld spoil sent }
 {
@@ -133,8 +127,6 @@ fn withheld(spoil: Spoil, sent: u64) -> Option<u8>
     }
 }
 
-// Returns the reply byte that replaces `byte` in the next transaction, which sends `out` and isn't dropped. `sent` is
-// the number of transactions that succeeded before.
 fn spoilt_byte(spoil: Spoil, sent: u64, out: &[u8], byte: u8) -> u8
     ensures { result ≡ spoilt_byte spoil sent out.now byte }
 {

@@ -8,18 +8,13 @@ ghost use Rattle.nor_chip.specs.Trace.{traced_by, log_of, has_lost, traced_line,
 use nor_model::{Bus, Meter, Stopped};
 use std::io::{self, Write};
 
-// The greatest number of bytes that are converted to hexadecimal digits in one step.
 const PIECE: usize = 64;
 
-/// A bus that passes transactions on to an inner bus, and writes one line to a log for each transaction that succeeds.
-/// The line has the bytes sent, as lower-case hexadecimal digits. If one to three bytes were received, ` > ` and their
-/// digits follow. If more were received, ` > `, their number and ` bytes` follow.
+/// A bus that passes transactions on to an inner bus, and writes one line to a log for each transaction that succeeds:
+/// the bytes sent, in hexadecimal, then ` > ` and up to three bytes received, or the number of bytes if more.
 ///
-/// A transaction at which the inner bus stops has no line, even if some or all of its bytes were sent to the chip. If a
-/// line can't be written completely, the transaction still succeeds, but the line counts as lost (`lost`).
-///
-/// The bus allocates no memory and buffers nothing. If each write to the log costs a system call, use a log with a
-/// buffer, such as `BufWriter`.
+/// If a line can't be written completely, the transaction still succeeds, but the line counts as lost (`lost`). The bus
+/// buffers nothing. If each write to the log costs a system call, use a log with a buffer, such as `BufWriter`.
 #[derive(Drop)]
 pub struct TraceBus<B, L> {
     bus: B,
@@ -59,8 +54,8 @@ impl<B: Bus + Drop, L: Write + Drop> TraceBus<B, L> {
         }
     }
 
-    /// Returns the inner bus, in its present state. The log is dropped; its type determines whether bytes that it still
-    /// buffers are written.
+    /// Returns the inner bus, in its present state. The log is dropped; its type says what happens to bytes in its
+    /// buffer.
     pub fn into_inner(self) -> B
         ensures { B.state result ≡ ⟦<TraceBus<B, L> as Bus>⟧.state self }
     {

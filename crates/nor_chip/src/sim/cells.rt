@@ -4,7 +4,6 @@ ghost use Rattle.nor_chip.specs.Cells.{HasPageProgrammed, IsFilled};
 
 use nor_geometry::PAGE_LEN;
 
-// ANDs the bytes of `sent` into `bytes`, from index `from` on. `sent` must not reach past the end of `bytes`.
 fn clear_bits(bytes: &mut [u8], from: usize, sent: &[u8])
     requires { from + length sent.now ≤ length bytes.old }
     ensures inside { (i : ℕ) → i < length sent.now
@@ -17,9 +16,8 @@ fn clear_bits(bytes: &mut [u8], from: usize, sent: &[u8])
     }
 }
 
-// Programs the bytes of `sent` into one page, which must lie in `bytes`. The first byte is for index `at`, and after
-// the last byte of the page comes its first one. Each byte of the page for which some byte was sent is ANDed with the
-// last one sent for it.
+// Programs the bytes of `sent` into one page. The first byte is for index `at`, and after the last byte of the page
+// comes its first one. Only the last byte sent for each index counts.
 pub(crate) fn program(bytes: &mut [u8], at: usize, sent: &[u8])
     requires { at / 256 * 256 + 256 ≤ length bytes.old }
     ensures { HasPageProgrammed at sent.now bytes.old bytes.new }
@@ -33,7 +31,6 @@ pub(crate) fn program(bytes: &mut [u8], at: usize, sent: &[u8])
     clear_bits(bytes, page, back);
 }
 
-// Sets the `len` bytes from index `start` on, which must lie in `bytes`, to `byte`.
 pub(crate) fn fill(bytes: &mut [u8], start: usize, len: usize, byte: u8)
     requires { start + len ≤ length bytes.old }
     ensures { IsFilled byte start len bytes.old bytes.new }
@@ -41,8 +38,7 @@ pub(crate) fn fill(bytes: &mut [u8], start: usize, len: usize, byte: u8)
     bytes[start..start + len].fill(byte);
 }
 
-// Fills `reply` with the items of `bytes` from index `at` on. `at` must be below the length of `bytes`. After the last
-// item, the read continues at index 0.
+// Fills `reply` with the items of `bytes` from index `at` on. After the last item, the read continues at index 0.
 pub(crate) fn read_round(bytes: &[u8], at: usize, reply: &mut [u8])
     requires { at < length bytes.now }
     ensures { (i : ℕ) → i < length reply.new

@@ -6,8 +6,7 @@ use super::cells;
 use nor_geometry::PAGE_LEN;
 use nor_model::{Command, Config, Running, Status, is_protected};
 
-// A simulated chip. `kept` has the non-volatile status bits, `latch` is WEL, and `busy` is the number of polls that
-// will still show BUSY. An operation sets `busy` to `each`. `running` is the operation in progress.
+// A simulated chip. `busy` is the number of polls that will still show BUSY; an operation sets it to `each`.
 #[derive(Drop)]
 pub(crate) struct Flash {
     pub(crate) config: Config,
@@ -36,7 +35,6 @@ impl Flash {
     ghost use Rattle.nor_model.specs.Guard.{code_of, is_protected, is_block_protected};
     ghost use Rattle.nor_model.specs.Step.{is_carried_out, done_of, reply_byte, Does, Step};
 
-    // Returns the status registers, as 05h and 35h read them.
     pub(crate) fn status(&self) -> Status
         ensures { bytes_of result ≡ status_of (chip_of self.now) }
     {
@@ -65,7 +63,6 @@ impl Flash {
         self.is_protected(start) || self.is_protected((start + len).saturating_sub(1))
     }
 
-    // Returns whether the chip is idle and its write enable latch is set.
     fn is_ready(&self) -> bool
         ensures { result ≡ (((chip_of self.now).busy == 0) && self.now.latch) }
     {
@@ -86,8 +83,7 @@ impl Flash {
         }
     }
 
-    // Returns the command that the chip carries out for a transaction that sends `out` and reads `replies` bytes, or
-    // `Ignored` if it carries out none.
+    // Returns the command that the chip carries out for a transaction, or `Ignored` for none.
     pub(crate) fn command(&self, out: &[u8], replies: usize) -> Command
         ensures done { result ≡ done_of (chip_of self.now) out.now replies }
         ensures targeted { HasValidAddress self.now.config.size result }
@@ -100,7 +96,6 @@ impl Flash {
         }
     }
 
-    // Fills `reply` with the chip's reply to `command`.
     fn answer(&self, command: Command, reply: &mut [u8])
         requires { HasValidAddress self.now.config.size command }
         ensures { (i : ℕ) → i < length reply.new → slice_index reply.new i ≡ reply_byte (chip_of self.now) command i }
@@ -116,7 +111,7 @@ impl Flash {
         }
     }
 
-    // Begins the operation `running`: the next `each` polls show BUSY. If `each` is 0, the operation ends at once.
+    // The next `each` polls show BUSY. If `each` is 0, the operation ends at once.
     fn begin(&mut self, running: Running)
         requires { RunsInside self.old.config.size running }
         ensures begins { Begins running self.old.each (chip_of self.old) (chip_of self.new) }
@@ -127,7 +122,7 @@ impl Flash {
         self.latch = self.each != 0;
     }
 
-    // Updates the chip after a poll. The poll that shows the last BUSY also clears the write enable latch.
+    // The poll that shows the last BUSY also clears the write enable latch.
     fn tick(&mut self)
         ensures does { Does Command.Poll [] (chip_of self.old) [] (chip_of self.new) }
         ensures paces { Paces Command.Poll self.old self.new }
@@ -166,7 +161,6 @@ impl Flash {
         self.begin(Running::Erase(start, len));
     }
 
-    // Changes the chip as `command` does. `sent` has the data of a program.
     fn change(&mut self, command: Command, sent: &[u8])
         requires { HasValidAddress self.old.config.size command }
         ensures does { Does command sent.now (chip_of self.old) [] (chip_of self.new) }
@@ -183,9 +177,7 @@ impl Flash {
         }
     }
 
-    // Makes the chip lose its power. If the chip is busy, the operation in progress is interrupted, with the effect
-    // that `PowerLostWith` describes for `fill`. Afterwards the write enable latch is clear, and no operation is in
-    // progress.
+    // Makes the chip lose its power, which interrupts the operation in progress.
     pub(crate) fn lose_power(&mut self, fill: u8)
         ensures cut { PowerLostWith fill (chip_of self.old) (chip_of self.new) }
         ensures pace { self.new.each ≡ self.old.each }
@@ -197,9 +189,8 @@ impl Flash {
         self.busy = 0;
     }
 
-    // Changes bytes and status bits as a power failure during the operation `running` does. Each byte on which a
-    // program or erase works becomes `fill`. A status write is undone if `fill` is even; otherwise the bits that it
-    // wrote stay. If the operation is unknown, bytes and bits stay as they were.
+    // Changes bytes and status bits as a power failure during the operation in progress does. If the operation is
+    // unknown, they stay as they were.
     fn cut(&mut self, fill: u8)
         ensures cut { CutsOff fill (chip_of self.old) (chip_of self.new) }
         ensures pace { self.new.each ≡ self.old.each }
@@ -220,8 +211,7 @@ impl Flash {
         }
     }
 
-    // Performs one transaction that sends `out` and fills `reply`. Returns the command that the chip carried out, or
-    // `Ignored` if it carried out none.
+    // Performs one transaction, and returns the command that the chip carried out.
     pub(crate) fn step(&mut self, out: &[u8], reply: &mut [u8]) -> Command
         ensures steps { Step (chip_of self.old) out.now reply.new (chip_of self.new) }
         ensures done { result ≡ done_of (chip_of self.old) out.now (length reply.new) }
